@@ -1,0 +1,162 @@
+-- What opening and entering keep.
+use Rattle.std.proofs.Common.{◌≡◌, ℕ, ◌+◌, ◌-◌, ◌≤◌, ◌<◌, Bool, true, false, cond, not, ◌&&◌, List, [], ◌∷◌, ◌++◌, Option, Some, None, refl, sym, ap, ◌∙◌, subst, arith, ltb-true, leb-false, length}
+use Rattle.std.specs.Prelude.{nat_lt, nat_le, ◌==◌, IsSomeAnd}
+use Rattle.std.proofs.lemmas.Bool.{and_parts}
+use Rattle.rights_lattice.specs.declared.cell.Cell.{Cell}
+use Rattle.rights_lattice.specs.declared.cell.Cell.TheVariants.{Gave, Used, Back}
+use Rattle.rights_lattice.specs.Cells.{Key, Cells, Valued, max_value, value_at, all_zero, raise, raise_all, marks_of, greatest, value_in, is_of}
+use Rattle.rights_lattice.specs.Cells as cells
+use Rattle.rights_lattice.specs.State.{State, bottom, knows, names_in_order}
+use Rattle.rights_lattice.specs.RightsView.{IsCellOf, IsWithin, is_cell_of, are_within}
+use Rattle.rights_lattice.proofs.CellLaws.{greatest-marks_of, of_same}
+use Rattle.rights_lattice.proofs.RightsLaws.{within_zero, within_raise, join-marks}
+use Rattle.delta_mutators.specs.Marks.{mark_plus}
+use Rattle.request_ledger.specs.declared.request.Request.{Request}
+use Rattle.request_ledger.specs.declared.request.Request.TheVariants.{Announce, Release, Sell, Refund, Cede}
+use Rattle.request_ledger.specs.declared.reply.Reply.{Reply}
+use Rattle.request_ledger.specs.declared.reply.Reply.TheVariants.{Done, Unknown, ToSelf, NoSite, Refunded}
+use Rattle.request_ledger.specs.declared.reply.SaleState.{SaleState}
+use Rattle.request_ledger.specs.Requests.{is_done}
+use Rattle.request_ledger.specs.Ledger.{Keeping, kept_under, IsRefundable}
+use Rattle.event_catalogue.specs.Catalogue.{with_new}
+use Rattle.book_core.specs.declared.entry.Entry.{Entry}
+use Rattle.book_core.specs.declared.entry.Entry.TheVariants.{Asked, Joined}
+use Rattle.book_core.specs.History.{delta_of, state_of, asked, asked_from, sale_of}
+use Rattle.book_core.specs.Decision.{Office, Change, cell_of, change_of, refund_of, marked, addition_of, delta_for, refund_reply, reply_to}
+use Rattle.book_core.specs.Joining.{is_of_sites}
+use Rattle.book_core.specs.Legal.{IsNext, IsLegal}
+use Rattle.book_core.specs.BookView.{MarksAreWithin, IsInOrder, IsUnkept, KeepsRefunds}
+use Rattle.book_core.proofs.Histories.{state_of-push, legal_push}
+use Rattle.book_core.proofs.NameLaws.{names_of-push}
+use Rattle.book_core.proofs.Kept.{asked-push}
+use Rattle.book_core.proofs.Refunds.{refund_fits, whole_given}
+
+-- one more cell takes at most one place of the room
+pub room_left : (b : Bool) (old new len i : ℕ) → old ≤ new + cond b 1 0 → len ≤ old + i → len ≤ new + (i + 1)
+room_left true old new len i p q = omega arith
+room_left false old new len i p q = omega arith
+
+-- the cell of a change is of sites below the count
+abbrev IsOfSites : Office → Option Change → Type 0
+IsOfSites office None = Unit {0}
+IsOfSites office (Some c) = IsCellOf office.sites (cell_of office.me c.kind)
+
+past_sites : (unknown self past : Bool) (r : Reply) → is_done (cond unknown Unknown (cond self ToSelf (cond past NoSite r))) ≡ true → past ≡ false
+past_sites true self past r h = cc
+past_sites false true past r h = cc
+past_sites false false true r h = cc
+past_sites false false false r h = refl
+
+done_of_sites : (office : Office) (h : List Entry) (request : Request) → office.me < office.sites → is_done (reply_to office h request) ≡ true → IsOfSites office (change_of h request)
+done_of_sites office h (Announce event) me e = tt
+done_of_sites office h (Release event n) me e = (me, me)
+done_of_sites office h (Sell event n) me e = me
+done_of_sites office h (Refund sale) me e = of_sale (sale_of h sale)
+  where
+    of_sale : (o : Option SaleState) → IsOfSites office (refund_of o)
+    of_sale None = tt
+    of_sale (Some sale) = me
+done_of_sites office h (Cede event n to) me e =
+    (me, leb-false office.sites to (past_sites (not (knows (state_of h).names event)) (to == office.me) (nat_le office.sites to) _ e))
+
+marked_within : (office : Office) (X : Cells) (o : Option Change) → IsOfSites office o → IsWithin office.sites (marked office.me X o).cells
+marked_within office X None of = within_zero office.sites
+marked_within office X (Some c) of = within_raise office.sites all_zero (mark_plus X c.event (cell_of office.me c.kind) c.amount) (within_zero office.sites) of
+
+addition_within : (office : Office) (h : List Entry) (request : Request) → IsOfSites office (change_of h request) → IsWithin office.sites (addition_of office h request).cells
+addition_within office h (Announce event) of = within_zero office.sites
+addition_within office h (Release event n) of = marked_within office (state_of h).cells (change_of h (Release event n)) of
+addition_within office h (Sell event n) of = marked_within office (state_of h).cells (change_of h (Sell event n)) of
+addition_within office h (Refund sale) of = marked_within office (state_of h).cells (refund_of (sale_of h sale)) of
+addition_within office h (Cede event n to) of = marked_within office (state_of h).cells (change_of h (Cede event n to)) of
+
+delta_within : (office : Office) (h : List Entry) (request : Request) (reply : Reply) → office.me < office.sites → reply ≡ reply_to office h request → IsWithin office.sites (delta_for office h request reply).cells
+delta_within office h request reply me answer = by_test (is_done reply) refl
+  where
+    by_test : (b : Bool) → is_done reply ≡ b → IsWithin office.sites (cond b (addition_of office h request) bottom).cells
+    by_test true q = addition_within office h request (done_of_sites office h request me (ap is_done (sym answer) ∙ q))
+    by_test false q = within_zero office.sites
+
+cell_of_sites : (n : ℕ) (c : Cell) → is_cell_of n c ≡ true → IsCellOf n c
+cell_of_sites n (Gave i j) h = let p = and_parts (nat_lt i n) (nat_lt j n) h in (ltb-true i n p.0, ltb-true j n p.1)
+cell_of_sites n (Used i) h = ltb-true i n h
+cell_of_sites n (Back i) h = ltb-true i n h
+
+all_within : (n : ℕ) (ms : List Valued) → are_within n ms ≡ true → MarksAreWithin n ms
+all_within n [] h e c some = absurd (omega arith)
+all_within n (m ∷ ms) h e c some =
+    let parts = and_parts (is_cell_of n m.cell) (are_within n ms) h in
+    elim (is_of m e c) as (λ b. is_of m e c ≡ b → IsCellOf n c) [
+      | true ↦ λ t. subst (λ (k : Key). IsCellOf n k.1) (sym (of_same m e c t)) (cell_of_sites n m.cell parts.0)
+      | false ↦ λ t. let none : value_in m e c ≡ 0 = ap (λ b. cond b m.value 0) t in all_within n ms parts.1 e c (omega arith)
+    ] refl
+
+joined_within : (office : Office) (peer : ℕ) (delta : State) → is_of_sites office peer delta ≡ true → IsWithin office.sites delta.cells
+joined_within office peer delta h e c some =
+    let last = (and_parts (nat_lt peer office.sites && not (peer == office.me)) (are_within office.sites (marks_of delta.cells)) h).1 in
+    all_within office.sites (marks_of delta.cells) last e c (omega (arith, greatest-marks_of delta.cells e c))
+
+next_within : (office : Office) (h : List Entry) (entry : Entry) → office.me < office.sites → IsNext office h entry → IsWithin office.sites (delta_of entry).cells
+next_within office h (Asked number request reply delta) me next =
+    subst (λ (d : State). IsWithin office.sites d.cells) (sym next.change) (delta_within office h request reply me next.answer)
+next_within office h (Joined peer delta) me next = joined_within office peer delta next.sites
+
+pub marks_within : (office : Office) (h : List Entry) (entry : Entry) (ms : List Valued) → office.me < office.sites → IsNext office h entry → ms ≡ marks_of (delta_of entry).cells → MarksAreWithin office.sites ms
+marks_within office h entry ms me next is e c some =
+    next_within office h entry me next e c
+    (subst (λ (n : ℕ). 1 ≤ n) (ap (λ (l : List Valued). greatest l e c) is ∙ greatest-marks_of (delta_of entry).cells e c) some)
+
+pub entered : (office : Office) (h : List Entry) (entry : Entry) (X Y : Cells) (ns ms : List (List ℕ)) (kept_before kept_after : Keeping)
+    → IsInOrder office h X ns kept_before → IsNext office h entry
+    → Y ≡ raise_all X (marks_of (delta_of entry).cells)
+    → ms ≡ with_new ns (names_in_order (delta_of entry).names)
+    → kept_after ≡ kept_before ++ asked_from (length h) (entry ∷ [])
+    → IsInOrder office (h ++ entry ∷ []) Y ms kept_after
+entered office h entry X Y ns ms kept_before kept_after before next Y_is ms_are kept_is = record {
+  me_is_site = before.me_is_site;
+  legal = legal_push office h entry before.legal next;
+  cells_are = Y_is ∙ sym (join-marks X (delta_of entry).cells) ∙ ap (λ (Z : Cells). cells.join Z (delta_of entry).cells) before.cells_are ∙ sym (ap (λ (s : State). s.cells) (state_of-push h entry));
+  names_are = ms_are ∙ ap (λ (known : List (List ℕ)). with_new known (names_in_order (delta_of entry).names)) before.names_are ∙ sym (names_of-push h entry);
+  kept_are = kept_is ∙ ap (λ (es : Keeping). es ++ asked_from (length h) (entry ∷ [])) before.kept_are ∙ sym (asked-push h entry);
+}
+
+pub opening : (office : Office) (h : List Entry) (cells : Cells) (names : List (List ℕ)) (ledger : Keeping)
+    → office.me < office.sites → h ≡ [] → cells ≡ all_zero → names ≡ [] → ledger ≡ [] → IsInOrder office h cells names ledger
+opening office h cells names ledger me h_is cells_is names_is ledger_is =
+    subst (λ (x : List Entry). IsInOrder office x cells names ledger) (sym h_is)
+    (record {
+      me_is_site = me;
+      legal = λ k entry found. cc;
+      cells_are = cells_is;
+      names_are = names_is;
+      kept_are = ledger_is;
+    })
+
+-- the number of an entry that is next is new
+pub unkept : (office : Office) (h : List Entry) (entry : Entry) (es : Keeping) → es ≡ asked h → IsNext office h entry → IsUnkept es entry
+unkept office h (Asked number request reply delta) es is next = ap (λ (xs : Keeping). kept_under xs number) is ∙ next.new
+unkept office h (Joined peer delta) es is next = tt
+
+refundable : (h : List Entry) (request : Request) (reply : Reply) → (office : Office) → reply ≡ reply_to office h request → IsRefundable (asked h) request reply
+refundable h (Refund sale) Done office answer = of_sale (sale_of h sale) refl answer
+  where
+    rest : (state : SaleState) (b : Bool) → nat_le state.seats state.given_back ≡ b → Done ≡ cond b Refunded Done → sale_of h sale ≡ Some state → state.given_back ≡ 0
+    rest state true q d found = cc
+    rest state false q d found = whole_given h sale state found (leb-false state.seats state.given_back q)
+
+    of_sale : (o : Option SaleState) → sale_of h sale ≡ o → Done ≡ refund_reply o → IsSomeAnd o (λ state. state.given_back ≡ 0)
+    of_sale None found d = cc
+    of_sale (Some state) found d = rest state (nat_le state.seats state.given_back) refl d found
+refundable h _ _ office answer = tt
+
+-- a refund that is next and done is of a sale that is kept and not given back
+pub keeps_refunds : (office : Office) (h : List Entry) (entry : Entry) (es : Keeping) → es ≡ asked h → IsNext office h entry → KeepsRefunds es entry
+keeps_refunds office h (Asked number request reply delta) es is next =
+    subst (λ (xs : Keeping). IsRefundable xs request reply) (sym is) (refundable h request reply office next.answer)
+keeps_refunds office h (Joined peer delta) es is next = tt
+
+-- a refund's mark is not above the greatest value
+pub refund_room : (office : Office) (h : List Entry) (number : ℕ) (sale : SaleState) (X : Cells) → IsLegal office h → sale_of h number ≡ Some sale → X ≡ (state_of h).cells
+    → value_at X sale.event (Used office.me) ≤ max_value → value_at X sale.event (Back office.me) + (sale.seats - sale.given_back) ≤ max_value
+refund_room office h number sale X legal found is most =
+    omega (arith, most, refund_fits office h number sale legal found, ap (λ Y. value_at Y sale.event (Used office.me)) is, ap (λ Y. value_at Y sale.event (Back office.me)) is)

@@ -1,0 +1,260 @@
+-- No site gives back more than it sold.
+use Rattle.std.proofs.Common.{◌≡◌, ℕ, ◌+◌, ◌-◌, ◌≤◌, ◌<◌, ◌⊎◌, inl, inr, length, Bool, true, false, cond, ◌&&◌, List, [], ◌∷◌, ◌++◌, Option, Some, None, refl, sym, ap, ◌∙◌, subst, arith, eqb-true, eq-eqb, append-nil}
+use Rattle.std.specs.Prelude.{◌==◌}
+use Rattle.std.specs.List.{sum_by, fold}
+use Rattle.std.proofs.lemmas.Bool.{and_from}
+use Rattle.std.proofs.lemmas.List.Sums.{sum_by-cons, sum_by_push, fold-append}
+use Rattle.rights_lattice.specs.Cell.{same_event}
+use Rattle.rights_lattice.specs.Cells.{value_at}
+use Rattle.rights_lattice.specs.declared.cell.Cell.TheVariants.{Used, Back}
+use Rattle.rights_lattice.specs.State.{State}
+use Rattle.rights_lattice.proofs.SpotLaws.{same_event_self}
+use Rattle.request_ledger.specs.declared.request.Request.{Request}
+use Rattle.request_ledger.specs.declared.request.Request.TheVariants.{Announce, Release, Sell, Refund, Cede}
+use Rattle.request_ledger.specs.declared.reply.Reply.{Reply}
+use Rattle.request_ledger.specs.declared.reply.Reply.TheVariants.{Done}
+use Rattle.request_ledger.specs.declared.reply.Kept.{Kept}
+use Rattle.request_ledger.specs.declared.reply.SaleState.{SaleState}
+use Rattle.request_ledger.specs.Requests.{is_done}
+use Rattle.book_core.specs.declared.entry.Entry.{Entry}
+use Rattle.book_core.specs.declared.entry.Entry.TheVariants.{Asked, Joined}
+use Rattle.request_ledger.specs.Ledger.{Keeping, kept_under, sale_in, sale_if_kept, given_after, given_back, is_refund_of}
+use Rattle.book_core.specs.History.{state_of, asked, asked_from, kept, sale_of}
+use Rattle.book_core.proofs.Kept.{asked-push}
+use Rattle.book_core.specs.Decision.{Office, Releasing, Selling, Refunding, Ceding, refund_of}
+use Rattle.book_core.specs.Legal.{IsNext, IsLegal}
+use Rattle.book_core.specs.Operations.{operations, total}
+use Rattle.book_core.proofs.Histories.{operations_push, legal_along}
+use Rattle.book_core.proofs.Rows.{accepted, share, asked_total, legal_cells}
+
+-- what an entry that sells for the event counts, by its number and seats
+abbrev sale_part : (ℕ → ℕ → ℕ) → List ℕ → Entry → ℕ
+sale_part r event (Asked number (Sell of seats) reply delta) = cond (same_event event of && is_done reply) (r number seats) 0
+sale_part r event _ = 0
+
+abbrev sales : (ℕ → ℕ → ℕ) → List ℕ → List Entry → ℕ
+sales r event h = sum_by (sale_part r event) h
+
+cond_le : (b : Bool) (m n : ℕ) → m ≤ n → cond b m 0 ≤ cond b n 0
+cond_le true m n h = h
+cond_le false m n h = omega arith
+
+part_le : (r q : ℕ → ℕ → ℕ) (event : List ℕ) → ((m a : ℕ) → r m a ≤ q m a) → (entry : Entry) → sale_part r event entry ≤ sale_part q event entry
+part_le r q event le (Asked number (Sell of seats) reply delta) = cond_le (same_event event of && is_done reply) (r number seats) (q number seats) (le number seats)
+part_le r q event le _ = omega arith
+
+sales_le : (r q : ℕ → ℕ → ℕ) (event : List ℕ) → ((m a : ℕ) → r m a ≤ q m a) → (h : List Entry) → sales r event h ≤ sales q event h
+sales_le r q event le [] = omega arith
+sales_le r q event le (entry ∷ h) =
+    omega (arith, sum_by-cons (sale_part r event) entry h, sum_by-cons (sale_part q event) entry h, part_le r q event le entry, sales_le r q event le h)
+
+-- a kept sale that counts less makes the sum less
+sales_found : (r q : ℕ → ℕ → ℕ) (event : List ℕ) → ((m a : ℕ) → r m a ≤ q m a) → (sale seats amount : ℕ) (of : List ℕ) → r sale seats + amount ≤ q sale seats
+    → (place : ℕ) (h : List Entry) (k : Kept) → kept_under (asked_from place h) sale ≡ Some k → k.request ≡ Sell of seats → k.reply ≡ Done
+    → sales r event h + cond (same_event event of) amount 0 ≤ sales q event h
+sales_found r q event le sale seats amount of less place [] k found asked done = cc
+sales_found r q event le sale seats amount of less place (Joined peer delta ∷ h) k found asked done =
+    omega (
+      arith,
+      sum_by-cons (sale_part r event) (Joined peer delta) h,
+      sum_by-cons (sale_part q event) (Joined peer delta) h,
+      sales_found r q event le sale seats amount of less (place + 1) h k found asked done,
+    )
+sales_found r q event le sale seats amount of less place (Asked m request reply delta ∷ h) k found asked done =
+    omega (
+      arith,
+      sum_by-cons (sale_part r event) (Asked m request reply delta) h,
+      sum_by-cons (sale_part q event) (Asked m request reply delta) h,
+      by_test (m == sale) refl found (λ rest. sales_found r q event le sale seats amount of less (place + 1) h k rest asked done),
+    )
+  where
+    lowered : (b : Bool) → cond (b && true) (r sale seats) 0 + cond b amount 0 ≤ cond (b && true) (q sale seats) 0
+    lowered true = less
+    lowered false = omega arith
+
+    by_test : (b : Bool) → (m == sale) ≡ b
+        → cond b (Some (record { place = place; request = request; reply = reply })) (kept_under (asked_from (place + 1) h) sale) ≡ Some k
+        → (kept_under (asked_from (place + 1) h) sale ≡ Some k → sales r event h + cond (same_event event of) amount 0 ≤ sales q event h)
+        → (sale_part r event (Asked m request reply delta) + sales r event h) + cond (same_event event of) amount 0 ≤ sale_part q event (Asked m request reply delta) + sales q event h
+    by_test false e here more = omega (arith, part_le r q event le (Asked m request reply delta), more here)
+    by_test true e here more =
+        let number : m ≡ sale = eqb-true m sale e in
+        let same : request ≡ Sell of seats = cc in
+        let reply_done : reply ≡ Done = cc in
+        let entry : Asked m request reply delta ≡ Asked sale (Sell of seats) Done delta = cc in
+        let there : sale_part r event (Asked m request reply delta) + cond (same_event event of) amount 0 ≤ sale_part q event (Asked m request reply delta) =
+        subst (λ (x : Entry). sale_part r event x + cond (same_event event of) amount 0 ≤ sale_part q event x) (sym entry) (lowered (same_event event of)) in
+        omega (arith, there, sales_le r q event le h)
+
+-- what is given back of a sale along a history, and what is not
+abbrev given : List Entry → ℕ → ℕ → ℕ
+given h sale seats = given_back (asked h) sale seats
+
+abbrev kept_seats : List Entry → ℕ → ℕ → ℕ
+kept_seats h number seats = seats - given h number seats
+
+given_push : (h : List Entry) (entry : Entry) (sale seats : ℕ)
+    → given (h ++ entry ∷ []) sale seats ≡ fold (given_after sale seats) (given h sale seats) (asked_from (length h) (entry ∷ []))
+given_push h entry sale seats = ap (fold (given_after sale seats) 0) (asked-push h entry) ∙ fold-append (given_after sale seats) 0 (asked h) (asked_from (length h) (entry ∷ []))
+
+-- what is given back grows, up to the seats of the sale
+given_more : (es : Keeping) (before sale seats : ℕ) → before ≤ seats → (before ≤ fold (given_after sale seats) before es) × (fold (given_after sale seats) before es ≤ seats)
+given_more [] before sale seats le = (omega arith, le)
+given_more (e ∷ es) before sale seats le =
+    let step = by_test (is_refund_of sale e.1.request && is_done e.1.reply) in
+    let rest = given_more es (given_after sale seats before e) sale seats step.1 in
+    (omega (arith, step.0, rest.0), rest.1)
+  where
+    by_test : (b : Bool) → (before ≤ cond b seats before) × (cond b seats before ≤ seats)
+    by_test true = (le, omega arith)
+    by_test false = (omega arith, le)
+
+kept_less : (h : List Entry) (entry : Entry) (sale seats : ℕ) → kept_seats (h ++ entry ∷ []) sale seats ≤ kept_seats h sale seats
+kept_less h entry sale seats =
+    let so_far = given_more (asked h) 0 sale seats (omega arith) in
+    omega (arith, given_push h entry sale seats, (given_more (asked_from (length h) (entry ∷ [])) (given h sale seats) sale seats so_far.1).0)
+
+whole_share : (b : Bool) (m : ℕ) → cond (b && true) m 0 ≡ cond b m 0
+whole_share true m = refl
+whole_share false m = refl
+
+-- no share of a kind that it isn't
+no_share : (b : Bool) (n : ℕ) → cond (b && false) n 0 ≡ 0
+no_share true n = refl
+no_share false n = refl
+
+-- a sale is given back whole or not at all
+given_whole : (es : Keeping) (before sale seats : ℕ) → (before ≡ 0) ⊎ (before ≡ seats) → (fold (given_after sale seats) before es ≡ 0) ⊎ (fold (given_after sale seats) before es ≡ seats)
+given_whole [] before sale seats whole = whole
+given_whole (e ∷ es) before sale seats whole = given_whole es (given_after sale seats before e) sale seats (by_test (is_refund_of sale e.1.request && is_done e.1.reply))
+  where
+    by_test : (b : Bool) → (cond b seats before ≡ 0) ⊎ (cond b seats before ≡ seats)
+    by_test true = inr refl
+    by_test false = whole
+
+-- what is given back, and what may still be, is no more than what was sold
+abbrev Balanced : ℕ → List Entry → List ℕ → Type 0
+Balanced me h event = total Refunding event (operations me h) + sales (kept_seats h) event h ≤ total Selling event (operations me h)
+
+-- an entry whose share of the sums keeps them
+balanced_push : (me : ℕ) (h : List Entry) (number : ℕ) (request : Request) (reply : Reply) (delta : State) (event : List ℕ) → Balanced me h event
+    → sales (kept_seats (h ++ Asked number request reply delta ∷ [])) event h + sale_part (kept_seats (h ++ Asked number request reply delta ∷ [])) event (Asked number request reply delta) + share Refunding event (accepted h request reply)
+    ≤ sales (kept_seats h) event h + share Selling event (accepted h request reply)
+    → Balanced me (h ++ Asked number request reply delta ∷ []) event
+balanced_push me h number request reply delta event before step =
+    omega (
+      arith,
+      before,
+      step,
+      asked_total me h number request reply delta Refunding event,
+      asked_total me h number request reply delta Selling event,
+      sum_by_push (sale_part (kept_seats (h ++ Asked number request reply delta ∷ [])) event) h (Asked number request reply delta),
+    )
+
+-- a sale of the ledger was kept
+sale_is : (h : List Entry) (number : ℕ) (request : Request) (reply : Reply) (sale : SaleState) → sale_in (asked h) number request reply ≡ Some sale
+    → (request ≡ Sell sale.event sale.seats) × (reply ≡ Done) × (sale.given_back ≡ given h number sale.seats)
+sale_is h number (Sell event seats) Done sale e =
+    let same : record { event = event; seats = seats; given_back = given h number seats } ≡ sale = cc in
+    (ap (λ (s : SaleState). Sell s.event s.seats) same, refl, subst (λ (s : SaleState). s.given_back ≡ given h number s.seats) same refl)
+sale_is h number _ _ sale e = cc
+
+sale_kept : (h : List Entry) (number : ℕ) (o : Option Kept) (sale : SaleState) → sale_if_kept (asked h) number o ≡ Some sale
+    → (k : Kept) × (o ≡ Some k) × (sale_in (asked h) number k.request k.reply ≡ Some sale)
+sale_kept h number None sale e = cc
+sale_kept h number (Some k) sale e = (k, refl, e)
+
+-- a sale with seats that are left is not given back at all
+pub whole_given : (h : List Entry) (number : ℕ) (sale : SaleState) → sale_of h number ≡ Some sale → sale.given_back < sale.seats → sale.given_back ≡ 0
+whole_given h number sale found less =
+    let kept_is = sale_kept h number (kept h number) sale found in
+    let is = sale_is h number kept_is.0.request kept_is.0.reply sale kept_is.2 in
+    elim (given_whole (asked h) 0 number sale.seats (inl refl)) [ inl none ↦ omega (arith, is.2, none) | inr all ↦ omega (arith, is.2, all, less) ]
+
+balanced_after : (office : Office) (h : List Entry) (entry : Entry) → ((event : List ℕ) → Balanced office.me h event) → IsNext office h entry → (event : List ℕ) → Balanced office.me (h ++ entry ∷ []) event
+balanced_after office h (Joined peer delta) before next event =
+    omega (
+      arith,
+      before event,
+      ap (total Refunding event) (operations_push office.me h (Joined peer delta) ∙ append-nil (operations office.me h)),
+      ap (total Selling event) (operations_push office.me h (Joined peer delta) ∙ append-nil (operations office.me h)),
+      sum_by_push (sale_part (kept_seats (h ++ Joined peer delta ∷ [])) event) h (Joined peer delta),
+      sales_le (kept_seats (h ++ Joined peer delta ∷ [])) (kept_seats h) event (kept_less h (Joined peer delta)) h,
+    )
+balanced_after office h (Asked number (Announce name) reply delta) before next event =
+    balanced_push office.me h number (Announce name) reply delta event (before event)
+    (omega (arith, sales_le (kept_seats (h ++ Asked number (Announce name) reply delta ∷ [])) (kept_seats h) event (kept_less h (Asked number (Announce name) reply delta)) h, by_test (is_done reply)))
+  where
+    by_test : (b : Bool) → share Refunding event (cond b None None) ≤ share Selling event (cond b None None)
+    by_test true = omega arith
+    by_test false = omega arith
+balanced_after office h (Asked number (Release of seats) reply delta) before next event =
+    balanced_push office.me h number (Release of seats) reply delta event (before event)
+    (omega (arith, sales_le (kept_seats (h ++ Asked number (Release of seats) reply delta ∷ [])) (kept_seats h) event (kept_less h (Asked number (Release of seats) reply delta)) h, by_test (is_done reply)))
+  where
+    by_test : (b : Bool) → share Refunding event (cond b (Some (record { kind = Releasing; event = of; amount = seats })) None) ≤ 0
+    by_test true = omega (arith, no_share (same_event event of) seats)
+    by_test false = omega arith
+balanced_after office h (Asked number (Cede of seats to) reply delta) before next event =
+    balanced_push office.me h number (Cede of seats to) reply delta event (before event)
+    (omega (arith, sales_le (kept_seats (h ++ Asked number (Cede of seats to) reply delta ∷ [])) (kept_seats h) event (kept_less h (Asked number (Cede of seats to) reply delta)) h, by_test (is_done reply)))
+  where
+    by_test : (b : Bool) → share Refunding event (cond b (Some (record { kind = Ceding to; event = of; amount = seats })) None) ≤ 0
+    by_test true = omega (arith, no_share (same_event event of) seats)
+    by_test false = omega arith
+balanced_after office h (Asked number (Sell of seats) reply delta) before next event =
+    balanced_push office.me h number (Sell of seats) reply delta event (before event)
+    (omega (arith, sales_le (kept_seats (h ++ Asked number (Sell of seats) reply delta ∷ [])) (kept_seats h) event (kept_less h (Asked number (Sell of seats) reply delta)) h, by_test (is_done reply)))
+  where
+    by_test : (d : Bool) → cond (same_event event of && d) (kept_seats (h ++ Asked number (Sell of seats) reply delta ∷ []) number seats) 0 + share Refunding event (cond d (Some (record { kind = Selling; event = of; amount = seats })) None)
+        ≤ share Selling event (cond d (Some (record { kind = Selling; event = of; amount = seats })) None)
+    by_test true = omega (arith, no_share (same_event event of) seats, cond_le (same_event event of && true) (kept_seats (h ++ Asked number (Sell of seats) reply delta ∷ []) number seats) seats (omega arith))
+    by_test false = omega (arith, no_share (same_event event of) (kept_seats (h ++ Asked number (Sell of seats) reply delta ∷ []) number seats))
+balanced_after office h (Asked number (Refund sale) reply delta) before next event =
+    balanced_push office.me h number (Refund sale) reply delta event (before event) (by_test (is_done reply) refl)
+  where
+    of_sale : (o : Option SaleState) → sale_of h sale ≡ o → is_done reply ≡ true
+        → sales (kept_seats (h ++ Asked number (Refund sale) reply delta ∷ [])) event h + 0 + share Refunding event (refund_of o) ≤ sales (kept_seats h) event h + share Selling event (refund_of o)
+    of_sale None e d = omega (arith, sales_le (kept_seats (h ++ Asked number (Refund sale) reply delta ∷ [])) (kept_seats h) event (kept_less h (Asked number (Refund sale) reply delta)) h)
+    of_sale (Some s) e d =
+        let found = sale_kept h sale (kept h sale) s e in
+        let is = sale_is h sale found.0.request found.0.reply s found.2 in
+        let all : fold (given_after sale s.seats) (given h sale s.seats) (asked_from (length h) (Asked number (Refund sale) reply delta ∷ [])) ≡ s.seats =
+        ap (λ b. cond b s.seats (given h sale s.seats)) (and_from (sale == sale) (is_done reply) (eq-eqb sale sale refl) d) in
+        let less : kept_seats (h ++ Asked number (Refund sale) reply delta ∷ []) sale s.seats + (s.seats - s.given_back) ≤ kept_seats h sale s.seats =
+        omega (arith, given_push h (Asked number (Refund sale) reply delta) sale s.seats, all, is.2) in
+        omega (
+          arith,
+          sales_found (kept_seats (h ++ Asked number (Refund sale) reply delta ∷ [])) (kept_seats h) event (kept_less h (Asked number (Refund sale) reply delta)) sale s.seats (s.seats - s.given_back) s.event less 0 h found.0 found.1 is.0 is.1,
+          whole_share (same_event event s.event) (s.seats - s.given_back),
+          no_share (same_event event s.event) (s.seats - s.given_back),
+        )
+
+    by_test : (d : Bool) → is_done reply ≡ d
+        → sales (kept_seats (h ++ Asked number (Refund sale) reply delta ∷ [])) event h + 0 + share Refunding event (cond d (refund_of (sale_of h sale)) None)
+        ≤ sales (kept_seats h) event h + share Selling event (cond d (refund_of (sale_of h sale)) None)
+    by_test true d = of_sale (sale_of h sale) refl d
+    by_test false d = omega (arith, sales_le (kept_seats (h ++ Asked number (Refund sale) reply delta ∷ [])) (kept_seats h) event (kept_less h (Asked number (Refund sale) reply delta)) h)
+
+-- no site gives back more than it sold
+pub legal_refunds : (office : Office) (h : List Entry) → IsLegal office h → (event : List ℕ) → total Refunding event (operations office.me h) ≤ total Selling event (operations office.me h)
+legal_refunds office h legal event =
+    let all : Balanced office.me h event = legal_along office (λ g. (event : List ℕ) → Balanced office.me g event) (λ e. omega arith) (balanced_after office) h legal event in
+    omega (arith, all)
+
+-- what is left of a sale fits beside what is given back: no more than what was sold
+pub refund_fits : (office : Office) (h : List Entry) (number : ℕ) (sale : SaleState) → IsLegal office h → sale_of h number ≡ Some sale
+    → value_at (state_of h).cells sale.event (Back office.me) + (sale.seats - sale.given_back) ≤ value_at (state_of h).cells sale.event (Used office.me)
+refund_fits office h number sale legal found =
+    let all : Balanced office.me h sale.event = legal_along office (λ g. (event : List ℕ) → Balanced office.me g event) (λ e. omega arith) (balanced_after office) h legal sale.event in
+    let kept_is = sale_kept h number (kept h number) sale found in
+    let is = sale_is h number kept_is.0.request kept_is.0.reply sale kept_is.2 in
+    let one = sales_found (λ _ _. 0) (kept_seats h) sale.event (λ m a. omega arith) number sale.seats (sale.seats - sale.given_back) sale.event (omega (arith, is.2)) 0 h kept_is.0 kept_is.1 is.0 is.1 in
+    omega (
+      arith,
+      all,
+      ap (λ b. cond b (sale.seats - sale.given_back) 0) (same_event_self sale.event),
+      one,
+      legal_cells office h legal Selling tt sale.event,
+      legal_cells office h legal Refunding tt sale.event,
+    )

@@ -1,0 +1,55 @@
+use Rattle.std.proofs.Common.{◌≡◌, ◌<◌, ℕ, subst, sym, ap, ◌∙◌, ◌++◌, ◌∷◌, [], List, length, rules}
+use Rattle.event_catalogue.specs.Catalogue.{with_new}
+use Rattle.rights_lattice.specs.Cells.{raise_all, marks_of}
+use Rattle.rights_lattice.specs.State.{State, names_in_order}
+use Rattle.book_core.specs.declared.entry.Entry.{Entry}
+use Rattle.book_core.specs.Decision.{Office}
+use Rattle.book_core.specs.History.{asked_from, delta_of}
+use Rattle.book_core.specs.Legal.{IsNext}
+use Rattle.book_core.specs.BookView.{BookView, MarksAreWithin, IsInOrder}
+use Rattle.book_core.proofs.BookLaws.{marks_within, entered, unkept, keeps_refunds}
+use Rattle.book_core.proofs.book.Book.enter.Goals as goal
+
+pub raise_marks-requires-clause-in_range : goal.raise_marks-requires-clause-in_range
+raise_marks-requires-clause-in_range c =
+    let book = c.args.self.now in
+    let me : book.office.me < book.office.sites = subst (λ (b : BookView). b.office.me < b.office.sites) c.self.view_is c.self.invariant.me_is_site in
+    subst (λ (n : ℕ). MarksAreWithin n c.marks.result.now) (sym (ap (λ (b : BookView). b.office.sites) c.self.view_is))
+    (marks_within book.office book.history c.args.planned c.marks.result.now me c.requires.next
+    (c.marks.ensures ∙ ap (λ (d : State). marks_of d.cells) (c.delta.ensures ∙ ap delta_of c.planned.view_is)))
+
+pub keep-requires-clause-new : goal.keep-requires-clause-new
+keep-requires-clause-new c =
+    let fields = c.self.inside in
+    let office : Office = record { me = fields.me; sites = fields.rights.sites; limit = fields.limit } in
+    let next : IsNext office fields.history.items c.planned.inside.entry =
+    subst (λ (b : BookView). IsNext b.office b.history c.planned.inside.entry) (sym c.self.view_is)
+    (subst (λ (x : Entry). IsNext c.args.self.now.office c.args.self.now.history x) (sym c.planned.view_is) c.requires.next) in
+    unkept office fields.history.items c.planned.inside.entry fields.ledger.entries c.self.invariant.kept_are next
+
+pub keep-requires-clause-refund : goal.keep-requires-clause-refund
+keep-requires-clause-refund c =
+    let fields = c.self.inside in
+    let office : Office = record { me = fields.me; sites = fields.rights.sites; limit = fields.limit } in
+    let next : IsNext office fields.history.items c.planned.inside.entry =
+    subst (λ (b : BookView). IsNext b.office b.history c.planned.inside.entry) (sym c.self.view_is)
+    (subst (λ (x : Entry). IsNext c.args.self.now.office c.args.self.now.history x) (sym c.planned.view_is) c.requires.next) in
+    keeps_refunds office fields.history.items c.planned.inside.entry fields.ledger.entries c.self.invariant.kept_are next
+
+pub invariant_of-self : goal.invariant_of-self
+invariant_of-self c =
+    let fields = c.self.inside in
+    let office : Office = record { me = fields.me; sites = fields.rights.sites; limit = fields.limit } in
+    let entry = c.planned.inside.entry in
+    let next : IsNext office fields.history.items entry =
+    subst (λ (b : BookView). IsNext b.office b.history entry) (sym c.self.view_is)
+    (subst (λ (x : Entry). IsNext c.args.self.now.office c.args.self.now.history x) (sym c.planned.view_is) c.requires.next) in
+    let cells : c.raise_marks.new.rights.cells ≡ raise_all fields.rights.cells (marks_of (delta_of entry).cells) =
+    c.raise_marks.ensures.cells ∙ ap (raise_all fields.rights.cells) (c.marks.ensures ∙ ap (λ (d : State). marks_of d.cells) c.delta.ensures) in
+    let names : c.join.new.self.names ≡ with_new fields.names.names (names_in_order (delta_of entry).names) =
+    c.join.ensures.names ∙ ap (with_new fields.names.names) (c.names.ensures ∙ ap (λ (d : State). names_in_order d.names) c.delta-2.ensures) in
+    let kept : c.keep.new.ledger.entries ≡ fields.ledger.entries ++ asked_from (length fields.history.items) (entry ∷ []) =
+    c.keep.ensures ∙ ap (λ (place : ℕ). fields.ledger.entries ++ asked_from place (entry ∷ [])) (search rules) in
+    let after = entered office fields.history.items entry fields.rights.cells c.raise_marks.new.rights.cells fields.names.names c.join.new.self.names fields.ledger.entries c.keep.new.ledger.entries c.self.invariant next cells names kept in
+    subst (λ (l : List Entry). IsInOrder (record { me = fields.me; sites = c.raise_marks.new.rights.sites; limit = fields.limit }) l c.raise_marks.new.rights.cells c.join.new.self.names c.keep.new.ledger.entries) (sym c.push_reserved.ensures.items)
+    (subst (λ (n : ℕ). IsInOrder (record { me = fields.me; sites = n; limit = fields.limit }) (fields.history.items ++ entry ∷ []) c.raise_marks.new.rights.cells c.join.new.self.names c.keep.new.ledger.entries) (sym c.raise_marks.ensures.sites) after)

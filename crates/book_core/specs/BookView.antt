@@ -1,0 +1,58 @@
+-- What contracts see of a book. (Our own.)
+use Rattle.std.specs.Prelude.{◌≡◌, ℕ, ◌≤◌, ◌<◌, List, length, None}
+use Rattle.request_ledger.specs.Ledger.{Keeping, kept_under, IsRefundable}
+use Rattle.rights_lattice.specs.Cells.{Cells, Valued, marks_of, greatest}
+use Rattle.rights_lattice.specs.RightsView.{IsCellOf}
+use Rattle.rights_lattice.specs.declared.cell.Cell.{Cell}
+use Rattle.rights_lattice.specs.State.{names_in_order}
+use Rattle.book_core.specs.declared.entry.Entry.{Entry}
+use Rattle.book_core.specs.declared.entry.Entry.TheVariants.{Asked, Joined}
+use Rattle.book_core.specs.Decision.{Office}
+use Rattle.book_core.specs.History.{delta_of, state_of, names_of, asked}
+use Rattle.book_core.specs.Legal.{IsLegal}
+
+-- room for entries, for cells that are 0 now, for names, and for request numbers
+pub record Room : Type 0 where
+  pub entries : ℕ
+  pub cells : ℕ
+  pub names : ℕ
+  pub numbers : ℕ
+
+pub record BookView : Type 0 where
+  pub office : Office
+  pub history : List Entry
+  pub room : Room
+
+-- how many request numbers an entry takes
+abbrev pub numbers_in : Entry → ℕ
+numbers_in (Asked number request reply delta) = 1
+numbers_in (Joined peer delta) = 0
+
+-- the entry can be added without more memory
+pub record HasRoomFor (room : Room) (entry : Entry) : Type 0 where
+  pub for_entry : 1 ≤ room.entries
+  pub for_cells : length (marks_of (delta_of entry).cells) ≤ room.cells
+  pub for_names : length (names_in_order (delta_of entry).names) ≤ room.names
+  pub for_number : numbers_in entry ≤ room.numbers
+
+-- the number of the entry, if it has one, is not kept yet
+abbrev pub IsUnkept : Keeping → Entry → Type 0
+IsUnkept es (Asked number request reply delta) = kept_under es number ≡ None
+IsUnkept es (Joined peer delta) = Unit {0}
+
+-- the entry, if it is a refund that was done, is of a sale that is kept and not given back
+abbrev pub KeepsRefunds : Keeping → Entry → Type 0
+KeepsRefunds es (Asked number request reply delta) = IsRefundable es request reply
+KeepsRefunds es (Joined peer delta) = Unit {0}
+
+-- marks that are not 0 name sites below the count only
+abbrev pub MarksAreWithin : ℕ → List Valued → Type 0
+MarksAreWithin sites marks = (event : List ℕ) (cell : Cell) → 1 ≤ greatest marks event cell → IsCellOf sites cell
+
+-- the kept cells, names and numbers are those of the history, which is legal
+pub record IsInOrder (office : Office) (history : List Entry) (cells : Cells) (names : List (List ℕ)) (ledger : Keeping) : Type 0 where
+  pub me_is_site : office.me < office.sites
+  pub legal : IsLegal office history
+  pub cells_are : cells ≡ (state_of history).cells
+  pub names_are : names ≡ names_of history
+  pub kept_are : ledger ≡ asked history

@@ -1,0 +1,57 @@
+-- What a plan is, and why there is none.
+use Rattle.std.specs.Prelude.{◌≡◌, ℕ}
+use Rattle.book_core.specs.declared.entry.Entry.{Entry}
+use Rattle.book_core.specs.declared.entry.Entry.TheVariants.{Asked, Joined}
+use Rattle.request_ledger.specs.declared.request.Request.{Request}
+use Rattle.book_core.specs.declared.plan.Plan.{Plan}
+use Rattle.book_core.specs.declared.plan.Plan.TheVariants as plan
+use Rattle.book_core.specs.declared.plan.PlanFault.{PlanFault}
+use Rattle.book_core.specs.declared.plan.PlanFault.TheVariants as fault
+use Rattle.book_core.specs.Decision.{Decision, Again, Reused, Full, Fresh, decision}
+use Rattle.book_core.specs.declared.plan.JoinPlan.{JoinPlan}
+use Rattle.book_core.specs.declared.plan.JoinPlan.TheVariants as join_plan
+use Rattle.book_core.specs.declared.plan.JoinFault.{JoinFault}
+use Rattle.book_core.specs.declared.plan.JoinFault.TheVariants as join_fault
+use Rattle.rights_lattice.specs.State.{State}
+use Rattle.book_core.specs.Joining as join
+use Rattle.book_core.specs.Joining.{join_decision}
+use Rattle.book_core.specs.Legal.{IsNext}
+use Rattle.book_core.specs.BookView.{BookView, HasRoomFor}
+
+-- the entry is of this number and this request
+abbrev pub IsEntryOf : ℕ → Request → Entry → Type 0
+IsEntryOf number request (Asked n q reply delta) = (n ≡ number) × (q ≡ request)
+IsEntryOf number request (Joined peer delta) = ⊥
+
+-- the entry may follow the book's history, and the book has room for it
+pub record IsReady (book : BookView) (entry : Entry) : Type 0 where
+  pub next : IsNext book.office book.history entry
+  pub room : HasRoomFor book.room entry
+
+-- the plan is the decision on the request
+abbrev pub IsPlan : BookView → ℕ → Request → Plan → Type 0
+IsPlan book number request (plan.Again place reply) = decision book.office book.history number request ≡ Again place reply
+IsPlan book number request (plan.New entry) = IsEntryOf number request entry × IsReady book entry
+
+-- the decision is a reply that is entered
+abbrev pub IsFresh : Decision → Type 0
+IsFresh (Again place reply) = ⊥
+IsFresh (Reused place) = ⊥
+IsFresh Full = ⊥
+IsFresh (Fresh reply) = Unit {0}
+
+-- the fault is the decision on the request, or memory was refused to a fresh one
+abbrev pub IsFault : BookView → ℕ → Request → PlanFault → Type 0
+IsFault book number request (fault.Reused place) = decision book.office book.history number request ≡ Reused place
+IsFault book number request fault.Full = decision book.office book.history number request ≡ Full
+IsFault book number request fault.Memory = IsFresh (decision book.office book.history number request)
+
+-- the plan is the decision on the delta
+abbrev pub IsJoinPlan : BookView → ℕ → State → JoinPlan → Type 0
+IsJoinPlan book peer delta join_plan.NothingNew = join_decision book.office book.history peer delta ≡ join.NothingNew
+IsJoinPlan book peer delta (join_plan.New entry) = (entry ≡ Joined peer delta) × IsReady book entry
+
+-- the fault is the decision on the delta, or memory was refused to one that is joined
+abbrev pub IsJoinFault : BookView → ℕ → State → JoinFault → Type 0
+IsJoinFault book peer delta join_fault.Memory = join_decision book.office book.history peer delta ≡ join.Joins
+IsJoinFault book peer delta fault = join_decision book.office book.history peer delta ≡ join.Refuses fault

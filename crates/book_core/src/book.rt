@@ -1,0 +1,229 @@
+//! The book of a site.
+ghost use Rattle.std.specs.Prelude.{vec_len, vec_capacity, IfOk, IfErr, OnOk, ◌++◌, ◌∷◌, ◌≡◌, ℕ, ◌<◌, ◌≤◌, [], length, slice_get, Some, None};
+ghost use Rattle.std.specs.Option.{option_copied};
+ghost use Rattle.rights_lattice.specs.Cells.{value_at, raise_all, max_value};
+ghost use Rattle.rights_lattice.specs.State.{knows};
+ghost use Rattle.local_rights.specs.Rights.{released_in, sold_in, refunded_in};
+ghost use Rattle.request_ledger.specs.Ledger.{kept_under, IsRefundable};
+ghost use Rattle.book_core.specs.History.{state_of, kept, sale_of, names_of, asked_from};
+ghost use Rattle.book_core.specs.Decision.{own_left};
+ghost use Rattle.book_core.specs.BookView.{HasRoomFor, IsUnkept, KeepsRefunds, MarksAreWithin, numbers_in};
+ghost use Rattle.book_core.specs.Plans.{IsReady};
+ghost use Rattle.book_core.specs.declared.entry.Entry.TheVariants.{Asked};
+
+use crate::entry::Entry;
+use crate::limit::Limit;
+use crate::plan::Planned;
+use event_catalogue::Catalogue;
+use local_rights::{Totals, left, totals};
+use request_ledger::{Kept, Ledger, RequestNumber, SaleState};
+use rights_lattice::{Cell, Event, Mark, Rights, SiteId, Sites};
+use std::alloc::{AllocError, Global};
+use std::marker::Model;
+
+mod deciding;
+mod joining;
+
+/// The history of a site, and what it shows: cells, names, kept replies, rights.
+#[derive(Drop)]
+pub struct Book {
+    me: SiteId,
+    limit: Limit,
+    history: Vec<Entry>,
+    rights: Rights,
+    names: Catalogue,
+    ledger: Ledger,
+}
+
+impl Model for Book {
+    ghost use Rattle.std.specs.Prelude.{ℕ, ◌-◌, vec_len, vec_capacity};
+    ghost use Rattle.book_core.specs.BookView.{BookView, IsInOrder};
+    ghost use Rattle.book_core.specs.BookCode.{coded_book};
+
+    ghost Value = { BookView };
+
+    ghost coded = { coded_book };
+
+    ghost view = { λ b. record {
+      office = record { me = b.me; sites = b.rights.sites; limit = b.limit };
+      history = b.history.items;
+      room = record {
+        entries = vec_capacity b.history - vec_len b.history;
+        cells = b.rights.room;
+        names = b.names.room;
+        numbers = b.ledger.room;
+      };
+    } };
+
+    ghost invariant = { λ b. IsInOrder (record { me = b.me; sites = b.rights.sites; limit = b.limit }) b.history.items b.rights.cells b.names.names b.ledger.entries };
+}
+
+impl Book {
+    /// The book of a site that has no history.
+    pub fn new(alloc: Global, me: SiteId, sites: Sites, limit: Limit) -> Book
+        requires { me < sites }
+        ensures office { result.office ≡ record { me = me; sites = sites; limit = limit } }
+        ensures history { result.history ≡ [] }
+    {
+        Book {
+            me,
+            limit,
+            history: Vec::new(alloc),
+            rights: Rights::new(alloc, sites),
+            names: Catalogue::new(alloc),
+            ledger: Ledger::new(alloc),
+        }
+    }
+
+    /// The number of this site.
+    pub fn me(&self) -> SiteId
+        ensures me { result ≡ self.now.office.me }
+        ensures is_site { result < self.now.office.sites }
+    {
+        self.me
+    }
+
+    /// The count of sites.
+    pub fn sites(&self) -> Sites
+        ensures { result ≡ self.now.office.sites }
+    {
+        self.rights.sites()
+    }
+
+    /// How long the history may become.
+    pub fn limit(&self) -> Limit
+        ensures { result ≡ self.now.office.limit }
+    {
+        self.limit
+    }
+
+    /// The length of the history.
+    pub fn len(&self) -> usize
+        ensures { result ≡ length self.now.history }
+    {
+        self.history.len()
+    }
+
+    /// The entry at a place of the history.
+    pub fn entry(&self, place: usize) -> Option<&Entry>
+        ensures { option_copied result ≡ slice_get self.now.history place }
+    {
+        self.history.get(place)
+    }
+
+    /// The value of a cell: the greatest that an entry's delta gives it.
+    pub fn cell(&self, event: Event, cell: Cell) -> u64
+        ensures value { result ≡ value_at (state_of self.now.history).cells event cell }
+        ensures at_most_max { result ≤ max_value }
+    {
+        self.rights.get(event, cell)
+    }
+
+    /// Whether the event was announced here or in a delta that was joined.
+    pub fn knows(&self, event: Event) -> bool
+        ensures { result ≡ knows (state_of self.now.history).names event }
+    {
+        self.names.has(event)
+    }
+
+    /// How many events are known.
+    pub fn event_count(&self) -> usize
+        ensures { result ≡ length (names_of self.now.history) }
+    {
+        self.names.len()
+    }
+
+    /// The event that was the k-th to be known, from 0: by first appearance, rising within one delta.
+    pub fn event_at(&self, k: usize) -> Option<Event>
+        ensures { result ≡ slice_get (names_of self.now.history) k }
+    {
+        self.names.at(k)
+    }
+
+    /// The seats of an event that this site may still sell (SRDS 2015, and what was given back).
+    pub fn left(&self, event: Event) -> u64
+        ensures { result ≡ own_left self.now.office self.now.history event }
+    {
+        left(&self.rights, self.me, event)
+    }
+
+    /// What all sites released, sold and took back of an event, by this site's view.
+    pub fn totals(&self, event: Event) -> Totals
+        ensures released { result.released ≡ released_in (state_of self.now.history).cells event }
+        ensures sold { result.sold ≡ sold_in (state_of self.now.history).cells event }
+        ensures refunded { result.refunded ≡ refunded_in (state_of self.now.history).cells event }
+    {
+        totals(&self.rights, event)
+    }
+
+    /// The place, the request and the reply that are kept under a number.
+    pub fn kept(&self, number: RequestNumber) -> Option<Kept>
+        ensures { result ≡ kept self.now.history number }
+    {
+        self.ledger.kept(number)
+    }
+
+    /// The sale that was done under a number.
+    pub fn sale(&self, number: RequestNumber) -> Option<SaleState>
+        ensures { result ≡ sale_of self.now.history number }
+    {
+        self.ledger.sale(number)
+    }
+
+    /// Adds a planned entry to the history.
+    pub fn enter(&mut self, planned: Planned)
+        requires { IsReady self.old planned }
+        ensures office { self.new.office ≡ self.old.office }
+        ensures history { self.new.history ≡ self.old.history ++ planned ∷ [] }
+    {
+        let Planned { entry } = planned;
+        raise_marks(&mut self.rights, entry.delta().marks());
+        self.names.join(entry.delta().names());
+        keep(&mut self.ledger, self.history.len(), &entry);
+        self.history.push_reserved(entry);
+    }
+
+    // Makes room for an entry, of which nothing is shown.
+    fn reserve(&mut self, entry: &Entry) -> Result<(), AllocError>
+        ensures unchanged { self.new ≡ record self.old { room = self.new.room } }
+        ensures ok { OnOk result (HasRoomFor self.new.room entry.now) }
+    {
+        self.rights.reserve(entry.delta().marks().len())?;
+        self.names.reserve(entry.delta().names())?;
+        if let Entry::Asked { .. } = entry {
+            self.ledger.reserve()?;
+        }
+        self.history.reserve(1)?;
+        Ok(())
+    }
+}
+
+fn raise_marks(rights: &mut Rights, marks: &[Mark])
+    requires room { length marks.now ≤ rights.old.room }
+    requires in_range { MarksAreWithin rights.old.sites marks.now }
+    ensures cells { rights.new.cells ≡ raise_all rights.old.cells marks.now }
+    ensures sites { rights.new.sites ≡ rights.old.sites }
+{
+    for mark in marks {
+        mark.bounds();
+        rights.raise(*mark);
+    }
+}
+
+// Keeps the number of an asked entry; a joined one has none.
+fn keep(ledger: &mut Ledger, place: usize, entry: &Entry)
+    requires new { IsUnkept ledger.old.entries entry.now }
+    requires refund { KeepsRefunds ledger.old.entries entry.now }
+    requires room { numbers_in entry.now ≤ ledger.old.room }
+    ensures { ledger.new.entries ≡ ledger.old.entries ++ asked_from place (entry.now ∷ []) }
+{
+    match entry {
+        Entry::Asked {
+            number,
+            request,
+            reply,
+            ..
+        } => ledger.keep(*number, place, *request, *reply),
+        Entry::Joined { .. } => {}
+    }
+}

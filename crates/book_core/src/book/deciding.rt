@@ -1,0 +1,169 @@
+//! The decision on a request.
+ghost use Rattle.std.specs.Prelude.{IfOk, IfErr, ◌≡◌, ◌≤◌};
+ghost use Rattle.request_ledger.specs.Requests.{same_request};
+ghost use Rattle.book_core.specs.Decision.{reply_to, delta_for, state_of_item};
+ghost use Rattle.book_core.specs.Plans.{IsPlan, IsFault};
+ghost use Rattle.request_ledger.specs.declared.request.Request.TheVariants.{Announce, Release, Sell, Refund, Cede};
+
+use crate::book::Book;
+use crate::entry::Entry;
+use crate::plan::{Plan, PlanFault, Planned};
+use delta_mutators::{Delta, Item, announce, cession, refund, release, sale};
+use request_ledger::{Amount, Reply, Request, RequestNumber};
+use rights_lattice::{Cell, Event, SiteId};
+use std::alloc::{AllocError, Global};
+
+impl Book {
+    /// What a request under its number leads to: the reply that is kept under it, or a new entry.
+    ///
+    /// The book shows what it showed in every case, and has all the room that a new entry takes.
+    /// Neither a kept number nor a full history takes memory.
+    pub fn plan(
+        &mut self,
+        alloc: Global,
+        number: RequestNumber,
+        request: &Request,
+    ) -> Result<Plan, PlanFault>
+        ensures unchanged { self.new ≡ record self.old { room = self.new.room } }
+        ensures plan { IfOk result (IsPlan self.new number request.now) }
+        ensures fault { IfErr result (IsFault self.new number request.now) }
+    {
+        if let Some(kept) = self.kept(number) {
+            if is_same(request, &kept.request) {
+                return Ok(Plan::Again {
+                    place: kept.place,
+                    reply: kept.reply,
+                });
+            }
+            return Err(PlanFault::Reused { place: kept.place });
+        }
+        if self.history.len() as u64 >= self.limit.entries() {
+            return Err(PlanFault::Full);
+        }
+        let (reply, item) = self.decide(request);
+        let Ok(delta) = delta_of_item(alloc, item) else {
+            return Err(PlanFault::Memory);
+        };
+        let entry = Entry::Asked {
+            number,
+            request: *request,
+            reply,
+            delta,
+        };
+        if self.reserve(&entry).is_err() {
+            return Err(PlanFault::Memory);
+        }
+        Ok(Plan::New(Planned { entry }))
+    }
+
+    fn decide(&self, request: &Request) -> (Reply, Option<Item>)
+        ensures reply { result.0 ≡ reply_to self.now.office self.now.history request.now }
+        ensures item { state_of_item result.1 ≡ delta_for self.now.office self.now.history request.now result.0 }
+    {
+        match request {
+            Request::Announce { event } => self.announce(*event),
+            Request::Release { event, amount } => self.release(*event, *amount),
+            Request::Sell { event, amount } => self.sell(*event, *amount),
+            Request::Refund { sale } => self.refund(*sale),
+            Request::Cede { event, amount, to } => self.cede(*event, *amount, *to),
+        }
+    }
+
+    fn announce(&self, event: Event) -> (Reply, Option<Item>)
+        ensures reply { result.0 ≡ reply_to self.now.office self.now.history (Announce event) }
+        ensures item { state_of_item result.1 ≡ delta_for self.now.office self.now.history (Announce event) result.0 }
+    {
+        if self.knows(event) {
+            (Reply::Known, None)
+        } else {
+            (Reply::Done, Some(announce(event)))
+        }
+    }
+
+    fn release(&self, event: Event, amount: Amount) -> (Reply, Option<Item>)
+        ensures reply { result.0 ≡ reply_to self.now.office self.now.history (Release event amount) }
+        ensures item { state_of_item result.1 ≡ delta_for self.now.office self.now.history (Release event amount) result.0 }
+    {
+        if !self.knows(event) {
+            return (Reply::Unknown, None);
+        }
+        match release(&self.rights, self.me, event, amount.seats()) {
+            Ok(mark) => (Reply::Done, Some(Item::Cell(mark))),
+            Err(_) => (Reply::CellFull, None),
+        }
+    }
+
+    fn sell(&self, event: Event, amount: Amount) -> (Reply, Option<Item>)
+        ensures reply { result.0 ≡ reply_to self.now.office self.now.history (Sell event amount) }
+        ensures item { state_of_item result.1 ≡ delta_for self.now.office self.now.history (Sell event amount) result.0 }
+    {
+        if !self.knows(event) {
+            return (Reply::Unknown, None);
+        }
+        let left = self.left(event);
+        if left < amount.seats() {
+            return (Reply::Short { left }, None);
+        }
+        match sale(&self.rights, self.me, event, amount.seats()) {
+            Ok(mark) => (Reply::Done, Some(Item::Cell(mark))),
+            Err(_) => (Reply::CellFull, None),
+        }
+    }
+
+    fn refund(&self, number: RequestNumber) -> (Reply, Option<Item>)
+        ensures reply { result.0 ≡ reply_to self.now.office self.now.history (Refund number) }
+        ensures item { state_of_item result.1 ≡ delta_for self.now.office self.now.history (Refund number) result.0 }
+    {
+        let Some(sale) = self.sale(number) else {
+            return (Reply::NoSale, None);
+        };
+        let seats = sale.seats.seats();
+        if seats <= sale.given_back {
+            return (Reply::Refunded, None);
+        }
+        // No site gives back more than it sold, so the cell has room.
+        let _sold = self.rights.get(sale.event, Cell::Used { by: self.me });
+        match refund(&self.rights, self.me, sale.event, seats - sale.given_back) {
+            Ok(mark) => (Reply::Done, Some(Item::Cell(mark))),
+            Err(_) => unreachable!(),
+        }
+    }
+
+    fn cede(&self, event: Event, amount: Amount, to: SiteId) -> (Reply, Option<Item>)
+        ensures reply { result.0 ≡ reply_to self.now.office self.now.history (Cede event amount to) }
+        ensures item { state_of_item result.1 ≡ delta_for self.now.office self.now.history (Cede event amount to) result.0 }
+    {
+        if !self.knows(event) {
+            return (Reply::Unknown, None);
+        }
+        if to == self.me {
+            return (Reply::ToSelf, None);
+        }
+        if to.number() >= self.rights.sites().count() {
+            return (Reply::NoSite, None);
+        }
+        let left = self.left(event);
+        if left < amount.seats() {
+            return (Reply::Short { left }, None);
+        }
+        match cession(&self.rights, self.me, event, amount.seats(), to) {
+            Ok(mark) => (Reply::Done, Some(Item::Cell(mark))),
+            Err(_) => (Reply::CellFull, None),
+        }
+    }
+}
+
+fn delta_of_item(alloc: Global, item: Option<Item>) -> Result<Delta, AllocError>
+    ensures { IfOk result (λ delta. delta ≡ state_of_item item) }
+{
+    match item {
+        None => Ok(Delta::empty(alloc)),
+        Some(item) => Delta::of(alloc, item),
+    }
+}
+
+fn is_same(request: &Request, kept: &Request) -> bool
+    ensures { result ≡ same_request kept.now request.now }
+{
+    *kept == *request
+}

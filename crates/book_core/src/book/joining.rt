@@ -1,0 +1,115 @@
+//! What a peer's delta leads to.
+ghost use Rattle.std.specs.Prelude.{IfOk, IfErr, ◌≡◌, nat_le};
+ghost use Rattle.std.specs.List.{list_all};
+ghost use Rattle.rights_lattice.specs.Cells.{value_at};
+ghost use Rattle.rights_lattice.specs.State.{is_within, knows};
+ghost use Rattle.rights_lattice.specs.RightsView.{are_within, is_cell_of};
+ghost use Rattle.book_core.specs.History.{state_of, delta_of};
+ghost use Rattle.book_core.specs.Joining.{foreign, is_foreign, is_of_sites};
+ghost use Rattle.book_core.specs.Plans.{IsJoinPlan, IsJoinFault};
+
+use crate::book::Book;
+use crate::entry::Entry;
+use crate::plan::{JoinFault, JoinPlan, Planned};
+use delta_mutators::Delta;
+use rights_lattice::{Cell, Event, Mark, Rights, SiteId, Sites, owner};
+
+impl Book {
+    /// What a peer's delta leads to: nothing, where the state has all of it, or a new entry.
+    ///
+    /// The book shows what it showed in every case, and has all the room that a new entry takes.
+    /// No memory is taken up to and including a delta that holds nothing new. A refusal gives the delta back.
+    pub fn plan_join(&mut self, peer: SiteId, delta: Delta) -> Result<JoinPlan, (Delta, JoinFault)>
+        ensures unchanged { self.new ≡ record self.old { room = self.new.room } }
+        ensures plan { IfOk result (IsJoinPlan self.new peer delta) }
+        ensures fault { IfErr result (λ e. (e.0 ≡ delta) × IsJoinFault self.new peer delta e.1) }
+    {
+        if !self.is_of_sites(peer, &delta) {
+            return Err((delta, JoinFault::UnknownSite));
+        }
+        if let Some(mark) = foreign(&self.rights, self.me, delta.marks()) {
+            return Err((delta, JoinFault::ForeignRow { mark }));
+        }
+        if self.has_all_of(&delta) {
+            return Ok(JoinPlan::NothingNew);
+        }
+        if self.history.len() as u64 >= self.limit.entries() {
+            return Err((delta, JoinFault::Full));
+        }
+        let entry = Entry::Joined { peer, delta };
+        if self.reserve(&entry).is_err() {
+            return Err((delta_in(entry), JoinFault::Memory));
+        }
+        Ok(JoinPlan::New(Planned { entry }))
+    }
+
+    fn is_of_sites(&self, peer: SiteId, delta: &Delta) -> bool
+        ensures { result ≡ is_of_sites self.now.office peer delta.now }
+    {
+        let sites = self.rights.sites();
+        peer.number() < sites.count() && peer != self.me && are_within(sites, delta.marks())
+    }
+
+    fn has_all_of(&self, delta: &Delta) -> bool
+        ensures { result ≡ is_within delta.now (state_of self.now.history) }
+    {
+        self.knows_all(delta.names()) && self.reaches_all(delta.marks())
+    }
+
+    fn knows_all(&self, names: &[Event]) -> bool
+        ensures { result ≡ list_all (λ name. knows (state_of self.now.history).names name) names.now }
+    {
+        names.iter().all(|name| self.knows(*name))
+    }
+
+    fn reaches_all(&self, marks: &[Mark]) -> bool
+        ensures { result ≡ list_all (λ m. nat_le m.value (value_at (state_of self.now.history).cells m.event m.cell)) marks.now }
+    {
+        marks
+            .iter()
+            .all(|mark| mark.value <= self.cell(mark.event, mark.cell))
+    }
+}
+
+// The delta of an entry that is not entered.
+fn delta_in(entry: Entry) -> Delta
+    ensures { result ≡ delta_of entry }
+{
+    match entry {
+        Entry::Asked { delta, .. } => delta,
+        Entry::Joined { delta, .. } => delta,
+    }
+}
+
+fn are_within(sites: Sites, marks: &[Mark]) -> bool
+    ensures { result ≡ are_within sites marks.now }
+{
+    marks.iter().all(|mark| is_cell_of(sites, &mark.cell))
+}
+
+fn is_cell_of(sites: Sites, cell: &Cell) -> bool
+    ensures { result ≡ is_cell_of sites cell.now }
+{
+    match cell {
+        Cell::Gave { by, to } => by.number() < sites.count() && to.number() < sites.count(),
+        Cell::Used { by } | Cell::Back { by } => by.number() < sites.count(),
+    }
+}
+
+// The first mark of the site's own row that is above its own value.
+fn foreign(rights: &Rights, me: SiteId, marks: &[Mark]) -> Option<Mark>
+    ensures { result ≡ foreign me rights.now.cells marks.now }
+{
+    for mark in marks {
+        if is_foreign(rights, me, mark) {
+            return Some(*mark);
+        }
+    }
+    None
+}
+
+fn is_foreign(rights: &Rights, me: SiteId, mark: &Mark) -> bool
+    ensures { result ≡ is_foreign me rights.now.cells mark.now }
+{
+    owner(mark.cell) == me && rights.get(mark.event, mark.cell) < mark.value
+}

@@ -1,0 +1,12 @@
+//! The book of one site: its history, the decisions on requests, and what peers' deltas lead to.
+#![tactic(auto)]
+
+pub mod book;
+pub mod entry;
+pub mod limit;
+pub mod plan;
+
+pub use book::Book;
+pub use entry::Entry;
+pub use limit::Limit;
+pub use plan::{JoinFault, JoinPlan, Plan, PlanFault, Planned};

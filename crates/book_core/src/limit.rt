@@ -1,0 +1,57 @@
+//! How long a history may become.
+ghost use Rattle.std.specs.Prelude.{◌≡◌, ◌≤◌, ◌↔◌, IsSome, IfSome};
+
+use std::marker::Model;
+
+/// The greatest length of a history, 1 to 1,000,000 entries.
+#[derive(Clone, Copy, PartialEq, Eq, PartialOrd, Ord, Debug)]
+pub struct Limit {
+    entries: u32,
+}
+
+impl Model for Limit {
+    ghost use Rattle.std.specs.Prelude.{ℕ, ◌≤◌};
+
+    ghost Value = { ℕ };
+
+    ghost view = { λ l. l.entries };
+
+    ghost invariant = { λ l. (1 ≤ l.entries) × (l.entries ≤ 1000000) };
+
+    ghost inverse = { λ n. record { entries = n } };
+}
+
+impl Limit {
+    /// The limit that a history has where none is given.
+    pub const MAX: u64 = 1_000_000;
+
+    /// This many entries, where they are 1 to 1,000,000.
+    pub fn of(entries: u64) -> Option<Limit>
+        ensures in_range { IsSome result ↔ ((1 ≤ entries) × (entries ≤ 1000000)) }
+        ensures same { IfSome result (λ limit. limit ≡ entries) }
+    {
+        if 1 <= entries && entries <= Limit::MAX {
+            Some(Limit {
+                entries: entries as u32,
+            })
+        } else {
+            None
+        }
+    }
+
+    /// The greatest limit.
+    pub fn greatest() -> Limit
+        ensures { result ≡ 1000000 }
+    {
+        Limit { entries: 1_000_000 }
+    }
+
+    /// The number of entries.
+    pub fn entries(self) -> u64
+        ensures entries { result ≡ self }
+        ensures at_least_one { 1 ≤ result }
+        ensures at_most_max { result ≤ 1000000 }
+    {
+        u64::from(self.entries)
+    }
+}

@@ -1,0 +1,73 @@
+//! What a request or a peer's delta leads to, before it is entered.
+ghost use Rattle.std.specs.Prelude.{◌≡◌};
+
+use crate::entry::Entry;
+use request_ledger::Reply;
+use rights_lattice::Mark;
+use std::marker::Model;
+
+/// An entry that may follow the book's history, and that the book has room for.
+#[derive(Debug, Drop)]
+pub struct Planned {
+    pub(crate) entry: Entry,
+}
+
+impl Model for Planned {
+    ghost use Rattle.book_core.specs.declared.entry.Entry.{Entry};
+    ghost use Rattle.book_core.specs.BookCode.{coded_entry};
+
+    ghost Value = { Entry };
+
+    ghost coded = { coded_entry };
+
+    ghost view = { λ p. p.entry };
+}
+
+impl Planned {
+    /// The entry that is planned.
+    pub fn entry(&self) -> &Entry
+        ensures { result.now ≡ self.now }
+    {
+        &self.entry
+    }
+}
+
+/// What a request leads to.
+#[derive(Debug, Drop)]
+pub enum Plan {
+    /// The same request was decided under this number before, at this place of the history.
+    Again { place: usize, reply: Reply },
+    /// A new entry.
+    New(Planned),
+}
+
+/// Why a request leads to nothing.
+#[derive(Clone, Copy, PartialEq, Eq, Debug)]
+pub enum PlanFault {
+    /// Another request was decided under this number, at this place of the history.
+    Reused { place: usize },
+    /// The history is as long as it may become.
+    Full,
+    Memory,
+}
+
+/// What a peer's delta leads to.
+#[derive(Debug, Drop)]
+pub enum JoinPlan {
+    /// The state has all of it.
+    NothingNew,
+    /// A new entry.
+    New(Planned),
+}
+
+/// Why a peer's delta is not joined.
+#[derive(Clone, Copy, PartialEq, Eq, Debug)]
+pub enum JoinFault {
+    /// The peer is no other site of this book, or a mark names a site past the count.
+    UnknownSite,
+    /// This mark, the first such, is of the book's own row and above its own value.
+    ForeignRow { mark: Mark },
+    /// The history is as long as it may become.
+    Full,
+    Memory,
+}

@@ -1,0 +1,37 @@
+-- Lists of a delta as the state that they are.
+use Rattle.std.proofs.Common.{◌≡◌, ℕ, ◌≤◌, List, [], ◌∷◌, length, ap, ◌∙◌, subst, arith}
+use Rattle.rights_lattice.specs.Cells.{Valued, all_zero, raise}
+use Rattle.rights_lattice.specs.State.{State, bottom, join}
+use Rattle.rights_lattice.specs.Marks.{cells_of, names_of}
+use Rattle.rights_lattice.specs.Merging.{IsMerged, IsMergedNames}
+use Rattle.rights_lattice.proofs.CellLaws.{same_cells, value_at-join, value_at-raise, value_at-all_zero}
+use Rattle.rights_lattice.proofs.MarkLaws.{cells_of-none, cells_of-one, names_of-none, names_of-one, merged_cells, merged_names}
+use Rattle.delta_mutators.specs.declared.delta.Item.TheVariants.{Name, Cell}
+use Rattle.delta_mutators.specs.Lists.{AreLists}
+use Rattle.delta_mutators.specs.Items.{state_of}
+use Rattle.delta_mutators.specs.ApplyLaw.{ApplyingIsJoining}
+
+pub applying_is_joining : ApplyingIsJoining
+applying_is_joining X m = same_cells _ _ (λ e c. omega (arith, value_at-raise X m e c, value_at-join X (raise all_zero m) e c, value_at-raise all_zero m e c, value_at-all_zero e c))
+
+abbrev pub state_from : List (List ℕ) → List Valued → State
+state_from ns ms = record { cells = cells_of ms; names = names_of ns }
+
+pub empty_state : (ns : List (List ℕ)) (ms : List Valued) → ns ≡ [] → ms ≡ [] → state_from ns ms ≡ bottom
+empty_state ns ms p q = λ i. record { cells = (ap cells_of q ∙ cells_of-none) i; names = (ap names_of p ∙ names_of-none) i }
+
+pub name_state : (ns : List (List ℕ)) (ms : List Valued) (n : List ℕ) → ns ≡ n ∷ [] → ms ≡ [] → state_from ns ms ≡ state_of (Name n)
+name_state ns ms n p q = λ i. record { cells = (ap cells_of q ∙ cells_of-none) i; names = (ap names_of p ∙ names_of-one n) i }
+
+pub mark_state : (ns : List (List ℕ)) (ms : List Valued) (m : Valued) → ns ≡ [] → ms ≡ m ∷ [] → 1 ≤ m.value → state_from ns ms ≡ state_of (Cell m)
+mark_state ns ms m p q h = λ i. record { cells = (ap cells_of q ∙ cells_of-one m h) i; names = (ap names_of p ∙ names_of-none) i }
+
+-- the state of merged lists, where the merged lists are those of two states
+pub joined : (xs ys us vs out : List Valued) (ns ms ps qs names : List (List ℕ)) → us ≡ xs → vs ≡ ys → ps ≡ ns → qs ≡ ms
+    → AreLists ns xs → AreLists ms ys
+    → IsMerged us vs out (length us) (length vs) → IsMergedNames ps qs names (length ps) (length qs)
+    → ◌≡◌ {A = State} (record { cells = cells_of out; names = names_of names }) (join (record { cells = cells_of xs; names = names_of ns }) (record { cells = cells_of ys; names = names_of ms }))
+joined xs ys us vs out ns ms ps qs names u_is v_is p_is q_is left right marks known =
+    let cells_are = merged_cells xs ys out left.marks_rise right.marks_rise left.positive right.positive (subst (λ (l : List Valued). IsMerged l ys out (length l) (length ys)) u_is (subst (λ (l : List Valued). IsMerged us l out (length us) (length l)) v_is marks)) in
+    let names_are = merged_names ns ms names left.names_rise right.names_rise (subst (λ (l : List (List ℕ)). IsMergedNames l ms names (length l) (length ms)) p_is (subst (λ (l : List (List ℕ)). IsMergedNames ps l names (length ps) (length l)) q_is known)) in
+    λ i. record { cells = cells_are i; names = names_are i }

@@ -1,0 +1,2 @@
+pub mod DeltaLaws
+pub mod EndLaws

@@ -1,0 +1,93 @@
+// The mark of one operation: the least state that has its effect.
+ghost use Rattle.std.specs.Prelude.{◌≡◌, ◌≢◌, ◌+◌, ◌<◌, ◌≤◌, ◌↔◌, IfOk, IsErr};
+ghost use Rattle.rights_lattice.specs.declared.cell.Cell.TheVariants.{Gave, Used, Back};
+ghost use Rattle.rights_lattice.specs.Cells.{max_value, value_at};
+ghost use Rattle.delta_mutators.specs.declared.delta.Item.TheVariants.{Name};
+ghost use Rattle.delta_mutators.specs.Marks.{mark_plus};
+
+use crate::delta::Item;
+use rights_lattice::{Cell, Event, MAX_VALUE, Mark, Rights, SiteId};
+
+/// The value of the cell would exceed the greatest value of a cell.
+#[derive(Clone, Copy, PartialEq, Eq, Debug)]
+pub struct CellFull;
+
+/// The mark of a release of `amount` seats, 1 to `MAX_VALUE`.
+///
+/// `CellFull` where the site's released seats would exceed `MAX_VALUE`.
+pub fn release(rights: &Rights, me: SiteId, event: Event, amount: u64) -> Result<Mark, CellFull>
+    requires at_least_one { 1 ≤ amount }
+    requires at_most_max { amount ≤ max_value }
+    ensures mark { IfOk result (λ mark. mark ≡ mark_plus rights.now.cells event (Gave me me) amount) }
+    ensures full { IsErr result ↔ (max_value < value_at rights.now.cells event (Gave me me) + amount) }
+{
+    raised_by(rights, event, &Cell::Gave { by: me, to: me }, amount)
+}
+
+/// The mark of a sale of `amount` seats, 1 to `MAX_VALUE`.
+///
+/// `CellFull` where the site's sold seats would exceed `MAX_VALUE`.
+pub fn sale(rights: &Rights, me: SiteId, event: Event, amount: u64) -> Result<Mark, CellFull>
+    requires at_least_one { 1 ≤ amount }
+    requires at_most_max { amount ≤ max_value }
+    ensures mark { IfOk result (λ mark. mark ≡ mark_plus rights.now.cells event (Used me) amount) }
+    ensures full { IsErr result ↔ (max_value < value_at rights.now.cells event (Used me) + amount) }
+{
+    raised_by(rights, event, &Cell::Used { by: me }, amount)
+}
+
+/// The mark of a refund of `amount` seats, 1 to `MAX_VALUE`.
+///
+/// `CellFull` where the seats that the site took back would exceed `MAX_VALUE`.
+pub fn refund(rights: &Rights, me: SiteId, event: Event, amount: u64) -> Result<Mark, CellFull>
+    requires at_least_one { 1 ≤ amount }
+    requires at_most_max { amount ≤ max_value }
+    ensures mark { IfOk result (λ mark. mark ≡ mark_plus rights.now.cells event (Back me) amount) }
+    ensures full { IsErr result ↔ (max_value < value_at rights.now.cells event (Back me) + amount) }
+{
+    raised_by(rights, event, &Cell::Back { by: me }, amount)
+}
+
+/// The mark of a cession of `amount` rights, 1 to `MAX_VALUE`, to another site.
+///
+/// `CellFull` where the rights given to that site would exceed `MAX_VALUE`.
+pub fn cession(
+    rights: &Rights,
+    me: SiteId,
+    event: Event,
+    amount: u64,
+    to: SiteId,
+) -> Result<Mark, CellFull>
+    requires at_least_one { 1 ≤ amount }
+    requires at_most_max { amount ≤ max_value }
+    requires other { to ≢ me }
+    ensures mark { IfOk result (λ mark. mark ≡ mark_plus rights.now.cells event (Gave me to) amount) }
+    ensures full { IsErr result ↔ (max_value < value_at rights.now.cells event (Gave me to) + amount) }
+{
+    raised_by(rights, event, &Cell::Gave { by: me, to }, amount)
+}
+
+/// The item of an announcement: the event becomes known.
+pub fn announce(event: Event) -> Item
+    ensures { result ≡ Name event }
+{
+    Item::Name(event)
+}
+
+// The mark of a cell at its old value plus the amount.
+fn raised_by(rights: &Rights, event: Event, cell: &Cell, amount: u64) -> Result<Mark, CellFull>
+    requires at_least_one { 1 ≤ amount }
+    requires at_most_max { amount ≤ max_value }
+    ensures mark { IfOk result (λ mark. mark ≡ mark_plus rights.now.cells event cell.now amount) }
+    ensures full { IsErr result ↔ (max_value < value_at rights.now.cells event cell.now + amount) }
+{
+    let value = rights.get(event, *cell) + amount;
+    if value > MAX_VALUE {
+        return Err(CellFull);
+    }
+    Ok(Mark {
+        event,
+        cell: *cell,
+        value,
+    })
+}

@@ -1,0 +1,27 @@
+use crate::Catalogue;
+use rights_lattice::Event;
+use std::test::Fail;
+
+#[test]
+fn names_in_the_order_of_first_knowing(rt: HostRuntime) -> Result<(), Fail> {
+    let gala = Event::read(b"gala").expect(&rt, "a name");
+    let opera = Event::read(b"opera").expect(&rt, "a name");
+    let mass = Event::read(b"mass").expect(&rt, "a name");
+    let mut catalogue = Catalogue::new(rt.alloc());
+    assert!(rt; !catalogue.has(opera));
+
+    catalogue.reserve(&[opera])?;
+    catalogue.add(opera);
+    let names = [gala, opera, mass, gala];
+    catalogue.reserve(&names)?;
+    catalogue.join(&names);
+    assert_eq!(rt; catalogue.len(), 3);
+    for (k, want) in [Some(opera), Some(gala), Some(mass), None]
+        .iter()
+        .enumerate()
+    {
+        assert_eq!(rt; catalogue.at(k), *want, "at {k}");
+    }
+    assert!(rt; catalogue.has(mass));
+    Ok(())
+}

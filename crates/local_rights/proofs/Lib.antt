@@ -1,0 +1,4 @@
+pub mod CounterLaws
+pub mod OtherRows
+pub mod Sums
+pub mod Within

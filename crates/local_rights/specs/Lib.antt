@@ -1,0 +1,2 @@
+pub mod BoundedCounter
+pub mod Rights

@@ -1,0 +1,15 @@
+//! The rights of a site, and what all sites released, sold and took back.
+//!
+//! Rights and the counter's value are those of the bounded counter (Balegas et al., SRDS 2015);
+//! what a site takes back in refunds is our own.
+#![tactic(auto)]
+
+pub mod laws;
+pub mod report;
+pub mod rights;
+
+pub use report::Totals;
+pub use rights::{left, paper_value, totals};
+
+#[cfg(test)]
+mod tests;

@@ -1,0 +1,64 @@
+//! Sums of the cells of an event.
+ghost use Rattle.std.specs.Prelude.{◌≡◌, ◌*◌, ◌≤◌};
+ghost use Rattle.rights_lattice.specs.Cells.{max_value};
+ghost use Rattle.local_rights.specs.Rights.{HasRights, left_of, released_in, sold_in, refunded_in, paper_value};
+
+use crate::report::Totals;
+use rights_lattice::{Cell, Event, Rights, SiteId};
+
+/// The seats that the site may still sell: what it released, got from other sites and took back,
+/// less what it gave to them and sold.
+pub fn left(rights: &Rights, me: SiteId, event: Event) -> u64
+    requires { HasRights rights.now.cells event me }
+    ensures { result ≡ left_of rights.now.cells event me }
+{
+    let mut gained = rights.get(event, Cell::Gave { by: me, to: me });
+    gained += rights.get(event, Cell::Back { by: me });
+    let mut spent = rights.get(event, Cell::Used { by: me });
+    let sites = rights.sites();
+    for other in 0..sites.count() {
+        let other = sites.site(other);
+        if other != me {
+            gained += rights.get(event, Cell::Gave { by: other, to: me });
+            spent += rights.get(event, Cell::Gave { by: me, to: other });
+        }
+    }
+    gained - spent
+}
+
+/// The seats of the event that all sites released, sold and took back.
+pub fn totals(rights: &Rights, event: Event) -> Totals
+    ensures released { result.released ≡ released_in rights.now.cells event }
+    ensures sold { result.sold ≡ sold_in rights.now.cells event }
+    ensures refunded { result.refunded ≡ refunded_in rights.now.cells event }
+
+    // A caller may add them.
+    ensures released_bound { result.released ≤ 64 * max_value }
+    ensures sold_bound { result.sold ≤ 64 * max_value }
+    ensures refunded_bound { result.refunded ≤ 64 * max_value }
+{
+    let mut released = 0;
+    let mut sold = 0;
+    let mut refunded = 0;
+    let sites = rights.sites();
+    for number in 0..sites.count() {
+        let site = sites.site(number);
+        released += rights.get(event, Cell::Gave { by: site, to: site });
+        sold += rights.get(event, Cell::Used { by: site });
+        refunded += rights.get(event, Cell::Back { by: site });
+    }
+    Totals {
+        released,
+        sold,
+        refunded,
+    }
+}
+
+/// The value of the bounded counter: what was released and taken back, less what was sold.
+/// It is negative where more was sold than released, as in a state that no run of the sites reaches.
+pub fn paper_value(rights: &Rights, event: Event) -> i64
+    ensures { result ≡ paper_value rights.now.cells event }
+{
+    let totals = totals(rights, event);
+    (totals.released + totals.refunded) as i64 - totals.sold as i64
+}

@@ -1,0 +1,51 @@
+use crate::{Totals, left, paper_value, totals};
+use rights_lattice::{Cell, Event, Mark, Rights, Sites};
+use std::test::Fail;
+
+#[test]
+fn cession_reaches_the_other_site(rt: HostRuntime) -> Result<(), Fail> {
+    let event = Event::read(b"gala").expect(&rt, "a name");
+    let sites = Sites::of(2).expect(&rt, "a count");
+    let giver = sites.site(0);
+    let taker = sites.site(1);
+    let released = Cell::Gave {
+        by: giver,
+        to: giver,
+    };
+    let ceded = Cell::Gave {
+        by: giver,
+        to: taker,
+    };
+    let mut rights = Rights::new(rt.alloc(), sites);
+    rights.reserve(4)?;
+    rights.raise(Mark {
+        event,
+        cell: released,
+        value: 100,
+    });
+    rights.raise(Mark {
+        event,
+        cell: ceded,
+        value: 30,
+    });
+    assert_eq!(rt; left(&rights, taker, event), 30);
+
+    rights.raise(Mark {
+        event,
+        cell: Cell::Used { by: taker },
+        value: 25,
+    });
+    rights.raise(Mark {
+        event,
+        cell: Cell::Back { by: taker },
+        value: 2,
+    });
+    let want = Totals {
+        released: 100,
+        sold: 25,
+        refunded: 2,
+    };
+    assert_eq!(rt; totals(&rights, event), want);
+    assert_eq!(rt; paper_value(&rights, event), 77);
+    Ok(())
+}

@@ -1,0 +1,4 @@
+pub mod Words
+pub mod Number
+pub mod Input
+pub mod Writing

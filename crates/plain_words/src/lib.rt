@@ -1,0 +1,20 @@
+//! Plain text, read a line at a time and a word at a time, and written as far as a writer takes it.
+//!
+//! A line ends with byte 10 and has at most 200 bytes; its words stand one space apart; a number is
+//! decimal, without a sign and without leading zeros.
+#![tactic(auto)]
+
+mod lines;
+mod number;
+mod text;
+mod words;
+mod writing;
+
+pub use lines::{LineBytes, LineFault, has_more, next_line};
+pub use number::{number_at, read_number};
+pub use text::{Text, put, put_number};
+pub use words::Words;
+pub use writing::{WriteFault, write_bytes};
+
+#[cfg(test)]
+mod tests;

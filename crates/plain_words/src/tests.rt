@@ -1,0 +1,64 @@
+//! Each call once, at values from the texts that the formats name.
+
+use super::*;
+use std::test::Fail;
+
+#[test]
+fn words_and_numbers(rt: HostRuntime) {
+    let mut words = Words::new(b"sell 10 gala 007");
+    assert!(rt; !words.is_empty());
+    assert!(rt; words.next() == Some(b"sell".as_slice()));
+    assert_eq!(rt; number_at(&mut words, 1, 1_000_000_000_000), Some(10));
+    assert!(rt; words.next() == Some(b"gala".as_slice()));
+    assert_eq!(rt; number_at(&mut words, 1, 1_000_000_000_000), None);
+    assert!(rt; words.is_empty());
+    assert!(rt; words.next().is_none());
+
+    let cases = [
+        (b"0".as_slice(), Some(0)),
+        (b"18446744073709551615".as_slice(), Some(u64::MAX)),
+        (b"18446744073709551616".as_slice(), None),
+        (b"".as_slice(), None),
+        (b"+7".as_slice(), None),
+        (b"07".as_slice(), None),
+        (b"7\r".as_slice(), None),
+    ];
+    for (word, wanted) in cases {
+        assert_eq!(rt; read_number(word, 0, u64::MAX), wanted, "{word:?}");
+    }
+}
+
+#[test]
+fn lines(rt: HostRuntime) -> Result<(), LineFault> {
+    let mut input = b"sites 1\n\nlast".as_slice();
+    let mut line = LineBytes::new();
+    for wanted in [b"sites 1".as_slice(), b"".as_slice(), b"last".as_slice()] {
+        assert!(rt; next_line(&mut input, &mut line)?);
+        assert!(rt; line.as_slice() == wanted);
+    }
+    assert!(rt; !next_line(&mut input, &mut line)?);
+    assert!(rt; !has_more(&mut input)?);
+    assert!(rt; has_more(&mut b"\n".as_slice())?);
+
+    let long = [b'a'; 201];
+    assert!(rt; next_line(&mut &long[..200], &mut line)?);
+    assert_eq!(rt;
+        next_line(&mut long.as_slice(), &mut line),
+        Err(LineFault::LineTooLong)
+    );
+    Ok(())
+}
+
+#[test]
+fn texts(rt: HostRuntime) -> Result<(), Fail> {
+    let mut text = Text::new();
+    put(&mut text, b"left ");
+    put_number(&mut text, 1_000_000_000_000);
+    let mut out = Vec::new(rt.alloc());
+    write_bytes(text.as_slice(), &mut out)?;
+    assert!(rt; out.as_slice() == b"left 1000000000000".as_slice());
+    let mut short = [0u8; 3];
+    assert!(rt; write_bytes(b"done", &mut short.as_mut_slice()) == Err(WriteFault));
+    assert!(rt; short.as_slice() == b"don".as_slice());
+    Ok(())
+}

@@ -1,0 +1,20 @@
+-- What requests and replies are. (Our own.)
+use Rattle.std.specs.Prelude.{Bool, true, false, ◌&&◌, ◌==◌}
+use Rattle.rights_lattice.specs.Cell.{same_event}
+use Rattle.request_ledger.specs.declared.request.Request.{Request}
+use Rattle.request_ledger.specs.declared.request.Request.TheVariants.{Announce, Release, Sell, Refund, Cede}
+use Rattle.request_ledger.specs.declared.reply.Reply.{Reply}
+use Rattle.request_ledger.specs.declared.reply.Reply.TheVariants.{Done}
+
+abbrev pub is_done : Reply → Bool
+is_done Done = true
+is_done _ = false
+
+-- whether two requests are the same
+abbrev pub same_request : Request → Request → Bool
+same_request (Announce e) (Announce f) = same_event e f
+same_request (Release e n) (Release f m) = same_event e f && (n == m)
+same_request (Sell e n) (Sell f m) = same_event e f && (n == m)
+same_request (Refund s) (Refund t) = s == t
+same_request (Cede e n i) (Cede f m j) = same_event e f && (n == m) && (i == j)
+same_request _ _ = false

@@ -1,0 +1,177 @@
+//! What was decided under each request number, and what was given back of each sale.
+ghost use Rattle.std.specs.Prelude.{◌≡◌, ℕ, ◌+◌, ◌≤◌, ◌==◌, if◌then◌else◌, [], ◌∷◌, ◌++◌, None, Some, IsSome, OnOk, IsOk};
+ghost use Rattle.indexmap.specs.IndexMap.{spare};
+ghost use Rattle.request_ledger.specs.GivenBack.{refund_with, sale_with, seats_under, sum_under, AreSums, AreSumsWith};
+ghost use Rattle.request_ledger.specs.Ledger.{kept_under, sale_under, IsRefundable};
+
+use crate::number::RequestNumber;
+use crate::reply::{Kept, Reply, SaleState};
+use crate::request::Request;
+use indexmap::IndexMap;
+use std::alloc::{AllocError, Global};
+use std::marker::Model;
+
+/// What is kept under each request number of a site, and what was given back of each sale.
+/// A look-up takes as long in a million entries as in a thousand.
+#[derive(Drop)]
+pub struct Ledger {
+    kept: IndexMap<RequestNumber, Kept>,
+    /// Seats that refunds gave back, by the sale's number.
+    given_back: IndexMap<RequestNumber, u64>,
+}
+
+impl Model for Ledger {
+    ghost use Rattle.std.specs.Prelude.{min};
+    ghost use Rattle.indexmap.specs.IndexMap.{spare};
+    ghost use Rattle.request_ledger.specs.Ledger.{LedgerView, coded_ledger};
+    ghost use Rattle.request_ledger.specs.GivenBack.{AreSums};
+
+    ghost Value = { LedgerView };
+
+    ghost coded = { coded_ledger };
+
+    ghost view = { λ l. record { entries = l.kept.entries; room = min (spare l.kept) (spare l.given_back) } };
+
+    ghost invariant = { λ l. AreSums l.kept.entries l.given_back.entries };
+}
+
+impl Ledger {
+    /// A ledger that keeps nothing.
+    pub fn new(alloc: Global) -> Ledger
+        ensures entries { result.entries ≡ [] }
+    {
+        Ledger {
+            kept: IndexMap::new(alloc),
+            given_back: IndexMap::new(alloc),
+        }
+    }
+
+    /// What is kept under the number.
+    pub fn kept(&self, number: RequestNumber) -> Option<Kept>
+        ensures kept { result ≡ kept_under self.now.entries number }
+    {
+        kept_in(&self.kept, number)
+    }
+
+    /// Makes room for one more number. What is kept stays, also where there is no memory.
+    pub fn reserve(&mut self) -> Result<(), AllocError>
+        ensures ok { OnOk result (1 ≤ self.new.room) }
+        ensures succeeds { 1 ≤ self.old.room → IsOk result }
+        ensures entries { self.new.entries ≡ self.old.entries }
+        ensures room { self.old.room ≤ self.new.room }
+    {
+        self.kept.reserve(1)?;
+        self.given_back.reserve(1)?;
+        Ok(())
+    }
+
+    /// Keeps the request and its reply under a number that is new, for good.
+    pub fn keep(&mut self, number: RequestNumber, place: usize, request: Request, reply: Reply)
+        requires new { kept_under self.old.entries number ≡ None }
+        requires room { 1 ≤ self.old.room }
+        requires refund { IsRefundable self.old.entries request reply }
+        ensures entries { self.new.entries ≡ self.old.entries ++ (number, record { place = place; request = request; reply = reply }) ∷ [] }
+        ensures room { self.old.room ≤ self.new.room + 1 }
+    {
+        give_back(&self.kept, &mut self.given_back, &request, reply);
+        let kept = Kept {
+            place,
+            request,
+            reply,
+        };
+        match self.kept.insert(number, kept) {
+            Ok(_) => {}
+            Err(_) => unreachable!(),
+        }
+    }
+
+    /// The sale that was done under the number, with what was given back of it.
+    pub fn sale(&self, number: RequestNumber) -> Option<SaleState>
+        ensures sale { result ≡ sale_under self.now.entries number }
+    {
+        let given_back = self.given_back.get(&number).copied().unwrap_or(0);
+        let Some(kept) = self.kept(number) else {
+            return None;
+        };
+        sold(&kept, given_back)
+    }
+}
+
+/// What is kept under the number.
+fn kept_in(kept: &IndexMap<RequestNumber, Kept>, number: RequestNumber) -> Option<Kept>
+    ensures { result ≡ kept_under kept.now.entries number }
+{
+    kept.get(&number).copied()
+}
+
+/// Adds what the request gives back, where it is a refund that was done.
+fn give_back(
+    kept: &IndexMap<RequestNumber, Kept>,
+    sums: &mut IndexMap<RequestNumber, u64>,
+    request: &Request,
+    reply: Reply,
+)
+    requires room { 1 ≤ spare sums.old }
+    requires refund { IsRefundable kept.now.entries request.now reply }
+    requires sums { AreSums kept.now.entries sums.old.entries }
+    ensures sums { AreSumsWith kept.now.entries request.now reply sums.new.entries }
+    ensures room { spare sums.old ≤ spare sums.new + 1 }
+{
+    match refund_in(request, reply) {
+        Some(sale) => {
+            let seats = seats_of(kept, sale);
+            set_sum(sums, sale, seats);
+        }
+        None => {}
+    }
+}
+
+/// Sets what is given back of the sale.
+fn set_sum(sums: &mut IndexMap<RequestNumber, u64>, sale: RequestNumber, seats: u64)
+    requires { 1 ≤ spare sums.old }
+    ensures sums { (number : ℕ) → sum_under sums.new.entries number ≡ (if sale == number then seats else sum_under sums.old.entries number) }
+    ensures room { spare sums.old ≤ spare sums.new + 1 }
+{
+    match sums.insert(sale, seats) {
+        Ok(_) => {}
+        Err(_) => unreachable!(),
+    }
+}
+
+/// The sale that is given back, where the request is a refund that was done.
+fn refund_in(request: &Request, reply: Reply) -> Option<RequestNumber>
+    ensures { result ≡ refund_with request.now reply }
+{
+    match request {
+        Request::Refund { sale } if reply == Reply::Done => Some(*sale),
+        _ => None,
+    }
+}
+
+/// The sale, where the request is one that was done.
+fn sold(kept: &Kept, given_back: u64) -> Option<SaleState>
+    ensures { result ≡ sale_with kept.now.request kept.now.reply given_back }
+{
+    match &kept.request {
+        Request::Sell { event, amount } if kept.reply == Reply::Done => Some(SaleState {
+            event: *event,
+            seats: *amount,
+            given_back,
+        }),
+        _ => None,
+    }
+}
+
+/// The seats of the sale that is kept under the number.
+fn seats_of(kept: &IndexMap<RequestNumber, Kept>, sale: RequestNumber) -> u64
+    requires { IsSome (seats_under kept.now.entries sale) }
+    ensures { seats_under kept.now.entries sale ≡ Some result }
+{
+    match kept_in(kept, sale) {
+        Some(kept) => match sold(&kept, 0) {
+            Some(state) => state.seats.seats(),
+            None => unreachable!(),
+        },
+        None => unreachable!(),
+    }
+}

@@ -1,0 +1,33 @@
+//! What is asked of a site.
+use crate::amount::Amount;
+use crate::number::RequestNumber;
+use rights_lattice::{Event, SiteId};
+
+/// A request to one site, which decides it from its own rights.
+#[derive(Clone, Copy, PartialEq, Eq, Debug)]
+pub enum Request {
+    /// Makes the name of an event known.
+    Announce {
+        event: Event,
+    },
+    /// Adds seats to what this site may sell.
+    Release {
+        event: Event,
+        amount: Amount,
+    },
+    /// Sells seats out of this site's own rights.
+    Sell {
+        event: Event,
+        amount: Amount,
+    },
+    /// Gives back all seats of the sale that this site made under `sale`.
+    Refund {
+        sale: RequestNumber,
+    },
+    /// Hands rights of this site to the site `to`.
+    Cede {
+        event: Event,
+        amount: Amount,
+        to: SiteId,
+    },
+}

@@ -1,0 +1,61 @@
+use crate::{Amount, Kept, Ledger, Reply, Request, RequestNumber, SaleState};
+use rights_lattice::Event;
+use std::test::Fail;
+
+#[test]
+fn amounts_and_numbers_have_limits(rt: HostRuntime) {
+    for (number, is_one) in [
+        (0, false),
+        (1, true),
+        (1_000_000_000_000, true),
+        (1_000_000_000_001, false),
+    ] {
+        let amount = Amount::of(number).map(|amount| amount.seats());
+        let request = RequestNumber::of(number).map(|request| request.get());
+        let want = if is_one { Some(number) } else { None };
+        assert_eq!(rt; amount, want, "at {number}");
+        assert_eq!(rt; request, want, "at {number}");
+    }
+}
+
+#[test]
+fn refund_once_at_the_seller(rt: HostRuntime) -> Result<(), Fail> {
+    let event = Event::read(b"gala").expect(&rt, "a name");
+    let seats = Amount::of(3).expect(&rt, "an amount");
+    let sale = RequestNumber::of(7).expect(&rt, "a number");
+    let refund = RequestNumber::of(8).expect(&rt, "a number");
+    let mut ledger = Ledger::new(rt.alloc());
+    assert_eq!(rt; ledger.sale(sale), None);
+
+    ledger.reserve()?;
+    assert_eq!(rt; ledger.kept(sale), None);
+    let sell = Request::Sell {
+        event,
+        amount: seats,
+    };
+    ledger.keep(sale, 0, sell, Reply::Done);
+    let sold = SaleState {
+        event,
+        seats,
+        given_back: 0,
+    };
+    assert_eq!(rt; ledger.sale(sale), Some(sold));
+
+    ledger.reserve()?;
+    assert_eq!(rt; ledger.kept(refund), None);
+    ledger.keep(refund, 1, Request::Refund { sale }, Reply::Done);
+    let given_back = SaleState {
+        event,
+        seats,
+        given_back: 3,
+    };
+    assert_eq!(rt; ledger.sale(sale), Some(given_back));
+    assert_eq!(rt; ledger.sale(refund), None);
+    let kept = Kept {
+        place: 1,
+        request: Request::Refund { sale },
+        reply: Reply::Done,
+    };
+    assert_eq!(rt; ledger.kept(refund), Some(kept));
+    Ok(())
+}

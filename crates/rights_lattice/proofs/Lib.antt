@@ -1,0 +1,11 @@
+pub mod CellLaws
+pub mod DenseLaws
+pub mod MarkLaws
+pub mod MergeLaws
+pub mod MissingLaws
+pub mod NameLaws
+pub mod RightsLaws
+pub mod RisingLaws
+pub mod SlotLaws
+pub mod SpotLaws
+pub mod StateLaws

@@ -1,0 +1,17 @@
+-- Event names: 1 to 32 bytes of a-z, 0-9 and -, kept in a buffer of 32 bytes whose rest is zero. Our own.
+use Rattle.std.specs.Prelude.{ℕ, ◌-◌, ◌≤◌, Bool, ◌&&◌, ◌||◌, nat_le, ◌==◌, IsTrue, List, ◌++◌, length, replicate}
+use Rattle.std.specs.List.{list_all}
+
+-- the test of one byte of a name: a letter, a digit or a dash
+abbrev pub is_event_byte : ℕ → Bool
+is_event_byte b = (nat_le 97 b && nat_le b 122) || (nat_le 48 b && nat_le b 57) || b == 45
+
+-- a text that names an event
+pub record IsEventName (name : List ℕ) : Type 0 where
+  pub not_empty : 1 ≤ length name
+  pub at_most_32 : length name ≤ 32
+  pub bytes_allowed : IsTrue (list_all is_event_byte name)
+
+-- the name, with zeros up to 32 bytes
+abbrev pub padded_name : List ℕ → List ℕ
+padded_name name = name ++ replicate (32 - length name) 0

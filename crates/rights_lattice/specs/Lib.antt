@@ -1,0 +1,11 @@
+pub mod Cell
+pub mod CellOrder
+pub mod Cells
+pub mod Dense
+pub mod EventName
+pub mod JoinLaws
+pub mod Marks
+pub mod Merging
+pub mod RightsView
+pub mod State
+pub mod Sums

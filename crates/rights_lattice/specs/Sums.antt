@@ -1,0 +1,11 @@
+-- Sums over the sites. Our own.
+use Rattle.std.specs.Prelude.{ℕ, zero, suc, ◌+◌}
+
+-- site numbers are below this; a site that is not there has only zeros
+unfoldable pub max_sites : ℕ
+max_sites = 64
+
+-- f 0 + .. + f (n - 1)
+abbrev pub sum_below : ℕ → (ℕ → ℕ) → ℕ
+sum_below zero f = 0
+sum_below (suc n) f = sum_below n f + f n

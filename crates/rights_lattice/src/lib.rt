@@ -1,0 +1,24 @@
+//! Events, sites, cells, and the state of rights as a join semilattice.
+//!
+//! A cell is an entry of the rights matrix of an escrow bounded counter (Balegas et al., SRDS 2015);
+//! what a site takes back in refunds is our own. States are ordered cell by cell and joined to the
+//! greater of each cell, as state-based replicated data are (INRIA RR-7506).
+#![tactic(auto)]
+
+mod blocks;
+pub mod cell;
+pub mod event;
+pub mod laws;
+pub mod mark;
+pub mod merge;
+pub mod rights;
+pub mod site;
+#[cfg(test)]
+mod tests;
+
+pub use cell::{Cell, owner};
+pub use event::Event;
+pub use mark::{MAX_VALUE, Mark};
+pub use merge::{Next, NextName, key_order, merge_marks, merge_names, next_name_of, next_of};
+pub use rights::Rights;
+pub use site::{SiteId, Sites};

@@ -1,0 +1,35 @@
+use Rattle.std.proofs.Common.{◌≡◌, ℕ, ◌≤◌, List, [], ◌∷◌, ◌++◌, Some, length, length-append, subst, sym, ap, ◌∙◌, arith}
+use Rattle.std.specs.Prelude.{slice_get}
+use Rattle.rights_lattice.specs.Sums.{max_sites}
+use Rattle.book_core.specs.BookView.{BookView}
+use Rattle.book_core.specs.Decision.{Office}
+use Rattle.world_steps.proofs.Books.{IsOpened, opened_push, kept_opening}
+use Rattle.world_steps.proofs.world.World.new.Goals as goal
+
+few : (n : ℕ) → n ≤ 16 → n ≤ max_sites
+unfolding max_sites
+few n l = omega arith
+
+pub loop-number-preserved : goal.loop-number-preserved
+loop-number-preserved c =
+    let before = c.loop-number.books.items in
+    let book : BookView = c.new.result in
+    let items : c.push.new.self.items ≡ before ++ book ∷ [] = c.in_ok-push.ensures.items in
+    let opened : IsOpened c.args.sites c.args.limit (length before) book = record {
+      office = c.new.ensures.office ∙ ap (λ (n : ℕ). let o : Office = record { me = n; sites = c.args.sites; limit = c.args.limit } in o) (c.site.ensures ∙ sym c.loop-number.invariant.len);
+      history = c.new.ensures.history;
+    } in
+    record {
+      len = omega (arith, ap length items, length-append before (book ∷ []), c.loop-number.invariant.len);
+      opened = λ i b found. opened_push c.args.sites c.args.limit before book c.loop-number.invariant.opened opened i b (subst (λ (l : List BookView). slice_get l i ≡ Some b) items found);
+    }
+
+pub invariant_of-result : goal.invariant_of-result
+invariant_of-result c =
+    (kept_opening c.args.sites c.args.limit c.loop-number.books.items (few c.args.sites (omega (arith, c.count-number-end.ensures.count, c.count-number-end.ensures.at_most_16)))
+    (omega (arith, c.count-number-end.ensures.count, c.loop-number.invariant.len)) c.loop-number.invariant.opened).0
+
+pub returns : goal.returns
+returns c =
+    (kept_opening c.args.sites c.args.limit c.loop-number.books.items (few c.args.sites (omega (arith, c.count-number-end.ensures.count, c.count-number-end.ensures.at_most_16)))
+    (omega (arith, c.count-number-end.ensures.count, c.loop-number.invariant.len)) c.loop-number.invariant.opened).1

@@ -1,0 +1,5 @@
+pub mod Outcomes
+pub mod Promises
+pub mod Reaching
+pub mod World
+pub mod WorldCode

@@ -1,0 +1,8 @@
+//! All sites as one list of steps, and what holds over every such list.
+#![tactic(auto)]
+
+pub mod step;
+pub mod world;
+
+pub use step::{Outcome, Step, WorldFault};
+pub use world::World;
