@@ -10,3 +10,6 @@ pub use book::Book;
 pub use entry::Entry;
 pub use limit::Limit;
 pub use plan::{JoinFault, JoinPlan, Plan, PlanFault, Planned};
+
+#[cfg(test)]
+mod tests;

@@ -18,7 +18,9 @@ use Rattle.rights_lattice.proofs.CellLaws.{key_cmp_total, same_cells, greatest-a
 use Rattle.delta_mutators.specs.declared.delta.Item.{Item}
 use Rattle.delta_mutators.specs.declared.delta.Item.TheVariants as item
 use Rattle.rights_lattice.specs.Marks.{AreMarks, entries_of, are_rising_marks, cells_of, name_entries, are_rising_names, names_of}
-use Rattle.delta_mutators.specs.Lists.{AreLists}
+pub use Rattle.delta_mutators.specs.Lists.{AreLists}
+pub use Rattle.rights_lattice.proofs.MergeLaws.{AreMarks-end}
+use Rattle.rights_lattice.proofs.MergeLaws.{as_test, as_true}
 use Rattle.delta_mutators.specs.Rises.{is_after_names, is_after_marks, follows, rises, pushed, names_in, marks_in}
 use Rattle.delta_mutators.proofs.DeltaLaws.{state_from}
 use Rattle.rights_lattice.proofs.MarkLaws.{marks_of-cells_of, value_at-cells_of, names_in_order-names_of}
@@ -107,19 +109,6 @@ module _ {K X : Type 0} (R : K → K → Ordering) (o : IsTotalOrder R) where
       let parts = and_parts _ _ h in
       last_step f x y ys k _ (and_parts _ _ parts.0).0 (all-last f (y ∷ ys) i d k (omega (arith, e)) parts.1)
 
-as_test : (b : Bool) → IsTrue b → T b
-as_test b h = subst T (sym h) tt
-
-as_true : (b : Bool) → T b → b ≡ true
-as_true true h = refl
-as_true false h = absurd h
-
-mark_entry : Valued → Key × ℕ
-mark_entry m = ((m.event, m.cell), m.value - 1)
-
-name_entry : List ℕ → List ℕ × Unit {0}
-name_entry n = (n, tt)
-
 pub names_last : (ns : List (List ℕ)) (last e : List ℕ) → 0 < length ns → last ≡ get_or ns (length ns - 1) last → IsTrue (are_rising_names ns) → is_lt (slice_cmp nat_cmp last e) ≡ is_after_names ns e
 names_last ns last e lt is h =
     ap (λ (n : List ℕ). is_lt (slice_cmp nat_cmp n e)) is
@@ -158,10 +147,6 @@ pub rising_marks-end : (ms : List Valued) (m : Valued) → IsTrue (are_rising_ma
 rising_marks-end ms m h after =
     ap (entry.is_sorted key_cmp) (marks_end ms m) ∙ is_sorted-end key_cmp key_cmp_total (m.event, m.cell) (m.value - 1) (entries_of ms) ∙ and_from _ _ h (marks_below ms m after)
 
-pub AreMarks-end : (ms : List Valued) (m : Valued) → AreMarks ms → 1 ≤ m.value → AreMarks (ms ++ m ∷ [])
-AreMarks-end [] m h v = (v, tt)
-AreMarks-end (x ∷ ms) m h v = (h.0, AreMarks-end ms m h.1 v)
-
 pub names_of-end : (ns : List (List ℕ)) (e : List ℕ) → IsTrue (are_rising_names ns) → IsTrue (is_after_names ns e) → names_of (ns ++ e ∷ []) ≡ with_name (names_of ns) e
 unfolding with_name
 names_of-end ns e h after =
@@ -198,9 +183,6 @@ pub record Pushes (ns ns' : List (List ℕ)) (ms ms' : List Valued) (S : State) 
   pub ok : state_from ns' ms' ≡ pushed S i
   pub names : names_in_order (names_of ns') ≡ names_in_order S.names ++ names_in i
   pub marks : marks_of (cells_of ms') ≡ marks_of S.cells ++ marks_in i
-
-same_state : (ns ns' : List (List ℕ)) (ms ms' : List Valued) (X Y : State) → cells_of ms' ≡ Y.cells → names_of ns' ≡ Y.names → state_from ns' ms' ≡ Y
-same_state ns ns' ms ms' X Y c n = λ i. record { cells = c i; names = n i }
 
 pub pushes_name : (ns ns' : List (List ℕ)) (ms : List Valued) (S : State) (i : Item) (e : List ℕ) → AreLists ns ms → state_from ns ms ≡ S → IsTrue (rises S i) → i ≡ item.Name e → ns' ≡ ns ++ e ∷ [] → Pushes ns ns' ms ms S i
 pushes_name ns ns' ms S i e a view r is new =

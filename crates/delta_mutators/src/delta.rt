@@ -125,7 +125,8 @@ impl Delta {
     pub fn push(&mut self, item: Item) -> Result<(), AllocError>
         requires { IsTrue (rises self.old item) }
         ensures ok { OnOk result (self.new ≡ pushed self.old item) }
-        ensures names { OnOk result (names_in_order self.new.names ≡ names_in_order self.old.names ++ names_in item) }
+        ensures names { OnOk result
+            (names_in_order self.new.names ≡ names_in_order self.old.names ++ names_in item) }
         ensures marks { OnOk result (marks_of self.new.cells ≡ marks_of self.old.cells ++ marks_in item) }
         ensures err { OnErr result (self.new ≡ self.old) }
     {

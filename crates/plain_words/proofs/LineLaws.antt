@@ -80,11 +80,11 @@ ends_input (Some x) (Some y) (Some z) line h p q e more =
     let whole : x ≡ line = p ∙ ap (λ (t : List ℕ). line ++ t) (q ∙ e) ∙ append-nil line in
     ap lines_of whole ∙ lines_of-last line h more ∙ ap (λ (t : List (List ℕ)). line ∷ t) (sym (ap lines_of e ∙ lines_of-nil))
 
-pub has_no_line : (a b c : Option (List ℕ)) (line : List ℕ) → Consumes a b line → Consumes b c [] → IsAtEnd c → line ≡ [] → Between a c (λ before after. lines_of before ≡ [])
+pub has_no_line : (a b c : Option (List ℕ)) (line : List ℕ) → Consumes a b line → Consumes b c [] → IsAtEnd c → line ≡ [] → Between a c (λ before after. (lines_of before ≡ []) × (lines_of after ≡ []))
 has_no_line None b c line p q e nothing = tt
 has_no_line (Some x) None c line p q e nothing = absurd p
 has_no_line (Some x) (Some y) None line p q e nothing = absurd q
-has_no_line (Some x) (Some y) (Some z) line p q e nothing = ap lines_of (p ∙ ap (λ (t : List ℕ). t ++ y) nothing ∙ q ∙ e) ∙ lines_of-nil
+has_no_line (Some x) (Some y) (Some z) line p q e nothing = (ap lines_of (p ∙ ap (λ (t : List ℕ). t ++ y) nothing ∙ q ∙ e) ∙ lines_of-nil, ap lines_of e ∙ lines_of-nil)
 
 pub passes_limit : (a b c : Option (List ℕ)) (line : List ℕ) (byte : ℕ) → HasNoBreak line → Consumes a b line → Consumes b c (byte ∷ []) → is_line_break byte ≡ false → 200 ≤ length line → Between a c (λ before after. BeginsTooLong (lines_of before))
 passes_limit None b c line byte h p q e more = tt

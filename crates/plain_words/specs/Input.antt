@@ -32,7 +32,7 @@ BeginsTooLong (line ∷ more) = 200 < length line
 -- what one call leaves
 abbrev pub LineGives : Option (List ℕ) → Option (List ℕ) → List ℕ → Result Bool LineFault → Type 0
 LineGives old new line (Ok true) = (length line ≤ 200) × Between old new (λ before after. lines_of before ≡ line ∷ lines_of after)
-LineGives old new line (Ok false) = Between old new (λ before after. lines_of before ≡ [])
+LineGives old new line (Ok false) = Between old new (λ before after. (lines_of before ≡ []) × (lines_of after ≡ []))
 LineGives old new line (Err LineTooLong) = Between old new (λ before after. BeginsTooLong (lines_of before))
 LineGives old new line (Err Read) = Unit {0}
 

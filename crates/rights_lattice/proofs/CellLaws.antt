@@ -74,21 +74,21 @@ pub same_cells : (X Y : Cells) → ((e : List ℕ) (c : Cell) → value_at X e c
 unfolding value_at
 same_cells X Y h = finite.same_map key_cmp_total exact_keys X Y (λ q. same_number _ _ (h q.0 q.1))
 
-both_true : (a b : Bool) → T (a && b) → T a × T b
+pub both_true : (a b : Bool) → T (a && b) → T a × T b
 both_true true b h = (tt, h)
 both_true false b h = absurd h
 
-not_eq : (r : Ordering) → T (is_lt r) → is_eq r ≡ false
-not_eq Less h = refl
-not_eq Equal h = absurd h
-not_eq Greater h = absurd h
+pub less_not_equal : (r : Ordering) → T (is_lt r) → is_eq r ≡ false
+less_not_equal Less h = refl
+less_not_equal Equal h = absurd h
+less_not_equal Greater h = absurd h
 
 -- a cell below all keys has no mark
 greatest-below : (q : Key) (es : List (Key × ℕ)) → T (entry.below_all key_cmp q es) → greatest (map (λ e. record { event = e.0.0; cell = e.0.1; value = e.1 + 1 }) es) q.0 q.1 ≡ 0
 greatest-below q [] h = refl
 greatest-below q (e ∷ es) h =
     let parts = both_true _ _ h in
-    rw (not_eq (key_cmp q e.0) parts.0) (omega (arith, greatest-below q es parts.1))
+    rw (less_not_equal (key_cmp q e.0) parts.0) (omega (arith, greatest-below q es parts.1))
 
 greatest-sorted : (q : Key) (es : List (Key × ℕ)) → T (entry.is_sorted key_cmp es) → greatest (map (λ e. record { event = e.0.0; cell = e.0.1; value = e.1 + 1 }) es) q.0 q.1 ≡ number_of (entry.find key_cmp q es)
 greatest-sorted q [] h = refl

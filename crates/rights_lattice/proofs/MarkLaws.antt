@@ -1,5 +1,5 @@
 -- Rising lists are the states that they say, and merged lists are joined states.
-use Rattle.std.proofs.Common.{◌≡◌, ℕ, ◌+◌, ◌-◌, ◌≤◌, Bool, true, false, ◌||◌, T, List, [], ◌∷◌, ◌++◌, length, take, drop, map, refl, sym, ap, ◌∙◌, subst, arith}
+use Rattle.std.proofs.Common.{◌≡◌, ℕ, ◌+◌, ◌-◌, ◌≤◌, Bool, true, false, ◌||◌, List, [], ◌∷◌, ◌++◌, length, take, drop, map, refl, sym, ap, ◌∙◌, arith}
 use Rattle.std.specs.Prelude.{IsTrue}
 use Rattle.std.specs.Ordering.{nat_cmp, eq_by_cmp}
 use Rattle.std.specs.List.{list_any}
@@ -13,10 +13,8 @@ use Rattle.rights_lattice.specs.declared.cell.Cell.{Cell}
 use Rattle.rights_lattice.specs.Marks.{AreMarks, entries_of, are_rising_marks, cells_of, name_entries, are_rising_names, names_of}
 use Rattle.rights_lattice.specs.Merging.{IsMerged, IsMergedNames, has}
 use Rattle.rights_lattice.proofs.CellLaws.{same_cells, greatest-marks_of, value_at-join, value_at-raise, value_at-all_zero}
+use Rattle.rights_lattice.proofs.MergeLaws.{as_test}
 use Rattle.rights_lattice.proofs.StateLaws.{same_names, knows-no_names, knows-with_name, contains-union}
-
-as_test : (b : Bool) → IsTrue b → T b
-as_test b h = subst T (sym h) tt
 
 back : (ms : List Valued) → AreMarks ms → map (λ (e : Key × ℕ). let m : Valued = record { event = e.0.0; cell = e.0.1; value = e.1 + 1 } in m) (entries_of ms) ≡ ms
 back [] h = refl

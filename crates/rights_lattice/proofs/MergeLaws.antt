@@ -11,7 +11,7 @@ use Rattle.std.proofs.lemmas.Bool.Decides.{nat_tests}
 use Rattle.std.proofs.lemmas.List.Sums.{count_by_more_yes, count_by_more_no}
 use Rattle.rights_lattice.specs.Cells.{Key, key_cmp, Valued, greatest, value_in, is_of}
 use Rattle.rights_lattice.specs.declared.cell.Cell.{Cell}
-use Rattle.rights_lattice.proofs.CellLaws.{key_cmp_total, exact_keys, greatest-append}
+use Rattle.rights_lattice.proofs.CellLaws.{less_not_equal, key_cmp_total, exact_keys, greatest-append}
 use Rattle.rights_lattice.proofs.RightsLaws.{greatest-take_more, member_value}
 use Rattle.rights_lattice.specs.Marks.{entries_of, are_rising_marks, AreMarks}
 use Rattle.rights_lattice.specs.Merging.{IsMerged}
@@ -61,9 +61,9 @@ tied_rest ms out i x m lt is p q h =
     ∙ rising_tied key_cmp key_cmp_total entry_of out (drop (i + 1) ms) x m (λ k. (p k, q k))
     ∙ ap are_rising_marks (ap (λ (l : List Valued). out ++ l) (sym (drop_here ms i x lt is))) ∙ h
 
-pub positive_more : (out : List Valued) (x : Valued) → AreMarks out → 1 ≤ x.value → AreMarks (out ++ x ∷ [])
-positive_more [] x h p = (p, tt)
-positive_more (y ∷ out) x h p = (h.0, positive_more out x h.1 p)
+pub AreMarks-end : (out : List Valued) (x : Valued) → AreMarks out → 1 ≤ x.value → AreMarks (out ++ x ∷ [])
+AreMarks-end [] x h p = (p, tt)
+AreMarks-end (y ∷ out) x h p = (h.0, AreMarks-end out x h.1 p)
 
 pub positive_at : (ms : List Valued) (i : ℕ) (x : Valued) → i < length ms → x ≡ get_or ms i x → AreMarks ms → 1 ≤ x.value
 positive_at [] i x lt is h = absurd (omega arith)
@@ -75,18 +75,13 @@ not_Equal Less h = cc
 not_Equal Equal h = cc
 not_Equal Greater h = refl
 
-Less_not_Equal : (r : Ordering) → T (is_lt r) → is_eq r ≡ false
-Less_not_Equal Less h = refl
-Less_not_Equal Equal h = absurd h
-Less_not_Equal Greater h = absurd h
-
 -- a cell below a rising list has no mark in it
 pub none_below : (q : Key) (ms : List Valued) → T (entry.below_all key_cmp q (entries_of ms)) → greatest ms q.0 q.1 ≡ 0
 none_below q [] h = refl
 none_below q (m ∷ ms) h =
     let here : T (is_lt (key_cmp q (m.event, m.cell))) = first _ _ h in
     let rest : T (entry.below_all key_cmp q (entries_of ms)) = second (is_lt (key_cmp q (m.event, m.cell))) _ h in
-    let no : is_of m q.0 q.1 ≡ false = Less_not_Equal _ here in
+    let no : is_of m q.0 q.1 ≡ false = less_not_equal _ here in
     let none : value_in m q.0 q.1 ≡ 0 = ap (λ b. cond b m.value 0) no in
     omega (arith, none, none_below q ms rest)
 
@@ -120,7 +115,7 @@ is_zero : (n : ℕ) → n ≡ 0 → (n == 0) ≡ true
 is_zero zero h = refl
 is_zero (suc n) h = absurd (omega arith)
 
-not_zero : (n : ℕ) → 1 ≤ n → (n == 0) ≡ false
+pub not_zero : (n : ℕ) → 1 ≤ n → (n == 0) ≡ false
 not_zero zero h = absurd (omega arith)
 not_zero (suc n) h = grind (arith, nat_tests)
 
@@ -136,7 +131,7 @@ take_left xs ys out i j x marks lt is below h = record {
   right_within = h.right_within;
   left_rises = own_rest xs out i x lt is h.left_rises;
   right_rises = other_rest xs (drop j ys) out i x lt is below h.left_rises h.right_rises;
-  positive = positive_more out x h.positive (positive_at xs i x lt is marks);
+  positive = AreMarks-end out x h.positive (positive_at xs i x lt is marks);
   greater = λ e c. omega (arith, greatest-append out (x ∷ []) e c, h.greater e c, greatest-take_more xs i x e c lt is);
   size = omega (arith, longer out x, h.size);
 }
@@ -149,7 +144,7 @@ take_right xs ys out i j y marks lt is below h =
       right_within = omega arith;
       left_rises = other_rest ys (drop i xs) out j y lt is below h.right_rises h.left_rises;
       right_rises = own_rest ys out j y lt is h.right_rises;
-      positive = positive_more out y h.positive (positive_at ys j y lt is marks);
+      positive = AreMarks-end out y h.positive (positive_at ys j y lt is marks);
       greater = λ e c. omega (arith, greatest-append out (y ∷ []) e c, h.greater e c, greatest-take_more ys j y e c lt is);
       size = omega (arith, longer out y, h.size, count_by_more_yes (λ (m : Valued). greatest xs m.event m.cell == 0) ys j y lt (subst (λ (m : Valued). (greatest xs m.event m.cell == 0) ≡ true) is (is_zero _ none)));
     }
@@ -179,7 +174,7 @@ take_both xs ys out i j x y m left_marks right_marks i_lt j_lt x_is y_is tie p q
       right_within = omega arith;
       left_rises = tied_rest xs out i x m i_lt x_is p q h.left_rises;
       right_rises = tied_rest ys out j y m j_lt y_is r s h.right_rises;
-      positive = positive_more out m h.positive (omega (arith, some, v));
+      positive = AreMarks-end out m h.positive (omega (arith, some, v));
       greater = λ e c. omega (arith, greatest-append out (m ∷ []) e c, h.greater e c, greatest-take_more xs i x e c i_lt x_is, greatest-take_more ys j y e c j_lt y_is, value_in-max x y m e c p q r s v);
       size = omega (arith, longer out m, h.size, count_by_more_no (λ (m : Valued). greatest xs m.event m.cell == 0) ys j y j_lt (subst (λ (m : Valued). (greatest xs m.event m.cell == 0) ≡ false) y_is (not_zero _ (omega (arith, some, found_y)))));
     }

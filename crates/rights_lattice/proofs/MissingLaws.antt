@@ -1,30 +1,19 @@
 -- The cells that one state has and another lacks, one raise at a time.
-use Rattle.std.proofs.Common.{◌≡◌, ℕ, ◌+◌, ◌-◌, ◌≤◌, length, Bool, true, false, cond, ◌&&◌, T, List, [], ◌∷◌, map, refl, sym, ap, ◌∙◌, subst, arith}
+use Rattle.std.proofs.Common.{◌≡◌, ℕ, ◌+◌, ◌-◌, ◌≤◌, length, Bool, true, false, cond, T, List, [], ◌∷◌, map, refl, sym, ap, ◌∙◌, subst, arith}
 use Rattle.std.specs.Prelude.{◌==◌}
 use Rattle.std.specs.List.{count_by}
-use Rattle.std.specs.Ordering.{is_lt, is_eq}
-use Rattle.std.specs.declared.cmp.Ordering.{Ordering}
-use Rattle.std.specs.declared.cmp.Ordering.TheVariants.{Less, Equal, Greater}
+use Rattle.std.specs.Ordering.{is_lt}
 use Rattle.std.specs.FinMap as finite
 use Rattle.std.specs.FinMap.Entries as entry
 use Rattle.std.proofs.lemmas.List.{length-map}
 use Rattle.std.proofs.lemmas.List.Sums.{sum_by-append, count_by-le-length}
-use Rattle.std.proofs.lemmas.Bool.Decides.{nat_tests}
 use Rattle.rights_lattice.specs.Cells.{Key, key_cmp, Cells, Valued, value_at, all_zero, raise, marks_of, greatest, value_in, is_of}
 use Rattle.rights_lattice.specs.RightsView.{missing}
-use Rattle.rights_lattice.proofs.CellLaws.{key_cmp_total, value_at-raise, greatest-marks_of, of_same, value_in-same, is_of-same}
+use Rattle.rights_lattice.proofs.MergeLaws.{not_zero}
+use Rattle.rights_lattice.proofs.CellLaws.{both_true, less_not_equal, key_cmp_total, value_at-raise, greatest-marks_of, of_same, value_in-same, is_of-same}
 
 mark_of : Key × ℕ → Valued
 mark_of e = record { event = e.0.0; cell = e.0.1; value = e.1 + 1 }
-
-both_true : (a b : Bool) → T (a && b) → T a × T b
-both_true true b h = (tt, h)
-both_true false b h = absurd h
-
-less : (r : Ordering) → T (is_lt r) → is_eq r ≡ false
-less Less h = refl
-less Equal h = absurd h
-less Greater h = absurd h
 
 -- two tests that differ at one key alone, where the second is false
 record DifferAt (q : Key) (P Q : Valued → Bool) (b : Bool) : Type 0 where
@@ -45,7 +34,7 @@ unfolding mark_of
 count_below q P Q b [] d h = refl
 count_below q P Q b (e ∷ es) d h =
     let parts : T (is_lt (key_cmp q e.0)) × T (entry.below_all key_cmp q es) = both_true _ _ h in
-    let same : one (P (mark_of e)) ≡ one (Q (mark_of e)) = ap one (d.elsewhere (mark_of e) (less _ parts.0)) in
+    let same : one (P (mark_of e)) ≡ one (Q (mark_of e)) = ap one (d.elsewhere (mark_of e) (less_not_equal _ parts.0)) in
     omega (arith, same, counted P (mark_of e) (map mark_of es), counted Q (mark_of e) (map mark_of es), count_below q P Q b es d parts.1)
 
 count_at : (q : Key) (P Q : Valued → Bool) (b : Bool) (es : List (Key × ℕ)) → DifferAt q P Q b → T (entry.is_sorted key_cmp es) → 1 ≤ greatest (map mark_of es) q.0 q.1 → count_by P (map mark_of es) ≡ count_by Q (map mark_of es) + cond b 1 0
@@ -66,9 +55,6 @@ count_at q P Q b (e ∷ es) d h some =
           let more : 1 ≤ greatest (map mark_of es) q.0 q.1 = omega (arith, some, none) in
           omega (arith, same, count_at q P Q b es d parts.1 more, counted P (mark_of e) (map mark_of es), counted Q (mark_of e) (map mark_of es))
     ] refl
-
-not_zero : (n : ℕ) → 1 ≤ n → (n == 0) ≡ false
-not_zero n h = grind (arith, nat_tests)
 
 -- a raise to a cell of Y takes as much room as it takes from what is missing
 pub missing-raise : (X Y : Cells) (m : Valued) → 1 ≤ m.value → 1 ≤ value_at Y m.event m.cell → missing X Y ≡ missing (raise X m) Y + cond (value_at X m.event m.cell == 0) 1 0

@@ -1,5 +1,5 @@
 -- Event names: 1 to 32 bytes of a-z, 0-9 and -, kept in a buffer of 32 bytes whose rest is zero. Our own.
-use Rattle.std.specs.Prelude.{ℕ, ◌-◌, ◌≤◌, Bool, ◌&&◌, ◌||◌, nat_le, ◌==◌, IsTrue, List, ◌++◌, length, replicate}
+use Rattle.std.specs.Prelude.{◌≡◌, ℕ, ◌-◌, ◌≤◌, Bool, ◌&&◌, ◌||◌, nat_le, ◌==◌, IsTrue, List, ◌++◌, length, replicate, take}
 use Rattle.std.specs.List.{list_all}
 
 -- the test of one byte of a name: a letter, a digit or a dash
@@ -15,3 +15,9 @@ pub record IsEventName (name : List ℕ) : Type 0 where
 -- the name, with zeros up to 32 bytes
 abbrev pub padded_name : List ℕ → List ℕ
 padded_name name = name ++ replicate (32 - length name) 0
+
+-- the first bytes of the buffer are a name, and the rest is zero
+pub record KeepsName (buffer : List ℕ) (len : ℕ) : Type 0 where
+  pub is_name : IsEventName (take len buffer)
+  pub padded : buffer ≡ padded_name (take len buffer)
+  pub counted : length (take len buffer) ≡ len

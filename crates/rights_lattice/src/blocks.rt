@@ -89,7 +89,8 @@ pub(crate) fn offset(sites: Sites, cell: &Cell) -> usize
 pub(crate) fn place(events: &[Event], event: &Event) -> Option<usize>
     ensures within { IfSome result (λ k. k < length events.now) }
     ensures found { IfSome result (λ k. event.now ≡ slice_index_or events.now k []) }
-    ensures none { IfNone result ((k : ℕ) → k < length events.now → slice_index_or events.now k [] ≢ event.now) }
+    ensures none { IfNone result
+        ((k : ℕ) → k < length events.now → slice_index_or events.now k [] ≢ event.now) }
 {
     for (k, known) in events.iter().enumerate() {
         if *event == *known {
@@ -117,7 +118,8 @@ pub(crate) fn add_block(events: &mut Vec<Event>, values: &mut Vec<u64>, event: E
 // Raises a number to the greater of its old value and this one.
 pub(crate) fn raise_at(values: &mut Vec<u64>, at: usize, value: u64)
     requires { at < vec_len values.old }
-    ensures items { values.new.items ≡ slice_set values.old.items at (max (slice_index values.old.items at) value) }
+    ensures items { values.new.items
+        ≡ slice_set values.old.items at (max (slice_index values.old.items at) value) }
     ensures capacity { vec_capacity values.new ≡ vec_capacity values.old }
 {
     let raised = values[at].max(value);

@@ -22,19 +22,19 @@ pub struct Event {
 }
 
 impl Model for Event {
-    ghost use Rattle.std.specs.Prelude.{◌≡◌, ℕ, List, length, take};
+    ghost use Rattle.std.specs.Prelude.{ℕ, List, length, take};
     ghost use Rattle.std.proofs.Common.{sym};
-    ghost use Rattle.rights_lattice.specs.EventName.{IsEventName, padded_name};
+    ghost use Rattle.rights_lattice.specs.EventName.{KeepsName, padded_name};
 
     ghost Value = { List ℕ };
 
     ghost view = { λ e. take e.len e.name };
 
-    ghost invariant = { λ e. IsEventName (take e.len e.name) × (e.name ≡ padded_name (take e.len e.name)) × (length (take e.len e.name) ≡ e.len) };
+    ghost invariant = { λ e. KeepsName e.name e.len };
 
     ghost inverse = { λ name. record { name = padded_name name; len = length name } };
 
-    ghost inverse_ok = { λ a h i. record { name = sym h.1 i; len = h.2 i } };
+    ghost inverse_ok = { λ a h i. record { name = sym h.padded i; len = h.counted i } };
 }
 
 impl Event {

@@ -34,7 +34,9 @@ pub fn next_of(a: &[Mark], left: usize, b: &[Mark], right: usize) -> Next
     ensures left { left ≤ result.left }
     ensures right { right ≤ result.right }
     ensures further { left + right < result.left + result.right }
-    ensures merged { (out : List Valued) → IsMerged a.now b.now out left right → IsMerged a.now b.now (out ++ result.mark ∷ []) result.left result.right }
+    ensures merged { (out : List Valued)
+        → IsMerged a.now b.now out left right
+        → IsMerged a.now b.now (out ++ result.mark ∷ []) result.left result.right }
 {
     if right == b.len() {
         return Next {
@@ -111,7 +113,9 @@ pub fn next_name_of(a: &[Event], left: usize, b: &[Event], right: usize) -> Next
     ensures left { left ≤ result.left }
     ensures right { right ≤ result.right }
     ensures further { left + right < result.left + result.right }
-    ensures merged { (out : List (List ℕ)) → IsMergedNames a.now b.now out left right → IsMergedNames a.now b.now (out ++ result.name ∷ []) result.left result.right }
+    ensures merged { (out : List (List ℕ))
+        → IsMergedNames a.now b.now out left right
+        → IsMergedNames a.now b.now (out ++ result.name ∷ []) result.left result.right }
 {
     if right == b.len() {
         return NextName {

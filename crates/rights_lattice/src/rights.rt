@@ -28,7 +28,13 @@ impl Model for Rights {
 
     ghost coded = { coded_rights };
 
-    ghost view = { λ r. record { sites = r.sites; cells = cells_in r.sites r.events.items r.values.items; room = min (vec_capacity r.events - vec_len r.events) ((vec_capacity r.values - vec_len r.values) / width_of r.sites) } };
+    ghost view = { λ r. record {
+      sites = r.sites;
+      cells = cells_in r.sites r.events.items r.values.items;
+      room =
+          min (vec_capacity r.events - vec_len r.events)
+          ((vec_capacity r.values - vec_len r.values) / width_of r.sites);
+    } };
 
     ghost invariant = { λ r. AreBlocks r.sites r.events.items r.values.items };
 }
@@ -90,7 +96,9 @@ impl Rights {
         requires in_range { IsCellOf self.old.sites mark.cell }
         ensures cells { self.new.cells ≡ raise self.old.cells mark }
         ensures sites { self.new.sites ≡ self.old.sites }
-        ensures room { self.old.room ≤ self.new.room + (if value_at self.old.cells mark.event mark.cell == 0 then 1 else 0) }
+        ensures room { self.old.room
+            ≤ self.new.room
+            + (if value_at self.old.cells mark.event mark.cell == 0 then 1 else 0) }
     {
         let width = width(self.sites);
         let offset = offset(self.sites, &mark.cell);

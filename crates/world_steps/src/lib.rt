@@ -1,6 +1,7 @@
 //! All sites as one list of steps, and what holds over every such list.
 #![tactic(auto)]
 
+pub mod laws;
 pub mod step;
 pub mod world;
 

@@ -142,9 +142,9 @@ impl Book {
         if to.number() >= self.rights.sites().count() {
             return (Reply::NoSite, None);
         }
-        let left = self.left(event);
-        if left < amount.seats() {
-            return (Reply::Short { left }, None);
+        let rights = self.left(event);
+        if rights < amount.seats() {
+            return (Reply::Short { left: rights }, None);
         }
         match cession(&self.rights, self.me, event, amount.seats(), to) {
             Ok(mark) => (Reply::Done, Some(Item::Cell(mark))),

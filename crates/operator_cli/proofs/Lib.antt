@@ -1,0 +1,4 @@
+pub mod NameLaws
+pub mod ReadingLaws
+pub mod TotalLines
+pub mod ScriptLaws

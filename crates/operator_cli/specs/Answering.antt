@@ -1,0 +1,59 @@
+-- What a line is answered in a world, and the world after it.
+use Rattle.std.specs.Prelude.{ℕ, Bool, List, Option, Some, None, Result, Ok, Err, if◌then◌else◌, nat_lt}
+use Rattle.rights_lattice.specs.State.{knows}
+use Rattle.local_rights.specs.Rights.{released_in, sold_in, refunded_in}
+use Rattle.book_core.specs.History.{state_of}
+use Rattle.book_core.specs.Decision.{own_left}
+use Rattle.world_steps.specs.World.{World, count, history_at, office_at, after}
+use Rattle.world_steps.specs.Outcomes.{outcome}
+use Rattle.world_steps.specs.declared.step.Step.{Step}
+use Rattle.world_steps.specs.declared.step.Step.TheVariants as step
+use Rattle.world_steps.specs.declared.step.Outcome.{Outcome}
+use Rattle.world_steps.specs.declared.step.Outcome.TheVariants as outcome
+use Rattle.world_steps.specs.declared.step.WorldFault.{WorldFault}
+use Rattle.world_steps.specs.declared.step.WorldFault.TheVariants as fault
+use Rattle.local_rights.specs.declared.report.Totals.{Totals}
+use Rattle.operator_cli.specs.declared.script_line.ScriptLine.{ScriptLine}
+use Rattle.operator_cli.specs.declared.script_line.ScriptLine.TheVariants.{Ask, Left, Totals as ScriptTotals}
+use Rattle.operator_cli.specs.declared.answer.Answer.{Answer}
+use Rattle.operator_cli.specs.declared.answer.Answer.TheVariants.{Replied, Refused, LeftIs, TotalsAre, NotKnown, NoSuchSite, Unread}
+
+-- a site's view of an event
+abbrev pub is_known_at : World → ℕ → List ℕ → Bool
+is_known_at w i event = knows (state_of (history_at w i)).names event
+
+abbrev pub left_at : World → ℕ → List ℕ → ℕ
+left_at w i event = own_left (office_at w i) (history_at w i) event
+
+abbrev pub totals_at : World → ℕ → List ℕ → Totals
+totals_at w i event = record {
+  released = released_in (state_of (history_at w i)).cells event;
+  sold = sold_in (state_of (history_at w i)).cells event;
+  refunded = refunded_in (state_of (history_at w i)).cells event;
+}
+
+-- the answer to a look, where the site is there and knows the event
+abbrev pub looked : World → ℕ → List ℕ → Answer → Answer
+looked w i event answer = if nat_lt i (count w) then (if is_known_at w i event then answer else NotKnown) else NoSuchSite
+
+abbrev pub left_answer : World → ℕ → List ℕ → Answer
+left_answer w i event = looked w i event (LeftIs (left_at w i event))
+
+abbrev pub totals_answer : World → ℕ → List ℕ → Answer
+totals_answer w i event = looked w i event (TotalsAre (totals_at w i event))
+
+-- want of memory is no outcome, and is not answered
+abbrev pub outcome_answer : Result Outcome WorldFault → Answer
+outcome_answer (Ok (outcome.Answered reply)) = Replied reply
+outcome_answer (Ok (outcome.Refused fault)) = Refused fault
+outcome_answer (Err fault.NoSite) = NoSuchSite
+outcome_answer (Err fault.Memory) = Unread
+
+abbrev pub step_answer : World → Step → Answer × World
+step_answer w s = (outcome_answer (outcome w s), after w s)
+
+abbrev pub answer_to : World → Option ScriptLine → Answer × World
+answer_to w None = (Unread, w)
+answer_to w (Some (Ask i number request)) = step_answer w (step.Ask i number request)
+answer_to w (Some (Left i event)) = (left_answer w i event, w)
+answer_to w (Some (ScriptTotals i event)) = (totals_answer w i event, w)

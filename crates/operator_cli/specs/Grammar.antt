@@ -1,0 +1,65 @@
+-- The text of each script line.
+use Rattle.std.specs.Prelude.{ℕ, ◌≤◌, List, [], ◌∷◌, codes}
+use Rattle.std.specs.List.{join_with_byte}
+use Rattle.std.specs.Fmt.{decimal}
+use Rattle.rights_lattice.specs.Cells.{max_value}
+use Rattle.rights_lattice.specs.EventName.{IsEventName}
+use Rattle.request_ledger.specs.declared.request.Request.{Request}
+use Rattle.request_ledger.specs.declared.request.Request.TheVariants.{Announce, Release, Sell, Refund, Cede}
+use Rattle.operator_cli.specs.declared.script_line.ScriptLine.{ScriptLine}
+use Rattle.operator_cli.specs.declared.script_line.ScriptLine.TheVariants.{Ask, Left, Totals}
+
+-- the words of a request under its number
+abbrev pub request_words : ℕ → Request → List (List ℕ)
+request_words n (Announce e) = codes "announce" ∷ decimal n ∷ e ∷ []
+request_words n (Release e a) = codes "release" ∷ decimal n ∷ e ∷ decimal a ∷ []
+request_words n (Sell e a) = codes "sell" ∷ decimal n ∷ e ∷ decimal a ∷ []
+request_words n (Refund s) = codes "refund" ∷ decimal n ∷ decimal s ∷ []
+request_words n (Cede e a to) = codes "cede" ∷ decimal n ∷ e ∷ decimal a ∷ decimal to ∷ []
+
+-- the words of a line: the site, and then a session line
+abbrev pub script_words : ScriptLine → List (List ℕ)
+script_words (Ask i n q) = decimal i ∷ request_words n q
+script_words (Left i e) = decimal i ∷ codes "left" ∷ e ∷ []
+script_words (Totals i e) = decimal i ∷ codes "totals" ∷ e ∷ []
+
+-- the words with one space between two
+unfoldable pub script_text : ScriptLine → List ℕ
+script_text l = join_with_byte 32 (script_words l)
+
+-- the line that gives the count of sites, and the one that gives the limit of a history
+abbrev pub sites_words : ℕ → List (List ℕ)
+sites_words n = codes "sites" ∷ decimal n ∷ []
+
+abbrev pub limit_words : ℕ → List (List ℕ)
+limit_words n = codes "limit" ∷ decimal n ∷ []
+
+-- what has a text
+
+-- a request number or an amount
+abbrev pub IsAmount : ℕ → Type 0
+IsAmount n = (1 ≤ n) × (n ≤ max_value)
+
+-- a site's number, whether the site is there or not
+abbrev pub IsSiteNumber : ℕ → Type 0
+IsSiteNumber i = i ≤ 63
+
+abbrev pub IsRequest : Request → Type 0
+IsRequest (Announce e) = IsEventName e
+IsRequest (Release e a) = IsEventName e × IsAmount a
+IsRequest (Sell e a) = IsEventName e × IsAmount a
+IsRequest (Refund s) = IsAmount s
+IsRequest (Cede e a to) = IsEventName e × IsAmount a × IsSiteNumber to
+
+abbrev pub IsScriptLine : ScriptLine → Type 0
+IsScriptLine (Ask i n q) = IsSiteNumber i × IsAmount n × IsRequest q
+IsScriptLine (Left i e) = IsSiteNumber i × IsEventName e
+IsScriptLine (Totals i e) = IsSiteNumber i × IsEventName e
+
+-- a count of sites
+abbrev pub IsSites : ℕ → Type 0
+IsSites n = (1 ≤ n) × (n ≤ 16)
+
+-- a limit of a history
+abbrev pub IsLimit : ℕ → Type 0
+IsLimit n = (1 ≤ n) × (n ≤ 1000000)

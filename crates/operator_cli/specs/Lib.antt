@@ -1,0 +1,9 @@
+pub mod Codes
+pub mod Grammar
+pub mod Reading
+pub mod Replies
+pub mod Answering
+pub mod Faults
+pub mod Script
+pub mod Ran
+pub mod Orders

@@ -1,0 +1,52 @@
+-- What a script prints.
+use Rattle.std.specs.Prelude.{ℕ, ◌-◌, List, [], ◌∷◌, ◌++◌, Option, Some, None, codes}
+use Rattle.std.specs.Fmt.{decimal}
+use Rattle.std.specs.List.{flat_map}
+use Rattle.plain_words.specs.Input.{lines_of}
+use Rattle.world_steps.specs.World.{World, opening, totals_of, events_of}
+use Rattle.local_rights.specs.declared.report.Totals.{Totals}
+use Rattle.operator_cli.specs.Reading.{line_of, sites_of, limit_of}
+use Rattle.operator_cli.specs.Replies.{reply_line}
+use Rattle.operator_cli.specs.Answering.{answer_to}
+
+-- the numbers of an event over all sites
+abbrev pub total_line : List ℕ → Totals → List ℕ
+total_line event t = event ++ codes " released " ++ decimal t.released ++ codes " sold " ++ decimal t.sold ++ codes " refunded " ++ decimal t.refunded ++ codes " outstanding " ++ decimal (t.sold - t.refunded) ++ 10 ∷ []
+
+-- a line for each event that a site knows
+abbrev pub total_lines : World → List ℕ
+total_lines w = flat_map (λ event. total_line event (totals_of w event)) (events_of w)
+
+-- the reply line of each of these lines in turn, and then the totals
+abbrev pub run : World → List (List ℕ) → List ℕ
+run w [] = total_lines w
+run w (line ∷ lines) = reply_line (answer_to w (line_of line)).0 ++ run (answer_to w (line_of line)).1 lines
+
+abbrev pub bad_line : List ℕ
+bad_line = codes "bad-line" ++ 10 ∷ []
+
+-- the limit where no line gives one
+abbrev pub greatest_limit : ℕ
+greatest_limit = 1000000
+
+-- the second line is the first to be answered, unless it gives the limit
+abbrev pub run_limited : ℕ → Option ℕ → List ℕ → List (List ℕ) → List ℕ
+run_limited sites None second lines = run (opening sites greatest_limit) (second ∷ lines)
+run_limited sites (Some limit) second lines = run (opening sites limit) lines
+
+-- the lines after the first
+abbrev pub run_sites : ℕ → List (List ℕ) → List ℕ
+run_sites sites [] = run (opening sites greatest_limit) []
+run_sites sites (second ∷ lines) = run_limited sites (limit_of second) second lines
+
+abbrev pub run_started : Option ℕ → List (List ℕ) → List ℕ
+run_started None lines = bad_line
+run_started (Some sites) lines = run_sites sites lines
+
+abbrev pub script_of_lines : List (List ℕ) → List ℕ
+script_of_lines [] = bad_line
+script_of_lines (first ∷ lines) = run_started (sites_of first) lines
+
+-- what a script prints
+unfoldable pub script : List ℕ → List ℕ
+script input = script_of_lines (lines_of input)

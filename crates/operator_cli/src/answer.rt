@@ -1,0 +1,114 @@
+//! What a line is answered, and its text.
+
+ghost use Rattle.std.specs.Prelude.{◌≡◌, ◌+◌, ◌≤◌, ◌++◌, ◌∷◌, [], length};
+ghost use Rattle.arrayvec.specs.ArrayVec.{array_vec_len};
+ghost use Rattle.plain_words.specs.Writing.{Writes};
+ghost use Rattle.operator_cli.specs.Replies.{reply_text, refusal_text, totals_text, answer_text, reply_line};
+
+use book_core::PlanFault;
+use local_rights::Totals;
+use plain_words::{Text, WriteFault, put, put_number, write_bytes};
+use request_ledger::Reply;
+use std::io::Write;
+
+/// What a line of a script is answered.
+#[derive(Clone, Copy, Debug)]
+pub(crate) enum Answer {
+    /// The site's reply to a request.
+    Replied(Reply),
+    /// The request was not decided.
+    Refused(PlanFault),
+    /// The seats that the site may still sell.
+    LeftIs(u64),
+    /// The totals by the site's view.
+    TotalsAre(Totals),
+    /// The site does not know the event.
+    NotKnown,
+    /// The site is not there.
+    NoSuchSite,
+    /// The line is none of a script's.
+    Unread,
+}
+
+fn word(bytes: &[u8]) -> Text
+    requires { length bytes.now ≤ 256 }
+    ensures value { result.items ≡ bytes.now }
+    ensures len { array_vec_len result ≡ length bytes.now }
+{
+    let mut text = Text::new();
+    put(&mut text, bytes);
+    text
+}
+
+fn reply_text(reply: Reply) -> Text
+    ensures value { result.items ≡ reply_text reply }
+    ensures len { array_vec_len result ≤ 200 }
+{
+    match reply {
+        Reply::Done => word(b"done"),
+        Reply::Known => word(b"known"),
+        Reply::Unknown => word(b"unknown"),
+        Reply::Short { left } => {
+            let mut text = word(b"short ");
+            put_number(&mut text, left);
+            text
+        }
+        Reply::CellFull => word(b"full-cell"),
+        Reply::NoSale => word(b"no-sale"),
+        Reply::Refunded => word(b"refunded"),
+        Reply::ToSelf => word(b"to-self"),
+        Reply::NoSite => word(b"no-site"),
+    }
+}
+
+fn refusal_text(fault: PlanFault) -> Text
+    ensures value { result.items ≡ refusal_text fault }
+    ensures len { array_vec_len result ≤ 200 }
+{
+    match fault {
+        PlanFault::Reused { .. } => word(b"reused"),
+        PlanFault::Full => word(b"history-full"),
+        PlanFault::Memory => word(b"memory"),
+    }
+}
+
+fn totals_text(totals: Totals) -> Text
+    ensures value { result.items ≡ totals_text totals }
+    ensures len { array_vec_len result ≤ 200 }
+{
+    let mut text = word(b"totals released ");
+    put_number(&mut text, totals.released);
+    put(&mut text, b" sold ");
+    put_number(&mut text, totals.sold);
+    put(&mut text, b" refunded ");
+    put_number(&mut text, totals.refunded);
+    text
+}
+
+fn answer_text(answer: Answer) -> Text
+    ensures value { result.items ≡ answer_text answer }
+    ensures len { array_vec_len result ≤ 200 }
+{
+    match answer {
+        Answer::Replied(reply) => reply_text(reply),
+        Answer::Refused(fault) => refusal_text(fault),
+        Answer::LeftIs(left) => {
+            let mut text = word(b"left ");
+            put_number(&mut text, left);
+            text
+        }
+        Answer::TotalsAre(totals) => totals_text(totals),
+        Answer::NotKnown => word(b"unknown"),
+        Answer::NoSuchSite => word(b"no-such-site"),
+        Answer::Unread => word(b"bad-line"),
+    }
+}
+
+/// Writes the line of an answer, with its line break.
+pub(crate) fn write_answer<W: Write>(answer: Answer, out: &mut W) -> Result<(), WriteFault>
+    ensures { Writes (W.contents out.old) (W.contents out.new) result (reply_line answer) }
+{
+    let mut text = answer_text(answer);
+    put(&mut text, b"\n");
+    write_bytes(text.as_slice(), out)
+}

@@ -1,0 +1,89 @@
+//! The answer of a world to one line.
+
+ghost use Rattle.std.specs.Prelude.{◌≡◌, IfOk, OnErr, Some};
+ghost use Rattle.operator_cli.specs.Reading.{line_of};
+ghost use Rattle.operator_cli.specs.Answering.{left_answer, totals_answer, step_answer, answer_to};
+
+use crate::answer::Answer;
+use crate::reading::{BadLine, read_script_line};
+use crate::script_line::ScriptLine;
+use rights_lattice::{Event, SiteId};
+use std::alloc::{AllocError, Global};
+use world_steps::{Outcome, Step, World, WorldFault};
+
+fn left_answer(world: &World, site: SiteId, event: Event) -> Answer
+    ensures { result ≡ left_answer world.now site event }
+{
+    let Some(book) = world.book(site) else {
+        return Answer::NoSuchSite;
+    };
+    if book.knows(event) {
+        Answer::LeftIs(book.left(event))
+    } else {
+        Answer::NotKnown
+    }
+}
+
+fn totals_answer(world: &World, site: SiteId, event: Event) -> Answer
+    ensures { result ≡ totals_answer world.now site event }
+{
+    let Some(book) = world.book(site) else {
+        return Answer::NoSuchSite;
+    };
+    if book.knows(event) {
+        Answer::TotalsAre(book.totals(event))
+    } else {
+        Answer::NotKnown
+    }
+}
+
+// The answer to a step.
+fn made(world: &mut World, alloc: Global, step: Step) -> Result<Answer, AllocError>
+    ensures answer { IfOk result (λ answer. step_answer world.old step ≡ (answer, world.new)) }
+    ensures unchanged { OnErr result (world.new ≡ world.old) }
+{
+    match world.step(alloc, step) {
+        Ok(Outcome::Answered(reply)) => Ok(Answer::Replied(reply)),
+        Ok(Outcome::Refused(fault)) => Ok(Answer::Refused(fault)),
+        Err(WorldFault::NoSite) => Ok(Answer::NoSuchSite),
+        Err(WorldFault::Memory) => Err(AllocError),
+    }
+}
+
+fn answer(world: &mut World, alloc: Global, line: ScriptLine) -> Result<Answer, AllocError>
+    ensures answer { IfOk result (λ answer. answer_to world.old (Some line) ≡ (answer, world.new)) }
+    ensures unchanged { OnErr result (world.new ≡ world.old) }
+{
+    match line {
+        ScriptLine::Ask {
+            site,
+            number,
+            request,
+        } => made(
+            world,
+            alloc,
+            Step::Ask {
+                site,
+                number,
+                request,
+            },
+        ),
+        ScriptLine::Left { site, event } => Ok(left_answer(world, site, event)),
+        ScriptLine::Totals { site, event } => Ok(totals_answer(world, site, event)),
+    }
+}
+
+/// Answers one line, without its line break. Where memory is wanting the world is as it was.
+pub(crate) fn answer_line(
+    world: &mut World,
+    alloc: Global,
+    line: &[u8],
+) -> Result<Answer, AllocError>
+    ensures answer { IfOk result (λ answer. answer_to world.old (line_of line.now) ≡ (answer, world.new)) }
+    ensures unchanged { OnErr result (world.new ≡ world.old) }
+{
+    match read_script_line(line) {
+        Ok(line) => answer(world, alloc, line),
+        Err(BadLine) => Ok(Answer::Unread),
+    }
+}

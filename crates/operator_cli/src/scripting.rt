@@ -1,0 +1,192 @@
+//! A script over a reader and writers.
+
+ghost use Rattle.std.specs.Prelude.{◌≡◌, ◌<◌, OnOk, IfErr};
+ghost use Rattle.plain_words.specs.Writing.{Writes};
+ghost use Rattle.operator_cli.specs.Reading.{line_of};
+ghost use Rattle.operator_cli.specs.Replies.{reply_line};
+ghost use Rattle.operator_cli.specs.Answering.{answer_to};
+ghost use Rattle.operator_cli.specs.Faults.{IsOutFault};
+ghost use Rattle.operator_cli.specs.Ran.{NextRan, RestRan, OpenRan, SitesRan, StartRan, ScriptRan, StatusRan, CauseRan};
+
+use crate::answer::write_answer;
+use crate::answering::answer_line;
+use crate::fault::{ScriptFault, fault_line};
+use crate::reading::{read_limit, read_sites};
+use crate::status::Status;
+use crate::totals::write_totals;
+use book_core::Limit;
+use plain_words::{LineBytes, has_more, next_line, write_bytes};
+use rights_lattice::Sites;
+use std::alloc::Global;
+use std::io::{BufRead, BufReader, Read, Write};
+use world_steps::World;
+
+// The most lines behind the first two.
+const MOST_LINES: u32 = 999_998;
+
+// Answers one line: its reply line, or after a fault a front of it.
+fn reply<W: Write>(
+    alloc: Global,
+    line: &[u8],
+    out: &mut W,
+    world: &mut World,
+) -> Result<(), ScriptFault>
+    ensures written { Writes (W.contents out.old) (W.contents out.new) result (reply_line (answer_to world.old (line_of line.now)).0) }
+    ensures world { OnOk result (world.new ≡ (answer_to world.old (line_of line.now)).1) }
+    ensures fault { IfErr result IsOutFault }
+{
+    let answer = answer_line(world, alloc, line)?;
+    write_answer(answer, out)?;
+    Ok(())
+}
+
+// Answers the next line: false where there is none.
+fn reply_next<R: BufRead, W: Write>(
+    alloc: Global,
+    reader: &mut R,
+    out: &mut W,
+    world: &mut World,
+) -> Result<bool, ScriptFault>
+    ensures { NextRan (R.remaining reader.old) (R.remaining reader.new) (W.contents out.old) (W.contents out.new) world.old world.new result }
+{
+    let mut line = LineBytes::new();
+    if !next_line(reader, &mut line)? {
+        return Ok(false);
+    }
+    reply(alloc, line.as_slice(), out, world)?;
+    Ok(true)
+}
+
+// Answers all lines that are left, of which at most this many may be there.
+fn reply_all<R: BufRead, W: Write>(
+    alloc: Global,
+    reader: &mut R,
+    out: &mut W,
+    world: &mut World,
+    most: u32,
+) -> Result<(), ScriptFault>
+    ensures { RestRan most (R.remaining reader.old) (W.contents out.old) (W.contents out.new) world.old world.new result }
+{
+    'lines: for _count in 0..most {
+        let is_answered = reply_next(alloc, reader, out, world)?;
+        if !is_answered {
+            return Ok(());
+        }
+    }
+    let is_more = has_more(reader)?;
+    if is_more {
+        return Err(ScriptFault::TooManyLines);
+    }
+    Ok(())
+}
+
+// The world that the second line opens, by its limit or as the first to be answered.
+fn open_world<R: BufRead, W: Write>(
+    alloc: Global,
+    reader: &mut R,
+    out: &mut W,
+    sites: Sites,
+) -> Result<World, ScriptFault>
+    ensures { OpenRan sites (R.remaining reader.old) (R.remaining reader.new) (W.contents out.old) (W.contents out.new) result }
+{
+    let mut line = LineBytes::new();
+    if !next_line(reader, &mut line)? {
+        let world = World::new(alloc, sites, Limit::greatest())?;
+        return Ok(world);
+    }
+    if let Some(limit) = read_limit(line.as_slice()) {
+        let limited = World::new(alloc, sites, limit)?;
+        return Ok(limited);
+    }
+    let mut world = World::new(alloc, sites, Limit::greatest())?;
+    reply(alloc, line.as_slice(), out, &mut world)?;
+    Ok(world)
+}
+
+// The lines behind the first.
+fn run_sites<R: BufRead, W: Write>(
+    alloc: Global,
+    reader: &mut R,
+    out: &mut W,
+    sites: Sites,
+) -> Result<(), ScriptFault>
+    ensures { SitesRan 999999 sites (R.remaining reader.old) (W.contents out.old) (W.contents out.new) result }
+{
+    let mut world = open_world(alloc, reader, out, sites)?;
+    reply_all(alloc, reader, out, &mut world, MOST_LINES)?;
+    write_totals(alloc, &world, out)?;
+    Ok(())
+}
+
+// The count of sites that the first line gives.
+fn read_start<R: BufRead>(reader: &mut R) -> Result<Option<Sites>, ScriptFault>
+    ensures { StartRan (R.remaining reader.old) (R.remaining reader.new) result }
+{
+    let mut line = LineBytes::new();
+    if !next_line(reader, &mut line)? {
+        return Ok(None);
+    }
+    Ok(read_sites(line.as_slice()))
+}
+
+// Whether the script started well.
+fn run_script<R: BufRead, W: Write>(
+    alloc: Global,
+    reader: &mut R,
+    out: &mut W,
+) -> Result<bool, ScriptFault>
+    ensures { ScriptRan (R.remaining reader.old) (W.contents out.old) (W.contents out.new) result }
+{
+    let Some(sites) = read_start(reader)? else {
+        write_bytes(b"bad-line\n", out)?;
+        return Ok(false);
+    };
+    run_sites(alloc, reader, out, sites)?;
+    Ok(true)
+}
+
+// The same over a buffer, with all that went out at its writer's end.
+fn run_flushed<R: Read + Drop, W: Write>(
+    alloc: Global,
+    reader: R,
+    out: &mut W,
+) -> Result<bool, ScriptFault>
+    ensures { ScriptRan (R.remaining reader) (W.contents out.old) (W.contents out.new) result }
+{
+    let Ok(mut reader) = BufReader::new(alloc, reader) else {
+        return Err(ScriptFault::Memory);
+    };
+    match run_script(alloc, &mut reader, out) {
+        Ok(is_started) => match out.flush() {
+            Ok(()) => Ok(is_started),
+            Err(_) => Err(ScriptFault::Write),
+        },
+        Err(fault) => {
+            let _ = out.flush();
+            Err(fault)
+        }
+    }
+}
+
+/// Runs a script: the reply line of each line and the lines of totals go to `out`, and where the
+/// script ends early the line that names the cause goes to `err`.
+///
+/// `out` gets many short writes, and is flushed before the status is told.
+pub fn world_script<R: Read + Drop, W: Write, E: Write>(
+    alloc: Global,
+    reader: R,
+    out: &mut W,
+    err: &mut E,
+) -> Status
+    ensures out { StatusRan (R.remaining reader) (W.contents out.old) (W.contents out.new) result }
+    ensures err { CauseRan (R.remaining reader) (E.contents err.old) (E.contents err.new) result }
+{
+    match run_flushed(alloc, reader, out) {
+        Ok(true) => Status::Done,
+        Ok(false) => Status::Refused,
+        Err(fault) => {
+            let _ = write_bytes(fault_line(fault), err);
+            Status::Failed
+        }
+    }
+}

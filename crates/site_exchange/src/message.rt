@@ -1,0 +1,50 @@
+//! Messages, and why one is not taken.
+use crate::upto::Upto;
+use delta_mutators::Delta;
+use rights_lattice::{Mark, SiteId};
+
+/// What one site sends to another.
+#[derive(Debug, Drop)]
+pub enum Message {
+    /// What `by` has and `to` has not acknowledged, up to this length of the history of `by`.
+    Delta {
+        by: SiteId,
+        to: SiteId,
+        upto: Upto,
+        delta: Delta,
+    },
+    /// That `by` has what `to` did up to this length of the history of `to`.
+    Ack {
+        by: SiteId,
+        to: SiteId,
+        upto: Upto,
+    },
+}
+
+/// Why a message is not looked at.
+#[derive(Clone, Copy, PartialEq, Eq, Debug)]
+pub enum CheckFault {
+    /// It is to another site, or from this one.
+    NotForMe,
+    /// It is from no site of the book.
+    UnknownSite,
+    /// It acknowledges more than the `len` entries that there are.
+    StrayAck { len: usize },
+}
+
+/// Why a message is not taken. A refused message changes nothing.
+#[derive(Clone, Copy, PartialEq, Eq, Debug)]
+pub enum TakeFault {
+    NotForMe,
+    UnknownSite,
+    StrayAck { len: usize },
+    /// This mark is of the site's own row and above its own value.
+    ForeignRow { mark: Mark },
+    /// The history is as long as it may become.
+    Full,
+    Memory,
+    /// The book takes nothing more until it is started again from its records.
+    Closed,
+    /// The records failed.
+    Store,
+}
