@@ -1,7 +1,7 @@
 -- The lines of an input.
 use Rattle.std.specs.Prelude.{◌≡◌, ◌≢◌, ℕ, ◌≤◌, ◌<◌, Bool, true, false, ◌==◌, List, [], ◌∷◌, length, Option, Some, None, Result, Ok, Err, if◌then◌else◌}
 use Rattle.std.specs.List.{slice_split}
-use Rattle.std.specs.Io.KnownBytes.{Consumes, IsAtEnd}
+use Rattle.std.specs.Io.KnownBytes.{Consumes, IsAtEnd, Keeps}
 use Rattle.plain_words.specs.declared.lines.LineFault.{LineFault}
 use Rattle.plain_words.specs.declared.lines.LineFault.TheVariants.{Read, LineTooLong}
 
@@ -34,17 +34,17 @@ abbrev pub LineGives : Option (List ℕ) → Option (List ℕ) → List ℕ → 
 LineGives old new line (Ok true) = (length line ≤ 200) × Between old new (λ before after. lines_of before ≡ line ∷ lines_of after)
 LineGives old new line (Ok false) = Between old new (λ before after. (lines_of before ≡ []) × (lines_of after ≡ []))
 LineGives old new line (Err LineTooLong) = Between old new (λ before after. BeginsTooLong (lines_of before))
-LineGives old new line (Err Read) = Unit {0}
+LineGives old new line (Err Read) = Consumes old new line
 
 -- what reading one byte leaves
 abbrev pub ByteGives : {E : Type 0} → Option (List ℕ) → Option (List ℕ) → Result (Option ℕ) E → Type 0
 ByteGives old new (Ok (Some byte)) = Consumes old new (byte ∷ [])
 ByteGives old new (Ok None) = Consumes old new [] × IsAtEnd new
-ByteGives old new (Err fault) = Unit {0}
+ByteGives old new (Err fault) = Keeps old new
 
 -- what asking for another line leaves
 abbrev pub MoreGives : Option (List ℕ) → Option (List ℕ) → Result Bool LineFault → Type 0
 MoreGives old new (Ok true) = Between old new (λ before after. lines_of before ≢ [])
 MoreGives old new (Ok false) = Between old new (λ before after. lines_of before ≡ [])
-MoreGives old new (Err Read) = Unit {0}
+MoreGives old new (Err Read) = Keeps old new
 MoreGives old new (Err LineTooLong) = ⊥

@@ -37,7 +37,7 @@ fn read_byte<R: BufRead>(reader: &mut R) -> Result<Option<u8>, ReadFault>
 /// end of the input.
 ///
 /// The bytes behind the last line break are a line unless there are none. After a fault the reader
-/// stands somewhere in the line, and `line` holds a part of it.
+/// stands somewhere in the line; where it is the reader that failed, `line` holds what it gave.
 pub fn next_line<R: BufRead>(reader: &mut R, line: &mut LineBytes) -> Result<bool, LineFault>
     ensures { LineGives (R.remaining reader.old) (R.remaining reader.new) line.new.items result }
 {

@@ -1,0 +1,11 @@
+//! Tests that cross crates: worked scripts from the bytes read to the lines written, and worlds step by step.
+#![tactic(auto)]
+
+#[cfg(test)]
+mod many_sites;
+#[cfg(test)]
+mod one_site;
+#[cfg(test)]
+mod scripts;
+#[cfg(test)]
+mod worlds;
