@@ -3,11 +3,12 @@ ghost use Rattle.std.specs.Prelude.{vec_len, vec_capacity, IfOk, IfErr, OnOk, �
 ghost use Rattle.std.specs.Option.{option_copied};
 ghost use Rattle.rights_lattice.specs.Cells.{value_at, raise_all, max_value};
 ghost use Rattle.rights_lattice.specs.State.{knows};
-ghost use Rattle.local_rights.specs.Rights.{released_in, sold_in, refunded_in};
+ghost use Rattle.local_rights.specs.Rights.{HasRights, released_in, sold_in, refunded_in};
 ghost use Rattle.request_ledger.specs.Ledger.{kept_under, IsRefundable};
 ghost use Rattle.book_core.specs.History.{state_of, kept, sale_of, names_of, asked_from};
 ghost use Rattle.book_core.specs.Decision.{own_left};
 ghost use Rattle.book_core.specs.BookView.{HasRoomFor, IsUnkept, KeepsRefunds, MarksAreWithin, numbers_in};
+ghost use Rattle.book_core.specs.OwnRow.{HasOwnRights, LeavesOwnRow};
 ghost use Rattle.book_core.specs.Plans.{IsReady};
 ghost use Rattle.book_core.specs.declared.entry.Entry.TheVariants.{Asked};
 
@@ -23,6 +24,7 @@ use std::marker::Model;
 
 mod deciding;
 mod joining;
+mod replaying;
 
 /// The history of a site, and what it shows: cells, names, kept replies, rights.
 #[derive(Drop)]
@@ -92,7 +94,8 @@ impl Book {
 
     /// How long the history may become.
     pub fn limit(&self) -> Limit
-        ensures { result ≡ self.now.office.limit }
+        ensures limit { result ≡ self.now.office.limit }
+        ensures is_kept { length self.now.history ≤ self.now.office.limit }
     {
         self.limit
     }
@@ -142,7 +145,8 @@ impl Book {
 
     /// The seats of an event that this site may still sell (SRDS 2015, and what was given back).
     pub fn left(&self, event: Event) -> u64
-        ensures { result ≡ own_left self.now.office self.now.history event }
+        ensures left { result ≡ own_left self.now.office self.now.history event }
+        ensures has_rights { HasRights (state_of self.now.history).cells event self.now.office.me }
     {
         left(&self.rights, self.me, event)
     }
@@ -171,10 +175,15 @@ impl Book {
     }
 
     /// Adds a planned entry to the history.
+    ///
+    /// A delta that is joined changes no cell of the own row, and the own rights are never negative,
+    /// whatever deltas come, forged ones too.
     pub fn enter(&mut self, planned: Planned)
         requires { IsReady self.old planned }
         ensures office { self.new.office ≡ self.old.office }
         ensures history { self.new.history ≡ self.old.history ++ planned ∷ [] }
+        ensures own_row { LeavesOwnRow planned self.old self.new }
+        ensures has_rights { HasOwnRights self.new }
     {
         let Planned { entry } = planned;
         raise_marks(&mut self.rights, entry.delta().marks());

@@ -1,9 +1,10 @@
 //! Entries of a history.
-ghost use Rattle.std.specs.Prelude.{◌≡◌};
+ghost use Rattle.std.specs.Prelude.{◌≡◌, IfOk};
 
 use delta_mutators::Delta;
 use request_ledger::{Reply, Request, RequestNumber};
 use rights_lattice::SiteId;
+use std::alloc::{AllocError, Global};
 
 /// One entry of a site's history: a request that was decided, or a delta of a peer that was joined.
 #[derive(Debug, Drop)]
@@ -32,6 +33,29 @@ impl Entry {
         match self {
             Entry::Asked { delta, .. } => delta,
             Entry::Joined { delta, .. } => delta,
+        }
+    }
+
+    /// The same entry again.
+    pub fn copy(&self, alloc: Global) -> Result<Entry, AllocError>
+        ensures { IfOk result (λ copy. copy ≡ self.now) }
+    {
+        match self {
+            Entry::Asked {
+                number,
+                request,
+                reply,
+                delta,
+            } => Ok(Entry::Asked {
+                number: *number,
+                request: *request,
+                reply: *reply,
+                delta: delta.copy(alloc)?,
+            }),
+            Entry::Joined { peer, delta } => Ok(Entry::Joined {
+                peer: *peer,
+                delta: delta.copy(alloc)?,
+            }),
         }
     }
 }

@@ -9,7 +9,7 @@ pub mod plan;
 pub use book::Book;
 pub use entry::Entry;
 pub use limit::Limit;
-pub use plan::{JoinFault, JoinPlan, Plan, PlanFault, Planned};
+pub use plan::{JoinFault, JoinPlan, Plan, PlanFault, Planned, ReplayFault};
 
 #[cfg(test)]
 mod tests;

@@ -71,3 +71,11 @@ pub enum JoinFault {
     Full,
     Memory,
 }
+
+/// Why a list of entries is no history of a book.
+#[derive(Clone, Copy, PartialEq, Eq, Debug)]
+pub enum ReplayFault {
+    /// The entry at this place, the first such, may not follow those before it.
+    IllegalAt { place: usize },
+    Memory,
+}

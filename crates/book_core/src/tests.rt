@@ -1,5 +1,5 @@
 // What asking and joining answer, with ample memory; the expected values are worked out by hand.
-use crate::{Book, Entry, JoinFault, JoinPlan, Limit, Plan, PlanFault};
+use crate::{Book, Entry, JoinFault, JoinPlan, Limit, Plan, PlanFault, ReplayFault};
 use delta_mutators::{Delta, Item, announce};
 use local_rights::Totals;
 use request_ledger::{Amount, Kept, Reply, Request, RequestNumber, SaleState};
@@ -297,5 +297,44 @@ fn delta_delivered_twice_and_forged(rt: HostRuntime) -> Result<(), Fail> {
     deliver(&rt, alloc, &mut book, 2, &sent, Err(JoinFault::UnknownSite))?;
     assert_eq!(rt; book.len(), 1);
     assert_eq!(rt; book.left(gala), 40);
+    Ok(())
+}
+
+// The entries of the book, where the reply at the forged place is another.
+fn entries_of(alloc: Global, book: &Book, forged: Option<usize>) -> Result<Vec<Entry>, AllocError> {
+    let mut entries = Vec::new(alloc);
+    for place in 0..book.len() {
+        let Some(entry) = book.entry(place) else {
+            break;
+        };
+        let mut entry = entry.copy(alloc)?;
+        if forged == Some(place) {
+            if let Entry::Asked { reply, .. } = &mut entry {
+                *reply = Reply::CellFull;
+            }
+        }
+        entries.push(entry)?;
+    }
+    Ok(entries)
+}
+
+#[test]
+fn history_is_replayed(rt: HostRuntime) -> Result<(), Fail> {
+    let alloc = rt.alloc();
+    let gala = event(&rt, b"gala");
+    let book = busy_book(&rt, alloc);
+    let (me, sites, limit) = (book.me(), book.sites(), book.limit());
+    let entries = entries_of(alloc, &book, None)?;
+    let again = Book::replay(alloc, me, sites, limit, entries)
+        .ok()
+        .ok_or("a legal history")?;
+    assert_eq!(rt; again.len(), 15);
+    assert_eq!(rt; again.left(gala), 0);
+    assert_eq!(rt; again.totals(gala), book.totals(gala));
+    assert_eq!(rt; again.kept(number(&rt, 10)), book.kept(number(&rt, 10)));
+
+    let forged = entries_of(alloc, &book, Some(3))?;
+    let fault = Book::replay(alloc, me, sites, limit, forged).err();
+    assert_eq!(rt; fault, Some(ReplayFault::IllegalAt { place: 3 }));
     Ok(())
 }

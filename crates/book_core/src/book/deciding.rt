@@ -56,7 +56,7 @@ impl Book {
         Ok(Plan::New(Planned { entry }))
     }
 
-    fn decide(&self, request: &Request) -> (Reply, Option<Item>)
+    pub(super) fn decide(&self, request: &Request) -> (Reply, Option<Item>)
         ensures reply { result.0 ≡ reply_to self.now.office self.now.history request.now }
         ensures item { state_of_item result.1 ≡ delta_for self.now.office self.now.history request.now result.0 }
     {

@@ -6,6 +6,7 @@ ghost use Rattle.rights_lattice.specs.State.{is_within, knows};
 ghost use Rattle.rights_lattice.specs.RightsView.{are_within, is_cell_of};
 ghost use Rattle.book_core.specs.History.{state_of, delta_of};
 ghost use Rattle.book_core.specs.Joining.{foreign, is_foreign, is_of_sites};
+ghost use Rattle.book_core.specs.OwnRow.{KeepsOwnRow};
 ghost use Rattle.book_core.specs.Plans.{IsJoinPlan, IsJoinFault};
 
 use crate::book::Book;
@@ -22,6 +23,7 @@ impl Book {
     pub fn plan_join(&mut self, peer: SiteId, delta: Delta) -> Result<JoinPlan, (Delta, JoinFault)>
         ensures unchanged { self.new ≡ record self.old { room = self.new.room } }
         ensures plan { IfOk result (IsJoinPlan self.new peer delta) }
+        ensures own_row { IfOk result (KeepsOwnRow self.new) }
         ensures fault { IfErr result (λ e. (e.0 ≡ delta) × IsJoinFault self.new peer delta e.1) }
     {
         if !self.is_of_sites(peer, &delta) {
@@ -43,14 +45,14 @@ impl Book {
         Ok(JoinPlan::New(Planned { entry }))
     }
 
-    fn is_of_sites(&self, peer: SiteId, delta: &Delta) -> bool
+    pub(super) fn is_of_sites(&self, peer: SiteId, delta: &Delta) -> bool
         ensures { result ≡ is_of_sites self.now.office peer delta.now }
     {
         let sites = self.rights.sites();
         peer.number() < sites.count() && peer != self.me && are_within(sites, delta.marks())
     }
 
-    fn has_all_of(&self, delta: &Delta) -> bool
+    pub(super) fn has_all_of(&self, delta: &Delta) -> bool
         ensures { result ≡ is_within delta.now (state_of self.now.history) }
     {
         self.knows_all(delta.names()) && self.reaches_all(delta.marks())
@@ -97,7 +99,7 @@ fn is_cell_of(sites: Sites, cell: &Cell) -> bool
 }
 
 // The first mark of the site's own row that is above its own value.
-fn foreign(rights: &Rights, me: SiteId, marks: &[Mark]) -> Option<Mark>
+pub(super) fn foreign(rights: &Rights, me: SiteId, marks: &[Mark]) -> Option<Mark>
     ensures { result ≡ foreign me rights.now.cells marks.now }
 {
     for mark in marks {

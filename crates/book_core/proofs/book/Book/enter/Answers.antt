@@ -5,8 +5,11 @@ use Rattle.rights_lattice.specs.State.{State, names_in_order}
 use Rattle.book_core.specs.declared.entry.Entry.{Entry}
 use Rattle.book_core.specs.Decision.{Office}
 use Rattle.book_core.specs.History.{asked_from, delta_of}
-use Rattle.book_core.specs.Legal.{IsNext}
+use Rattle.book_core.specs.Legal.{IsNext, IsLegal}
 use Rattle.book_core.specs.BookView.{BookView, MarksAreWithin, IsInOrder}
+use Rattle.book_core.proofs.Histories.{legal_push}
+use Rattle.book_core.proofs.Rows.{legal_rights}
+use Rattle.book_core.proofs.OwnRows.{entered_own}
 use Rattle.book_core.proofs.BookLaws.{marks_within, entered, unkept, keeps_refunds}
 use Rattle.book_core.proofs.book.Book.enter.Goals as goal
 
@@ -53,3 +56,24 @@ invariant_of-self c =
     let after = entered office fields.history.items entry fields.rights.cells c.raise_marks.new.rights.cells fields.names.names c.join.new.self.names fields.ledger.entries c.keep.new.ledger.entries c.self.invariant next cells names kept in
     subst (λ (l : List Entry). IsInOrder (record { me = fields.me; sites = c.raise_marks.new.rights.sites; limit = fields.limit }) l c.raise_marks.new.rights.cells c.join.new.self.names c.keep.new.ledger.entries) (sym c.push_reserved.ensures.items)
     (subst (λ (n : ℕ). IsInOrder (record { me = fields.me; sites = n; limit = fields.limit }) (fields.history.items ++ entry ∷ []) c.raise_marks.new.rights.cells c.join.new.self.names c.keep.new.ledger.entries) (sym c.raise_marks.ensures.sites) after)
+
+pub returns-clause-own_row : goal.returns-clause-own_row
+returns-clause-own_row c =
+    let book = c.args.self.now in
+    entered_own book _ c.args.planned c.requires.next
+    (
+    c.push_reserved.ensures.items
+    ∙ ap (λ (b : BookView). b.history ++ c.planned.inside.entry ∷ []) c.self.view_is
+    ∙ ap (λ (entry : Entry). book.history ++ entry ∷ []) c.planned.view_is
+    )
+
+pub returns-clause-has_rights : goal.returns-clause-has_rights
+returns-clause-has_rights c =
+    let fields = c.self.inside in
+    let office : Office = record { me = fields.me; sites = fields.rights.sites; limit = fields.limit } in
+    let entry = c.planned.inside.entry in
+    let next : IsNext office fields.history.items entry =
+    subst (λ (b : BookView). IsNext b.office b.history entry) (sym c.self.view_is)
+    (subst (λ (x : Entry). IsNext c.args.self.now.office c.args.self.now.history x) (sym c.planned.view_is) c.requires.next) in
+    legal_rights office c.push_reserved.new.self.items
+    (subst (λ (h : List Entry). IsLegal office h) (sym c.push_reserved.ensures.items) (legal_push office fields.history.items entry c.self.invariant.legal next))

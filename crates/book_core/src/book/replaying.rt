@@ -1,0 +1,144 @@
+//! A book from the entries of its history.
+ghost use Rattle.std.specs.Prelude.{IfOk, IfErr, IsTrue, ◌↔◌, ◌≡◌, ◌<◌, ◌≤◌, length};
+ghost use Rattle.delta_mutators.specs.Items.{state_of};
+ghost use Rattle.book_core.specs.Decision.{state_of_item};
+ghost use Rattle.book_core.specs.Legal.{IsLegal, IsNext, IsNextAsked, IsNextJoined};
+ghost use Rattle.book_core.specs.OwnRow.{HasOwnRights};
+ghost use Rattle.book_core.specs.Replay.{HasLists, IsReplayFault};
+
+use super::joining::foreign;
+use crate::book::Book;
+use crate::entry::Entry;
+use crate::limit::Limit;
+use crate::plan::{Planned, ReplayFault};
+use delta_mutators::{Delta, Item};
+use request_ledger::{Reply, Request, RequestNumber};
+use rights_lattice::{Event, Mark, SiteId, Sites};
+use std::alloc::Global;
+
+impl Book {
+    /// The book with this history.
+    ///
+    /// `IllegalAt` names the first entry that may not follow those before it.
+    pub fn replay(
+        alloc: Global,
+        me: SiteId,
+        sites: Sites,
+        limit: Limit,
+        entries: Vec<Entry>,
+    ) -> Result<Book, ReplayFault>
+        requires { me < sites }
+        ensures office { IfOk result (λ book. book.office ≡ record { me = me; sites = sites; limit = limit }) }
+        ensures history { IfOk result (λ book. book.history ≡ entries.items) }
+        ensures legal { IfOk result (λ book. IsLegal book.office book.history) }
+        ensures has_rights { IfOk result HasOwnRights }
+        ensures fault { IfErr result (IsReplayFault (record { me = me; sites = sites; limit = limit }) entries.items) }
+    {
+        let mut book = Book::new(alloc, me, sites, limit);
+        for entry in entries {
+            if !book.is_next(&entry) {
+                return Err(ReplayFault::IllegalAt { place: book.len() });
+            }
+            if book.reserve(&entry).is_err() {
+                return Err(ReplayFault::Memory);
+            }
+            book.enter(Planned { entry });
+        }
+        Ok(book)
+    }
+
+    // Whether the entry may follow the history.
+    fn is_next(&self, entry: &Entry) -> bool
+        ensures { IsTrue result ↔ IsNext self.now.office self.now.history entry.now }
+    {
+        match entry {
+            Entry::Asked {
+                number,
+                request,
+                reply,
+                delta,
+            } => self.is_next_asked(*number, request, *reply, delta),
+            Entry::Joined { peer, delta } => self.is_next_joined(*peer, delta),
+        }
+    }
+
+    fn is_next_asked(
+        &self,
+        number: RequestNumber,
+        request: &Request,
+        reply: Reply,
+        delta: &Delta,
+    ) -> bool
+        ensures { IsTrue result ↔ IsNextAsked self.now.office self.now.history number request.now reply delta.now }
+    {
+        if self.is_full() {
+            return false;
+        }
+        if self.kept(number).is_some() {
+            return false;
+        }
+        let (due, item) = self.decide(request);
+        reply == due && is_of_item(delta, item)
+    }
+
+    fn is_next_joined(&self, peer: SiteId, delta: &Delta) -> bool
+        ensures { IsTrue result ↔ IsNextJoined self.now.office self.now.history peer delta.now }
+    {
+        if self.is_full() {
+            return false;
+        }
+        if !self.is_of_sites(peer, delta) {
+            return false;
+        }
+        if foreign(&self.rights, self.me, delta.marks()).is_some() {
+            return false;
+        }
+        !self.has_all_of(delta)
+    }
+
+    fn is_full(&self) -> bool
+        ensures { IsTrue result ↔ (self.now.office.limit ≤ length self.now.history) }
+    {
+        self.limit.entries() <= self.history.len() as u64
+    }
+}
+
+// Whether the delta is that of the item, or empty where there is none.
+fn is_of_item(delta: &Delta, item: Option<Item>) -> bool
+    ensures { IsTrue result ↔ (delta.now ≡ state_of_item item) }
+{
+    match item {
+        None => has_lists(delta, &[], &[]),
+        Some(item) => is_of_one(delta, &item),
+    }
+}
+
+fn is_of_one(delta: &Delta, item: &Item) -> bool
+    ensures { IsTrue result ↔ (delta.now ≡ state_of item.now) }
+{
+    match item {
+        Item::Name(event) => has_lists(delta, &[*event], &[]),
+        Item::Cell(mark) => {
+            mark.bounds();
+            has_lists(delta, &[], &[*mark])
+        }
+    }
+}
+
+fn has_lists(delta: &Delta, names: &[Event], marks: &[Mark]) -> bool
+    ensures { IsTrue result ↔ HasLists delta.now names.now marks.now }
+{
+    are_names(delta.names(), names) && are_marks(delta.marks(), marks)
+}
+
+fn are_names(names: &[Event], wanted: &[Event]) -> bool
+    ensures { IsTrue result ↔ (names.now ≡ wanted.now) }
+{
+    names == wanted
+}
+
+fn are_marks(marks: &[Mark], wanted: &[Mark]) -> bool
+    ensures { IsTrue result ↔ (marks.now ≡ wanted.now) }
+{
+    marks == wanted
+}
