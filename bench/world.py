@@ -1,0 +1,83 @@
+#!/usr/bin/env python3
+"""Times `boxoffice world` on large scripts.
+
+usage: world.py PROGRAM [PLAIN WORD..]
+
+PROGRAM is the built boxoffice. PLAIN, where it is given, is another program that answers the same scripts when it is
+called with these words, and the ratio of the two times is printed. Each time is the best of three runs.
+"""
+import os
+import random
+import subprocess
+import sys
+import tempfile
+import time
+
+
+def one_site(lines, out):
+    """Sales at one site, a tenth of them given back."""
+    chance = random.Random(7)
+    out.write('sites 1\n0 announce 1 gala\n0 release 2 gala 1000000000\n')
+    sales = []
+    for number in range(3, lines):
+        if sales and chance.random() < 0.1:
+            out.write('0 refund %d %d\n' % (number, sales.pop()))
+        else:
+            out.write('0 sell %d gala %d\n' % (number, chance.randint(1, 9)))
+            sales.append(number)
+
+
+def four_sites(sales, out):
+    """Sales of twenty events at four sites, with a message and its acknowledgement after every fifty."""
+    chance = random.Random(7)
+    out.write('sites 4\n')
+    number, message = 1, 0
+    for event in range(20):
+        out.write('0 announce %d ev%d\n0 release %d ev%d 100000000\n' % (number, event, number + 1, event))
+        number += 2
+        for to in (1, 2, 3):
+            out.write('0 cede %d ev%d 20000000 %d\n' % (number, event, to))
+            number += 1
+    for to in (1, 2, 3):
+        out.write('send 0 %d\ndeliver %d\ndeliver %d\n' % (to, message, message + 1))
+        message += 2
+    for k in range(sales):
+        number += 1
+        out.write('%d sell %d ev%d 1\n' % (chance.randrange(4), number, chance.randrange(20)))
+        if k % 50 == 49:
+            by = chance.randrange(4)
+            to = (by + 1 + chance.randrange(3)) % 4
+            out.write('send %d %d\ndeliver %d\ndeliver %d\n' % (by, to, message, message + 1))
+            message += 2
+
+
+def best(words, path):
+    times = []
+    for _ in range(3):
+        with open(path, 'rb') as script:
+            began = time.perf_counter()
+            subprocess.run(words, stdin=script, stdout=subprocess.DEVNULL, check=True)
+            times.append(time.perf_counter() - began)
+    return min(times)
+
+
+def main(words):
+    if not words:
+        sys.exit(__doc__)
+    program, plain = [words[0], 'world'], words[1:]
+    cases = [('one site', one_site, 10000), ('one site', one_site, 1000000), ('four sites', four_sites, 20000), ('four sites', four_sites, 200000)]
+    with tempfile.TemporaryDirectory() as folder:
+        path = os.path.join(folder, 'script')
+        for name, write, size in cases:
+            with open(path, 'w') as out:
+                write(size, out)
+            with open(path) as script:
+                lines = sum(1 for _ in script)
+            ours = best(program, path)
+            text = '%s, %d lines: %.3f s, %.2f us a line' % (name, lines, ours, ours / lines * 1e6)
+            if plain:
+                text += ', ratio to the plain program %.2f' % (ours / best(plain, path))
+            print(text)
+
+
+main(sys.argv[1:])
