@@ -4,6 +4,8 @@
 #[cfg(test)]
 mod many_sites;
 #[cfg(test)]
+mod messages;
+#[cfg(test)]
 mod one_site;
 #[cfg(test)]
 mod scripts;

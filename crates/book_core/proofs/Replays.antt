@@ -7,7 +7,7 @@ use Rattle.book_core.specs.declared.entry.Entry.{Entry}
 use Rattle.book_core.specs.Decision.{Office}
 use Rattle.book_core.specs.Legal.{IsNext, IsLegal}
 use Rattle.book_core.specs.BookView.{BookView}
-use Rattle.book_core.specs.Replay.{IsFirstIllegal}
+use Rattle.book_core.specs.Replay.{IsFirstIllegal, HasLegalEntry}
 use Rattle.book_core.proofs.Histories.{legal_push}
 
 pub legal_empty : (office : Office) (h : List Entry) → h ≡ [] → IsLegal office h
@@ -27,30 +27,47 @@ get_end (x ∷ xs) y = get_end xs y
 pub all_yielded : (h yielded entries : List Entry) → h ≡ yielded → map (λ x. x) yielded ≡ entries → h ≡ entries
 all_yielded h yielded entries is all = is ∙ sym (map-id yielded) ∙ all
 
-stops : (office : Office) (entries h : List Entry) (entry : Entry) → IsLegal office h → h ≡ take (length h) entries
-    → length h < length entries → entry ≡ get_or entries (length h) entry → (IsNext office h entry → ⊥) → IsFirstIllegal office entries (length h)
-stops office entries h entry legal so_far more at refused = record {
-  there = more;
-  before = subst (λ (g : List Entry). IsLegal office g) so_far legal;
-  here = λ all.
-      let with_it : take (length h + 1) entries ≡ h ++ entry ∷ [] =
-      take_more entries (length h) entry more ∙ ap (λ (e : Entry). take (length h) entries ++ e ∷ []) (sym at) ∙ ap (λ (g : List Entry). g ++ entry ∷ []) (sym so_far) in
-      let whole : IsLegal office (h ++ entry ∷ []) = subst (λ (g : List Entry). IsLegal office g) with_it all in
-      refused (subst (λ (g : List Entry). IsNext office g entry) (take-append_seam h (entry ∷ [])) (whole (length h) entry (get_end h entry)));
-}
+-- the entry stands behind this history in the list of all entries
+pub record IsAt (entries h : List Entry) (entry : Entry) : Type 0 where
+  pub there : length h < length entries
+  pub before : h ≡ take (length h) entries
+  pub with_it : take (length h + 1) entries ≡ h ++ entry ∷ []
 
--- the first entry that is not next
-pub replay_stops : (office : Office) (entries yielded : List Entry) (entry : Entry) (book : BookView) (place : ℕ)
-    → book.office ≡ office → book.history ≡ yielded → IsLegal book.office book.history
-    → map (λ x. x) yielded ≡ take (length yielded) entries
-    → length yielded < length entries → entry ≡ get_or entries (length yielded) entry
-    → (IsNext book.office book.history entry → ⊥) → place ≡ length book.history → IsFirstIllegal office entries place
-replay_stops office entries yielded entry book place office_is history_is legal so_far more at refused place_is =
-    let same = sym history_is in
-    let taken : book.history ≡ take (length book.history) entries =
-    history_is ∙ sym (map-id yielded) ∙ so_far ∙ ap (λ (h : List Entry). take (length h) entries) same in
+-- the entry that an iterator yields behind those that it has yielded
+pub at_entry : (entries yielded h : List Entry) (entry : Entry) → h ≡ yielded → map (λ x. x) yielded ≡ take (length yielded) entries
+    → (length yielded < length entries) × (entry ≡ get_or entries (length yielded) entry) → IsAt entries h entry
+at_entry entries yielded h entry is so_far turn =
+    let before : yielded ≡ take (length yielded) entries = sym (map-id yielded) ∙ so_far in
+    let with_it : take (length yielded + 1) entries ≡ yielded ++ entry ∷ [] =
+    take_more entries (length yielded) entry turn.0 ∙ ap (λ (e : Entry). take (length yielded) entries ++ e ∷ []) (sym turn.1) ∙ ap (λ (g : List Entry). g ++ entry ∷ []) (sym before) in
+    subst (λ (g : List Entry). IsAt entries g entry) (sym is) (record { there = turn.0; before = before; with_it = with_it })
+
+-- an entry that is not next is the first that is not legal
+pub replay_stops : (office : Office) (entries : List Entry) (entry : Entry) (book : BookView) (place : ℕ) → IsAt entries book.history entry
+    → book.office ≡ office → IsLegal book.office book.history → (IsNext book.office book.history entry → ⊥) → place ≡ length book.history
+    → IsFirstIllegal office entries place
+replay_stops office entries entry book place at office_is legal refused place_is =
     subst (λ (o : Office). IsFirstIllegal o entries place) office_is
     (subst (λ (k : ℕ). IsFirstIllegal book.office entries k) (sym place_is)
-    (stops book.office entries book.history entry legal taken
-    (subst (λ (h : List Entry). length h < length entries) same more)
-    (subst (λ (h : List Entry). entry ≡ get_or entries (length h) entry) same at) refused))
+    (record {
+      there = at.there;
+      before = subst (λ (g : List Entry). IsLegal book.office g) at.before legal;
+      here = λ all.
+          let whole : IsLegal book.office (book.history ++ entry ∷ []) = subst (λ (g : List Entry). IsLegal book.office g) at.with_it all in
+          refused (subst (λ (g : List Entry). IsNext book.office g entry) (take-append_seam book.history (entry ∷ [])) (whole (length book.history) entry (get_end book.history entry)));
+    }))
+
+-- an entry that is next is legal
+pub replay_goes_on : (office : Office) (entries : List Entry) (entry : Entry) (book : BookView) → IsAt entries book.history entry
+    → book.office ≡ office → IsLegal book.office book.history → IsNext book.office book.history entry → HasLegalEntry office entries
+replay_goes_on office entries entry book at office_is legal next = (
+  length book.history,
+  at.there,
+  subst (λ (o : Office). IsLegal o (take (length book.history + 1) entries)) office_is
+      (subst (λ (g : List Entry). IsLegal book.office g) (sym at.with_it) (legal_push book.office book.history entry legal next)),
+)
+
+-- the list of all entries is legal where the history is
+pub replay_ends : (office : Office) (entries : List Entry) (book : BookView) → book.office ≡ office → book.history ≡ entries → IsLegal book.office book.history → IsLegal office entries
+replay_ends office entries book office_is history_is legal =
+    subst (λ (o : Office). IsLegal o entries) office_is (subst (λ (h : List Entry). IsLegal book.office h) history_is legal)

@@ -1,4 +1,4 @@
--- Legal histories.
+-- Legal histories. (Our own.)
 use Rattle.std.specs.Prelude.{◌≡◌, ℕ, ◌<◌, false, true, List, length, take, slice_get, Some, None}
 use Rattle.rights_lattice.specs.Cells.{marks_of}
 use Rattle.rights_lattice.specs.State.{State, is_within}

@@ -1,4 +1,4 @@
--- What a plan is, and why there is none.
+-- What a plan is, and why there is none. (Our own.)
 use Rattle.std.specs.Prelude.{◌≡◌, ℕ}
 use Rattle.book_core.specs.declared.entry.Entry.{Entry}
 use Rattle.book_core.specs.declared.entry.Entry.TheVariants.{Asked, Joined}

@@ -1,4 +1,4 @@
--- Why a list of entries is no history. Our own.
+-- Why a list of entries is no history. (Our own.)
 use Rattle.std.specs.Prelude.{◌≡◌, ℕ, ◌+◌, ◌<◌, List, length, take}
 use Rattle.rights_lattice.specs.Cells.{Valued, marks_of}
 use Rattle.rights_lattice.specs.State.{State, names_in_order}
@@ -14,10 +14,14 @@ pub record IsFirstIllegal (office : Office) (entries : List Entry) (place : ℕ)
   pub before : IsLegal office (take place entries)
   pub here : IsLegal office (take (place + 1) entries) → ⊥
 
--- the fault names the first entry that is not legal, or memory was refused
+-- the entry at some place, and each before it, is legal
+abbrev pub HasLegalEntry : Office → List Entry → Type 0
+HasLegalEntry office entries = (place : ℕ) × (place < length entries) × IsLegal office (take (place + 1) entries)
+
+-- the fault names the first entry that is not legal, or memory was refused to one that is
 abbrev pub IsReplayFault : Office → List Entry → ReplayFault → Type 0
 IsReplayFault office entries (IllegalAt place) = IsFirstIllegal office entries place
-IsReplayFault office entries Memory = Unit {0}
+IsReplayFault office entries Memory = HasLegalEntry office entries
 
 -- the names and the marks of a delta
 abbrev pub HasLists : State → List (List ℕ) → List Valued → Type 0

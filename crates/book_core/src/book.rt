@@ -1,5 +1,5 @@
 //! The book of a site.
-ghost use Rattle.std.specs.Prelude.{vec_len, vec_capacity, IfOk, IfErr, OnOk, ◌++◌, ◌∷◌, ◌≡◌, ℕ, ◌<◌, ◌≤◌, [], length, slice_get, Some, None};
+ghost use Rattle.std.specs.Prelude.{vec_len, vec_capacity, nat_le, IfOk, IfErr, OnOk, ◌++◌, ◌∷◌, ◌≡◌, ℕ, ◌<◌, ◌≤◌, [], length, slice_get, Some, None};
 ghost use Rattle.std.specs.Option.{option_copied};
 ghost use Rattle.rights_lattice.specs.Cells.{value_at, raise_all, max_value};
 ghost use Rattle.rights_lattice.specs.State.{knows};
@@ -190,6 +190,13 @@ impl Book {
         self.names.join(entry.delta().names());
         keep(&mut self.ledger, self.history.len(), &entry);
         self.history.push_reserved(entry);
+    }
+
+    fn is_full(&self) -> bool
+        ensures { result ≡ nat_le self.now.office.limit (length self.now.history) }
+    {
+        let length = self.history.len() as u64;
+        length >= self.limit.entries()
     }
 
     // Makes room for an entry, of which nothing is shown.

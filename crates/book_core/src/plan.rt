@@ -75,7 +75,7 @@ pub enum JoinFault {
 /// Why a list of entries is no history of a book.
 #[derive(Clone, Copy, PartialEq, Eq, Debug)]
 pub enum ReplayFault {
-    /// The entry at this place, the first such, may not follow those before it.
+    /// The entry at this place, from 0, is the first that may not follow those before it.
     IllegalAt { place: usize },
     Memory,
 }

@@ -1,4 +1,4 @@
-// What asking and joining answer, with ample memory; the expected values are worked out by hand.
+// What asking, joining and replaying answer, with ample memory; the expected values are worked out by hand.
 use crate::{Book, Entry, JoinFault, JoinPlan, Limit, Plan, PlanFault, ReplayFault};
 use delta_mutators::{Delta, Item, announce};
 use local_rights::Totals;
@@ -318,23 +318,23 @@ fn entries_of(alloc: Global, book: &Book, forged: Option<usize>) -> Result<Vec<E
     Ok(entries)
 }
 
+fn replay_of(alloc: Global, book: &Book, entries: Vec<Entry>) -> Result<Book, ReplayFault> {
+    Book::replay(alloc, book.me(), book.sites(), book.limit(), entries)
+}
+
 #[test]
-fn history_is_replayed(rt: HostRuntime) -> Result<(), Fail> {
+fn history_is_replayed(rt: HostRuntime) {
     let alloc = rt.alloc();
     let gala = event(&rt, b"gala");
+    let refund = number(&rt, 10);
     let book = busy_book(&rt, alloc);
-    let (me, sites, limit) = (book.me(), book.sites(), book.limit());
-    let entries = entries_of(alloc, &book, None)?;
-    let again = Book::replay(alloc, me, sites, limit, entries)
-        .ok()
-        .ok_or("a legal history")?;
+    let entries = entries_of(alloc, &book, None).expect(&rt, "memory");
+    let again = replay_of(alloc, &book, entries).ok().expect(&rt, "a book");
     assert_eq!(rt; again.len(), 15);
     assert_eq!(rt; again.left(gala), 0);
     assert_eq!(rt; again.totals(gala), book.totals(gala));
-    assert_eq!(rt; again.kept(number(&rt, 10)), book.kept(number(&rt, 10)));
-
-    let forged = entries_of(alloc, &book, Some(3))?;
-    let fault = Book::replay(alloc, me, sites, limit, forged).err();
+    assert_eq!(rt; again.kept(refund), book.kept(refund));
+    let forged = entries_of(alloc, &book, Some(3)).expect(&rt, "memory");
+    let fault = replay_of(alloc, &book, forged).err();
     assert_eq!(rt; fault, Some(ReplayFault::IllegalAt { place: 3 }));
-    Ok(())
 }

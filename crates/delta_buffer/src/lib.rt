@@ -1,6 +1,8 @@
-//! Delta-intervals of a site's history (JPDC 2018).
+//! Delta-intervals of a site's history (Almeida et al., JPDC 2018).
 #![tactic(auto)]
 
 pub mod intervals;
+#[cfg(test)]
+mod tests;
 
 pub use intervals::interval;

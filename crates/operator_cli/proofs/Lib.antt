@@ -1,4 +1,6 @@
 pub mod NameLaws
+pub mod RequestLaws
+pub mod CommandLaws
 pub mod ReadingLaws
 pub mod TotalLines
 pub mod ScriptLaws

@@ -6,7 +6,7 @@ use Rattle.std.proofs.lemmas.Option.{cond_some}
 use Rattle.rights_lattice.specs.EventName.{IsEventName, is_event_byte}
 use Rattle.plain_words.specs.Words.{is_space}
 use Rattle.plain_words.proofs.WordLaws.{lacks_space}
-use Rattle.operator_cli.specs.Reading.{is_event_name, event_of}
+use Rattle.operator_cli.specs.Requests.{is_event_name, event_of}
 
 name_passes : (w : List ℕ) → IsEventName w → is_event_name w ≡ true
 name_passes w h = and_from _ _ (and_from _ _ (le-leb _ _ h.not_empty) (le-leb _ _ h.at_most_32)) h.bytes_allowed

@@ -7,16 +7,14 @@ use Rattle.book_core.specs.Decision.{own_left}
 use Rattle.world_steps.specs.World.{World, count, history_at, office_at, after}
 use Rattle.world_steps.specs.Outcomes.{outcome}
 use Rattle.world_steps.specs.declared.step.Step.{Step}
-use Rattle.world_steps.specs.declared.step.Step.TheVariants as step
 use Rattle.world_steps.specs.declared.step.Outcome.{Outcome}
-use Rattle.world_steps.specs.declared.step.Outcome.TheVariants as outcome
 use Rattle.world_steps.specs.declared.step.WorldFault.{WorldFault}
 use Rattle.world_steps.specs.declared.step.WorldFault.TheVariants as fault
 use Rattle.local_rights.specs.declared.report.Totals.{Totals}
 use Rattle.operator_cli.specs.declared.script_line.ScriptLine.{ScriptLine}
-use Rattle.operator_cli.specs.declared.script_line.ScriptLine.TheVariants.{Ask, Left, Totals as ScriptTotals}
+use Rattle.operator_cli.specs.declared.script_line.ScriptLine.TheVariants.{Make, Left, Totals as ScriptTotals}
 use Rattle.operator_cli.specs.declared.answer.Answer.{Answer}
-use Rattle.operator_cli.specs.declared.answer.Answer.TheVariants.{Replied, Refused, LeftIs, TotalsAre, NotKnown, NoSuchSite, Unread}
+use Rattle.operator_cli.specs.declared.answer.Answer.TheVariants.{Made, LeftIs, TotalsAre, NotKnown, NoSuchSite, NoSuchMessage, Unread}
 
 -- a site's view of an event
 abbrev pub is_known_at : World → ℕ → List ℕ → Bool
@@ -44,9 +42,9 @@ totals_answer w i event = looked w i event (TotalsAre (totals_at w i event))
 
 -- want of memory is no outcome, and is not answered
 abbrev pub outcome_answer : Result Outcome WorldFault → Answer
-outcome_answer (Ok (outcome.Answered reply)) = Replied reply
-outcome_answer (Ok (outcome.Refused fault)) = Refused fault
+outcome_answer (Ok o) = Made o
 outcome_answer (Err fault.NoSite) = NoSuchSite
+outcome_answer (Err fault.NoMessage) = NoSuchMessage
 outcome_answer (Err fault.Memory) = Unread
 
 abbrev pub step_answer : World → Step → Answer × World
@@ -54,6 +52,6 @@ step_answer w s = (outcome_answer (outcome w s), after w s)
 
 abbrev pub answer_to : World → Option ScriptLine → Answer × World
 answer_to w None = (Unread, w)
-answer_to w (Some (Ask i number request)) = step_answer w (step.Ask i number request)
+answer_to w (Some (Make s)) = step_answer w s
 answer_to w (Some (Left i event)) = (left_answer w i event, w)
 answer_to w (Some (ScriptTotals i event)) = (totals_answer w i event, w)

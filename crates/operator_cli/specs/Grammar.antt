@@ -1,13 +1,17 @@
 -- The text of each script line.
-use Rattle.std.specs.Prelude.{ℕ, ◌≤◌, List, [], ◌∷◌, codes}
+use Rattle.std.specs.Prelude.{ℕ, ◌≤◌, Bool, true, false, List, [], ◌∷◌, codes}
 use Rattle.std.specs.List.{join_with_byte}
 use Rattle.std.specs.Fmt.{decimal}
 use Rattle.rights_lattice.specs.Cells.{max_value}
 use Rattle.rights_lattice.specs.EventName.{IsEventName}
 use Rattle.request_ledger.specs.declared.request.Request.{Request}
 use Rattle.request_ledger.specs.declared.request.Request.TheVariants.{Announce, Release, Sell, Refund, Cede}
+use Rattle.world_steps.specs.declared.step.Input.{Input}
+use Rattle.world_steps.specs.declared.step.Input.TheVariants as input
+use Rattle.world_steps.specs.declared.step.Step.{Step}
+use Rattle.world_steps.specs.declared.step.Step.TheVariants.{Ask, Send, Deliver, Restart, Stop}
 use Rattle.operator_cli.specs.declared.script_line.ScriptLine.{ScriptLine}
-use Rattle.operator_cli.specs.declared.script_line.ScriptLine.TheVariants.{Ask, Left, Totals}
+use Rattle.operator_cli.specs.declared.script_line.ScriptLine.TheVariants.{Make, Left, Totals}
 
 -- the words of a request under its number
 abbrev pub request_words : ℕ → Request → List (List ℕ)
@@ -17,9 +21,27 @@ request_words n (Sell e a) = codes "sell" ∷ decimal n ∷ e ∷ decimal a ∷ 
 request_words n (Refund s) = codes "refund" ∷ decimal n ∷ decimal s ∷ []
 request_words n (Cede e a to) = codes "cede" ∷ decimal n ∷ e ∷ decimal a ∷ decimal to ∷ []
 
--- the words of a line: the site, and then a session line
+-- the words of what a stopped site had in hand
+abbrev pub input_words : Input → List (List ℕ)
+input_words (input.Request n q) = request_words n q
+input_words (input.Take k) = codes "deliver" ∷ decimal k ∷ []
+
+-- whether it was stored
+abbrev pub stored_text : Bool → List ℕ
+stored_text true = codes "kept"
+stored_text false = codes "lost"
+
+-- the words of a step
+abbrev pub step_words : Step → List (List ℕ)
+step_words (Ask i n q) = decimal i ∷ request_words n q
+step_words (Send i j) = codes "send" ∷ decimal i ∷ decimal j ∷ []
+step_words (Deliver k) = codes "deliver" ∷ decimal k ∷ []
+step_words (Restart i) = codes "restart" ∷ decimal i ∷ []
+step_words (Stop i x stored) = codes "stop" ∷ decimal i ∷ stored_text stored ∷ input_words x
+
+-- the words of a line
 abbrev pub script_words : ScriptLine → List (List ℕ)
-script_words (Ask i n q) = decimal i ∷ request_words n q
+script_words (Make s) = step_words s
 script_words (Left i e) = decimal i ∷ codes "left" ∷ e ∷ []
 script_words (Totals i e) = decimal i ∷ codes "totals" ∷ e ∷ []
 
@@ -51,8 +73,23 @@ IsRequest (Sell e a) = IsEventName e × IsAmount a
 IsRequest (Refund s) = IsAmount s
 IsRequest (Cede e a to) = IsEventName e × IsAmount a × IsSiteNumber to
 
+-- the index of a message, whether the message is there or not
+abbrev pub IsIndex : ℕ → Type 0
+IsIndex k = k ≤ 1000000000
+
+abbrev pub IsInput : Input → Type 0
+IsInput (input.Request n q) = IsAmount n × IsRequest q
+IsInput (input.Take k) = IsIndex k
+
+abbrev pub IsStep : Step → Type 0
+IsStep (Ask i n q) = IsSiteNumber i × IsAmount n × IsRequest q
+IsStep (Send i j) = IsSiteNumber i × IsSiteNumber j
+IsStep (Deliver k) = IsIndex k
+IsStep (Restart i) = IsSiteNumber i
+IsStep (Stop i x stored) = IsSiteNumber i × IsInput x
+
 abbrev pub IsScriptLine : ScriptLine → Type 0
-IsScriptLine (Ask i n q) = IsSiteNumber i × IsAmount n × IsRequest q
+IsScriptLine (Make s) = IsStep s
 IsScriptLine (Left i e) = IsSiteNumber i × IsEventName e
 IsScriptLine (Totals i e) = IsSiteNumber i × IsEventName e
 

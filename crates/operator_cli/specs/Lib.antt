@@ -1,5 +1,7 @@
 pub mod Codes
 pub mod Grammar
+pub mod Requests
+pub mod Commands
 pub mod Reading
 pub mod Replies
 pub mod Answering

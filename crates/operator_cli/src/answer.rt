@@ -1,31 +1,34 @@
 //! What a line is answered, and its text.
 
 ghost use Rattle.std.specs.Prelude.{◌≡◌, ◌+◌, ◌≤◌, ◌++◌, ◌∷◌, [], length};
+ghost use Rattle.std.specs.Fmt.{decimal};
 ghost use Rattle.arrayvec.specs.ArrayVec.{array_vec_len};
 ghost use Rattle.plain_words.specs.Writing.{Writes};
-ghost use Rattle.operator_cli.specs.Replies.{reply_text, refusal_text, totals_text, answer_text, reply_line};
+ghost use Rattle.operator_cli.specs.Replies.{reply_text, refusal_text, take_fault_text, outcome_text, totals_text, answer_text, reply_line};
 
 use book_core::PlanFault;
 use local_rights::Totals;
 use plain_words::{Text, WriteFault, put, put_number, write_bytes};
 use request_ledger::Reply;
+use site_exchange::TakeFault;
 use std::io::Write;
+use world_steps::Outcome;
 
 /// What a line of a script is answered.
 #[derive(Clone, Copy, Debug)]
 pub(crate) enum Answer {
-    /// The site's reply to a request.
-    Replied(Reply),
-    /// The request was not decided.
-    Refused(PlanFault),
+    /// What came of a step.
+    Made(Outcome),
     /// The seats that the site may still sell.
     LeftIs(u64),
     /// The totals by the site's view.
     TotalsAre(Totals),
     /// The site does not know the event.
     NotKnown,
-    /// The site is not there.
+    /// The site is not there, or would send to itself.
     NoSuchSite,
+    /// The message was never sent.
+    NoSuchMessage,
     /// The line is none of a script's.
     Unread,
 }
@@ -40,6 +43,16 @@ fn word(bytes: &[u8]) -> Text
     text
 }
 
+fn numbered(bytes: &[u8], number: u64) -> Text
+    requires { length bytes.now ≤ 100 }
+    ensures value { result.items ≡ bytes.now ++ decimal number }
+    ensures len { array_vec_len result ≤ 200 }
+{
+    let mut text = word(bytes);
+    put_number(&mut text, number);
+    text
+}
+
 fn reply_text(reply: Reply) -> Text
     ensures value { result.items ≡ reply_text reply }
     ensures len { array_vec_len result ≤ 200 }
@@ -48,11 +61,7 @@ fn reply_text(reply: Reply) -> Text
         Reply::Done => word(b"done"),
         Reply::Known => word(b"known"),
         Reply::Unknown => word(b"unknown"),
-        Reply::Short { left } => {
-            let mut text = word(b"short ");
-            put_number(&mut text, left);
-            text
-        }
+        Reply::Short { left } => numbered(b"short ", left),
         Reply::CellFull => word(b"full-cell"),
         Reply::NoSale => word(b"no-sale"),
         Reply::Refunded => word(b"refunded"),
@@ -69,6 +78,40 @@ fn refusal_text(fault: PlanFault) -> Text
         PlanFault::Reused { .. } => word(b"reused"),
         PlanFault::Full => word(b"history-full"),
         PlanFault::Memory => word(b"memory"),
+    }
+}
+
+fn take_fault_text(fault: TakeFault) -> Text
+    ensures value { result.items ≡ take_fault_text fault }
+    ensures len { array_vec_len result ≤ 200 }
+{
+    match fault {
+        TakeFault::NotForMe => word(b"not-for-me"),
+        TakeFault::UnknownSite => word(b"unknown-site"),
+        TakeFault::StrayAck { len } => numbered(b"stray-ack ", len as u64),
+        TakeFault::ForeignRow { .. } => word(b"foreign-row"),
+        TakeFault::Full => word(b"history-full"),
+        TakeFault::Memory => word(b"memory"),
+        TakeFault::Closed => word(b"closed"),
+        TakeFault::Store => word(b"store"),
+    }
+}
+
+fn outcome_text(outcome: Outcome) -> Text
+    ensures value { result.items ≡ outcome_text outcome }
+    ensures len { array_vec_len result ≤ 200 }
+{
+    match outcome {
+        Outcome::Answered(reply) => reply_text(reply),
+        Outcome::Refused(fault) => refusal_text(fault),
+        Outcome::Sent { index } => numbered(b"message ", index as u64),
+        Outcome::NothingToSend => word(b"nothing"),
+        Outcome::Joined { ack } => numbered(b"joined message ", ack as u64),
+        Outcome::NothingNew { ack } => numbered(b"nothing-new message ", ack as u64),
+        Outcome::Acked => word(b"acked"),
+        Outcome::NotTaken(fault) => take_fault_text(fault),
+        Outcome::Restarted => word(b"restarted"),
+        Outcome::Stopped => word(b"stopped"),
     }
 }
 
@@ -90,16 +133,12 @@ fn answer_text(answer: Answer) -> Text
     ensures len { array_vec_len result ≤ 200 }
 {
     match answer {
-        Answer::Replied(reply) => reply_text(reply),
-        Answer::Refused(fault) => refusal_text(fault),
-        Answer::LeftIs(left) => {
-            let mut text = word(b"left ");
-            put_number(&mut text, left);
-            text
-        }
+        Answer::Made(outcome) => outcome_text(outcome),
+        Answer::LeftIs(left) => numbered(b"left ", left),
         Answer::TotalsAre(totals) => totals_text(totals),
         Answer::NotKnown => word(b"unknown"),
         Answer::NoSuchSite => word(b"no-such-site"),
+        Answer::NoSuchMessage => word(b"no-message"),
         Answer::Unread => word(b"bad-line"),
     }
 }

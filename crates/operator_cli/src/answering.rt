@@ -9,7 +9,7 @@ use crate::reading::{BadLine, read_script_line};
 use crate::script_line::ScriptLine;
 use rights_lattice::{Event, SiteId};
 use std::alloc::{AllocError, Global};
-use world_steps::{Outcome, Step, World, WorldFault};
+use world_steps::{Step, World, WorldFault};
 
 fn left_answer(world: &World, site: SiteId, event: Event) -> Answer
     ensures { result ≡ left_answer world.now site event }
@@ -43,9 +43,9 @@ fn made(world: &mut World, alloc: Global, step: Step) -> Result<Answer, AllocErr
     ensures unchanged { OnErr result (world.new ≡ world.old) }
 {
     match world.step(alloc, step) {
-        Ok(Outcome::Answered(reply)) => Ok(Answer::Replied(reply)),
-        Ok(Outcome::Refused(fault)) => Ok(Answer::Refused(fault)),
+        Ok(outcome) => Ok(Answer::Made(outcome)),
         Err(WorldFault::NoSite) => Ok(Answer::NoSuchSite),
+        Err(WorldFault::NoMessage) => Ok(Answer::NoSuchMessage),
         Err(WorldFault::Memory) => Err(AllocError),
     }
 }
@@ -55,19 +55,7 @@ fn answer(world: &mut World, alloc: Global, line: ScriptLine) -> Result<Answer, 
     ensures unchanged { OnErr result (world.new ≡ world.old) }
 {
     match line {
-        ScriptLine::Ask {
-            site,
-            number,
-            request,
-        } => made(
-            world,
-            alloc,
-            Step::Ask {
-                site,
-                number,
-                request,
-            },
-        ),
+        ScriptLine::Make(step) => made(world, alloc, step),
         ScriptLine::Left { site, event } => Ok(left_answer(world, site, event)),
         ScriptLine::Totals { site, event } => Ok(totals_answer(world, site, event)),
     }

@@ -3,9 +3,11 @@
 
 mod answer;
 mod answering;
+mod commands;
 mod fault;
 mod orders;
 mod reading;
+mod requests;
 mod script_line;
 mod scripting;
 mod status;

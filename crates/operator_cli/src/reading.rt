@@ -1,204 +1,36 @@
 //! Reading the lines of a script.
 
 ghost use Rattle.std.specs.Prelude.{◌≡◌, ◌<◌, ◌≤◌, ◌^◌, ℕ, Ok, Some, IfOk, IfSome};
-ghost use Rattle.std.specs.Option.{option_map};
 ghost use Rattle.std.specs.Result.{result_ok};
 ghost use Rattle.std.specs.List.{join_with_byte, slice_split};
 ghost use Rattle.plain_words.specs.Words.{is_space};
+ghost use Rattle.plain_words.specs.Number.{number_of};
 ghost use Rattle.operator_cli.specs.declared.script_line.ScriptLine.{ScriptLine};
 ghost use Rattle.operator_cli.specs.Grammar.{script_text, IsScriptLine, sites_words, IsSites, limit_words, IsLimit};
-ghost use Rattle.operator_cli.specs.Reading.{verb_of, event_of, verb_at, event_at, site_at, amount_at, sized_at, announce_at, release_at, sell_at, refund_at, cede_at, request_at, ask_at, left_at, totals_at, after_verb, line_of, named_number, sites_of, limit_of};
+ghost use Rattle.operator_cli.specs.Reading.{ask_at, left_at, totals_at, after_verb, at_site, line_of, named_number, sites_of, limit_of};
 
+use crate::commands::commanded;
+use crate::requests::{Verb, event_at, numbered_at, verb_at};
 use crate::script_line::ScriptLine;
 use book_core::Limit;
-use plain_words::{Words, number_at};
-use request_ledger::{Amount, Request, RequestNumber};
-use rights_lattice::{Event, MAX_VALUE, SiteId, Sites};
+use plain_words::{Words, number_at, read_number};
+use rights_lattice::{SiteId, Sites};
+use world_steps::Step;
 
 /// A line that is none of a script's.
 #[derive(Clone, Copy, Debug, PartialEq, Eq)]
 pub(crate) struct BadLine;
 
-// The word after the site.
-#[derive(Clone, Copy, Debug, PartialEq, Eq)]
-enum Verb {
-    Announce,
-    Release,
-    Sell,
-    Refund,
-    Cede,
-    Left,
-    Totals,
-}
-
-#[tactic(auto, unfolding(crate::specs::Reading::verb_of))]
-fn verb_of(word: &[u8]) -> Option<Verb>
-    ensures { result ≡ verb_of word.now }
-{
-    if word == b"announce".as_slice() {
-        Some(Verb::Announce)
-    } else if word == b"release".as_slice() {
-        Some(Verb::Release)
-    } else if word == b"sell".as_slice() {
-        Some(Verb::Sell)
-    } else if word == b"refund".as_slice() {
-        Some(Verb::Refund)
-    } else if word == b"cede".as_slice() {
-        Some(Verb::Cede)
-    } else if word == b"left".as_slice() {
-        Some(Verb::Left)
-    } else if word == b"totals".as_slice() {
-        Some(Verb::Totals)
-    } else {
-        None
-    }
-}
-
-#[tactic(auto, unfolding(crate::specs::Reading::verb_at))]
-fn verb_at(words: &mut Words<'_>) -> Option<Verb>
-    ensures { option_map (λ v. (v, words.new)) result ≡ verb_at words.old }
-{
-    let word = words.next()?;
-    let verb = verb_of(word)?;
-    Some(verb)
-}
-
-fn event_of(word: &[u8]) -> Option<Event>
-    ensures { result ≡ event_of word.now }
-{
-    match Event::read(word) {
-        Some(event) => Some(event),
-        None => None,
-    }
-}
-
-#[tactic(auto, unfolding(crate::specs::Reading::event_at))]
-fn event_at(words: &mut Words<'_>) -> Option<Event>
-    ensures { option_map (λ e. (e, words.new)) result ≡ event_at words.old }
-{
-    let word = words.next()?;
-    let event = event_of(word)?;
-    Some(event)
-}
-
-fn site_at(words: &mut Words<'_>) -> Option<SiteId>
-    ensures { option_map (λ i. (i, words.new)) result ≡ site_at words.old }
-{
-    let number = number_at(words, 0, 63)?;
-    let site = SiteId::of(number)?;
-    Some(site)
-}
-
-fn request_number_at(words: &mut Words<'_>) -> Option<RequestNumber>
-    ensures { option_map (λ n. (n, words.new)) result ≡ amount_at words.old }
-{
-    let number = number_at(words, 1, MAX_VALUE)?;
-    let number = RequestNumber::of(number)?;
-    Some(number)
-}
-
-fn amount_at(words: &mut Words<'_>) -> Option<Amount>
-    ensures { option_map (λ a. (a, words.new)) result ≡ amount_at words.old }
-{
-    let seats = number_at(words, 1, MAX_VALUE)?;
-    let amount = Amount::of(seats)?;
-    Some(amount)
-}
-
-#[tactic(auto, unfolding(crate::specs::Reading::sized_at))]
-fn sized_at(words: &mut Words<'_>) -> Option<(Event, Amount)>
-    ensures { option_map (λ x. (x, words.new)) result ≡ sized_at words.old }
-{
-    let event = event_at(words)?;
-    let amount = amount_at(words)?;
-    Some((event, amount))
-}
-
-#[tactic(auto, unfolding(crate::specs::Reading::announce_at))]
-fn announce_at(words: &mut Words<'_>) -> Option<Request>
-    ensures { result ≡ announce_at words.old }
-{
-    let event = event_at(words)?;
-    if words.is_empty() {
-        Some(Request::Announce { event })
-    } else {
-        None
-    }
-}
-
-#[tactic(auto, unfolding(crate::specs::Reading::release_at))]
-fn release_at(words: &mut Words<'_>) -> Option<Request>
-    ensures { result ≡ release_at words.old }
-{
-    let (event, amount) = sized_at(words)?;
-    if words.is_empty() {
-        Some(Request::Release { event, amount })
-    } else {
-        None
-    }
-}
-
-#[tactic(auto, unfolding(crate::specs::Reading::sell_at))]
-fn sell_at(words: &mut Words<'_>) -> Option<Request>
-    ensures { result ≡ sell_at words.old }
-{
-    let (event, amount) = sized_at(words)?;
-    if words.is_empty() {
-        Some(Request::Sell { event, amount })
-    } else {
-        None
-    }
-}
-
-#[tactic(auto, unfolding(crate::specs::Reading::refund_at))]
-fn refund_at(words: &mut Words<'_>) -> Option<Request>
-    ensures { result ≡ refund_at words.old }
-{
-    let sale = request_number_at(words)?;
-    if words.is_empty() {
-        Some(Request::Refund { sale })
-    } else {
-        None
-    }
-}
-
-#[tactic(auto, unfolding(crate::specs::Reading::cede_at))]
-fn cede_at(words: &mut Words<'_>) -> Option<Request>
-    ensures { result ≡ cede_at words.old }
-{
-    let (event, amount) = sized_at(words)?;
-    let to = site_at(words)?;
-    if words.is_empty() {
-        Some(Request::Cede { event, amount, to })
-    } else {
-        None
-    }
-}
-
-fn request_at(verb: Verb, words: &mut Words<'_>) -> Option<Request>
-    ensures { result ≡ request_at verb words.old }
-{
-    match verb {
-        Verb::Announce => announce_at(words),
-        Verb::Release => release_at(words),
-        Verb::Sell => sell_at(words),
-        Verb::Refund => refund_at(words),
-        Verb::Cede => cede_at(words),
-        Verb::Left | Verb::Totals => None,
-    }
-}
-
 #[tactic(auto, unfolding(crate::specs::Reading::ask_at))]
 fn ask_at(site: SiteId, verb: Verb, words: &mut Words<'_>) -> Option<ScriptLine>
     ensures { result ≡ ask_at site verb words.old }
 {
-    let number = request_number_at(words)?;
-    let request = request_at(verb, words)?;
-    Some(ScriptLine::Ask {
+    let (number, request) = numbered_at(verb, words)?;
+    Some(ScriptLine::Make(Step::Ask {
         site,
         number,
         request,
-    })
+    }))
 }
 
 #[tactic(auto, unfolding(crate::specs::Reading::left_at))]
@@ -235,14 +67,32 @@ fn after_verb(site: SiteId, verb: Verb, words: &mut Words<'_>) -> Option<ScriptL
     }
 }
 
+#[tactic(auto, unfolding(crate::specs::Reading::at_site))]
+fn at_site(site: SiteId, words: &mut Words<'_>) -> Option<ScriptLine>
+    ensures { result ≡ at_site site words.old }
+{
+    let verb = verb_at(words)?;
+    after_verb(site, verb, words)
+}
+
+fn site_of(word: &[u8]) -> Option<SiteId>
+    ensures { result ≡ number_of 0 63 word.now }
+{
+    let number = read_number(word, 0, 63)?;
+    let site = SiteId::of(number)?;
+    Some(site)
+}
+
 #[tactic(auto, unfolding(crate::specs::Reading::line_of_words))]
 fn line_of(bytes: &[u8]) -> Option<ScriptLine>
     ensures { result ≡ line_of bytes.now }
 {
     let mut words = Words::new(bytes);
-    let site = site_at(&mut words)?;
-    let verb = verb_at(&mut words)?;
-    after_verb(site, verb, &mut words)
+    let word = words.next()?;
+    match site_of(word) {
+        Some(site) => at_site(site, &mut words),
+        None => commanded(word, &mut words),
+    }
 }
 
 /// Reads a line behind the first, without its line break.

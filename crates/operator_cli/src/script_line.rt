@@ -1,22 +1,12 @@
 //! A line of a script.
 
-use request_ledger::{Request, RequestNumber};
 use rights_lattice::{Event, SiteId};
+use world_steps::Step;
 
-/// What a line of a script asks of which site.
+/// What a line of a script asks: a step of the world, or a look at a site's view.
 #[derive(Clone, Copy, Debug)]
 pub(crate) enum ScriptLine {
-    Ask {
-        site: SiteId,
-        number: RequestNumber,
-        request: Request,
-    },
-    Left {
-        site: SiteId,
-        event: Event,
-    },
-    Totals {
-        site: SiteId,
-        event: Event,
-    },
+    Make(Step),
+    Left { site: SiteId, event: Event },
+    Totals { site: SiteId, event: Event },
 }

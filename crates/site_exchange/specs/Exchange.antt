@@ -1,4 +1,6 @@
 -- The message that is due to a peer, and what a site does with a message.
+-- Delta-intervals and their acknowledgements are those of Almeida et al., JPDC 2018; messages, checks and verdicts
+-- are our own.
 use Rattle.std.specs.Prelude.{ℕ, not, ◌||◌, ◌==◌, if◌then◌else◌, nat_le, nat_lt, List, length, get_or, replicate, Option, Some, None}
 use Rattle.rights_lattice.specs.Sums.{max_sites}
 use Rattle.book_core.specs.declared.entry.Entry.{Entry}

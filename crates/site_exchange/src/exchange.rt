@@ -44,8 +44,8 @@ impl Exchange {
     pub fn ack(&mut self, peer: SiteId, upto: Upto)
         ensures { self.new ≡ set self.old peer (max (get_or self.old peer 0) upto) }
     {
-        let acked = self.acked(peer).max(upto.entries());
-        self.acked[peer.number() as usize] = acked;
+        let place = peer.number() as usize;
+        self.acked[place] = self.acked[place].max(upto.entries());
     }
 
     /// The message that is due to a peer: the delta-interval from what it has acknowledged to the end of the

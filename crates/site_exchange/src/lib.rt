@@ -4,6 +4,8 @@
 pub mod checking;
 pub mod exchange;
 pub mod message;
+#[cfg(test)]
+mod tests;
 pub mod upto;
 
 pub use checking::{ack_for, check};

@@ -1,7 +1,12 @@
 pub mod Balance
-pub mod Books
-pub mod Names
+pub mod Delivering
+pub mod Making
+pub mod Positions
 pub mod Reached
-pub mod Runs
-pub mod Totals
+pub mod Sites
+pub mod Steps
+pub mod Taking
 pub mod Worlds
+mod Names
+mod Runs
+mod Totals

@@ -19,17 +19,19 @@ use Rattle.rights_lattice.proofs.MarkLaws.{names_of-none, names_in_order-names_o
 use Rattle.event_catalogue.proofs.NameLaws.{or_comm}
 use Rattle.book_core.specs.declared.entry.Entry.{Entry}
 use Rattle.book_core.specs.History.{state_of, names_of}
-use Rattle.book_core.specs.BookView.{BookView}
+use Rattle.world_steps.specs.declared.node.Node.{Node}
+use Rattle.site_exchange.specs.declared.message.Message.{Message}
+use Rattle.world_steps.specs.Nodes.{site_of}
 use Rattle.book_core.proofs.NameLaws.{known_names}
-use Rattle.world_steps.specs.World.{count, history_at, known_below, events_of}
+use Rattle.world_steps.specs.World.{count, no_site, history_at, known_below, events_of}
 use Rattle.world_steps.specs.Reaching.{world_of}
-use Rattle.world_steps.proofs.Books.{length-map}
+use Rattle.world_steps.proofs.Sites.{length-sites}
 use Rattle.world_steps.proofs.Totals.{history_in}
 
--- the names that the first n books know
-abbrev pub known_in : ℕ → List BookView → Names
-known_in zero books = no_names
-known_in (suc n) books = join_names (known_in n books) (state_of (get_or (map (λ (b : BookView). b.history) books) n [])).names
+-- the names that the first n nodes know
+abbrev pub known_in : ℕ → List Node → Names
+known_in zero nodes = no_names
+known_in (suc n) nodes = join_names (known_in n nodes) (state_of ((get_or (map site_of nodes) n no_site).history)).names
 
 keys-put : (name : List ℕ) (es : List (List ℕ × Unit {0})) → map (λ e. e.0) (put (slice_cmp nat_cmp) name tt es) ≡ insert_key (slice_cmp nat_cmp) (map (λ e. e.0) es) name
 keys-put name [] = refl
@@ -99,21 +101,21 @@ pub none_known : names_in_order no_names ≡ []
 none_known = ap (λ (N : Names). names_in_order N) (sym names_of-none) ∙ names_in_order-names_of [] refl
 
 -- the names of one more book
-pub known_more : (items : List BookView) (i : ℕ) (book : BookView) (now new : List (List ℕ)) → i < length items → book ≡ get_or items i book
-    → now ≡ names_in_order (known_in i items) → ((known : Names) → now ≡ names_in_order known → new ≡ names_in_order (join_names known (state_of book.history).names))
+pub known_more : (items : List Node) (i : ℕ) (node : Node) (now new : List (List ℕ)) → i < length items → node ≡ get_or items i node
+    → now ≡ names_in_order (known_in i items) → ((known : Names) → now ≡ names_in_order known → new ≡ names_in_order (join_names known (state_of node.book.history).names))
     → new ≡ names_in_order (known_in (i + 1) items)
-known_more items i book now new l is before adds =
+known_more items i node now new l is before adds =
     adds (known_in i items) before
-    ∙ ap (λ (h : List Entry). names_in_order (join_names (known_in i items) (state_of h).names)) (sym (history_in items i book l is))
+    ∙ ap (λ (h : List Entry). names_in_order (join_names (known_in i items) (state_of h).names)) (sym (history_in items i node l is))
     ∙ ap (λ n. names_in_order (known_in n items)) (let e : suc i ≡ i + 1 = omega arith in e)
 
-known_below-in : (limit : ℕ) (books : List BookView) (n : ℕ) → known_in n books ≡ known_below n (world_of limit books)
-known_below-in limit books zero = refl
-known_below-in limit books (suc n) = ap (λ (N : Names). join_names N (state_of (history_at (world_of limit books) n)).names) (known_below-in limit books n)
+known_below-in : (limit : ℕ) (nodes : List Node) (sent : List Message) (n : ℕ) → known_in n nodes ≡ known_below n (world_of limit nodes sent)
+known_below-in limit nodes sent zero = refl
+known_below-in limit nodes sent (suc n) = ap (λ (N : Names). join_names N (state_of (history_at (world_of limit nodes sent) n)).names) (known_below-in limit nodes sent n)
 
--- the names of all books are those of the world
-pub known_whole : (limit : ℕ) (books items : List BookView) (i : ℕ) → items ≡ books → i ≤ length items → length items ≤ i → names_in_order (known_in i items) ≡ events_of (world_of limit books)
-known_whole limit books items i same le ge =
-    ap (λ (bs : List BookView). names_in_order (known_in i bs)) same
-    ∙ ap (λ (N : Names). names_in_order N) (known_below-in limit books i)
-    ∙ ap (λ n. names_in_order (known_below n (world_of limit books))) (let e : i ≡ count (world_of limit books) = omega (arith, ap length same, length-map books) in e)
+-- the names of all nodes are those of the world
+pub known_whole : (limit : ℕ) (nodes : List Node) (sent : List Message) (items : List Node) (i : ℕ) → items ≡ nodes → i ≤ length items → length items ≤ i → names_in_order (known_in i items) ≡ events_of (world_of limit nodes sent)
+known_whole limit nodes sent items i same le ge =
+    ap (λ (ns : List Node). names_in_order (known_in i ns)) same
+    ∙ ap (λ (N : Names). names_in_order N) (known_below-in limit nodes sent i)
+    ∙ ap (λ n. names_in_order (known_below n (world_of limit nodes sent))) (let e : i ≡ count (world_of limit nodes sent) = omega (arith, ap length same, length-sites nodes) in e)

@@ -1,7 +1,8 @@
 -- A list of steps, one after the other.
-use Rattle.std.proofs.Common.{◌≡◌, ℕ, zero, suc, ◌+◌, ◌<◌, List, [], ◌∷◌, ◌++◌, Some, refl, sym, ap, ◌∙◌, subst, arith, length, take, get_or, map}
+use Rattle.std.proofs.Common.{◌≡◌, ℕ, ◌+◌, ◌<◌, List, [], ◌∷◌, ◌++◌, refl, sym, ap, ◌∙◌, subst, length, take, get_or, map}
 use Rattle.std.specs.Prelude.{slice_get, Result, Ok, IsSomeAnd}
 use Rattle.std.proofs.lemmas.List.{take_more, map-append}
+use Rattle.std.proofs.lemmas.Option.{slice_get_read}
 use Rattle.world_steps.specs.declared.step.Step.{Step}
 use Rattle.world_steps.specs.declared.step.Outcome.{Outcome}
 use Rattle.world_steps.specs.declared.step.WorldFault.{WorldFault}
@@ -33,14 +34,9 @@ outcomes_more steps k step w v before now answer l is so_far answers given now_i
     ∙ sym (outcomes-append (take k steps) (get_or steps k step ∷ []) w)
     ∙ ap (λ (s : List Step). outcomes s w) (sym (take_more steps k step l))
 
-there : (steps : List Step) (k : ℕ) (step : Step) → k < length steps → step ≡ get_or steps k step → slice_get steps k ≡ Some step
-there [] k step l e = absurd (omega arith)
-there (s ∷ steps) zero step l e = ap Some (sym e)
-there (s ∷ steps) (suc k) step l e = there steps k step (omega arith) e
-
 -- the step at a place is due its fault
 pub due_at : (steps items : List Step) (k : ℕ) (step : Step) (w : World) (fault : WorldFault) → items ≡ steps → k < length items → step ≡ get_or items k step → IsDue w step fault
     → IsSomeAnd (slice_get steps k) (λ s. IsDue w s fault)
 due_at steps items k step w fault same l is due =
     subst (λ (o : List Step). IsSomeAnd (slice_get o k) (λ s. IsDue w s fault)) same
-    (subst (λ o. IsSomeAnd o (λ s. IsDue w s fault)) (sym (there items k step l is)) due)
+    (subst (λ o. IsSomeAnd o (λ s. IsDue w s fault)) (sym (slice_get_read items (length items) k step refl l is)) due)

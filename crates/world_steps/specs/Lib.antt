@@ -1,3 +1,4 @@
+pub mod Nodes
 pub mod Outcomes
 pub mod Promises
 pub mod Reaching

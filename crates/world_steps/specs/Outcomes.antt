@@ -1,24 +1,49 @@
 -- What each step is answered. (Our own.)
-use Rattle.std.specs.Prelude.{◌≡◌, if◌then◌else◌, nat_lt, List, [], ◌∷◌, Result, Ok, Err}
+use Rattle.std.specs.Prelude.{◌≡◌, ℕ, not, ◌&&◌, ◌==◌, if◌then◌else◌, nat_lt, List, [], ◌∷◌, length, slice_get, Option, Some, None, Result, Ok, Err}
 use Rattle.book_core.specs.declared.plan.PlanFault.TheVariants as fault
-use Rattle.book_core.specs.Decision.{Decision, Again, Reused, Full, Fresh, decision}
+use Rattle.book_core.specs.Decision as decided
+use Rattle.book_core.specs.Decision.{decision}
+use Rattle.site_exchange.specs.declared.message.Message.{Message}
+use Rattle.site_exchange.specs.Exchange as exchange
+use Rattle.site_exchange.specs.Exchange.{Verdict, next}
 use Rattle.world_steps.specs.declared.step.Step.{Step}
-use Rattle.world_steps.specs.declared.step.Step.TheVariants.{Ask}
+use Rattle.world_steps.specs.declared.step.Step.TheVariants.{Ask, Send, Deliver, Restart, Stop}
 use Rattle.world_steps.specs.declared.step.Outcome.{Outcome}
-use Rattle.world_steps.specs.declared.step.Outcome.TheVariants.{Answered, Refused}
+use Rattle.world_steps.specs.declared.step.Outcome.TheVariants.{Answered, Refused, Sent, NothingToSend, Joined, NothingNew, Acked, NotTaken, Restarted, Stopped}
 use Rattle.world_steps.specs.declared.step.WorldFault.{WorldFault}
-use Rattle.world_steps.specs.declared.step.WorldFault.TheVariants.{NoSite, Memory}
-use Rattle.world_steps.specs.World.{World, count, history_at, office_at, after}
+use Rattle.world_steps.specs.declared.step.WorldFault.TheVariants.{NoSite, NoMessage, Memory}
+use Rattle.world_steps.specs.World.{World, count, office_at, site_at, history_at, is_there, judged, after}
 
-abbrev pub answered : Decision → Outcome
-answered (Again place reply) = Answered reply
-answered (Reused place) = Refused (fault.Reused place)
-answered Full = Refused fault.Full
-answered (Fresh reply) = Answered reply
+abbrev pub answered : decided.Decision → Outcome
+answered (decided.Again place reply) = Answered reply
+answered (decided.Reused place) = Refused (fault.Reused place)
+answered decided.Full = Refused fault.Full
+answered (decided.Fresh reply) = Answered reply
+
+-- the message that is due, if any, gets this index
+abbrev pub sent_as : Option Message → ℕ → Outcome
+sent_as None index = NothingToSend
+sent_as (Some message) index = Sent index
+
+-- the acknowledgement, if one is due, gets this index
+abbrev pub taken_as : Verdict → ℕ → Outcome
+taken_as exchange.Joins index = Joined index
+taken_as exchange.NothingNew index = NothingNew index
+taken_as exchange.Acks index = Acked
+taken_as (exchange.Refuses fault) index = NotTaken fault
+
+abbrev pub delivered_as : World → Option Message → Result Outcome WorldFault
+delivered_as w None = Err NoMessage
+delivered_as w (Some message) = Ok (taken_as (judged w message) (length w.sent))
 
 -- what a step is answered in a world, want of memory aside
 abbrev pub outcome : World → Step → Result Outcome WorldFault
 outcome w (Ask i number request) = if nat_lt i (count w) then Ok (answered (decision (office_at w i) (history_at w i) number request)) else Err NoSite
+outcome w (Send i j) =
+    if nat_lt i (count w) && nat_lt j (count w) && not (i == j) then Ok (sent_as (next i (site_at w i) j) (length w.sent)) else Err NoSite
+outcome w (Deliver index) = delivered_as w (slice_get w.sent index)
+outcome w (Restart i) = if nat_lt i (count w) then Ok Restarted else Err NoSite
+outcome w (Stop i in_hand stored) = if nat_lt i (count w) then (if is_there w in_hand then Ok Stopped else Err NoMessage) else Err NoSite
 
 -- what each step of a list is answered
 abbrev pub outcomes : List Step → World → List (Result Outcome WorldFault)
@@ -29,3 +54,4 @@ outcomes (step ∷ steps) w = outcome w step ∷ outcomes steps (after w step)
 abbrev pub IsDue : World → Step → WorldFault → Type 0
 IsDue w step Memory = Unit {0}
 IsDue w step NoSite = outcome w step ≡ Err NoSite
+IsDue w step NoMessage = outcome w step ≡ Err NoMessage

@@ -1,30 +1,19 @@
 -- What a world of the program keeps.
 use Rattle.std.specs.Prelude.{◌≡◌, ℕ, List, map, length, Some, slice_get}
-use Rattle.request_ledger.specs.declared.reply.Reply.{Reply}
-use Rattle.book_core.specs.declared.entry.Entry.{Entry}
-use Rattle.book_core.specs.declared.entry.Entry.TheVariants.{Asked, Joined}
 use Rattle.rights_lattice.specs.State.{Names, join_names, names_in_order}
-use Rattle.book_core.specs.BookView.{BookView}
+use Rattle.site_exchange.specs.declared.message.Message.{Message}
+use Rattle.world_steps.specs.declared.node.Node.{Node}
+use Rattle.world_steps.specs.Nodes.{site_of}
 use Rattle.world_steps.specs.World.{World, IsReached}
 
--- the histories of books, as a world
-abbrev pub world_of : ℕ → List BookView → World
-world_of limit books = record { limit = limit; histories = map (λ (b : BookView). b.history) books }
+-- the sites of the program and the messages that they sent, as a world
+abbrev pub world_of : ℕ → List Node → List Message → World
+world_of limit nodes sent = record { limit = limit; sites = map site_of nodes; sent = sent }
 
 -- each book is of the site that its place names, and steps lead here
-pub record IsKept (limit : ℕ) (books : List BookView) : Type 0 where
-  pub offices : (i : ℕ) (book : BookView) → slice_get books i ≡ Some book → book.office ≡ record { me = i; sites = length books; limit = limit }
-  pub reached : IsReached (world_of limit books)
-
--- the entry is of a request
-abbrev pub IsAsked : Entry → Type 0
-IsAsked (Asked number request reply delta) = Unit {0}
-IsAsked (Joined peer delta) = ⊥
-
--- the entry is of a request that has this reply
-abbrev pub HasReply : Entry → Reply → Type 0
-HasReply (Asked number request reply delta) r = r ≡ reply
-HasReply (Joined peer delta) r = ⊥
+pub record IsKept (limit : ℕ) (nodes : List Node) (sent : List Message) : Type 0 where
+  pub offices : (i : ℕ) (node : Node) → slice_get nodes i ≡ Some node → node.book.office ≡ record { me = i; sites = length nodes; limit = limit }
+  pub reached : IsReached (world_of limit nodes sent)
 
 -- the rising list of a set of names becomes that of the set with these names
 abbrev pub AddsNames : List (List ℕ) → List (List ℕ) → Names → Type 0

@@ -3,8 +3,15 @@ use Rattle.std.specs.Prelude.{ℕ, List, refl}
 use Rattle.std.specs.Coded.{Coded, code_by, coded_ℕ, coded_list, coded×}
 use Rattle.book_core.specs.declared.entry.Entry.{Entry}
 use Rattle.book_core.specs.BookCode.{coded_entry}
+use Rattle.site_exchange.specs.contracts.message.Message as message
+use Rattle.site_exchange.specs.declared.message.Message.{Message}
+use Rattle.site_exchange.specs.Exchange.{Site}
 use Rattle.world_steps.specs.World.{World}
+
+abbrev pub coded_site : Coded Site
+coded_site = code_by (List Entry × List ℕ) (coded× (coded_list coded_entry) (coded_list coded_ℕ)) (λ s. (s.history, s.acked)) (λ p. record { history = p.0; acked = p.1 }) (λ _. refl)
 
 abbrev pub coded_world : Coded World
 coded_world =
-    code_by (ℕ × List (List Entry)) (coded× coded_ℕ (coded_list (coded_list coded_entry))) (λ w. (w.limit, w.histories)) (λ p. record { limit = p.0; histories = p.1 }) (λ _. refl)
+    code_by ((ℕ × List Site) × List Message) (coded× (coded× coded_ℕ (coded_list coded_site)) (coded_list message.the_row.coded))
+    (λ w. ((w.limit, w.sites), w.sent)) (λ p. record { limit = p.0.0; sites = p.0.1; sent = p.1 }) (λ _. refl)

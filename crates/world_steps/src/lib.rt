@@ -2,8 +2,9 @@
 #![tactic(auto)]
 
 pub mod laws;
+mod node;
 pub mod step;
 pub mod world;
 
-pub use step::{Outcome, Step, WorldFault};
+pub use step::{Input, Outcome, Step, WorldFault};
 pub use world::World;

@@ -2,8 +2,23 @@
 use book_core::PlanFault;
 use request_ledger::{Reply, Request, RequestNumber};
 use rights_lattice::SiteId;
+use site_exchange::TakeFault;
 
-/// One step of one site.
+/// What a site had in hand when it stopped.
+#[derive(Clone, Copy, PartialEq, Eq, Debug)]
+pub enum Input {
+    /// A request under its number.
+    Request {
+        number: RequestNumber,
+        request: Request,
+    },
+    /// The message with this index in the list of all messages ever sent.
+    Take {
+        message: usize,
+    },
+}
+
+/// One step of one site, or of the messages between sites.
 #[derive(Clone, Copy, PartialEq, Eq, Debug)]
 pub enum Step {
     /// Asks a site under a request number of its own.
@@ -11,6 +26,25 @@ pub enum Step {
         site: SiteId,
         number: RequestNumber,
         request: Request,
+    },
+    /// Puts what is due to a peer at the end of the list of all messages ever sent.
+    Send {
+        by: SiteId,
+        to: SiteId,
+    },
+    /// Gives a message that was sent to its receiver, again and in any order.
+    Deliver {
+        index: usize,
+    },
+    /// Starts a site anew from its history: nothing counts as acknowledged.
+    Restart {
+        site: SiteId,
+    },
+    /// Stops a site in the midst of an input and starts it anew; the entry that the input adds is stored or not.
+    Stop {
+        site: SiteId,
+        input: Input,
+        stored: bool,
     },
 }
 
@@ -21,12 +55,28 @@ pub enum Outcome {
     Answered(Reply),
     /// No reply, and nothing changed.
     Refused(PlanFault),
+    /// The message with this index was sent.
+    Sent { index: usize },
+    /// The peer has acknowledged all.
+    NothingToSend,
+    /// The delta was joined; its acknowledgement has this index.
+    Joined { ack: usize },
+    /// The site had all of the delta; its acknowledgement has this index.
+    NothingNew { ack: usize },
+    /// The acknowledgement was taken.
+    Acked,
+    /// The message was not taken, and nothing changed.
+    NotTaken(TakeFault),
+    Restarted,
+    Stopped,
 }
 
 /// Why a step was not made.
 #[derive(Clone, Copy, PartialEq, Eq, Debug)]
 pub enum WorldFault {
-    /// A site that the step names is not there.
+    /// A site that the step names is not there, or it would send to itself.
     NoSite,
+    /// No message with this index was ever sent.
+    NoMessage,
     Memory,
 }

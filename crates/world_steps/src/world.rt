@@ -1,27 +1,31 @@
-//! All sites of one world.
-ghost use Rattle.std.specs.Prelude.{IfOk, IfErr, IfSome, OnOk, OnErr, IsSome, ◌↔◌, ◌≡◌, ◌+◌, ◌<◌, ◌≤◌, List, ℕ, length, map, take, Some, Ok, MatchOption, IsSomeAnd, slice_get};
+//! All sites of one world, and all messages that they ever sent.
+ghost use Rattle.std.specs.Prelude.{IfOk, IfErr, IfSome, OnOk, OnErr, IsSome, ◌↔◌, ◌≡◌, ◌+◌, ◌<◌, ◌≤◌, ◌&&◌, ◌==◌, not, nat_lt, List, ℕ, length, map, take, Some, Ok, IsSomeAnd, slice_get, vec_len, vec_capacity};
 ghost use Rattle.book_core.specs.History.{state_of};
-ghost use Rattle.book_core.specs.Decision.{decision, entry_of_ask};
 ghost use Rattle.book_core.specs.Operations.{outstanding, released, sold, refunded};
-ghost use Rattle.book_core.specs.Plans.{IsFault};
-ghost use Rattle.world_steps.specs.World.{after, all_operations, count, events_of, extended, history_at, office_at, opening, run, totals_of};
-ghost use Rattle.world_steps.specs.Reaching.{AddsNames, HasReply, IsAsked};
-ghost use Rattle.world_steps.specs.Outcomes.{answered, outcome, outcomes, IsDue};
+ghost use Rattle.site_exchange.specs.Exchange.{receiver};
+ghost use Rattle.world_steps.specs.World.{after, all_operations, count, events_of, history_at, is_there, office_at, opening, run, totals_of};
+ghost use Rattle.world_steps.specs.Promises.{HoldsPromises};
+ghost use Rattle.world_steps.specs.Reaching.{AddsNames};
+ghost use Rattle.world_steps.specs.Outcomes.{outcome, outcomes, sent_as, IsDue};
+ghost use Rattle.world_steps.specs.Nodes.{given_as, given_back, with_sent};
 
-use crate::step::{Outcome, Step, WorldFault};
-use book_core::{Book, Entry, Limit, Plan, PlanFault};
+use crate::node::{Node, Taken, ask, stop, take};
+use crate::step::{Input, Outcome, Step, WorldFault};
+use book_core::{Book, Limit};
 use local_rights::Totals;
-use request_ledger::{Reply, Request, RequestNumber};
+use request_ledger::{Request, RequestNumber};
 use rights_lattice::{Cell, Event, SiteId, Sites};
+use site_exchange::{Exchange, Message, TakeFault, ack_for};
 use std::alloc::{AllocError, Global};
 use std::collections::BTreeSet;
 use std::marker::Model;
 
-/// The books of all sites.
+/// The sites, and all messages ever sent, which are numbered from 0.
 #[derive(Drop)]
 pub struct World {
     limit: Limit,
-    books: Vec<Book>,
+    sites: Vec<Node>,
+    sent: Vec<Message>,
 }
 
 impl Model for World {
@@ -34,39 +38,181 @@ impl Model for World {
 
     ghost use Rattle.world_steps.specs.Reaching.{world_of, IsKept};
 
-    ghost view = { λ w. world_of w.limit w.books.items };
+    ghost view = { λ w. world_of w.limit w.sites.items w.sent.items };
 
-    ghost invariant = { λ w. IsKept w.limit w.books.items };
+    ghost invariant = { λ w. IsKept w.limit w.sites.items w.sent.items };
 }
 
 impl World {
-    /// The sites, each with an empty history.
+    /// The sites, each with an empty history; no message was sent.
     pub fn new(alloc: Global, sites: Sites, limit: Limit) -> Result<World, AllocError>
         ensures { IfOk result (λ world. world ≡ opening sites limit) }
     {
-        let mut books = Vec::new(alloc);
+        let mut nodes = Vec::new(alloc);
         for number in 0..sites.count() {
-            books.push(Book::new(alloc, sites.site(number), sites, limit))?;
+            nodes.push(Node {
+                book: Book::new(alloc, sites.site(number), sites, limit),
+                exchange: Exchange::fresh(),
+            })?;
         }
-        Ok(World { limit, books })
+        Ok(World {
+            limit,
+            sites: nodes,
+            sent: Vec::new(alloc),
+        })
     }
 
-    /// Makes one step. A step that is refused for want of memory, or for a site that is not there, changes nothing.
+    /// Makes one step. An error changes nothing: `NoSite` where a site that the step names is not there or would
+    /// send to itself, `NoMessage` where a message that it names was never sent, in that order.
     pub fn step(&mut self, alloc: Global, step: Step) -> Result<Outcome, WorldFault>
         ensures outcome { IfOk result (λ o. outcome self.old step ≡ Ok o) }
         ensures fault { IfErr result (IsDue self.old step) }
         ensures made { OnOk result (self.new ≡ after self.old step) }
         ensures unchanged { OnErr result (self.new ≡ self.old) }
+        ensures promises { HoldsPromises self.new }
     {
+        // Names what a world keeps, which the prover wants to see before the step.
+        let _ = &self.sites;
         match step {
             Step::Ask {
                 site,
                 number,
                 request,
             } => self.ask(alloc, site, number, &request),
+            Step::Send { by, to } => self.send(alloc, by, to),
+            Step::Deliver { index } => self.deliver(alloc, index),
+            Step::Restart { site } => self.restart(site),
+            Step::Stop {
+                site,
+                input,
+                stored,
+            } => self.stop(alloc, site, input, stored),
         }
     }
 
+    fn ask(
+        &mut self,
+        alloc: Global,
+        site: SiteId,
+        number: RequestNumber,
+        request: &Request,
+    ) -> Result<Outcome, WorldFault>
+        ensures outcome { IfOk result (λ o. outcome self.old (Step.Ask site number request.now) ≡ Ok o) }
+        ensures fault { IfErr result (IsDue self.old (Step.Ask site number request.now)) }
+        ensures made { OnOk result (self.new ≡ after self.old (Step.Ask site number request.now)) }
+        ensures unchanged { OnErr result (self.new ≡ self.old) }
+    {
+        let place = site.number() as usize;
+        if place >= self.sites.len() {
+            return Err(WorldFault::NoSite);
+        }
+        let node = &mut self.sites[place];
+        ask(node, alloc, number, request)
+    }
+
+    fn restart(&mut self, site: SiteId) -> Result<Outcome, WorldFault>
+        ensures outcome { IfOk result (λ o. outcome self.old (Step.Restart site) ≡ Ok o) }
+        ensures fault { IfErr result (IsDue self.old (Step.Restart site)) }
+        ensures made { OnOk result (self.new ≡ after self.old (Step.Restart site)) }
+        ensures unchanged { OnErr result (self.new ≡ self.old) }
+    {
+        let place = site.number() as usize;
+        if place >= self.sites.len() {
+            return Err(WorldFault::NoSite);
+        }
+        let node = &mut self.sites[place];
+        node.exchange = Exchange::fresh();
+        Ok(Outcome::Restarted)
+    }
+
+    fn stop(
+        &mut self,
+        alloc: Global,
+        site: SiteId,
+        input: Input,
+        stored: bool,
+    ) -> Result<Outcome, WorldFault>
+        ensures outcome { IfOk result (λ o. outcome self.old (Step.Stop site input stored) ≡ Ok o) }
+        ensures fault { IfErr result (IsDue self.old (Step.Stop site input stored)) }
+        ensures made { OnOk result (self.new ≡ after self.old (Step.Stop site input stored)) }
+        ensures unchanged { OnErr result (self.new ≡ self.old) }
+    {
+        let place = site.number() as usize;
+        if place >= self.sites.len() {
+            return Err(WorldFault::NoSite);
+        }
+        if !self.has_message_of(&input) {
+            return Err(WorldFault::NoMessage);
+        }
+        let node = &mut self.sites[place];
+        stop(node, alloc, &self.sent, &input, stored)
+    }
+
+    fn has_message_of(&self, input: &Input) -> bool
+        ensures { result ≡ is_there self.now input.now }
+    {
+        match input {
+            Input::Request { .. } => true,
+            Input::Take { message } => *message < self.sent.len(),
+        }
+    }
+
+    fn send(&mut self, alloc: Global, by: SiteId, to: SiteId) -> Result<Outcome, WorldFault>
+        ensures outcome { IfOk result (λ o. outcome self.old (Step.Send by to) ≡ Ok o) }
+        ensures fault { IfErr result (IsDue self.old (Step.Send by to)) }
+        ensures made { OnOk result (self.new ≡ after self.old (Step.Send by to)) }
+        ensures unchanged { OnErr result (self.new ≡ self.old) }
+    {
+        if !self.are_peers(by, to) {
+            return Err(WorldFault::NoSite);
+        }
+        if self.sent.reserve(1).is_err() {
+            return Err(WorldFault::Memory);
+        }
+        let node = &self.sites[by.number() as usize];
+        let due = match node.exchange.next(alloc, &node.book, to) {
+            Ok(due) => due,
+            Err(_) => return Err(WorldFault::Memory),
+        };
+        let outcome = sent_as(&due, self.sent.len());
+        put(&mut self.sent, due);
+        Ok(outcome)
+    }
+
+    fn are_peers(&self, by: SiteId, to: SiteId) -> bool
+        ensures { result ≡ (nat_lt by (count self.now) && nat_lt to (count self.now) && not (by == to)) }
+    {
+        let count = self.sites.len() as u64;
+        by.number() < count && to.number() < count && by != to
+    }
+
+    fn deliver(&mut self, alloc: Global, index: usize) -> Result<Outcome, WorldFault>
+        ensures outcome { IfOk result (λ o. outcome self.old (Step.Deliver index) ≡ Ok o) }
+        ensures fault { IfErr result (IsDue self.old (Step.Deliver index)) }
+        ensures made { OnOk result (self.new ≡ after self.old (Step.Deliver index)) }
+        ensures unchanged { OnErr result (self.new ≡ self.old) }
+    {
+        if index >= self.sent.len() {
+            return Err(WorldFault::NoMessage);
+        }
+        // Room first, so that nothing can fail once the message is taken.
+        if self.sent.reserve(1).is_err() {
+            return Err(WorldFault::Memory);
+        }
+        let message = &self.sent[index];
+        let node = &mut self.sites[receiver(message).number() as usize];
+        let taken = match take(node, alloc, message) {
+            Ok(taken) => taken,
+            Err(_) => return Err(WorldFault::Memory),
+        };
+        let ack = given_back(&taken, message);
+        let outcome = given_as(&taken, self.sent.len());
+        put(&mut self.sent, ack);
+        Ok(outcome)
+    }
+}
+
+impl World {
     /// Makes steps in turn, and tells what each was answered. At the first that is not made it stops: the steps
     /// before it were made, and it is named by its place in the list, from 0.
     pub fn run(
@@ -80,6 +226,8 @@ impl World {
         ensures fault { IfErr result (λ e. IsSomeAnd (slice_get steps.items e.0) (λ step. IsDue self.new step e.1)) }
     {
         let mut answers = Vec::new(alloc);
+        // Names a type inside of the outcomes, which the prover wants to see in this function.
+        let _: Option<TakeFault> = None;
         for (place, step) in steps.iter().enumerate() {
             if answers.reserve(1).is_err() {
                 return Err((place, WorldFault::Memory));
@@ -102,7 +250,8 @@ impl World {
         let mut released = 0;
         let mut sold = 0;
         let mut refunded = 0;
-        for book in &self.books {
+        for node in &self.sites {
+            let book = &node.book;
             let me = book.me();
             released += book.cell(event, Cell::Gave { by: me, to: me });
             sold += book.cell(event, Cell::Used { by: me });
@@ -120,8 +269,8 @@ impl World {
         ensures { IfOk result (λ events. events.items ≡ events_of self.now) }
     {
         let mut names = BTreeSet::new(alloc);
-        for book in &self.books {
-            add_names(&mut names, book)?;
+        for node in &self.sites {
+            add_names(&mut names, &node.book)?;
         }
         listed(alloc, &names)
     }
@@ -132,27 +281,10 @@ impl World {
         ensures office { IfSome result (λ book. book.now.office ≡ office_at self.now site) }
         ensures history { IfSome result (λ book. book.now.history ≡ history_at self.now site) }
     {
-        self.books.get(site.number() as usize)
-    }
-
-    fn ask(
-        &mut self,
-        alloc: Global,
-        site: SiteId,
-        number: RequestNumber,
-        request: &Request,
-    ) -> Result<Outcome, WorldFault>
-        ensures outcome { IfOk result (λ o. outcome self.old (Step.Ask site number request.now) ≡ Ok o) }
-        ensures fault { IfErr result (IsDue self.old (Step.Ask site number request.now)) }
-        ensures made { OnOk result (self.new ≡ after self.old (Step.Ask site number request.now)) }
-        ensures unchanged { OnErr result (self.new ≡ self.old) }
-    {
-        let place = site.number() as usize;
-        if place >= self.books.len() {
-            return Err(WorldFault::NoSite);
+        match self.sites.get(site.number() as usize) {
+            Some(node) => Some(&node.book),
+            None => None,
         }
-        let book = &mut self.books[place];
-        ask(book, alloc, number, request)
     }
 }
 
@@ -176,38 +308,53 @@ fn add_names(names: &mut BTreeSet<Event>, book: &Book) -> Result<(), AllocError>
     Ok(())
 }
 
-// The reply of an entry that was asked.
-fn reply_of(entry: &Entry) -> Reply
-    requires { IsAsked entry.now }
-    ensures { HasReply entry.now result }
+// To whom a message goes.
+fn receiver(message: &Message) -> SiteId
+    ensures { result ≡ receiver message.now }
 {
-    match entry {
-        Entry::Asked { reply, .. } => *reply,
-        Entry::Joined { .. } => unreachable!(),
+    match message {
+        Message::Delta { to, .. } | Message::Ack { to, .. } => *to,
     }
 }
 
-// Plans a request, and enters it where it is new.
-fn ask(
-    book: &mut Book,
-    alloc: Global,
-    number: RequestNumber,
-    request: &Request,
-) -> Result<Outcome, WorldFault>
-    ensures office { book.new.office ≡ book.old.office }
-    ensures outcome { IfOk result (λ o. o ≡ answered (decision book.old.office book.old.history number request.now)) }
-    ensures memory { IfErr result (λ fault. fault ≡ WorldFault.Memory) }
-    ensures entered { OnOk result (book.new.history ≡ extended (entry_of_ask book.old.office book.old.history number request.now) book.old.history) }
-    ensures unchanged { OnErr result (book.new.history ≡ book.old.history) }
+// What sending is answered, where the message gets this index.
+fn sent_as(due: &Option<Message>, index: usize) -> Outcome
+    ensures { result ≡ sent_as due.now index }
 {
-    match book.plan(alloc, number, request) {
-        Ok(Plan::Again { reply, .. }) => Ok(Outcome::Answered(reply)),
-        Ok(Plan::New(planned)) => {
-            let reply = reply_of(planned.entry());
-            book.enter(planned);
-            Ok(Outcome::Answered(reply))
-        }
-        Err(PlanFault::Memory) => Err(WorldFault::Memory),
-        Err(fault) => Ok(Outcome::Refused(fault)),
+    match due {
+        None => Outcome::NothingToSend,
+        Some(_) => Outcome::Sent { index },
+    }
+}
+
+// What a delivery is answered, where the acknowledgement gets this index.
+fn given_as(taken: &Taken, index: usize) -> Outcome
+    ensures { result ≡ given_as taken.now index }
+{
+    match taken {
+        Taken::Joined => Outcome::Joined { ack: index },
+        Taken::NothingNew => Outcome::NothingNew { ack: index },
+        Taken::Acked => Outcome::Acked,
+        Taken::Refused(fault) => Outcome::NotTaken(*fault),
+    }
+}
+
+// The acknowledgement that is given back, if any.
+fn given_back(taken: &Taken, message: &Message) -> Option<Message>
+    ensures { result ≡ given_back taken.now message.now }
+{
+    match (taken, message) {
+        (Taken::Joined | Taken::NothingNew, Message::Delta { .. }) => Some(ack_for(message)),
+        _ => None,
+    }
+}
+
+// Puts the message, if there is one, at the end of those that were sent.
+fn put(sent: &mut Vec<Message>, message: Option<Message>)
+    requires { vec_len sent.old < vec_capacity sent.old }
+    ensures { sent.new.items ≡ with_sent sent.old.items message }
+{
+    if let Some(message) = message {
+        sent.push_reserved(message);
     }
 }

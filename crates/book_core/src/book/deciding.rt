@@ -37,7 +37,7 @@ impl Book {
             }
             return Err(PlanFault::Reused { place: kept.place });
         }
-        if self.history.len() as u64 >= self.limit.entries() {
+        if self.is_full() {
             return Err(PlanFault::Full);
         }
         let (reply, item) = self.decide(request);

@@ -35,7 +35,7 @@ impl Book {
         if self.has_all_of(&delta) {
             return Ok(JoinPlan::NothingNew);
         }
-        if self.history.len() as u64 >= self.limit.entries() {
+        if self.is_full() {
             return Err((delta, JoinFault::Full));
         }
         let entry = Entry::Joined { peer, delta };

@@ -1,5 +1,5 @@
 //! A book from the entries of its history.
-ghost use Rattle.std.specs.Prelude.{IfOk, IfErr, IsTrue, ◌↔◌, ◌≡◌, ◌<◌, ◌≤◌, length};
+ghost use Rattle.std.specs.Prelude.{IfOk, IfErr, OnOk, IsTrue, ◌↔◌, ◌≡◌, ◌<◌};
 ghost use Rattle.delta_mutators.specs.Items.{state_of};
 ghost use Rattle.book_core.specs.Decision.{state_of_item};
 ghost use Rattle.book_core.specs.Legal.{IsLegal, IsNext, IsNextAsked, IsNextJoined};
@@ -19,7 +19,7 @@ use std::alloc::Global;
 impl Book {
     /// The book with this history.
     ///
-    /// `IllegalAt` names the first entry that may not follow those before it.
+    /// `IllegalAt` where an entry may not follow those before it; it names the place of the first, from 0.
     pub fn replay(
         alloc: Global,
         me: SiteId,
@@ -30,7 +30,7 @@ impl Book {
         requires { me < sites }
         ensures office { IfOk result (λ book. book.office ≡ record { me = me; sites = sites; limit = limit }) }
         ensures history { IfOk result (λ book. book.history ≡ entries.items) }
-        ensures legal { IfOk result (λ book. IsLegal book.office book.history) }
+        ensures legal { OnOk result (IsLegal (record { me = me; sites = sites; limit = limit }) entries.items) }
         ensures has_rights { IfOk result HasOwnRights }
         ensures fault { IfErr result (IsReplayFault (record { me = me; sites = sites; limit = limit }) entries.items) }
     {
@@ -94,12 +94,6 @@ impl Book {
             return false;
         }
         !self.has_all_of(delta)
-    }
-
-    fn is_full(&self) -> bool
-        ensures { IsTrue result ↔ (self.now.office.limit ≤ length self.now.history) }
-    {
-        self.limit.entries() <= self.history.len() as u64
     }
 }
 

@@ -3,5 +3,5 @@ use Rattle.rights_lattice.specs.State.{names_in_order}
 use Rattle.world_steps.proofs.Names.{known_in}
 use Rattle.world_steps.proofs.world.World.events.Given as goal
 
-abbrev pub invariant-loop-book : goal.invariant-loop-book
-invariant-loop-book l = l.names.keys ≡ names_in_order (known_in l.book-index l.book-items)
+abbrev pub invariant-loop-node : goal.invariant-loop-node
+invariant-loop-node l = l.names.keys ≡ names_in_order (known_in l.node-index l.node-items)

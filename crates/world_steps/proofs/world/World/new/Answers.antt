@@ -1,9 +1,9 @@
 use Rattle.std.proofs.Common.{◌≡◌, ℕ, ◌≤◌, List, [], ◌∷◌, ◌++◌, Some, length, length-append, subst, sym, ap, ◌∙◌, arith}
 use Rattle.std.specs.Prelude.{slice_get}
 use Rattle.rights_lattice.specs.Sums.{max_sites}
-use Rattle.book_core.specs.BookView.{BookView}
+use Rattle.world_steps.specs.declared.node.Node.{Node}
 use Rattle.book_core.specs.Decision.{Office}
-use Rattle.world_steps.proofs.Books.{IsOpened, opened_push, kept_opening}
+use Rattle.world_steps.proofs.Sites.{IsOpened, opened_push, kept_opening}
 use Rattle.world_steps.proofs.world.World.new.Goals as goal
 
 few : (n : ℕ) → n ≤ 16 → n ≤ max_sites
@@ -12,24 +12,25 @@ few n l = omega arith
 
 pub loop-number-preserved : goal.loop-number-preserved
 loop-number-preserved c =
-    let before = c.loop-number.books.items in
-    let book : BookView = c.new.result in
-    let items : c.push.new.self.items ≡ before ++ book ∷ [] = c.in_ok-push.ensures.items in
-    let opened : IsOpened c.args.sites c.args.limit (length before) book = record {
+    let before = c.loop-number.nodes.items in
+    let node : Node = record { book = c.new.result; exchange = c.fresh.result } in
+    let items : c.push.new.self.items ≡ before ++ node ∷ [] = c.in_ok-push.ensures.items in
+    let opened : IsOpened c.args.sites c.args.limit (length before) node = record {
       office = c.new.ensures.office ∙ ap (λ (n : ℕ). let o : Office = record { me = n; sites = c.args.sites; limit = c.args.limit } in o) (c.site.ensures ∙ sym c.loop-number.invariant.len);
       history = c.new.ensures.history;
+      acked = c.fresh.ensures;
     } in
     record {
-      len = omega (arith, ap length items, length-append before (book ∷ []), c.loop-number.invariant.len);
-      opened = λ i b found. opened_push c.args.sites c.args.limit before book c.loop-number.invariant.opened opened i b (subst (λ (l : List BookView). slice_get l i ≡ Some b) items found);
+      len = omega (arith, ap length items, length-append before (node ∷ []), c.loop-number.invariant.len);
+      opened = λ i b found. opened_push c.args.sites c.args.limit before node c.loop-number.invariant.opened opened i b (subst (λ (l : List Node). slice_get l i ≡ Some b) items found);
     }
 
 pub invariant_of-result : goal.invariant_of-result
 invariant_of-result c =
-    (kept_opening c.args.sites c.args.limit c.loop-number.books.items (few c.args.sites (omega (arith, c.count-number-end.ensures.count, c.count-number-end.ensures.at_most_16)))
-    (omega (arith, c.count-number-end.ensures.count, c.loop-number.invariant.len)) c.loop-number.invariant.opened).0
+    (kept_opening c.args.sites c.args.limit c.loop-number.nodes.items c.new-2.result.items (few c.args.sites (omega (arith, c.count-number-end.ensures.count, c.count-number-end.ensures.at_most_16)))
+    (omega (arith, c.count-number-end.ensures.count, c.loop-number.invariant.len)) c.new-2.ensures.items c.loop-number.invariant.opened).0
 
 pub returns : goal.returns
 returns c =
-    (kept_opening c.args.sites c.args.limit c.loop-number.books.items (few c.args.sites (omega (arith, c.count-number-end.ensures.count, c.count-number-end.ensures.at_most_16)))
-    (omega (arith, c.count-number-end.ensures.count, c.loop-number.invariant.len)) c.loop-number.invariant.opened).1
+    (kept_opening c.args.sites c.args.limit c.loop-number.nodes.items c.new-2.result.items (few c.args.sites (omega (arith, c.count-number-end.ensures.count, c.count-number-end.ensures.at_most_16)))
+    (omega (arith, c.count-number-end.ensures.count, c.loop-number.invariant.len)) c.new-2.ensures.items c.loop-number.invariant.opened).1

@@ -1,7 +1,7 @@
 use Rattle.std.proofs.Common.{rules, sym, ap, ◌≡◌, ◌∙◌, Some}
 use Rattle.rights_lattice.specs.EventName.{IsEventName}
 use Rattle.operator_cli.proofs.NameLaws.{event_again, event_none}
-use Rattle.operator_cli.proofs.reading.event_of.Goals as goal
+use Rattle.operator_cli.proofs.requests.event_of.Goals as goal
 
 pub returns-in-Some : goal.returns-in-Some
 returns-in-Some c =

@@ -1,0 +1,199 @@
+//! One site of a world: its book, and what its peers have acknowledged.
+ghost use Rattle.std.specs.Prelude.{◌≡◌, IfOk, IfErr, OnOk, OnErr};
+ghost use Rattle.book_core.specs.Decision.{decision, entry_of_ask};
+ghost use Rattle.book_core.specs.Joining.{entry_of_join, join_decision};
+ghost use Rattle.site_exchange.specs.Exchange.{entry_of_take, verdict};
+ghost use Rattle.world_steps.specs.World.{with_entry};
+ghost use Rattle.world_steps.specs.Outcomes.{answered};
+ghost use Rattle.world_steps.specs.Nodes.{HasReply, IsAsked, IsSent, entry_of_input, extended, joined_by, site_after, site_of, stopped_with, taken_by};
+
+use crate::step::{Input, Outcome, WorldFault};
+use book_core::{Book, Entry, JoinFault, JoinPlan, Plan, PlanFault};
+use delta_mutators::Delta;
+use request_ledger::{Reply, Request, RequestNumber};
+use rights_lattice::SiteId;
+use site_exchange::{CheckFault, Exchange, Message, TakeFault, check};
+use std::alloc::{AllocError, Global};
+
+/// One site of a world.
+#[derive(Drop)]
+pub struct Node {
+    pub book: Book,
+    pub exchange: Exchange,
+}
+
+/// What a site did with a message.
+#[derive(Clone, Copy, PartialEq, Eq, Debug)]
+pub enum Taken {
+    Joined,
+    NothingNew,
+    Acked,
+    Refused(TakeFault),
+}
+
+/// Plans a request at a site, and enters it where it is new.
+pub fn ask(
+    node: &mut Node,
+    alloc: Global,
+    number: RequestNumber,
+    request: &Request,
+) -> Result<Outcome, WorldFault>
+    ensures office { node.new.book.office ≡ node.old.book.office }
+    ensures outcome { IfOk result (λ o. o ≡ answered (decision node.old.book.office node.old.book.history number request.now)) }
+    ensures memory { IfErr result (λ fault. fault ≡ WorldFault.Memory) }
+    ensures entered { OnOk result (site_of node.new ≡ with_entry (entry_of_ask node.old.book.office node.old.book.history number request.now) (site_of node.old)) }
+    ensures unchanged { OnErr result (site_of node.new ≡ site_of node.old) }
+{
+    match node.book.plan(alloc, number, request) {
+        Ok(Plan::Again { reply, .. }) => Ok(Outcome::Answered(reply)),
+        Ok(Plan::New(planned)) => {
+            let reply = reply_of(planned.entry());
+            node.book.enter(planned);
+            Ok(Outcome::Answered(reply))
+        }
+        Err(PlanFault::Memory) => Err(WorldFault::Memory),
+        Err(fault) => Ok(Outcome::Refused(fault)),
+    }
+}
+
+// The reply of an entry that was asked.
+fn reply_of(entry: &Entry) -> Reply
+    requires { IsAsked entry.now }
+    ensures { HasReply entry.now result }
+{
+    match entry {
+        Entry::Asked { reply, .. } => *reply,
+        Entry::Joined { .. } => unreachable!(),
+    }
+}
+
+/// Takes a message at a site: checks it, and joins its delta or takes its acknowledgement.
+pub fn take(node: &mut Node, alloc: Global, message: &Message) -> Result<Taken, AllocError>
+    ensures office { node.new.book.office ≡ node.old.book.office }
+    ensures taken { IfOk result (λ t. t ≡ taken_by (verdict node.old.book.office node.old.book.history message.now)) }
+    ensures changed { OnOk result (site_of node.new ≡ site_after (verdict node.old.book.office node.old.book.history message.now) message.now (site_of node.old)) }
+    ensures unchanged { OnErr result (site_of node.new ≡ site_of node.old) }
+{
+    match check(&node.book, message) {
+        Ok(()) => {}
+        Err(CheckFault::NotForMe) => return Ok(Taken::Refused(TakeFault::NotForMe)),
+        Err(CheckFault::UnknownSite) => return Ok(Taken::Refused(TakeFault::UnknownSite)),
+        Err(CheckFault::StrayAck { len }) => return Ok(Taken::Refused(TakeFault::StrayAck { len })),
+    }
+    match message {
+        Message::Ack { by, upto, .. } => {
+            node.exchange.ack(*by, *upto);
+            Ok(Taken::Acked)
+        }
+        Message::Delta { by, delta, .. } => {
+            let delta = delta.copy(alloc)?;
+            join(&mut node.book, *by, delta)
+        }
+    }
+}
+
+// Joins a peer's delta, where it holds something new.
+fn join(book: &mut Book, peer: SiteId, delta: Delta) -> Result<Taken, AllocError>
+    ensures office { book.new.office ≡ book.old.office }
+    ensures taken { IfOk result (λ t. t ≡ joined_by (join_decision book.old.office book.old.history peer delta)) }
+    ensures changed { OnOk result (book.new.history ≡ extended (entry_of_join book.old.office book.old.history peer delta) book.old.history) }
+    ensures unchanged { OnErr result (book.new.history ≡ book.old.history) }
+{
+    match book.plan_join(peer, delta) {
+        Ok(JoinPlan::NothingNew) => Ok(Taken::NothingNew),
+        Ok(JoinPlan::New(planned)) => {
+            book.enter(planned);
+            Ok(Taken::Joined)
+        }
+        Err(refused) => {
+            let (_delta, fault) = refused;
+            match fault {
+                JoinFault::UnknownSite => Ok(Taken::Refused(TakeFault::UnknownSite)),
+                JoinFault::ForeignRow { mark } => Ok(Taken::Refused(TakeFault::ForeignRow {
+                    mark,
+                })),
+                JoinFault::Full => Ok(Taken::Refused(TakeFault::Full)),
+                JoinFault::Memory => Err(AllocError),
+            }
+        }
+    }
+}
+
+/// Stops a site in the midst of an input and starts it anew: the entry that the input adds is in its history where
+/// it was stored, and nothing counts as acknowledged.
+pub fn stop(
+    node: &mut Node,
+    alloc: Global,
+    sent: &[Message],
+    input: &Input,
+    stored: bool,
+) -> Result<Outcome, WorldFault>
+    requires { IsSent sent.now input.now }
+    ensures office { node.new.book.office ≡ node.old.book.office }
+    ensures outcome { IfOk result (λ o. o ≡ Outcome.Stopped) }
+    ensures memory { IfErr result (λ fault. fault ≡ WorldFault.Memory) }
+    ensures stopped { OnOk result (site_of node.new ≡ stopped_with (entry_of_input node.old.book.office node.old.book.history sent.now input.now) stored (site_of node.old)) }
+    ensures unchanged { OnErr result (site_of node.new ≡ site_of node.old) }
+{
+    if stored && store(&mut node.book, alloc, sent, input).is_err() {
+        return Err(WorldFault::Memory);
+    }
+    node.exchange = Exchange::fresh();
+    Ok(Outcome::Stopped)
+}
+
+// Enters what the input adds.
+fn store(book: &mut Book, alloc: Global, sent: &[Message], input: &Input) -> Result<(), AllocError>
+    requires { IsSent sent.now input.now }
+    ensures office { book.new.office ≡ book.old.office }
+    ensures stored { OnOk result (book.new.history ≡ extended (entry_of_input book.old.office book.old.history sent.now input.now) book.old.history) }
+    ensures unchanged { OnErr result (book.new.history ≡ book.old.history) }
+{
+    match input {
+        Input::Request { number, request } => store_request(book, alloc, *number, request),
+        Input::Take { message } => store_delta(book, alloc, &sent[*message]),
+    }
+}
+
+// Enters what asking adds.
+fn store_request(
+    book: &mut Book,
+    alloc: Global,
+    number: RequestNumber,
+    request: &Request,
+) -> Result<(), AllocError>
+    ensures office { book.new.office ≡ book.old.office }
+    ensures stored { OnOk result (book.new.history ≡ extended (entry_of_ask book.old.office book.old.history number request.now) book.old.history) }
+    ensures unchanged { OnErr result (book.new.history ≡ book.old.history) }
+{
+    match book.plan(alloc, number, request) {
+        Ok(Plan::New(planned)) => {
+            book.enter(planned);
+            Ok(())
+        }
+        Err(PlanFault::Memory) => Err(AllocError),
+        _ => Ok(()),
+    }
+}
+
+// Enters what taking the message adds.
+fn store_delta(book: &mut Book, alloc: Global, message: &Message) -> Result<(), AllocError>
+    ensures office { book.new.office ≡ book.old.office }
+    ensures stored { OnOk result (book.new.history ≡ extended (entry_of_take book.old.office book.old.history message.now) book.old.history) }
+    ensures unchanged { OnErr result (book.new.history ≡ book.old.history) }
+{
+    match check(book, message) {
+        Ok(()) => {}
+        Err(_) => return Ok(()),
+    }
+    match message {
+        Message::Ack { .. } => Ok(()),
+        Message::Delta { by, delta, .. } => {
+            let delta = delta.copy(alloc)?;
+            match join(book, *by, delta) {
+                Ok(_) => Ok(()),
+                Err(fault) => Err(fault),
+            }
+        }
+    }
+}
