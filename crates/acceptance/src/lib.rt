@@ -10,4 +10,6 @@ mod one_site;
 #[cfg(test)]
 mod scripts;
 #[cfg(test)]
+mod texts;
+#[cfg(test)]
 mod worlds;

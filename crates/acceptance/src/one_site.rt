@@ -5,22 +5,12 @@ use operator_cli::Status;
 
 #[test]
 fn nothing_but_sites(rt: HostRuntime) {
-    prints(
-        &rt,
-        b"sites 1\n",
-        b"",
-        Status::Done,
-    );
+    prints(&rt, b"sites 1\n", b"", Status::Done);
 }
 
 #[test]
 fn empty_input(rt: HostRuntime) {
-    prints(
-        &rt,
-        b"",
-        b"bad-line\n",
-        Status::Refused,
-    );
+    prints(&rt, b"", b"bad-line\n", Status::Refused);
 }
 
 #[test]

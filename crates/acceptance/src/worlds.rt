@@ -31,8 +31,20 @@ fn selling(rt: &HostRuntime) -> Result<Vec<Step>, Fail> {
     let sold = Amount::of(3).ok_or("no amount")?;
     let mut steps = Vec::new(rt.alloc());
     steps.push(ask(1, Request::Announce { event })?)?;
-    steps.push(ask(2, Request::Release { event, amount: released })?)?;
-    steps.push(ask(3, Request::Sell { event, amount: sold })?)?;
+    steps.push(ask(
+        2,
+        Request::Release {
+            event,
+            amount: released,
+        },
+    )?)?;
+    steps.push(ask(
+        3,
+        Request::Sell {
+            event,
+            amount: sold,
+        },
+    )?)?;
     Ok(steps)
 }
 
@@ -50,7 +62,10 @@ const SOLD: Totals = Totals {
 fn one_site_sells_step_by_step(rt: HostRuntime) -> Result<(), Fail> {
     let mut world = one_site(&rt)?;
     for step in selling(&rt)?.iter() {
-        assert_eq!(rt; world.step(rt.alloc(), *step), Ok(Outcome::Answered(Reply::Done)));
+        assert_eq!(rt;
+            world.step(rt.alloc(), *step),
+            Ok(Outcome::Answered(Reply::Done))
+        );
     }
     assert_eq!(rt; world.totals(gala()?), SOLD);
     let events = world.events(rt.alloc())?;
@@ -82,7 +97,10 @@ fn one_site_sells_as_a_list(rt: HostRuntime) -> Result<(), Fail> {
     };
     assert_eq!(rt; world.step(rt.alloc(), step), Err(WorldFault::NoSite));
     let reused = ask(3, request)?;
-    assert_eq!(rt; world.step(rt.alloc(), reused), Ok(Outcome::Refused(PlanFault::Reused { place: 2 })));
+    assert_eq!(rt;
+        world.step(rt.alloc(), reused),
+        Ok(Outcome::Refused(PlanFault::Reused { place: 2 }))
+    );
     assert_eq!(rt; world.totals(gala()?), SOLD);
     Ok(())
 }
@@ -94,7 +112,10 @@ fn two_sites_step_by_step(rt: HostRuntime) -> Result<(), Fail> {
     let by = SiteId::of(0).ok_or("no site")?;
     let to = SiteId::of(1).ok_or("no site")?;
     for step in selling(&rt)?.iter() {
-        assert_eq!(rt; world.step(rt.alloc(), *step), Ok(Outcome::Answered(Reply::Done)));
+        assert_eq!(rt;
+            world.step(rt.alloc(), *step),
+            Ok(Outcome::Answered(Reply::Done))
+        );
     }
     let stop = |stored| Step::Stop {
         site: to,
@@ -108,7 +129,10 @@ fn two_sites_step_by_step(rt: HostRuntime) -> Result<(), Fail> {
         (Step::Send { by, to }, Ok(Outcome::Sent { index: 0 })),
         (stop(false), Ok(Outcome::Stopped)),
         (Step::Deliver { index: 0 }, Ok(Outcome::Joined { ack: 1 })),
-        (Step::Deliver { index: 0 }, Ok(Outcome::NothingNew { ack: 2 })),
+        (
+            Step::Deliver { index: 0 },
+            Ok(Outcome::NothingNew { ack: 2 }),
+        ),
         (Step::Deliver { index: 1 }, Ok(Outcome::Acked)),
         (Step::Send { by, to }, Ok(Outcome::NothingToSend)),
         (Step::Restart { site: by }, Ok(Outcome::Restarted)),

@@ -5,6 +5,7 @@ use crate::entry::Entry;
 use request_ledger::Reply;
 use rights_lattice::Mark;
 use std::marker::Model;
+use thiserror::Error;
 
 /// An entry that may follow the book's history, and that the book has room for.
 #[derive(Debug, Drop)]
@@ -42,12 +43,15 @@ pub enum Plan {
 }
 
 /// Why a request leads to nothing.
-#[derive(Clone, Copy, PartialEq, Eq, Debug)]
+#[derive(Clone, Copy, PartialEq, Eq, Debug, Error)]
 pub enum PlanFault {
     /// Another request was decided under this number, at this place of the history.
+    #[error("the number was used for another request")]
     Reused { place: usize },
     /// The history is as long as it may become.
+    #[error("the history is full")]
     Full,
+    #[error("out of memory")]
     Memory,
 }
 
@@ -61,21 +65,27 @@ pub enum JoinPlan {
 }
 
 /// Why a peer's delta is not joined.
-#[derive(Clone, Copy, PartialEq, Eq, Debug)]
+#[derive(Clone, Copy, PartialEq, Eq, Debug, Error)]
 pub enum JoinFault {
     /// The peer is no other site of this book, or a mark names a site past the count.
+    #[error("the peer is no other site, or a cell names a site past the count")]
     UnknownSite,
     /// This mark, the first such, is of the book's own row and above its own value.
+    #[error("the delta is above this site's own row")]
     ForeignRow { mark: Mark },
     /// The history is as long as it may become.
+    #[error("the history is full")]
     Full,
+    #[error("out of memory")]
     Memory,
 }
 
 /// Why a list of entries is no history of a book.
-#[derive(Clone, Copy, PartialEq, Eq, Debug)]
+#[derive(Clone, Copy, PartialEq, Eq, Debug, Error)]
 pub enum ReplayFault {
     /// The entry at this place, from 0, is the first that may not follow those before it.
+    #[error("the entry at place {place} is not legal")]
     IllegalAt { place: usize },
+    #[error("out of memory")]
     Memory,
 }

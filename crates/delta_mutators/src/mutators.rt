@@ -7,9 +7,11 @@ ghost use Rattle.delta_mutators.specs.Marks.{mark_plus};
 
 use crate::delta::Item;
 use rights_lattice::{Cell, Event, MAX_VALUE, Mark, Rights, SiteId};
+use thiserror::Error;
 
 /// The value of the cell would exceed the greatest value of a cell.
-#[derive(Clone, Copy, PartialEq, Eq, Debug)]
+#[derive(Clone, Copy, PartialEq, Eq, Debug, Error)]
+#[error("the value of the cell would exceed the greatest")]
 pub struct CellFull;
 
 /// The mark of a release of `amount` seats, 1 to `MAX_VALUE`.

@@ -4,16 +4,19 @@ ghost use Rattle.plain_words.specs.Input.{ByteGives, LineGives, MoreGives};
 
 use arrayvec::ArrayVec;
 use std::io::BufRead;
+use thiserror::Error;
 
 /// The bytes of one line, without its line break.
 pub type LineBytes = ArrayVec<u8, 200>;
 
 /// Why no line was read.
-#[derive(Clone, Copy, Debug, PartialEq, Eq)]
+#[derive(Clone, Copy, Debug, PartialEq, Eq, Error)]
 pub enum LineFault {
     /// The reader failed.
+    #[error("the reader failed")]
     Read,
     /// The line has more than 200 bytes.
+    #[error("the line is longer than 200 bytes")]
     LineTooLong,
 }
 

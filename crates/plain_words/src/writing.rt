@@ -3,9 +3,11 @@
 ghost use Rattle.plain_words.specs.Writing.{Writes};
 
 use std::io::Write;
+use thiserror::Error;
 
 /// A write that failed.
-#[derive(Clone, Copy, Debug, PartialEq, Eq)]
+#[derive(Clone, Copy, Debug, PartialEq, Eq, Error)]
+#[error("the writer failed")]
 pub struct WriteFault;
 
 /// Writes all of the bytes, or after a fault a front of them.

@@ -2,6 +2,7 @@
 use crate::upto::Upto;
 use delta_mutators::Delta;
 use rights_lattice::{Mark, SiteId};
+use thiserror::Error;
 
 /// What one site sends to another.
 #[derive(Debug, Drop)]
@@ -22,29 +23,40 @@ pub enum Message {
 }
 
 /// Why a message is not looked at.
-#[derive(Clone, Copy, PartialEq, Eq, Debug)]
+#[derive(Clone, Copy, PartialEq, Eq, Debug, Error)]
 pub enum CheckFault {
     /// It is to another site, or from this one.
+    #[error("the message is to another site, or from this one")]
     NotForMe,
     /// It is from no site of the book.
+    #[error("the message is from no site of the book")]
     UnknownSite,
     /// It acknowledges more than the `len` entries that there are.
+    #[error("the message acknowledges more than the {len} entries that there are")]
     StrayAck { len: usize },
 }
 
 /// Why a message is not taken. A refused message changes nothing.
-#[derive(Clone, Copy, PartialEq, Eq, Debug)]
+#[derive(Clone, Copy, PartialEq, Eq, Debug, Error)]
 pub enum TakeFault {
+    #[error("the message is to another site, or from this one")]
     NotForMe,
+    #[error("the message is from no site of the book")]
     UnknownSite,
+    #[error("the message acknowledges more than the {len} entries that there are")]
     StrayAck { len: usize },
     /// This mark is of the site's own row and above its own value.
+    #[error("the delta is above this site's own row")]
     ForeignRow { mark: Mark },
     /// The history is as long as it may become.
+    #[error("the history is full")]
     Full,
+    #[error("out of memory")]
     Memory,
     /// The book takes nothing more until it is started again from its records.
+    #[error("the book is closed")]
     Closed,
     /// The records failed.
+    #[error("the records failed")]
     Store,
 }

@@ -3,6 +3,7 @@ use book_core::PlanFault;
 use request_ledger::{Reply, Request, RequestNumber};
 use rights_lattice::SiteId;
 use site_exchange::TakeFault;
+use thiserror::Error;
 
 /// What a site had in hand when it stopped.
 #[derive(Clone, Copy, PartialEq, Eq, Debug)]
@@ -72,11 +73,14 @@ pub enum Outcome {
 }
 
 /// Why a step was not made.
-#[derive(Clone, Copy, PartialEq, Eq, Debug)]
+#[derive(Clone, Copy, PartialEq, Eq, Debug, Error)]
 pub enum WorldFault {
     /// A site that the step names is not there, or it would send to itself.
+    #[error("no such site")]
     NoSite,
     /// No message with this index was ever sent.
+    #[error("no such message")]
     NoMessage,
+    #[error("out of memory")]
     Memory,
 }

@@ -1,5 +1,5 @@
 //! All sites of one world, and all messages that they ever sent.
-ghost use Rattle.std.specs.Prelude.{IfOk, IfErr, IfSome, OnOk, OnErr, IsSome, ◌↔◌, ◌≡◌, ◌+◌, ◌<◌, ◌≤◌, ◌&&◌, ◌==◌, not, nat_lt, List, ℕ, length, map, take, Some, Ok, IsSomeAnd, slice_get, vec_len, vec_capacity};
+ghost use Rattle.std.specs.Prelude.{IfOk, IfErr, IfSome, OnOk, OnErr, IsSome, option_copied, ◌↔◌, ◌≡◌, ◌+◌, ◌<◌, ◌≤◌, ◌&&◌, ◌==◌, not, nat_lt, List, ℕ, length, map, take, Some, Ok, IsSomeAnd, slice_get, vec_len, vec_capacity};
 ghost use Rattle.book_core.specs.History.{state_of};
 ghost use Rattle.book_core.specs.Operations.{outstanding, released, sold, refunded};
 ghost use Rattle.site_exchange.specs.Exchange.{receiver};
@@ -273,6 +273,13 @@ impl World {
             add_names(&mut names, &node.book)?;
         }
         listed(alloc, &names)
+    }
+
+    /// The message with this index in the list of all messages ever sent.
+    pub fn message(&self, index: usize) -> Option<&Message>
+        ensures { option_copied result ≡ slice_get self.now.sent index }
+    {
+        self.sent.get(index)
     }
 
     /// The book of a site.

@@ -1,0 +1,10 @@
+pub mod Names
+pub mod Pieces
+pub mod Steps
+pub mod LineLaws
+pub mod Breaks
+pub mod Texts
+pub mod Messages
+pub mod Prefixes
+pub mod Ascii
+pub mod NoTrailing

@@ -1,0 +1,7 @@
+pub mod Name
+pub mod Grammar
+pub mod Reading
+pub mod Wire
+pub mod Items
+pub mod TextLaws
+pub mod Parts

@@ -1,0 +1,154 @@
+//! Reading the line of an item.
+ghost use Rattle.std.specs.Prelude.{◌≡◌, ◌<◌, ◌^◌, ◌≤◌, ℕ, IfSome};
+ghost use Rattle.std.specs.Option.{option_map};
+ghost use Rattle.delta_wire.specs.Name.{name_of};
+ghost use Rattle.delta_wire.specs.Reading.{kind_of, kind_at, name_at, site_at, value_at, name_item, mark_item, gave_item, used_item, back_item, after_kind, item_of};
+
+use delta_mutators::Item;
+use plain_words::{Words, number_at};
+use rights_lattice::{Cell, Event, MAX_VALUE, Mark, SiteId};
+
+/// The first word of an item's line.
+#[derive(Clone, Copy, Debug, PartialEq, Eq)]
+pub enum Kind {
+    Name,
+    Gave,
+    Used,
+    Back,
+}
+
+#[tactic(auto, unfolding(crate::specs::Reading::kind_of))]
+fn kind_of(word: &[u8]) -> Option<Kind>
+    ensures { result ≡ kind_of word.now }
+{
+    if word == b"name".as_slice() {
+        Some(Kind::Name)
+    } else if word == b"gave".as_slice() {
+        Some(Kind::Gave)
+    } else if word == b"used".as_slice() {
+        Some(Kind::Used)
+    } else if word == b"back".as_slice() {
+        Some(Kind::Back)
+    } else {
+        None
+    }
+}
+
+#[tactic(auto, unfolding(crate::specs::Reading::kind_at))]
+fn kind_at(words: &mut Words<'_>) -> Option<Kind>
+    ensures { option_map (λ x. (x, words.new)) result ≡ kind_at words.old }
+{
+    let word = words.next()?;
+    let kind = kind_of(word)?;
+    Some(kind)
+}
+
+fn read_event(word: &[u8]) -> Option<Event>
+    ensures { result ≡ name_of word.now }
+{
+    Event::read(word)
+}
+
+#[tactic(auto, unfolding(crate::specs::Reading::name_at))]
+fn name_at(words: &mut Words<'_>) -> Option<Event>
+    ensures { option_map (λ x. (x, words.new)) result ≡ name_at words.old }
+{
+    let word = words.next()?;
+    let event = read_event(word)?;
+    Some(event)
+}
+
+#[tactic(auto, unfolding(crate::specs::Reading::site_at))]
+pub fn site_at(words: &mut Words<'_>) -> Option<SiteId>
+    ensures { option_map (λ x. (x, words.new)) result ≡ site_at words.old }
+{
+    let number = number_at(words, 0, 63)?;
+    let site = SiteId::of(number)?;
+    Some(site)
+}
+
+#[tactic(auto, unfolding(crate::specs::Reading::value_at))]
+fn value_at(words: &mut Words<'_>) -> Option<u64>
+    ensures value { option_map (λ x. (x, words.new)) result ≡ value_at words.old }
+    ensures within { IfSome result (λ n. (1 ≤ n) × (n ≤ 1000000000000)) }
+{
+    let number = number_at(words, 1, MAX_VALUE)?;
+    Some(number)
+}
+
+#[tactic(auto, unfolding(crate::specs::Reading::name_item))]
+fn name_item(words: &mut Words<'_>) -> Option<Item>
+    ensures { result ≡ name_item words.old }
+{
+    let event = name_at(words)?;
+    if words.is_empty() {
+        Some(Item::Name(event))
+    } else {
+        None
+    }
+}
+
+#[tactic(auto, unfolding(crate::specs::Reading::mark_item))]
+fn mark_item(event: Event, cell: &Cell, words: &mut Words<'_>) -> Option<Item>
+    ensures { result ≡ mark_item event cell.now words.old }
+{
+    let value = value_at(words)?;
+    if words.is_empty() {
+        Some(Item::Cell(Mark {
+            event,
+            cell: *cell,
+            value,
+        }))
+    } else {
+        None
+    }
+}
+
+#[tactic(auto, unfolding(crate::specs::Reading::gave_item))]
+fn gave_item(words: &mut Words<'_>) -> Option<Item>
+    ensures { result ≡ gave_item words.old }
+{
+    let event = name_at(words)?;
+    let by = site_at(words)?;
+    let to = site_at(words)?;
+    mark_item(event, &Cell::Gave { by, to }, words)
+}
+
+#[tactic(auto, unfolding(crate::specs::Reading::used_item))]
+fn used_item(words: &mut Words<'_>) -> Option<Item>
+    ensures { result ≡ used_item words.old }
+{
+    let event = name_at(words)?;
+    let by = site_at(words)?;
+    mark_item(event, &Cell::Used { by }, words)
+}
+
+#[tactic(auto, unfolding(crate::specs::Reading::back_item))]
+fn back_item(words: &mut Words<'_>) -> Option<Item>
+    ensures { result ≡ back_item words.old }
+{
+    let event = name_at(words)?;
+    let by = site_at(words)?;
+    mark_item(event, &Cell::Back { by }, words)
+}
+
+fn after_kind(kind: Kind, words: &mut Words<'_>) -> Option<Item>
+    ensures { result ≡ after_kind kind words.old }
+{
+    match kind {
+        Kind::Name => name_item(words),
+        Kind::Gave => gave_item(words),
+        Kind::Used => used_item(words),
+        Kind::Back => back_item(words),
+    }
+}
+
+/// The item that a line spells.
+#[tactic(auto, unfolding(crate::specs::Reading::item_of_words))]
+pub fn item_of(line: &[u8]) -> Option<Item>
+    ensures { result ≡ item_of line.now }
+{
+    let mut words = Words::new(line);
+    let kind = kind_at(&mut words)?;
+    after_kind(kind, &mut words)
+}

@@ -1,0 +1,22 @@
+//! The text of messages and of deltas.
+//!
+//! A message is a header line, `delta S T U` or `ack S T U` for a message from site S to site T up to length U,
+//! then for a delta its items, one a line, then the line `end`. An item is `name E`, `gave E S T V`, `used E S V`
+//! or `back E S V`: names rise, then marks rise. Each line ends with a line feed, and words stand one space apart.
+#![tactic(auto)]
+
+mod ending;
+mod fault;
+mod header;
+mod items;
+pub mod laws;
+mod lines;
+mod reading;
+#[cfg(test)]
+mod tests;
+mod text;
+mod writing;
+
+pub use fault::WireFault;
+pub use reading::{read_delta, read_message};
+pub use writing::{delta_text, write_message};

@@ -1,0 +1,171 @@
+//! Reading deltas and messages.
+ghost use Rattle.std.specs.Prelude.{◌≡◌, ◌≢◌, ◌≤◌, length, [], Ok, IfOk, IfErr};
+ghost use Rattle.rights_lattice.specs.State.{State};
+ghost use Rattle.site_exchange.specs.declared.message.Message.{Message};
+ghost use Rattle.delta_wire.specs.Grammar.{IsDelta, delta_text, IsMessage, message_text};
+ghost use Rattle.std.specs.List.{slice_split};
+ghost use Rattle.plain_words.specs.Input.{is_line_break};
+ghost use Rattle.delta_wire.specs.Wire.{items_from, delta_of, message_of, Gives, ends, at_last, ack_from, with_delta, for_purpose, after_header, message_from, is_over};
+ghost use Rattle.delta_wire.specs.declared.fault.WireFault.TheVariants.{Trailing};
+
+use crate::ending::Ending;
+use crate::fault::WireFault;
+use crate::header::{Header, Purpose, header_of};
+use crate::items::item_of;
+use crate::lines::Lines;
+use delta_mutators::Delta;
+use site_exchange::Message;
+use std::alloc::Global;
+
+// The items from line `first` on.
+fn read_items(
+    alloc: Global,
+    ending: Ending,
+    first: u64,
+    lines: &mut Lines<'_>,
+) -> Result<Delta, WireFault>
+    requires few_lines { length lines.old ≤ 4294967297 }
+    requires first { first ≤ 2 }
+    ensures exact { Gives result (items_from ending first [] [] lines.old) }
+{
+    let mut delta = Delta::empty(alloc);
+    let mut n = first;
+    'items: loop {
+        let Some(line) = lines.next() else {
+            return at_last(ending, lines, delta);
+        };
+        if ends(ending, line) {
+            if lines.is_over() {
+                return Ok(delta);
+            }
+            return Err(WireFault::Trailing);
+        }
+        let Some(item) = item_of(line) else {
+            return Err(WireFault::BadLine { line: n });
+        };
+        if !delta.rises(&item) {
+            return Err(WireFault::OutOfOrder { line: n });
+        }
+        delta.push(item)?;
+        n += 1;
+    }
+}
+
+fn ends(ending: Ending, line: &[u8]) -> bool
+    ensures { result ≡ ends ending line.now }
+{
+    match ending {
+        Ending::AtEndLine => line == b"end".as_slice(),
+        Ending::AtEndOfBytes => false,
+    }
+}
+
+// The delta, where no line break follows.
+fn at_last(ending: Ending, lines: &Lines<'_>, delta: Delta) -> Result<Delta, WireFault>
+    ensures { result ≡ at_last ending lines.now delta }
+{
+    match ending {
+        Ending::AtEndLine => Err(WireFault::Truncated),
+        Ending::AtEndOfBytes => {
+            if lines.is_over() {
+                Ok(delta)
+            } else {
+                Err(WireFault::Truncated)
+            }
+        }
+    }
+}
+
+// The end of an acknowledgement.
+fn read_ack(message: Message, lines: &mut Lines<'_>) -> Result<Message, WireFault>
+    ensures { result ≡ ack_from message lines.old }
+{
+    let Some(line) = lines.next() else {
+        return Err(WireFault::Truncated);
+    };
+    if line != b"end".as_slice() {
+        return Err(WireFault::BadLine { line: 2 });
+    }
+    if lines.is_over() {
+        Ok(message)
+    } else {
+        Err(WireFault::Trailing)
+    }
+}
+
+fn read_after(alloc: Global, header: Header, lines: &mut Lines<'_>) -> Result<Message, WireFault>
+    requires few_lines { length lines.old ≤ 4294967297 }
+    ensures exact { Gives result (for_purpose header.purpose header lines.old) }
+{
+    let Header {
+        purpose,
+        by,
+        to,
+        upto,
+    } = header;
+    match purpose {
+        Purpose::Delta => {
+            let delta = read_items(alloc, Ending::AtEndLine, 2, lines)?;
+            Ok(Message::Delta {
+                by,
+                to,
+                upto,
+                delta,
+            })
+        }
+        Purpose::Ack => read_ack(Message::Ack { by, to, upto }, lines),
+    }
+}
+
+fn message_of(alloc: Global, bytes: &[u8]) -> Result<Message, WireFault>
+    requires { length bytes.now ≤ 4294967296 }
+    ensures exact { Gives result (message_of bytes.now) }
+{
+    let mut lines = Lines::new(bytes);
+    let Some(line) = lines.next() else {
+        return Err(WireFault::Truncated);
+    };
+    match header_of(line) {
+        None => Err(WireFault::BadLine { line: 1 }),
+        Some(header) => read_after(alloc, header, &mut lines),
+    }
+}
+
+fn delta_of(alloc: Global, bytes: &[u8]) -> Result<Delta, WireFault>
+    requires { length bytes.now ≤ 4294967296 }
+    ensures exact { Gives result (delta_of bytes.now) }
+{
+    let mut lines = Lines::new(bytes);
+    read_items(alloc, Ending::AtEndOfBytes, 1, &mut lines)
+}
+
+/// The delta that the bytes spell: item lines alone, up to where the bytes end at the beginning of a line.
+///
+/// A fault is the first from the top, and never `Trailing`; so is a growth that is refused at the line that needs it.
+pub fn read_delta(alloc: Global, bytes: &[u8]) -> Result<Delta, WireFault>
+    requires { length bytes.now ≤ 4294967296 }
+    // What is read is spelled so.
+    ensures found { IfOk result (λ delta. IsDelta delta × (bytes.now ≡ delta_text delta)) }
+    // What is spelled so is read, unless memory runs out.
+    ensures only { (delta : State) → IsDelta delta → bytes.now ≡ delta_text delta → Gives result (Ok delta) }
+    // Which fault it is: the first from the top.
+    ensures exact { Gives result (delta_of bytes.now) }
+    ensures never_trailing { IfErr result (λ fault. fault ≢ Trailing) }
+{
+    delta_of(alloc, bytes)
+}
+
+/// The message that the bytes spell, read in one pass.
+///
+/// A fault is the first from the top, and so is a growth that is refused at the line that needs it.
+pub fn read_message(alloc: Global, bytes: &[u8]) -> Result<Message, WireFault>
+    requires { length bytes.now ≤ 4294967296 }
+    // What is read is spelled so.
+    ensures found { IfOk result (λ message. IsMessage message × (bytes.now ≡ message_text message)) }
+    // What is spelled so is read, unless memory runs out.
+    ensures only { (message : Message) → IsMessage message → bytes.now ≡ message_text message → Gives result (Ok message) }
+    // Which fault it is: the first from the top.
+    ensures exact { Gives result (message_of bytes.now) }
+{
+    message_of(alloc, bytes)
+}
