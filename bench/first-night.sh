@@ -1,7 +1,8 @@
 #!/bin/sh
-# Builds the program and runs a night at two box offices.
+# Builds the program, which proves it first, and runs a night at two box offices.
 set -eu
 here=$(cd "$(dirname "$0")" && pwd)
 cd "$here/../crates/boxoffice"
-rt build > /dev/null
+mkdir -p out
+rt run -- world < "$here/first-night.script" > out/build.log 2>&1 || { cat out/build.log; exit 1; }
 out/boxoffice world < "$here/first-night.script"
