@@ -7,7 +7,6 @@ use request_ledger::{Amount, Request, RequestNumber};
 use rights_lattice::{Cell, Event, MAX_VALUE, Mark, SiteId, Sites};
 use std::alloc::Global;
 use std::process::Abort;
-use std::test::Fail;
 
 fn event(rt: &impl Abort, name: &[u8]) -> Event {
     Event::read(name).expect(rt, "a name")
@@ -23,6 +22,13 @@ fn seats(rt: &impl Abort, count: u64) -> Amount {
 
 fn upto(rt: &impl Abort, entries: u64) -> Upto {
     Upto::of(entries).expect(rt, "a length")
+}
+
+fn gave(rt: &impl Abort, by: u64, to: u64) -> Cell {
+    Cell::Gave {
+        by: site(rt, by),
+        to: site(rt, to),
+    }
 }
 
 fn mark(rt: &impl Abort, event: Event, cell: Cell, value: u64) -> Mark {
@@ -79,9 +85,17 @@ fn due(
     exchange.next(alloc, book, to).expect(rt, "memory")
 }
 
-fn delta_in(rt: &impl Abort, message: Message) -> Delta {
+// Joins the delta of a message, where the book has not all of it, which the answer tells.
+fn deliver(
+    rt: &impl Abort,
+    alloc: Global,
+    book: &mut Book,
+    message: &Message,
+) -> Result<bool, JoinFault> {
     match message {
-        Message::Delta { delta, .. } => delta,
+        Message::Delta { by, delta, .. } => {
+            join(book, *by, delta.copy(alloc).expect(rt, "memory"))
+        }
         Message::Ack { .. } => panic!(rt; "an acknowledgement"),
     }
 }
@@ -157,33 +171,44 @@ fn selling_book(rt: &impl Abort, alloc: Global, event: Event) -> Book {
     book
 }
 
+// The whole history of the book as the message that a site of it has not had.
+fn first_message(rt: &impl Abort, alloc: Global, book: &Book, to: u64) -> Message {
+    due(rt, alloc, &Exchange::fresh(), book, site(rt, to)).expect(rt, "a message")
+}
+
+// The message is a delta of these names and these marks.
+fn holds(rt: &impl Abort, message: &Message, names: &[Event], marks: &[Mark]) {
+    match message {
+        Message::Delta { delta, .. } => {
+            assert_eq!(rt; delta.names(), names);
+            assert_eq!(rt; delta.marks(), marks);
+        }
+        Message::Ack { .. } => panic!(rt; "an acknowledgement"),
+    }
+}
+
 #[test]
-fn cession_reaches_the_other_site(rt: HostRuntime) -> Result<(), Fail> {
+fn message_of_a_cession(rt: HostRuntime) {
     let gala = event(&rt, b"gala");
     let book = ceding_book(&rt, rt.alloc(), gala);
-    let mut other = book_of(&rt, rt.alloc(), 1, 2);
-    let exchange = Exchange::fresh();
-    let message = due(&rt, rt.alloc(), &exchange, &book, other.me()).ok_or("a message")?;
+    let message = first_message(&rt, rt.alloc(), &book, 1);
     assert_eq!(rt; header(&message), (0, 1, 4));
-    assert_eq!(rt; check(&other, &message), Ok(()));
     assert_eq!(rt; check(&book, &message), Err(CheckFault::NotForMe));
-    let delta = delta_in(&rt, message);
-    let released = Cell::Gave {
-        by: book.me(),
-        to: book.me(),
-    };
-    let ceded = Cell::Gave {
-        by: book.me(),
-        to: other.me(),
-    };
-    let marks = [mark(&rt, gala, released, 100), mark(&rt, gala, ceded, 40)];
-    assert_eq!(rt; delta.names(), [gala].as_slice());
-    assert_eq!(rt; delta.marks(), marks.as_slice());
-    let again = delta.copy(rt.alloc())?;
-    assert_eq!(rt; join(&mut other, book.me(), delta), Ok(true));
+    let released = mark(&rt, gala, gave(&rt, 0, 0), 100);
+    let ceded = mark(&rt, gala, gave(&rt, 0, 1), 40);
+    holds(&rt, &message, &[gala], &[released, ceded]);
+}
+
+#[test]
+fn cession_reaches_the_other_site(rt: HostRuntime) {
+    let gala = event(&rt, b"gala");
+    let book = ceding_book(&rt, rt.alloc(), gala);
+    let message = first_message(&rt, rt.alloc(), &book, 1);
+    let mut other = book_of(&rt, rt.alloc(), 1, 2);
+    assert_eq!(rt; check(&other, &message), Ok(()));
+    assert_eq!(rt; deliver(&rt, rt.alloc(), &mut other, &message), Ok(true));
+    assert_eq!(rt; deliver(&rt, rt.alloc(), &mut other, &message), Ok(false));
     assert_eq!(rt; other.left(gala), 40);
-    assert_eq!(rt; join(&mut other, book.me(), again), Ok(false));
-    Ok(())
 }
 
 #[test]
@@ -201,23 +226,35 @@ fn restart_forgets_acknowledgements(rt: HostRuntime) {
     assert!(rt; due(&rt, rt.alloc(), &fresh, &book, peer).is_some());
 }
 
+// The header of what a site answers to a delta.
+fn answer(message: &Message) -> Option<(u64, u64, u64)> {
+    match message {
+        Message::Delta { .. } => Some(header(&ack_for(message))),
+        Message::Ack { .. } => None,
+    }
+}
+
+// The message of a site that claims this mark.
+fn forged_message(rt: &impl Abort, alloc: Global, to: u64, forged: Mark) -> Message {
+    Message::Delta {
+        by: site(rt, 0),
+        to: site(rt, to),
+        upto: upto(rt, 1),
+        delta: Delta::of(alloc, Item::Cell(forged)).expect(rt, "memory"),
+    }
+}
+
 #[test]
-fn book_meets_a_forged_delta(rt: HostRuntime) -> Result<(), Fail> {
+fn book_meets_a_forged_delta(rt: HostRuntime) {
     let gala = event(&rt, b"gala");
     let mut book = selling_book(&rt, rt.alloc(), gala);
-    let forged = mark(&rt, gala, Cell::Used { by: book.me() }, 9);
-    let message = Message::Delta {
-        by: site(&rt, 0),
-        to: book.me(),
-        upto: upto(&rt, 1),
-        delta: Delta::of(rt.alloc(), Item::Cell(forged))?,
-    };
+    let forged = mark(&rt, gala, Cell::Used { by: site(&rt, 1) }, 9);
+    let message = forged_message(&rt, rt.alloc(), 1, forged);
     assert_eq!(rt; check(&book, &message), Ok(()));
-    assert_eq!(rt; header(&ack_for(&message)), (1, 0, 1));
-    let refused = join(&mut book, site(&rt, 0), delta_in(&rt, message));
+    assert_eq!(rt; answer(&message), Some((1, 0, 1)));
+    let refused = deliver(&rt, rt.alloc(), &mut book, &message);
     assert_eq!(rt; refused, Err(JoinFault::ForeignRow { mark: forged }));
     assert_eq!(rt; book.left(gala), 42);
-    Ok(())
 }
 
 #[test]
