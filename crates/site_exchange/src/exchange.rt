@@ -1,5 +1,5 @@
 //! What each peer has acknowledged, and the message that is due to it.
-ghost use Rattle.std.specs.Prelude.{◌≡◌, ◌≢◌, ◌<◌, ◌≤◌, max, set, get_or, length, IfOk};
+ghost use Rattle.std.specs.Prelude.{◌≡◌, ◌≢◌, ◌<◌, ◌≤◌, max, set, get_or, length, IfOk, IsSome, OnErr};
 ghost use Rattle.site_exchange.specs.Exchange.{next, zeros};
 
 use crate::message::Message;
@@ -49,7 +49,7 @@ impl Exchange {
     }
 
     /// The message that is due to a peer: the delta-interval from what it has acknowledged to the end of the
-    /// history, and none where it has acknowledged all.
+    /// history, and none where it has acknowledged all, which takes no memory.
     pub fn next(
         &self,
         alloc: Global,
@@ -59,7 +59,8 @@ impl Exchange {
         requires site { to < book.now.office.sites }
         requires other { to ≢ book.now.office.me }
         requires acked { get_or self.now to 0 ≤ length book.now.history }
-        ensures { IfOk result (λ message. message ≡ next book.now.office.me (record { history = book.now.history; acked = self.now }) to) }
+        ensures message { IfOk result (λ message. message ≡ next book.now.office.me (record { history = book.now.history; acked = self.now }) to) }
+        ensures memory { OnErr result (IsSome (next book.now.office.me (record { history = book.now.history; acked = self.now }) to)) }
     {
         let from = self.acked(to) as usize;
         let len = book.len();

@@ -17,7 +17,8 @@ use Rattle.world_steps.specs.declared.step.Step.{Step}
 use Rattle.world_steps.specs.declared.step.Step.TheVariants.{Ask, Send, Deliver, Restart, Stop}
 use Rattle.world_steps.specs.declared.step.Outcome.{Outcome}
 use Rattle.world_steps.specs.declared.step.WorldFault.{WorldFault}
-use Rattle.world_steps.specs.Nodes.{site_of, site_after, with_sent, given_back, given_as, taken_by}
+use Rattle.site_exchange.specs.Taking.{site_after}
+use Rattle.world_steps.specs.Nodes.{site_of, with_sent, given_back, given_as, taken_by}
 use Rattle.world_steps.specs.Outcomes.{outcome, delivered_as, taken_as}
 use Rattle.world_steps.specs.Reaching.{world_of, IsKept}
 use Rattle.world_steps.specs.World.{World, opening, count, site_at, history_at, office_at, added, sends, forgets, asks, takes, entry_of, is_there, judged, delivered_if, delivered, after, run}

@@ -16,10 +16,11 @@ use Rattle.world_steps.specs.declared.step.Outcome.{Outcome}
 use Rattle.world_steps.specs.declared.step.Outcome.TheVariants as outcomes
 use Rattle.world_steps.specs.declared.step.WorldFault.{WorldFault}
 use Rattle.world_steps.specs.declared.step.WorldFault.TheVariants.{NoSite, NoMessage}
-use Rattle.world_steps.specs.Nodes.{site_of, extended, entry_if_sent, entry_of_input, stopped_with, with_sent}
+use Rattle.site_exchange.specs.Taking.{extended, with_entry}
+use Rattle.world_steps.specs.Nodes.{site_of, entry_if_sent, entry_of_input, stopped_with, with_sent}
 use Rattle.world_steps.specs.Outcomes.{answered, outcome}
 use Rattle.world_steps.specs.Reaching.{world_of, IsKept}
-use Rattle.world_steps.specs.World.{World, count, no_site, site_at, history_at, office_at, with_entry, added, sends, forgets, asks, takes_if_sent, entry_of, is_there, after, IsReached}
+use Rattle.world_steps.specs.World.{World, count, no_site, site_at, history_at, office_at, added, sends, forgets, asks, takes_if_sent, entry_of, is_there, after, IsReached}
 use Rattle.world_steps.proofs.Reached.{reached_after, limit_after, sound_reached}
 use Rattle.world_steps.proofs.Worlds.{Sound}
 use Rattle.world_steps.proofs.Sites.{IsMade, at_place, made_at, same_world, kept_same, set_same, length-sites}

@@ -1,14 +1,12 @@
 -- The sites of a world as the program holds them. (Our own.)
-use Rattle.std.specs.Prelude.{◌≡◌, ℕ, ◌<◌, max, Bool, if◌then◌else◌, List, [], ◌∷◌, ◌++◌, length, set, get_or, Option, Some, None, slice_get}
-use Rattle.request_ledger.specs.declared.reply.Reply.{Reply}
+use Rattle.std.specs.Prelude.{ℕ, ◌<◌, Bool, if◌then◌else◌, List, [], ◌∷◌, ◌++◌, length, Option, Some, None, slice_get}
 use Rattle.book_core.specs.declared.entry.Entry.{Entry}
-use Rattle.book_core.specs.declared.entry.Entry.TheVariants.{Asked, Joined}
 use Rattle.book_core.specs.Decision.{Office, entry_of_ask}
 use Rattle.book_core.specs.Joining as join
 use Rattle.site_exchange.specs.declared.message.Message.{Message}
-use Rattle.site_exchange.specs.declared.message.Message.TheVariants.{Delta, Ack}
 use Rattle.site_exchange.specs.Exchange as exchange
 use Rattle.site_exchange.specs.Exchange.{Site, Verdict, ack_for, unjoined, entry_of_take, zeros}
+use Rattle.site_exchange.specs.Taking.{extended}
 use Rattle.world_steps.specs.declared.node.Node.{Node}
 use Rattle.world_steps.specs.declared.node.Taken.{Taken}
 use Rattle.world_steps.specs.declared.node.Taken.TheVariants as taken
@@ -21,11 +19,6 @@ use Rattle.world_steps.specs.declared.step.Input.TheVariants as input
 abbrev pub site_of : Node → Site
 site_of node = record { history = node.book.history; acked = node.exchange }
 
--- a history with this entry, if any, at its end
-abbrev pub extended : Option Entry → List Entry → List Entry
-extended None h = h
-extended (Some entry) h = h ++ entry ∷ []
-
 -- what a site says that it did
 abbrev pub taken_by : Verdict → Taken
 taken_by exchange.Joins = taken.Joined
@@ -37,29 +30,6 @@ abbrev pub joined_by : join.JoinDecision → Taken
 joined_by join.Joins = taken.Joined
 joined_by join.NothingNew = taken.NothingNew
 joined_by (join.Refuses fault) = taken.Refused (unjoined fault)
-
--- the site with this acknowledgement taken
-abbrev pub with_ack : Message → Site → Site
-with_ack (Ack by to upto) site = record { history = site.history; acked = set site.acked by (max (get_or site.acked by 0) upto) }
-with_ack (Delta by to upto delta) site = site
-
--- the site after it took a message
-abbrev pub site_after : Verdict → Message → Site → Site
-site_after exchange.Joins (Delta by to upto delta) site = record { history = site.history ++ Joined by delta ∷ []; acked = site.acked }
-site_after exchange.Joins (Ack by to upto) site = site
-site_after exchange.NothingNew message site = site
-site_after exchange.Acks message site = with_ack message site
-site_after (exchange.Refuses fault) message site = site
-
--- the entry is of a request
-abbrev pub IsAsked : Entry → Type 0
-IsAsked (Asked number request reply delta) = Unit {0}
-IsAsked (Joined peer delta) = ⊥
-
--- the entry is of a request that has this reply
-abbrev pub HasReply : Entry → Reply → Type 0
-HasReply (Asked number request reply delta) r = r ≡ reply
-HasReply (Joined peer delta) r = ⊥
 
 -- the entry that an input would add, if any
 abbrev pub entry_if_sent : Office → List Entry → Option Message → Option Entry

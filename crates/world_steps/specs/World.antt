@@ -134,8 +134,3 @@ state_at h a = state_of (take a h)
 -- some list of steps leads to this world
 abbrev pub IsReached : World → Type 0
 IsReached w = (n : ℕ) × (few : n ≤ max_sites) × (steps : List Step) × (w ≡ reached n w.limit steps)
-
--- a site with this entry, if any, at the end of its history
-abbrev pub with_entry : Option Entry → Site → Site
-with_entry None site = site
-with_entry (Some entry) site = record { history = site.history ++ entry ∷ []; acked = site.acked }

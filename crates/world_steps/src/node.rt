@@ -3,9 +3,9 @@ ghost use Rattle.std.specs.Prelude.{◌≡◌, IfOk, IfErr, OnOk, OnErr};
 ghost use Rattle.book_core.specs.Decision.{decision, entry_of_ask};
 ghost use Rattle.book_core.specs.Joining.{entry_of_join, join_decision};
 ghost use Rattle.site_exchange.specs.Exchange.{entry_of_take, verdict};
-ghost use Rattle.world_steps.specs.World.{with_entry};
+ghost use Rattle.site_exchange.specs.Taking.{HasReply, IsAsked, extended, site_after, with_entry};
 ghost use Rattle.world_steps.specs.Outcomes.{answered};
-ghost use Rattle.world_steps.specs.Nodes.{HasReply, IsAsked, IsSent, entry_of_input, extended, joined_by, site_after, site_of, stopped_with, taken_by};
+ghost use Rattle.world_steps.specs.Nodes.{IsSent, entry_of_input, joined_by, site_of, stopped_with, taken_by};
 
 use crate::step::{Input, Outcome, WorldFault};
 use book_core::{Book, Entry, JoinFault, JoinPlan, Plan, PlanFault};

@@ -1,4 +1,4 @@
-use Rattle.world_steps.proofs.Taking.{stored_delta}
+use Rattle.site_exchange.proofs.Deltas.{stored_delta}
 use Rattle.world_steps.proofs.node.store_delta.Goals as goal
 
 pub returns-in-Ok-join-clause-stored : goal.returns-in-Ok-join-clause-stored

@@ -1,6 +1,7 @@
 use Rattle.std.proofs.Common.{◌≡◌, subst}
 use Rattle.std.specs.Prelude.{IfOk}
-use Rattle.world_steps.proofs.Taking.{on_ok, taken_delta, changed_delta}
+use Rattle.site_exchange.proofs.Deltas.{changed_delta}
+use Rattle.world_steps.proofs.Taking.{on_ok, taken_delta}
 use Rattle.world_steps.proofs.node.take.Goals as goal
 
 pub returns-in_ok-delta-in-Delta-clause-taken : goal.returns-in_ok-delta-in-Delta-clause-taken

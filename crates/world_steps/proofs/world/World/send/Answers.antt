@@ -20,7 +20,7 @@ made : (c : goal.After-put) → IsMade c.self.inside.limit c.self.inside.sites.i
 made c =
     let there = peers_in c.self.inside.limit c.self.inside.sites.items c.self.inside.sent.items c.args.self.now c.number.result c.args.by c.args.to c.self.view_is c.number.ensures.number c.if-not-are_peers.ensures in
     send_made c.self.inside.limit c.self.inside.sites.items c.self.inside.sent.items c.number.result c.args.to c.index-node.result.now c.in-Ok.due c.self.invariant
-    (peer_below c.self.inside.limit c.self.inside.sites.items c.self.inside.sent.items c.number.result c.args.to there) c.index-node.ensures there c.in-Ok.ensures
+    (peer_below c.self.inside.limit c.self.inside.sites.items c.self.inside.sent.items c.number.result c.args.to there) c.index-node.ensures there c.in-Ok.ensures.message
 
 sent_is : (c : goal.After-put) → with_sent c.self.inside.sent.items c.in-Ok.due ≡ c.put.new.sent.items
 sent_is c = ap (λ (sent : List Message). with_sent sent c.in-Ok.due) (sym c.reserve.ensures.items) ∙ sym c.put.ensures
