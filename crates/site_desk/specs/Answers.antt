@@ -1,0 +1,68 @@
+-- What a site's book answers over its keeper, and why it does not. (Our own.)
+use Rattle.std.specs.Prelude.{◌≡◌, ℕ, Bool, true, false, not, ◌&&◌, ◌==◌, nat_lt, List, length, Option, Some, None}
+use Rattle.local_rights.specs.Rights.{released_in, sold_in, refunded_in}
+use Rattle.book_core.specs.declared.entry.Entry.{Entry}
+use Rattle.book_core.specs.BookView.{BookView}
+use Rattle.book_core.specs.Decision as decided
+use Rattle.book_core.specs.Decision.{Decision, Office, own_left}
+use Rattle.book_core.specs.History.{state_of}
+use Rattle.book_core.specs.Plans.{IsFresh}
+use Rattle.site_exchange.specs.declared.message.Message.{Message}
+use Rattle.site_exchange.specs.declared.message.TakeFault.{TakeFault}
+use Rattle.site_exchange.specs.declared.message.TakeFault.TheVariants as take_fault
+use Rattle.site_exchange.specs.Exchange as exchange
+use Rattle.site_exchange.specs.Exchange.{Verdict}
+use Rattle.sql_records.specs.Keeping.{LeavesWithOrWithout}
+use Rattle.site_desk.specs.declared.answer.Answer.{Answer}
+use Rattle.site_desk.specs.declared.answer.Seen.{Seen}
+use Rattle.site_desk.specs.declared.answer.Taken.{Taken}
+use Rattle.site_desk.specs.declared.answer.Taken.TheVariants as taken
+use Rattle.site_desk.specs.declared.fault.AskFault.{AskFault}
+use Rattle.site_desk.specs.declared.fault.AskFault.TheVariants as ask_fault
+
+-- the answer to a request is the decision: a kept reply where it stands, or a new one at the end
+abbrev pub IsAnswer : Decision → ℕ → Answer → Type 0
+IsAnswer (decided.Again place reply) len answer = answer ≡ record { reply = reply; place = place; fresh = false }
+IsAnswer (decided.Fresh reply) len answer = answer ≡ record { reply = reply; place = len; fresh = true }
+IsAnswer (decided.Reused place) len answer = ⊥
+IsAnswer decided.Full len answer = ⊥
+
+-- the book was closed, or was open and the fault is the decision, or memory or the store was refused to a fresh one;
+-- the numbers are the keeper's failures before and after
+abbrev pub IsAskFault : Bool → Decision → ℕ → ℕ → AskFault → Type 0
+IsAskFault closed decision before after ask_fault.Closed = closed ≡ true
+IsAskFault closed decision before after (ask_fault.Reused place) = (closed ≡ false) × (decision ≡ decided.Reused place)
+IsAskFault closed decision before after ask_fault.Full = (closed ≡ false) × (decision ≡ decided.Full)
+IsAskFault closed decision before after ask_fault.Memory = (closed ≡ false) × IsFresh decision
+IsAskFault closed decision before after ask_fault.Store = (closed ≡ false) × IsFresh decision × (before ≡ 0) × (after ≡ 1)
+
+-- what the book did is the verdict, and the acknowledgement is the one for the message
+abbrev pub IsTaken : Verdict → Option Message → Taken → Type 0
+IsTaken verdict ack (taken.Joined given) = (verdict ≡ exchange.Joins) × (ack ≡ Some given)
+IsTaken verdict ack (taken.NothingNew given) = (verdict ≡ exchange.NothingNew) × (ack ≡ Some given)
+IsTaken verdict ack taken.Acked = verdict ≡ exchange.Acks
+
+-- as of a request: the fault is the verdict, or memory or the store was refused to a delta that is joined
+abbrev pub IsTakeFault : Bool → Verdict → ℕ → ℕ → TakeFault → Type 0
+IsTakeFault closed verdict before after take_fault.Closed = closed ≡ true
+IsTakeFault closed verdict before after take_fault.Memory = (closed ≡ false) × (verdict ≡ exchange.Joins)
+IsTakeFault closed verdict before after take_fault.Store = (closed ≡ false) × (verdict ≡ exchange.Joins) × (before ≡ 0) × (after ≡ 1)
+IsTakeFault closed verdict before after fault = (closed ≡ false) × (verdict ≡ exchange.Refuses fault)
+
+-- there is an entry to add, and a stop leaves the list with it at the end or without it
+abbrev pub LeavesEither : List Entry → Option Entry → (List Entry → Type 0) → Type 0
+LeavesEither list None may_leave = ⊥
+LeavesEither list (Some entry) may_leave = LeavesWithOrWithout list entry may_leave
+
+-- the site is another one of the book
+abbrev pub is_peer : Office → ℕ → Bool
+is_peer office to = nat_lt to office.sites && not (to == office.me)
+
+-- what a look shows of an event
+pub record IsSeen (book : BookView) (asked : List ℕ) (seen : Seen) : Type 0 where
+  pub event : seen.event ≡ asked
+  pub left : seen.left ≡ own_left book.office book.history asked
+  pub released : seen.totals.released ≡ released_in (state_of book.history).cells asked
+  pub sold : seen.totals.sold ≡ sold_in (state_of book.history).cells asked
+  pub refunded : seen.totals.refunded ≡ refunded_in (state_of book.history).cells asked
+  pub at : seen.at ≡ length book.history

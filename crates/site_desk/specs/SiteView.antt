@@ -1,0 +1,49 @@
+-- What contracts see of a site's book over its keeper. (Our own.)
+use Rattle.std.specs.Prelude.{◌≡◌, ℕ, ◌≤◌, Bool, false, List, length, get_or, Option, refl}
+use Rattle.std.specs.Coded.{Coded, code_by, coded×, coded_ℕ, coded_bool, coded_list}
+use Rattle.request_ledger.specs.declared.request.Request.{Request}
+use Rattle.book_core.specs.declared.entry.Entry.{Entry}
+use Rattle.book_core.specs.BookCode.{coded_book}
+use Rattle.book_core.specs.BookView.{BookView}
+use Rattle.book_core.specs.Decision.{Office, Decision, decision, entry_of_ask}
+use Rattle.book_core.specs.OwnRow.{HasOwnRights}
+use Rattle.site_exchange.specs.declared.message.Message.{Message}
+use Rattle.site_exchange.specs.Exchange.{Site, Verdict, verdict}
+use Rattle.sql_records.specs.declared.meta.Meta.{Meta}
+
+-- the book, what each peer has acknowledged of it, its keeper, and whether it takes nothing more
+pub record SiteView (K : Type 0) : Type 0 where
+  pub book : BookView
+  pub acked : List ℕ
+  pub keeper : K
+  pub closed : Bool
+
+abbrev pub coded_view : {K : Type 0} → Coded K → Coded (SiteView K)
+coded_view {K} keeper =
+    code_by ((BookView × List ℕ) × (K × Bool)) (coded× (coded× coded_book (coded_list coded_ℕ)) (coded× keeper coded_bool))
+    (λ s. ((s.book, s.acked), (s.keeper, s.closed))) (λ p. record { book = p.0.0; acked = p.0.1; keeper = p.1.0; closed = p.1.1 }) (λ _. refl)
+
+-- an open book's keeper has not failed and, where it is trusted, keeps the history; no peer has acknowledged more than there is
+pub record IsInStep (closed : Bool) (failed : ℕ) (is_trusted : Type 0) (kept : List Entry) (acked : List ℕ) (book : BookView) : Type 0 where
+  pub sound : closed ≡ false → failed ≡ 0
+  pub same : closed ≡ false → is_trusted → book.history ≡ kept
+  pub acknowledged : (peer : ℕ) → get_or acked peer 0 ≤ length book.history
+  pub has_rights : HasOwnRights book
+
+-- the history, and what each peer has acknowledged of it
+abbrev pub site_of : {K : Type 0} → SiteView K → Site
+site_of s = record { history = s.book.history; acked = s.acked }
+
+abbrev pub office_of : Meta → Office
+office_of meta = record { me = meta.me; sites = meta.sites; limit = meta.limit }
+
+-- what the book decides on a request, and the entry that the request adds, if any
+abbrev pub decision_in : BookView → ℕ → Request → Decision
+decision_in book number request = decision book.office book.history number request
+
+abbrev pub entry_in : BookView → ℕ → Request → Option Entry
+entry_in book number request = entry_of_ask book.office book.history number request
+
+-- what the book does with a message
+abbrev pub verdict_in : BookView → Message → Verdict
+verdict_in book message = verdict book.office book.history message

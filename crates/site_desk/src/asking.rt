@@ -1,0 +1,74 @@
+//! Requests at an open book.
+ghost use Rattle.std.specs.Prelude.{◌≡◌, ◌≢◌, false, true, length, IfOk, IfErr, OnOk, OnErr, Err};
+ghost use Rattle.book_core.specs.OwnRow.{HasOwnRights};
+ghost use Rattle.site_exchange.specs.Taking.{HasReply, IsAsked, extended};
+ghost use Rattle.sql_records.specs.Keeping.{Keeps};
+ghost use Rattle.site_desk.specs.Answers.{IsAnswer, IsAskFault, LeavesEither};
+ghost use Rattle.site_desk.specs.SiteView.{decision_in, entry_in};
+
+use crate::answer::Answer;
+use crate::fault::AskFault;
+use crate::storing::store;
+use book_core::{Book, Entry, Plan, PlanFault};
+use request_ledger::{Reply, Request, RequestNumber};
+use sql_records::Keeper;
+use std::alloc::Global;
+
+// Answers a request, and keeps and enters what is new.
+pub(crate) fn answer<K: Keeper>(
+    book: &mut Book,
+    keeper: &mut K,
+    alloc: Global,
+    number: RequestNumber,
+    request: &Request,
+) -> Result<Answer, AskFault>
+    requires sound { K.failed keeper.old ≡ 0 }
+    requires same { K.is_trusted keeper.old → book.old.history ≡ K.kept keeper.old }
+    requires rights { HasOwnRights book.old }
+    ensures office { book.new.office ≡ book.old.office }
+    ensures answer { IfOk result (IsAnswer (decision_in book.old number request.now) (length book.old.history)) }
+    ensures entered { OnOk result (book.new.history ≡ extended (entry_in book.old number request.now) book.old.history) }
+    ensures fault { IfErr result (IsAskFault false (decision_in book.old number request.now) (K.failed keeper.old) (K.failed keeper.new)) }
+    ensures unchanged { OnErr result (book.new.history ≡ book.old.history) }
+    ensures untouched { IfErr result (λ fault. fault ≢ AskFault.Store → keeper.new ≡ keeper.old) }
+    ensures again { IfOk result (λ a. a.fresh ≡ false → keeper.new ≡ keeper.old) }
+    ensures sound { OnOk result (K.failed keeper.new ≡ 0) }
+    ensures kept { IfOk result (λ a. a.fresh ≡ true → K.is_trusted keeper.new → Keeps book.new.history (K.kept keeper.new) (K.may_leave keeper.new)) }
+    ensures stopped { result ≡ Err AskFault.Store → K.is_trusted keeper.new → LeavesEither book.old.history (entry_in book.old number request.now) (K.may_leave keeper.new) }
+    ensures trusted { K.is_trusted keeper.new → K.is_trusted keeper.old }
+    ensures has_rights { HasOwnRights book.new }
+{
+    match book.plan(alloc, number, request) {
+        Ok(Plan::Again { place, reply }) => Ok(Answer {
+            reply,
+            place,
+            fresh: false,
+        }),
+        Ok(Plan::New(planned)) => {
+            let reply = reply_of(planned.entry());
+            let place = book.len();
+            match store(book, keeper, planned) {
+                Ok(()) => Ok(Answer {
+                    reply,
+                    place,
+                    fresh: true,
+                }),
+                Err(_) => Err(AskFault::Store),
+            }
+        }
+        Err(PlanFault::Reused { place }) => Err(AskFault::Reused { place }),
+        Err(PlanFault::Full) => Err(AskFault::Full),
+        Err(PlanFault::Memory) => Err(AskFault::Memory),
+    }
+}
+
+// The reply of an entry that was asked.
+fn reply_of(entry: &Entry) -> Reply
+    requires { IsAsked entry.now }
+    ensures { HasReply entry.now result }
+{
+    match entry {
+        Entry::Asked { reply, .. } => *reply,
+        Entry::Joined { .. } => unreachable!(),
+    }
+}

@@ -1,0 +1,43 @@
+//! Why a site's book does not answer.
+use thiserror::Error;
+
+/// Why a request is not answered. All but `Store` change nothing.
+#[derive(Clone, Copy, PartialEq, Eq, Debug, Error)]
+pub enum AskFault {
+    /// The book takes nothing more until it is started again from what was kept.
+    #[error("the book is closed")]
+    Closed,
+    /// Another request was decided under this number, at this place of the history.
+    #[error("the number was used for another request")]
+    Reused { place: usize },
+    /// The history is as long as it may become.
+    #[error("the history is full")]
+    Full,
+    #[error("out of memory")]
+    Memory,
+    /// The entry is not known to be kept, and the book is closed.
+    #[error("the records failed")]
+    Store,
+}
+
+/// Why no message is given.
+#[derive(Clone, Copy, PartialEq, Eq, Debug, Error)]
+pub enum NextFault {
+    #[error("the book is closed")]
+    Closed,
+    /// The site is not another one of the book.
+    #[error("there is no such other site")]
+    NoSite,
+    #[error("out of memory")]
+    Memory,
+}
+
+/// Why nothing is shown of an event.
+#[derive(Clone, Copy, PartialEq, Eq, Debug, Error)]
+pub enum LookFault {
+    #[error("the book is closed")]
+    Closed,
+    /// The event was announced neither here nor in a delta that was joined.
+    #[error("the event is not known")]
+    Unknown,
+}

@@ -1,0 +1,243 @@
+//! The book of a site over its keeper.
+ghost use Rattle.std.specs.Prelude.{◌≡◌, ◌≢◌, ◌<◌, ◌⊎◌, ◌↔◌, ℕ, List, Err, true, false, length, IfOk, IfErr, IsSome, OnOk, OnErr};
+ghost use Rattle.rights_lattice.specs.declared.cell.Cell.{Cell};
+ghost use Rattle.rights_lattice.specs.Cell.{owner_of};
+ghost use Rattle.rights_lattice.specs.State.{knows};
+ghost use Rattle.book_core.specs.History.{state_of};
+ghost use Rattle.book_core.specs.OwnRow.{HasOwnRights, cell_in};
+ghost use Rattle.book_core.specs.Replay.{IsReplayFault};
+ghost use Rattle.site_exchange.specs.Exchange.{Joins, ack_for, entry_of_take, next, zeros};
+ghost use Rattle.site_exchange.specs.Taking.{site_after, with_entry};
+ghost use Rattle.sql_records.specs.Keeping.{Keeps};
+ghost use Rattle.site_desk.specs.Answers.{IsAnswer, IsAskFault, IsSeen, IsTakeFault, IsTaken, LeavesEither, is_peer};
+ghost use Rattle.site_desk.specs.SiteView.{decision_in, entry_in, office_of, site_of, verdict_in};
+
+use crate::answer::{Answer, Seen, Taken};
+use crate::asking::answer;
+use crate::fault::{AskFault, LookFault, NextFault};
+use crate::joining::join;
+use book_core::{Book, Entry, ReplayFault};
+use request_ledger::{Request, RequestNumber};
+use rights_lattice::{Event, SiteId};
+use site_exchange::{CheckFault, Exchange, Message, TakeFault, check};
+use sql_records::{Keeper, Meta};
+use std::alloc::Global;
+use std::marker::Model;
+
+/// The book of a site, what its peers have acknowledged, and the keeper of its history.
+///
+/// At every moment it is closed, or its history is what the keeper holds, as far as the keeper is to be trusted.
+#[derive(Drop)]
+pub struct SiteBook<K: Keeper> {
+    book: Book,
+    exchange: Exchange,
+    keeper: K,
+    is_closed: bool,
+}
+
+impl<K: Keeper> Model for SiteBook<K> {
+    ghost use Rattle.site_desk.specs.SiteView.{SiteView, IsInStep, coded_view};
+
+    ghost Value = { SiteView K };
+
+    ghost coded = { coded_view K.code };
+
+    ghost view = { λ s. record { book = s.book; acked = s.exchange; keeper = s.keeper; closed = s.is_closed } };
+
+    ghost invariant = { λ s. IsInStep s.is_closed (K.failed s.keeper) (K.is_trusted s.keeper) (K.kept s.keeper) s.exchange s.book };
+}
+
+impl<K: Keeper> SiteBook<K> {
+    /// The open book of the entries that a keeper holds. Nothing counts as acknowledged by any peer.
+    ///
+    /// `IllegalAt` where an entry may not follow those before it. An error gives the keeper back as it was.
+    #[tactic(auto, using(crate::proofs::Acknowledged::none_acknowledged))]
+    pub fn start(
+        alloc: Global,
+        keeper: K,
+        entries: Vec<Entry>,
+        meta: Meta,
+    ) -> Result<SiteBook<K>, (K, ReplayFault)>
+        requires site { meta.me < meta.sites }
+        requires sound { K.failed keeper ≡ 0 }
+        requires kept { K.is_trusted keeper → entries.items ≡ K.kept keeper }
+        ensures open { IfOk result (λ s. s.closed ≡ false) }
+        ensures history { IfOk result (λ s. s.book.history ≡ entries.items) }
+        ensures office { IfOk result (λ s. s.book.office ≡ office_of meta) }
+        ensures acknowledged { IfOk result (λ s. s.acked ≡ zeros) }
+        ensures keeper { IfOk result (λ s. s.keeper ≡ keeper) }
+        ensures has_rights { IfOk result (λ s. HasOwnRights s.book) }
+        ensures fault { IfErr result (λ e. (e.0 ≡ keeper) × IsReplayFault (office_of meta) entries.items e.1) }
+    {
+        let Meta { me, sites, limit } = meta;
+        match Book::replay(alloc, me, sites, limit, entries) {
+            Ok(book) => Ok(SiteBook {
+                book,
+                exchange: Exchange::fresh(),
+                keeper,
+                is_closed: false,
+            }),
+            Err(fault) => Err((keeper, fault)),
+        }
+    }
+
+    /// The book, also where it is closed.
+    pub fn book(&self) -> &Book
+        ensures book { result.now ≡ self.now.book }
+        ensures has_rights { HasOwnRights self.now.book }
+    {
+        &self.book
+    }
+
+    /// Whether the book takes nothing more.
+    pub fn is_closed(&self) -> bool
+        ensures closed { result ≡ self.now.closed }
+        ensures sound { result ≡ false → K.failed self.now.keeper ≡ 0 }
+        ensures kept { result ≡ false → K.is_trusted self.now.keeper → self.now.book.history ≡ K.kept self.now.keeper }
+    {
+        self.is_closed
+    }
+
+    /// The keeper. The book is let go.
+    pub fn into_keeper(self) -> K
+        ensures { result ≡ self.keeper }
+    {
+        let SiteBook { keeper, .. } = self;
+        keeper
+    }
+
+    /// Answers a request under its number: with the reply that is kept under it, or with a new one, whose entry is
+    /// kept and then entered.
+    ///
+    /// `Store` where the entry is not known to be kept: the history is as it was, and the book is closed. Every
+    /// other error changes nothing. Neither a kept number nor a full history takes memory.
+    pub fn ask(
+        &mut self,
+        alloc: Global,
+        number: RequestNumber,
+        request: &Request,
+    ) -> Result<Answer, AskFault>
+        ensures office { self.new.book.office ≡ self.old.book.office }
+        ensures answer { IfOk result (IsAnswer (decision_in self.old.book number request.now) (length self.old.book.history)) }
+        ensures entered { OnOk result (site_of self.new ≡ with_entry (entry_in self.old.book number request.now) (site_of self.old)) }
+
+        // When each error comes, and what it leaves.
+        ensures closed { (result ≡ Err AskFault.Closed) ↔ (self.old.closed ≡ true) }
+        ensures fault { IfErr result (IsAskFault self.old.closed (decision_in self.old.book number request.now) (K.failed self.old.keeper) (K.failed self.new.keeper)) }
+        ensures unchanged { OnErr result (site_of self.new ≡ site_of self.old) }
+        ensures untouched { IfErr result (λ fault. fault ≢ AskFault.Store → self.new.keeper ≡ self.old.keeper) }
+        ensures closes { (self.new.closed ≡ true) ↔ ((self.old.closed ≡ true) ⊎ (result ≡ Err AskFault.Store)) }
+
+        // What the keeper holds, and what a stop may leave of it.
+        ensures again { IfOk result (λ a. a.fresh ≡ false → self.new.keeper ≡ self.old.keeper) }
+        ensures kept { IfOk result (λ a. a.fresh ≡ true → K.is_trusted self.new.keeper → Keeps self.new.book.history (K.kept self.new.keeper) (K.may_leave self.new.keeper)) }
+        ensures stopped { result ≡ Err AskFault.Store → K.is_trusted self.new.keeper → LeavesEither self.old.book.history (entry_in self.old.book number request.now) (K.may_leave self.new.keeper) }
+        ensures in_step { self.new.closed ≡ false → K.is_trusted self.new.keeper → self.new.book.history ≡ K.kept self.new.keeper }
+        ensures trusted { K.is_trusted self.new.keeper → K.is_trusted self.old.keeper }
+
+        ensures has_rights { HasOwnRights self.new.book }
+    {
+        if self.is_closed {
+            return Err(AskFault::Closed);
+        }
+        let answer = answer(&mut self.book, &mut self.keeper, alloc, number, request);
+        self.is_closed = matches!(answer, Err(AskFault::Store));
+        answer
+    }
+
+    /// Takes a peer's message: joins its delta where it holds something new, or notes what it acknowledges.
+    ///
+    /// No message changes a cell of the own row, forged ones too. Errors are as for a request; an acknowledgement
+    /// and a delta that holds nothing new take no memory.
+    pub fn take(&mut self, message: Message) -> Result<Taken, TakeFault>
+        ensures office { self.new.book.office ≡ self.old.book.office }
+        ensures taken { IfOk result (IsTaken (verdict_in self.old.book message) (ack_for message)) }
+        ensures changed { OnOk result (site_of self.new ≡ site_after (verdict_in self.old.book message) message (site_of self.old)) }
+
+        // When each error comes, and what it leaves.
+        ensures closed { (result ≡ Err TakeFault.Closed) ↔ (self.old.closed ≡ true) }
+        ensures fault { IfErr result (IsTakeFault self.old.closed (verdict_in self.old.book message) (K.failed self.old.keeper) (K.failed self.new.keeper)) }
+        ensures unchanged { OnErr result (site_of self.new ≡ site_of self.old) }
+        ensures untouched { IfErr result (λ fault. fault ≢ TakeFault.Store → self.new.keeper ≡ self.old.keeper) }
+        ensures closes { (self.new.closed ≡ true) ↔ ((self.old.closed ≡ true) ⊎ (result ≡ Err TakeFault.Store)) }
+
+        // What the keeper holds, and what a stop may leave of it.
+        ensures kept { OnOk result (verdict_in self.old.book message ≡ Joins → K.is_trusted self.new.keeper → Keeps self.new.book.history (K.kept self.new.keeper) (K.may_leave self.new.keeper)) }
+        ensures stopped { result ≡ Err TakeFault.Store → K.is_trusted self.new.keeper → LeavesEither self.old.book.history (entry_of_take self.old.book.office self.old.book.history message) (K.may_leave self.new.keeper) }
+        ensures in_step { self.new.closed ≡ false → K.is_trusted self.new.keeper → self.new.book.history ≡ K.kept self.new.keeper }
+        ensures trusted { K.is_trusted self.new.keeper → K.is_trusted self.old.keeper }
+
+        ensures own_row { (event : List ℕ) (cell : Cell) → owner_of cell ≡ self.old.book.office.me → cell_in self.new.book event cell ≡ cell_in self.old.book event cell }
+        ensures has_rights { HasOwnRights self.new.book }
+    {
+        if self.is_closed {
+            return Err(TakeFault::Closed);
+        }
+        match check(&self.book, &message) {
+            Ok(()) => {}
+            Err(CheckFault::NotForMe) => return Err(TakeFault::NotForMe),
+            Err(CheckFault::UnknownSite) => return Err(TakeFault::UnknownSite),
+            Err(CheckFault::StrayAck { len }) => return Err(TakeFault::StrayAck { len }),
+        }
+        match message {
+            Message::Ack { by, upto, .. } => {
+                self.exchange.ack(by, upto);
+                Ok(Taken::Acked)
+            }
+            Message::Delta {
+                by,
+                to,
+                upto,
+                delta,
+            } => {
+                let ack = Message::Ack {
+                    by: to,
+                    to: by,
+                    upto,
+                };
+                let taken = join(&mut self.book, &mut self.keeper, by, delta, ack);
+                self.is_closed = matches!(taken, Err(TakeFault::Store));
+                taken
+            }
+        }
+    }
+
+    /// The message that is due to a peer, and none where it has acknowledged all, which takes no memory.
+    pub fn next(&self, alloc: Global, to: SiteId) -> Result<Option<Message>, NextFault>
+        ensures message { IfOk result (λ message. message ≡ next self.now.book.office.me (site_of self.now) to) }
+        ensures closed { (result ≡ Err NextFault.Closed) ↔ (self.now.closed ≡ true) }
+        ensures no_site { (result ≡ Err NextFault.NoSite) ↔ ((self.now.closed ≡ false) × (is_peer self.now.book.office to ≡ false)) }
+        ensures memory { result ≡ Err NextFault.Memory → IsSome (next self.now.book.office.me (site_of self.now) to) }
+    {
+        if self.is_closed {
+            return Err(NextFault::Closed);
+        }
+        if to.number() >= self.book.sites().count() || to == self.book.me() {
+            return Err(NextFault::NoSite);
+        }
+        match self.exchange.next(alloc, &self.book, to) {
+            Ok(message) => Ok(message),
+            Err(_) => Err(NextFault::Memory),
+        }
+    }
+
+    /// What the history shows of an event that it knows.
+    pub fn look(&self, event: Event) -> Result<Seen, LookFault>
+        ensures seen { IfOk result (IsSeen self.now.book event) }
+        ensures closed { (result ≡ Err LookFault.Closed) ↔ (self.now.closed ≡ true) }
+        ensures unknown { (result ≡ Err LookFault.Unknown) ↔ ((self.now.closed ≡ false) × (knows (state_of self.now.book.history).names event ≡ false)) }
+    {
+        if self.is_closed {
+            return Err(LookFault::Closed);
+        }
+        if !self.book.knows(event) {
+            return Err(LookFault::Unknown);
+        }
+        Ok(Seen {
+            event,
+            left: self.book.left(event),
+            totals: self.book.totals(event),
+            at: self.book.len(),
+        })
+    }
+}

@@ -1,0 +1,11 @@
+pub mod EntryBack
+pub mod RowLemmas
+pub mod InsertLemmas
+pub mod AppendLemmas
+pub mod FindLemmas
+pub mod LookupLemmas
+pub mod CheckLemmas
+pub mod InitLemmas
+pub mod QueryLemmas
+pub mod MetaLemmas
+pub mod OpeningLemmas

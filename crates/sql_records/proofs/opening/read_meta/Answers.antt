@@ -1,0 +1,51 @@
+use Rattle.std.proofs.Common.{arith}
+use Rattle.sqlite.specs.Held.{state}
+use Rattle.sql_records.proofs.QueryLemmas.{shown_meta, meta_same, meta_left}
+use Rattle.sql_records.proofs.MetaLemmas.{alone, no_row, meta_found, numbers_are, meta_fault}
+use Rattle.sql_records.proofs.OpeningLemmas.{on_ok}
+use Rattle.sql_records.proofs.opening.read_meta.Goals as goal
+
+pub returns-in-Some-clause-meta : goal.returns-in-Some-clause-meta
+returns-in-Some-clause-meta g c clean =
+    let old = state g.S.Store c.args.conn.now in
+    let new = state g.S.Store c.query_all.new.self in
+    let schema = c.requires (omega (arith, c.query_all.ensures.survives.clean)) in
+    let one = alone old.now.trees _ c.in-Some.row (shown_meta old new _ schema (c.in-Ok.ensures.ok clean)) c.in-Some.ensures.one in
+    meta_found old.now.trees c.in-Some.row c.read_numbers.result one c.read_numbers.ensures.numbers
+
+pub returns-in-Some-clause-numbers : goal.returns-in-Some-clause-numbers
+returns-in-Some-clause-numbers g c = numbers_are c.in-Some.row c.read_numbers.result c.read_numbers.ensures.numbers
+
+pub returns-in-Some-clause-same : goal.returns-in-Some-clause-same
+returns-in-Some-clause-same g c clean =
+    let old = state g.S.Store c.args.conn.now in
+    let new = state g.S.Store c.query_all.new.self in
+    let schema = c.requires (omega (arith, c.query_all.ensures.survives.clean)) in
+    on_ok c.read_numbers.result _ (meta_same old new _ schema (c.in-Ok.ensures.ok clean))
+
+pub returns-in-Some-clause-fault : goal.returns-in-Some-clause-fault
+returns-in-Some-clause-fault g c clean =
+    let old = state g.S.Store c.args.conn.now in
+    let new = state g.S.Store c.query_all.new.self in
+    let schema = c.requires (omega (arith, c.query_all.ensures.survives.clean)) in
+    let one = alone old.now.trees _ c.in-Some.row (shown_meta old new _ schema (c.in-Ok.ensures.ok clean)) c.in-Some.ensures.one in
+    meta_fault old.now.trees c.in-Some.row c.read_numbers.result one c.read_numbers.ensures.fault
+
+pub returns-in-None-clause-fault : goal.returns-in-None-clause-fault
+returns-in-None-clause-fault g c clean =
+    let old = state g.S.Store c.args.conn.now in
+    let new = state g.S.Store c.query_all.new.self in
+    let schema = c.requires (omega (arith, c.query_all.ensures.survives.clean)) in
+    no_row old.now.trees _ (shown_meta old new _ schema (c.in-Ok.ensures.ok clean)) c.in-None.ensures.none
+
+pub returns-in-Some-clause-left : goal.returns-in-Some-clause-left
+returns-in-Some-clause-left g c clean =
+    meta_left (state g.S.Store c.args.conn.now) (state g.S.Store c.query_all.new.self) (c.requires (omega (arith, c.query_all.ensures.survives.clean))) c.query_all.ensures.survives clean
+
+pub returns-in-None-clause-left : goal.returns-in-None-clause-left
+returns-in-None-clause-left g c clean =
+    meta_left (state g.S.Store c.args.conn.now) (state g.S.Store c.query_all.new.self) (c.requires (omega (arith, c.query_all.ensures.survives.clean))) c.query_all.ensures.survives clean
+
+pub returns-in-Err-clause-left : goal.returns-in-Err-clause-left
+returns-in-Err-clause-left g c clean =
+    meta_left (state g.S.Store c.args.conn.now) (state g.S.Store c.query_all.new.self) (c.requires (omega (arith, c.query_all.ensures.survives.clean))) c.query_all.ensures.survives clean

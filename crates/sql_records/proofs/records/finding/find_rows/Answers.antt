@@ -1,0 +1,19 @@
+use Rattle.std.proofs.Common.{arith, subst}
+use Rattle.sqlite.specs.Held.{state}
+use Rattle.sqlite.specs.State.{Shown}
+use Rattle.sql_records.proofs.FindLemmas.{find_text, find_shows, find_same}
+use Rattle.sql_records.proofs.records.finding.find_rows.Goals as goal
+
+pub returns-in-Ok-clause-rows : goal.returns-in-Ok-clause-rows
+returns-in-Ok-clause-rows g c clean =
+    let old = state g.S.Store c.args.conn.now in
+    let new = state g.S.Store c.query_all.new.self in
+    let rest = c.requires.rest (omega (arith, c.query_all.ensures.survives.clean)) in
+    find_shows old new c.args.number c.in-Ok.rows.items rest.1.schema rest.1.whole (subst (λ p. Shown find_text p old new c.in-Ok.rows.items) c.number_param-params.ensures (c.in-Ok.ensures.ok clean))
+
+pub returns-in-Ok-clause-same : goal.returns-in-Ok-clause-same
+returns-in-Ok-clause-same g c clean =
+    let old = state g.S.Store c.args.conn.now in
+    let new = state g.S.Store c.query_all.new.self in
+    let rest = c.requires.rest (omega (arith, c.query_all.ensures.survives.clean)) in
+    find_same old new c.args.number c.in-Ok.rows.items rest.1.schema (subst (λ p. Shown find_text p old new c.in-Ok.rows.items) c.number_param-params.ensures (c.in-Ok.ensures.ok clean))

@@ -1,0 +1,139 @@
+-- The two tables of the records, and what the one row of `meta` says. (Our own.)
+use Rattle.std.specs.Prelude.{◌≡◌, ◌≢◌, ◌<◌, ◌≤◌, ℕ, ℤ, List, [], ◌∷◌, codes, Option, Some, None, pos, true, false, map, slice_get}
+use Rattle.sqlite.specs.Collation.TheVariants.{Binary}
+use Rattle.sqlite.specs.declared.types.Value.TheVariants.{Null, Int, Text as Words}
+use Rattle.sqlite.specs.Table.{Table}
+use Rattle.sqlite.specs.Schema.{Schema}
+use Rattle.sqlite.specs.Term.{Term, lit, col, op2}
+use Rattle.sqlite_sql.specs.declared.ops.BinaryOp.TheVariants.{Compare}
+use Rattle.sqlite_sql.specs.declared.ops.CompareOp.TheVariants.{Eq}
+use Rattle.sqlite.specs.Order.{Row, column}
+use Rattle.sqlite.specs.Tree.{Trees}
+use Rattle.sqlite.specs.Kind.{Kind}
+use Rattle.sqlite.specs.Kind.TheVariants.{Integer, Text}
+use Rattle.sqlite_schema.specs.declared.code.Op.{Op}
+use Rattle.sqlite_schema.specs.declared.code.Op.TheVariants.{Literal, Column as ColumnAt, Binary as Equals}
+use Rattle.sqlite_schema.specs.declared.schema.Column.{Column}
+use Rattle.sqlite_schema.specs.declared.schema.Index.{Index}
+use Rattle.sql_records.specs.declared.meta.Meta.{Meta}
+
+abbrev pub plain : List ℕ → Kind → Column
+plain name kind = record { name = name; kind = kind; is_strict = true; not_null = false; default = Null; collation = Binary }
+
+abbrev pub required : List ℕ → Kind → Column
+required name kind = record { name = name; kind = kind; is_strict = true; not_null = true; default = Null; collation = Binary }
+
+abbrev pub last_columns : List Column
+last_columns =
+    plain (codes "amount") Integer ∷ plain (codes "target") Integer ∷ plain (codes "reply") Text ∷ plain (codes "rest") Integer ∷ required (codes "delta") Text ∷ []
+
+-- the table of the entries, in this tree
+abbrev pub entries_at : ℕ → Table
+entries_at tree = record {
+  name = codes "entries";
+  tree = tree;
+  columns =
+      plain (codes "pos") Integer ∷ plain (codes "peer") Integer ∷ plain (codes "number") Integer ∷ plain (codes "verb") Text ∷ plain (codes "event") Text ∷ last_columns;
+  key = Some 0;
+  primary = 0 ∷ [];
+  uniques = (3 ∷ []) ∷ [];
+  orders = (record { digits = 0 }) ∷ [];
+  checks = [];
+  references = [];
+  computed = [];
+  stamps = record { places = []; terms = []; formats = [] };
+  is_counted = false;
+}
+
+-- the check of the table of the numbers
+abbrev pub one_is_1 : Term
+one_is_1 = op2 (Compare Eq Binary) (col 1 0) (lit (Int (pos 1)))
+
+-- the places of the two sides of an equality
+abbrev pub sides_of : Op → Option (ℕ × ℕ)
+sides_of (Equals (Compare Eq Binary) left right) = Some (left, right)
+sides_of _ = None
+
+-- the nodes at these places are the two sides of the check
+abbrev pub AreOneAnd1 : List Op → ℕ → ℕ → Type 0
+AreOneAnd1 nodes left right = (slice_get nodes left ≡ Some (ColumnAt 1 0)) × (slice_get nodes right ≡ Some (Literal (Int (pos 1))))
+
+-- the table of the numbers, in this tree
+abbrev pub meta_at : ℕ → Table
+meta_at tree = record {
+  name = codes "meta";
+  tree = tree;
+  columns =
+      plain (codes "one") Integer ∷ required (codes "kind") Text ∷ required (codes "version") Integer ∷ required (codes "me") Integer
+      ∷ required (codes "sites") Integer ∷ required (codes "bound") Integer ∷ [];
+  key = Some 0;
+  primary = 0 ∷ [];
+  uniques = [];
+  orders = [];
+  checks = one_is_1 ∷ [];
+  references = [];
+  computed = [];
+  stamps = record { places = []; terms = []; formats = [] };
+  is_counted = false;
+}
+
+abbrev pub number_index : Index
+number_index = record { name = codes "sqlite_autoindex_entries_1"; tree = 2; table = 1; columns = 3 ∷ []; order = record { digits = 0 }; is_unique = true }
+
+abbrev pub no_schema : Schema
+no_schema = record { tables = []; indexes = []; views = [] }
+
+abbrev pub our_schema : Schema
+our_schema = record { tables = meta_at 0 ∷ entries_at 1 ∷ []; indexes = number_index ∷ []; views = [] }
+
+-- its key is the first column, and nothing refers to another table or is computed
+pub record IsBare (t : Table) : Type 0 where
+  pub key : t.key ≡ Some 0
+  pub primary : t.primary ≡ 0 ∷ []
+  pub references : t.references ≡ []
+  pub computed : t.computed ≡ []
+  pub stamps : t.stamps ≡ record { places = []; terms = []; formats = [] }
+  pub uncounted : t.is_counted ≡ false
+
+-- ---- the row of `meta`
+
+abbrev pub our_kind : List ℕ
+our_kind = codes "ticket-escrow"
+
+-- its six columns: one, kind, version, me, sites, bound
+abbrev pub meta_of : Meta → Row
+meta_of meta = Int (pos 1) ∷ Words our_kind ∷ Int (pos 1) ∷ Int (pos meta.me) ∷ Int (pos meta.sites) ∷ Int (pos meta.limit) ∷ []
+
+-- the columns but the first of a row of the table, as a query shows them
+abbrev pub meta_shown : Row → Row
+meta_shown values = column values 2 ∷ column values 3 ∷ column values 4 ∷ column values 5 ∷ column values 6 ∷ []
+
+abbrev pub meta_tree : ℕ
+meta_tree = 0
+
+abbrev pub meta_rows : Trees → List Row
+meta_rows db = map meta_shown (db meta_tree)
+
+-- the one row has these numbers, under the version that is read here
+abbrev pub HasMeta : Meta → Trees → Type 0
+HasMeta meta db = meta_rows db ≡ (Words our_kind ∷ Int (pos 1) ∷ Int (pos meta.me) ∷ Int (pos meta.sites) ∷ Int (pos meta.limit) ∷ []) ∷ []
+
+-- the one row is of our kind, and of another version
+pub record HasOtherSchema (version : ℤ) (db : Trees) : Type 0 where
+  pub values : Row
+  pub alone : meta_rows db ≡ values ∷ []
+  pub kind : column values 0 ≡ Words our_kind
+  pub version_is : column values 1 ≡ Int version
+  pub differs : version ≢ pos 1
+
+-- the numbers of a site
+pub record AreNumbers (meta : Meta) : Type 0 where
+  pub me_is_site : meta.me < meta.sites
+  pub few_sites : meta.sites ≤ 16
+  pub limit_is_positive : 1 ≤ meta.limit
+  pub limit_is_low : meta.limit ≤ 1000000
+
+-- the rows of `meta` are those of no site, in this version or another
+pub record HasNoMeta (db : Trees) : Type 0 where
+  pub no_numbers : (meta : Meta) → AreNumbers meta → ¬ HasMeta meta db
+  pub no_version : (version : ℤ) → ¬ HasOtherSchema version db

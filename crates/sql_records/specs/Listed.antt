@@ -1,0 +1,27 @@
+-- What contracts see of a keeper in memory. (Our own.)
+use Rattle.std.specs.Prelude.{◌≤◌, ◌-◌, ℕ, List, Option, Some, None, refl}
+use Rattle.std.specs.Coded.{Coded, code_by, coded×, coded_ℕ, coded_list, coded_option}
+use Rattle.book_core.specs.BookCode.{coded_entry}
+use Rattle.book_core.specs.declared.entry.Entry.{Entry}
+use Rattle.sql_records.specs.contracts.list.Failing as failing
+use Rattle.sql_records.specs.declared.list.Failing.{Failing}
+
+pub record Listed : Type 0 where
+  pub kept : List Entry
+  pub failures : ℕ
+  pub failing : Option Failing
+
+abbrev pub coded_listed : Coded Listed
+coded_listed =
+    code_by ((List Entry × ℕ) × Option Failing) (coded× (coded× (coded_list coded_entry) coded_ℕ) (coded_option failing.the_row.coded))
+    (λ l. ((l.kept, l.failures), l.failing)) (λ p. record { kept = p.0.0; failures = p.0.1; failing = p.1 }) (λ _. refl)
+
+-- the next append is to fail
+abbrev pub IsDue : Option Failing → Type 0
+IsDue None = ⊥
+IsDue (Some failing) = failing.append ≤ 1
+
+-- one append later
+abbrev pub one_less : Option Failing → Option Failing
+one_less None = None
+one_less (Some failing) = Some (record failing { append = failing.append - 1 })

@@ -1,0 +1,86 @@
+-- What the records are asked: what is kept under a number, and which requests name an event. (Our own.)
+use Rattle.std.specs.Prelude.{ℕ, Bool, false, List, [], ◌∷◌, Option, Some, None, pos, map, filter}
+use Rattle.std.specs.Option.{option_map}
+use Rattle.sqlite.specs.declared.types.Value.{Value}
+use Rattle.sqlite.specs.declared.types.Value.TheVariants.{Int, Text}
+use Rattle.sqlite.specs.Collation.TheVariants.{Binary}
+use Rattle.sqlite.specs.Order.{Row, column}
+use Rattle.sqlite_sql.specs.declared.ops.BinaryOp.TheVariants.{Compare}
+use Rattle.sqlite_sql.specs.declared.ops.CompareOp.TheVariants.{Eq}
+use Rattle.sqlite_sql.specs.Ops.{binary, is_true}
+use Rattle.rights_lattice.specs.Cell.{same_event}
+use Rattle.request_ledger.specs.declared.request.Request.{Request}
+use Rattle.request_ledger.specs.declared.request.Request.TheVariants.{Announce, Release, Sell, Refund, Cede}
+use Rattle.request_ledger.specs.declared.reply.Kept.{Kept}
+use Rattle.book_core.specs.declared.entry.Entry.{Entry}
+use Rattle.book_core.specs.History.{asked, kept}
+use Rattle.plain_words.specs.Words.{◌>>=◌}
+use Rattle.sql_records.specs.declared.lookup.Found.{Found}
+use Rattle.sql_records.specs.declared.lookup.Listed.{Listed}
+use Rattle.sql_records.specs.Rows.{value_in, request_in, reply_in}
+
+-- ---- over the entries
+
+-- the place and the reply of what is kept under a number
+abbrev pub found_in : List Entry → ℕ → Option Found
+found_in h number = option_map (λ k. record { place = k.place; reply = k.reply }) (kept h number)
+
+-- the request names the event
+abbrev pub names_event : List ℕ → Request → Bool
+names_event name (Announce event) = same_event event name
+names_event name (Release event amount) = same_event event name
+names_event name (Sell event amount) = same_event event name
+names_event name (Refund sale) = false
+names_event name (Cede event amount to) = same_event event name
+
+abbrev pub listing : ℕ × Kept → Listed
+listing a = record { place = a.1.place; number = a.0; request = a.1.request; reply = a.1.reply }
+
+-- the requests that name an event, by place
+abbrev pub listed_in : List Entry → List ℕ → List Listed
+listed_in h name = map listing (filter (λ a. names_event name a.1.request) (asked h))
+
+-- ---- over the rows, each as a query shows its ten columns
+
+-- the request number is this one, as SQL compares values
+abbrev pub has_number : ℕ → Row → Bool
+has_number number values = is_true (binary (Compare Eq Binary) (column values 2) (Int (pos number)))
+
+-- the event is this one, as SQL compares values
+abbrev pub has_event : List ℕ → Row → Bool
+has_event name values = is_true (binary (Compare Eq Binary) (column values 4) (Text name))
+
+-- the place, the reply and its number
+abbrev pub found_columns : Row → Row
+found_columns values = column values 0 ∷ column values 7 ∷ column values 8 ∷ []
+
+-- the place, the number, the four columns of the request, the reply and its number
+abbrev pub listed_columns : Row → Row
+listed_columns values = column values 0 ∷ column values 2 ∷ column values 3 ∷ column values 4 ∷ column values 5 ∷ column values 6 ∷ column values 7 ∷ column values 8 ∷ []
+
+abbrev pub place_of : Value → Option ℕ
+place_of (Int (pos place)) = Some place
+place_of _ = None
+
+abbrev pub place_in : Row → Option ℕ
+place_in values = place_of (column values 0)
+
+-- what those columns say
+unfoldable pub found_of : Row → Option Found
+found_of values = do
+  place ← place_in values
+  reply ← reply_in (column values 1) (column values 2)
+  Some (record { place = place; reply = reply })
+
+unfoldable pub listed_of : Row → Option Listed
+listed_of values = do
+  place ← place_in values
+  number ← value_in (column values 1)
+  request ← request_in (column values 2) (column values 3) (column values 4) (column values 5)
+  reply ← reply_in (column values 6) (column values 7)
+  Some (record { place = place; number = number; request = request; reply = reply })
+
+-- what the first row says, where there is one
+abbrev pub first_found : List Row → Option (Option Found)
+first_found [] = None
+first_found (values ∷ rows) = Some (found_of values)

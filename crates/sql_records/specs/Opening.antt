@@ -1,0 +1,79 @@
+-- What an open answers of a database that it does not read. (Our own.)
+use Rattle.std.specs.Prelude.{◌≡◌, ◌≢◌, ◌⊎◌, ℤ, pos, nat_lt, if◌then◌else◌, List, Option, Some, None}
+use Rattle.sqlite.specs.declared.types.Value.{Value}
+use Rattle.sqlite.specs.declared.types.Value.TheVariants.{Int, Text}
+use Rattle.sqlite.specs.Order.{Row, column}
+use Rattle.sqlite.specs.Tree.{Trees}
+use Rattle.sqlite.specs.Effect.{Database}
+use Rattle.plain_words.specs.Words.{◌>>=◌}
+use Rattle.sql_records.specs.declared.meta.Meta.{Meta}
+use Rattle.sql_records.specs.declared.fault.OpenFault.{OpenFault}
+use Rattle.sql_records.specs.declared.fault.OpenFault.TheVariants.{NotOurs, OtherSchema, Damaged, Memory, Disk}
+use Rattle.sql_records.specs.Rows.{number_within, site_in, AreInOrder, IsDamagedAt}
+use Rattle.sql_records.specs.Layout.{our_schema, our_kind, HasOtherSchema, HasNoMeta}
+use Rattle.sql_records.specs.Held.{entries_tree}
+
+abbrev pub int_in : Value → Option ℤ
+int_in (Int n) = Some n
+int_in _ = None
+
+-- the numbers of a row of `meta`, where they are those of a site
+unfoldable pub numbers_in : Row → Option Meta
+numbers_in values = do
+  me ← site_in (column values 2)
+  sites ← number_within 1 16 (column values 3)
+  limit ← number_within 1 1000000 (column values 4)
+  if nat_lt me sites then Some (record { me = me; sites = sites; limit = limit }) else None
+
+-- the row is of our kind, in the version that is read here, and has these numbers
+pub record IsRowOf (meta : Meta) (values : Row) : Type 0 where
+  pub kind : column values 0 ≡ Text our_kind
+  pub version : column values 1 ≡ Int (pos 1)
+  pub numbers : numbers_in values ≡ Some meta
+
+-- the row is of another kind, has no version, or has no numbers of a site
+abbrev pub IsForeignRow : Row → Type 0
+IsForeignRow values = (column values 0 ≢ Text our_kind) ⊎ ((int_in (column values 1) ≡ None) ⊎ ((column values 1 ≡ Int (pos 1)) × (numbers_in values ≡ None)))
+
+abbrev pub IsOtherVersion : ℤ → Row → Type 0
+IsOtherVersion version values = (column values 0 ≡ Text our_kind) × (column values 1 ≡ Int version) × (version ≢ pos 1)
+
+-- what is at fault in a row of `meta`
+abbrev pub IsRowFault : Row → OpenFault → Type 0
+IsRowFault values NotOurs = IsForeignRow values
+IsRowFault values (OtherSchema version) = IsOtherVersion version values
+IsRowFault values (Damaged place) = ⊥
+IsRowFault values Memory = ⊥
+IsRowFault values Disk = ⊥
+
+-- what is at fault in the numbers of a database of ours
+abbrev pub IsMetaFault : Trees → OpenFault → Type 0
+IsMetaFault db NotOurs = HasNoMeta db
+IsMetaFault db (OtherSchema version) = HasOtherSchema version db
+IsMetaFault db (Damaged place) = ⊥
+IsMetaFault db Memory = Unit {0}
+IsMetaFault db Disk = Unit {0}
+
+-- what is at fault in rows of entries
+abbrev pub AreRowsFault : List Row → OpenFault → Type 0
+AreRowsFault rows NotOurs = ⊥
+AreRowsFault rows (OtherSchema version) = ⊥
+AreRowsFault rows (Damaged place) = IsDamagedAt place rows
+AreRowsFault rows Memory = Unit {0}
+AreRowsFault rows Disk = Unit {0}
+
+-- the disk failed or refused, or memory ran out
+abbrev pub IsStoreFault : OpenFault → Type 0
+IsStoreFault NotOurs = ⊥
+IsStoreFault (OtherSchema version) = ⊥
+IsStoreFault (Damaged place) = ⊥
+IsStoreFault Memory = Unit {0}
+IsStoreFault Disk = Unit {0}
+
+-- what is at fault in a database; the damaged row is the first in an order of the places
+abbrev pub IsOpenFault : Database → OpenFault → Type 0
+IsOpenFault db NotOurs = (db.schema ≢ our_schema) ⊎ HasNoMeta db.trees
+IsOpenFault db (OtherSchema version) = HasOtherSchema version db.trees
+IsOpenFault db (Damaged place) = (rows : List Row) × AreInOrder (db.trees entries_tree) rows × IsDamagedAt place rows
+IsOpenFault db Memory = Unit {0}
+IsOpenFault db Disk = Unit {0}

@@ -1,0 +1,298 @@
+-- The rows of the entries: the ten columns of each, and the entry that a row stands for. (Our own.)
+use Rattle.std.specs.Prelude.{ℕ, ◌+◌, ◌≤◌, ◌<◌, ◌^◌, ◌≡◌, nat_le, ◌&&◌, if◌then◌else◌, Bool, true, false, List, [], ◌∷◌, ◌++◌, codes, Option, Some, None, pos, map, length, take, slice_get, IsSome, IsSorted, IsPermutation}
+use Rattle.std.specs.List.{filter_map}
+use Rattle.std.specs.Str.{bytes_eq}
+use Rattle.std.specs.Result.{result_ok}
+use Rattle.std.specs.declared.cmp.Ordering.{Ordering}
+use Rattle.sqlite.specs.declared.types.Value.{Value}
+use Rattle.sqlite.specs.declared.types.Value.TheVariants.{Null, Int, Text}
+use Rattle.sqlite.specs.Order.{Row, column, value_cmp}
+use Rattle.sqlite_keyed.specs.Lists.{sort_by}
+use Rattle.rights_lattice.specs.State.{State}
+use Rattle.rights_lattice.specs.EventName.{IsEventName}
+use Rattle.request_ledger.specs.declared.request.Request.{Request}
+use Rattle.request_ledger.specs.declared.request.Request.TheVariants.{Announce, Release, Sell, Refund, Cede}
+use Rattle.request_ledger.specs.declared.reply.Reply.{Reply}
+use Rattle.request_ledger.specs.declared.reply.Reply.TheVariants.{Done, Known, Unknown, Short, CellFull, NoSale, Refunded, ToSelf, NoSite}
+use Rattle.book_core.specs.declared.entry.Entry.{Entry}
+use Rattle.book_core.specs.declared.entry.Entry.TheVariants.{Asked, Joined}
+use Rattle.plain_words.specs.Words.{◌>>=◌}
+use Rattle.delta_wire.specs.Grammar.{IsSite, IsValue, IsDelta, delta_text}
+use Rattle.delta_wire.specs.Name.{name_of}
+use Rattle.delta_wire.specs.Wire.{delta_of}
+use Rattle.sql_records.specs.declared.verb.Verb.{Verb}
+use Rattle.sql_records.specs.declared.verb.Verb.TheVariants as verb
+
+-- ---- the columns of an entry
+
+abbrev pub verb_word : Request → List ℕ
+verb_word (Announce event) = codes "announce"
+verb_word (Release event amount) = codes "release"
+verb_word (Sell event amount) = codes "sell"
+verb_word (Refund sale) = codes "refund"
+verb_word (Cede event amount to) = codes "cede"
+
+abbrev pub event_column : Request → Value
+event_column (Announce event) = Text event
+event_column (Release event amount) = Text event
+event_column (Sell event amount) = Text event
+event_column (Refund sale) = Null
+event_column (Cede event amount to) = Text event
+
+abbrev pub amount_column : Request → Value
+amount_column (Announce event) = Null
+amount_column (Release event amount) = Int (pos amount)
+amount_column (Sell event amount) = Int (pos amount)
+amount_column (Refund sale) = Null
+amount_column (Cede event amount to) = Int (pos amount)
+
+-- the site that is ceded to, or the sale that is given back
+abbrev pub target_column : Request → Value
+target_column (Announce event) = Null
+target_column (Release event amount) = Null
+target_column (Sell event amount) = Null
+target_column (Refund sale) = Int (pos sale)
+target_column (Cede event amount to) = Int (pos to)
+
+abbrev pub reply_word : Reply → List ℕ
+reply_word Done = codes "done"
+reply_word Known = codes "known"
+reply_word Unknown = codes "unknown"
+reply_word (Short left) = codes "short"
+reply_word CellFull = codes "full-cell"
+reply_word NoSale = codes "no-sale"
+reply_word Refunded = codes "refunded"
+reply_word ToSelf = codes "to-self"
+reply_word NoSite = codes "no-site"
+
+abbrev pub rest_column : Reply → Value
+rest_column (Short left) = Int (pos left)
+rest_column _ = Null
+
+abbrev pub request_columns : Request → Row
+request_columns request = Text (verb_word request) ∷ event_column request ∷ amount_column request ∷ target_column request ∷ []
+
+abbrev pub reply_columns : Reply → Row
+reply_columns reply = Text (reply_word reply) ∷ rest_column reply ∷ []
+
+-- the ten columns of an entry at a place: pos, peer, number, verb, event, amount, target, reply, rest, delta
+abbrev pub columns_of : ℕ → Entry → Row
+columns_of at (Asked number request reply delta) =
+    Int (pos at) ∷ Null ∷ Int (pos number) ∷ (request_columns request ++ (reply_columns reply ++ Text (delta_text delta) ∷ []))
+columns_of at (Joined peer delta) = Int (pos at) ∷ Int (pos peer) ∷ Null ∷ Null ∷ Null ∷ Null ∷ Null ∷ Null ∷ Null ∷ Text (delta_text delta) ∷ []
+
+-- the same as the table keeps them: the place is the rowid, and its own column is null
+abbrev pub stored : Row → Row
+stored [] = []
+stored (at ∷ more) = at ∷ Null ∷ more
+
+-- the columns of a row of the table as a query shows them
+abbrev pub shown : Row → Row
+shown values =
+    column values 0 ∷ column values 2 ∷ column values 3 ∷ column values 4 ∷ column values 5 ∷ column values 6 ∷ column values 7 ∷ column values 8 ∷ column values 9 ∷ column values 10 ∷ []
+
+-- ---- what has columns that are read back
+
+abbrev pub HasRequestColumns : Request → Type 0
+HasRequestColumns (Announce event) = IsEventName event
+HasRequestColumns (Release event amount) = IsEventName event × IsValue amount
+HasRequestColumns (Sell event amount) = IsEventName event × IsValue amount
+HasRequestColumns (Refund sale) = IsValue sale
+HasRequestColumns (Cede event amount to) = IsEventName event × IsValue amount × IsSite to
+
+-- a number of a column is below 2^63
+abbrev pub HasReplyColumns : Reply → Type 0
+HasReplyColumns (Short left) = left < 2 ^ 63
+HasReplyColumns _ = Unit {0}
+
+-- the most bytes of a delta's text that is read
+abbrev pub longest : ℕ
+longest = 4294967296
+
+-- the columns have room for an entry with a text so long
+abbrev pub HasRoom : Entry → ℕ → Type 0
+HasRoom (Asked number request reply delta) bytes = HasReplyColumns reply × (bytes ≤ longest)
+HasRoom (Joined peer delta) bytes = bytes ≤ longest
+
+-- the entry is read back from its columns
+abbrev pub IsStorable : Entry → Type 0
+IsStorable (Asked number request reply delta) =
+    IsValue number × HasRequestColumns request × HasReplyColumns reply × IsDelta delta × (length (delta_text delta) ≤ longest)
+IsStorable (Joined peer delta) = IsSite peer × IsDelta delta × (length (delta_text delta) ≤ longest)
+
+-- ---- what columns say
+
+abbrev pub is_null : Value → Bool
+is_null Null = true
+is_null _ = false
+
+abbrev pub text_in : Value → Option (List ℕ)
+text_in (Text text) = Some text
+text_in _ = None
+
+-- the number, where it is one from low to high
+abbrev pub number_within : ℕ → ℕ → Value → Option ℕ
+number_within low high (Int (pos n)) = if nat_le low n && nat_le n high then Some n else None
+number_within low high _ = None
+
+-- a request number or an amount
+abbrev pub value_in : Value → Option ℕ
+value_in v = number_within 1 1000000000000 v
+
+abbrev pub site_in : Value → Option ℕ
+site_in v = number_within 0 63 v
+
+unfoldable pub event_in : Value → Option (List ℕ)
+event_in v = do
+  text ← text_in v
+  name_of text
+
+unfoldable pub verb_named : List ℕ → Option Verb
+verb_named word =
+    if bytes_eq word (codes "announce") then Some verb.Announce else (
+    if bytes_eq word (codes "release") then Some verb.Release else (
+    if bytes_eq word (codes "sell") then Some verb.Sell else (
+    if bytes_eq word (codes "refund") then Some verb.Refund else (
+    if bytes_eq word (codes "cede") then Some verb.Cede else None))))
+
+unfoldable pub verb_in : Value → Option Verb
+verb_in v = do
+  word ← text_in v
+  verb_named word
+
+unfoldable pub announce_of : Value → Value → Value → Option Request
+announce_of event amount target = do
+  e ← event_in event
+  if is_null amount && is_null target then Some (Announce e) else None
+
+unfoldable pub release_of : Value → Value → Value → Option Request
+release_of event amount target = do
+  e ← event_in event
+  n ← value_in amount
+  if is_null target then Some (Release e n) else None
+
+unfoldable pub sell_of : Value → Value → Value → Option Request
+sell_of event amount target = do
+  e ← event_in event
+  n ← value_in amount
+  if is_null target then Some (Sell e n) else None
+
+unfoldable pub refund_of : Value → Value → Value → Option Request
+refund_of event amount target = do
+  sale ← value_in target
+  if is_null event && is_null amount then Some (Refund sale) else None
+
+unfoldable pub cede_of : Value → Value → Value → Option Request
+cede_of event amount target = do
+  e ← event_in event
+  n ← value_in amount
+  to ← site_in target
+  Some (Cede e n to)
+
+abbrev pub request_of : Verb → Value → Value → Value → Option Request
+request_of verb.Announce event amount target = announce_of event amount target
+request_of verb.Release event amount target = release_of event amount target
+request_of verb.Sell event amount target = sell_of event amount target
+request_of verb.Refund event amount target = refund_of event amount target
+request_of verb.Cede event amount target = cede_of event amount target
+
+-- the request of these four columns
+unfoldable pub request_in : Value → Value → Value → Value → Option Request
+request_in word event amount target = do
+  v ← verb_in word
+  request_of v event amount target
+
+-- the replies without a number
+unfoldable pub reply_named : List ℕ → Option Reply
+reply_named word =
+    if bytes_eq word (codes "done") then Some Done else (
+    if bytes_eq word (codes "known") then Some Known else (
+    if bytes_eq word (codes "unknown") then Some Unknown else (
+    if bytes_eq word (codes "full-cell") then Some CellFull else (
+    if bytes_eq word (codes "no-sale") then Some NoSale else (
+    if bytes_eq word (codes "refunded") then Some Refunded else (
+    if bytes_eq word (codes "to-self") then Some ToSelf else (
+    if bytes_eq word (codes "no-site") then Some NoSite else None)))))))
+
+unfoldable pub short_of : Value → Option Reply
+short_of rest = do
+  left ← number_within 0 9223372036854775807 rest
+  Some (Short left)
+
+abbrev pub reply_of : List ℕ → Value → Option Reply
+reply_of word rest =
+    if bytes_eq word (codes "short") then short_of rest else (
+    if is_null rest then reply_named word else None)
+
+-- the reply of these two columns
+unfoldable pub reply_in : Value → Value → Option Reply
+reply_in word rest = do
+  w ← text_in word
+  reply_of w rest
+
+-- the delta that a text spells, where it is not too long
+abbrev pub delta_named : List ℕ → Option State
+delta_named text = if nat_le (length text) longest then result_ok (delta_of text) else None
+
+unfoldable pub delta_in : Value → Option State
+delta_in v = do
+  text ← text_in v
+  delta_named text
+
+unfoldable pub asked_of : Row → State → Option Entry
+asked_of values delta = do
+  number ← value_in (column values 2)
+  request ← request_in (column values 3) (column values 4) (column values 5) (column values 6)
+  reply ← reply_in (column values 7) (column values 8)
+  Some (Asked number request reply delta)
+
+-- the columns of a request and its reply are null
+abbrev pub asks_nothing : Row → Bool
+asks_nothing values =
+    is_null (column values 2) && is_null (column values 3) && is_null (column values 4) && is_null (column values 5) && is_null (column values 6) && is_null (column values 7)
+    && is_null (column values 8)
+
+unfoldable pub joined_of : Row → State → Option Entry
+joined_of values delta = do
+  peer ← site_in (column values 1)
+  if asks_nothing values then Some (Joined peer delta) else None
+
+abbrev pub entry_with : Row → State → Option Entry
+entry_with values delta = if is_null (column values 1) then asked_of values delta else joined_of values delta
+
+-- the entry that ten columns stand for, if they stand for one
+unfoldable pub entry_of : Row → Option Entry
+entry_of values = do
+  delta ← delta_in (column values 9)
+  entry_with values delta
+
+-- ---- rows in the order of their places
+
+abbrev pub by_place : Row → Row → Ordering
+by_place a b = value_cmp (column a 0) (column b 0)
+
+abbrev pub in_order : List Row → List Row
+in_order = sort_by by_place
+
+-- the rows of the table as a query shows them, in some order of their places
+pub record AreInOrder (table rows : List Row) : Type 0 where
+  pub same : IsPermutation (map shown table) rows
+  pub sorted : IsSorted by_place rows
+
+-- the entries that the rows of the table stand for, in the order of their places
+abbrev pub history_of : List Row → List Entry
+history_of table = filter_map entry_of (in_order (map shown table))
+
+-- the row has this place and stands for an entry
+pub record IsEntryAt (place : ℕ) (values : Row) : Type 0 where
+  pub placed : column values 0 ≡ Int (pos place)
+  pub reads : IsSome (entry_of values)
+
+-- the rows have the places from one on, and each stands for an entry
+abbrev pub AreWhole : ℕ → List Row → Type 0
+AreWhole from [] = Unit {0}
+AreWhole from (values ∷ rows) = IsEntryAt from values × AreWhole (from + 1) rows
+
+-- the first row that is not the entry of its place
+abbrev pub IsDamagedAt : ℕ → List Row → Type 0
+IsDamagedAt place rows = AreWhole 0 (take place rows) × ((values : Row) × (slice_get rows place ≡ Some values) × ¬ IsEntryAt place values)

@@ -1,0 +1,125 @@
+//! The columns that an entry is written as.
+ghost use Rattle.std.specs.Prelude.{◌≡◌, ◌≤◌, ◌<◌, ◌^◌, length, string_bytes, IsTrue};
+ghost use Rattle.sqlite.specs.Values.{bound};
+ghost use Rattle.book_core.specs.History.{delta_of};
+ghost use Rattle.delta_wire.specs.Grammar.{IsDelta, delta_text};
+ghost use Rattle.sql_records.specs.Rows.{request_columns, reply_columns, columns_of, HasRequestColumns, HasReplyColumns, HasRoom, IsStorable, longest};
+
+use book_core::Entry;
+use request_ledger::{Reply, Request};
+use sqlite::types::ValueRef;
+
+/// The most bytes of a delta's text that is read back.
+pub const LONGEST: usize = 4_294_967_296;
+
+// The verb, the event, the amount and the target.
+fn request_columns(request: &Request) -> [ValueRef<'_>; 4]
+    ensures columns { bound result ≡ request_columns request.now }
+    ensures fits { HasRequestColumns request.now }
+{
+    match request {
+        Request::Announce { event } => [
+            ValueRef::Text(b"announce"),
+            ValueRef::Text(event.bytes()),
+            ValueRef::Null,
+            ValueRef::Null,
+        ],
+        Request::Release { event, amount } => [
+            ValueRef::Text(b"release"),
+            ValueRef::Text(event.bytes()),
+            ValueRef::Int(amount.seats() as i64),
+            ValueRef::Null,
+        ],
+        Request::Sell { event, amount } => [
+            ValueRef::Text(b"sell"),
+            ValueRef::Text(event.bytes()),
+            ValueRef::Int(amount.seats() as i64),
+            ValueRef::Null,
+        ],
+        Request::Refund { sale } => [
+            ValueRef::Text(b"refund"),
+            ValueRef::Null,
+            ValueRef::Null,
+            ValueRef::Int(sale.get() as i64),
+        ],
+        Request::Cede { event, amount, to } => [
+            ValueRef::Text(b"cede"),
+            ValueRef::Text(event.bytes()),
+            ValueRef::Int(amount.seats() as i64),
+            ValueRef::Int(to.number() as i64),
+        ],
+    }
+}
+
+// The first word of the reply's line, and its number.
+fn reply_columns(reply: &Reply) -> [ValueRef<'static>; 2]
+    requires { HasReplyColumns reply.now }
+    ensures { bound result ≡ reply_columns reply.now }
+{
+    match reply {
+        Reply::Done => [ValueRef::Text(b"done"), ValueRef::Null],
+        Reply::Known => [ValueRef::Text(b"known"), ValueRef::Null],
+        Reply::Unknown => [ValueRef::Text(b"unknown"), ValueRef::Null],
+        Reply::Short { left } => [ValueRef::Text(b"short"), ValueRef::Int(*left as i64)],
+        Reply::CellFull => [ValueRef::Text(b"full-cell"), ValueRef::Null],
+        Reply::NoSale => [ValueRef::Text(b"no-sale"), ValueRef::Null],
+        Reply::Refunded => [ValueRef::Text(b"refunded"), ValueRef::Null],
+        Reply::ToSelf => [ValueRef::Text(b"to-self"), ValueRef::Null],
+        Reply::NoSite => [ValueRef::Text(b"no-site"), ValueRef::Null],
+    }
+}
+
+/// Whether the columns have room for the entry with this text of its delta.
+pub fn fits(entry: &Entry, text: &str) -> bool
+    ensures { IsTrue result → HasRoom entry.now (length text.now) }
+{
+    match entry {
+        Entry::Asked {
+            reply: Reply::Short { left },
+            ..
+        } => *left <= i64::MAX as u64 && text.len() <= LONGEST,
+        _ => text.len() <= LONGEST,
+    }
+}
+
+/// The ten columns of an entry at a place. So the entry is read back from them.
+pub fn columns<'a>(place: u64, entry: &'a Entry, text: &'a str) -> [ValueRef<'a>; 10]
+    requires place { place < 2 ^ 62 }
+    requires text { text.now ≡ delta_text (delta_of entry.now) }
+    requires delta { IsDelta (delta_of entry.now) }
+    requires room { HasRoom entry.now (length text.now) }
+    ensures columns { bound result ≡ columns_of place entry.now }
+    ensures storable { IsStorable entry.now }
+{
+    let at = ValueRef::Int(place as i64);
+    let delta = ValueRef::Text(text.as_bytes());
+    match entry {
+        Entry::Asked {
+            number,
+            request,
+            reply,
+            ..
+        } => {
+            let number = ValueRef::Int(number.get() as i64);
+            let [verb, event, amount, target] = request_columns(request);
+            let [reply, rest] = reply_columns(reply);
+            [
+                at,
+                ValueRef::Null,
+                number,
+                verb,
+                event,
+                amount,
+                target,
+                reply,
+                rest,
+                delta,
+            ]
+        }
+        Entry::Joined { peer, .. } => {
+            let peer = ValueRef::Int(peer.number() as i64);
+            let none = ValueRef::Null;
+            [at, peer, none, none, none, none, none, none, none, delta]
+        }
+    }
+}

@@ -1,0 +1,114 @@
+//! A new site's records.
+ghost use Rattle.std.specs.Prelude.{◌≡◌, ◌≢◌, [], ◌<◌, ◌↔◌, true, false, IsTrue, OnOk, OnErr};
+ghost use Rattle.sqlite.specs.State.{HasCleanDisk, Survives};
+ghost use Rattle.sqlite.specs.Held.{state};
+ghost use Rattle.sqlite.specs.Values.{bound};
+ghost use Rattle.sql_records.specs.Layout.{no_schema, meta_of, HasMeta};
+ghost use Rattle.sql_records.specs.Held.{IsNew, IsAtRest, LeavesAsBeforeOrNew, MayLeaveIn};
+ghost use Rattle.sql_records.specs.Keeping.{LeavesOnly};
+
+use crate::fault::InitFault;
+use crate::meta::Meta;
+use crate::records::Records;
+use book_core::Limit;
+use rights_lattice::{SiteId, Sites};
+use sqlite::types::ValueRef;
+use sqlite::{Alter, Connection, Error, ErrorCode, Transaction};
+use sqlite_schema::schema::Schema;
+
+const META: &str =
+    "CREATE TABLE meta (one INTEGER PRIMARY KEY CHECK (one = 1), kind TEXT NOT NULL, version INTEGER NOT NULL, me INTEGER NOT NULL, sites INTEGER NOT NULL, bound INTEGER NOT NULL) STRICT";
+
+const ENTRIES: &str =
+    "CREATE TABLE entries (pos INTEGER PRIMARY KEY, peer INTEGER, number INTEGER UNIQUE, verb TEXT, event TEXT, amount INTEGER, target INTEGER, reply TEXT, rest INTEGER, delta TEXT NOT NULL) STRICT";
+
+const META_INSERT: &str = "INSERT INTO meta VALUES (?1, ?2, ?3, ?4, ?5, ?6)";
+
+fn is_empty(schema: &Schema) -> bool
+    ensures { IsTrue result ↔ (schema.now ≡ no_schema) }
+{
+    schema.tables.is_empty() && schema.indexes.is_empty() && schema.views.is_empty()
+}
+
+// The fault that an error of the database stands for.
+fn fault_of(error: Error) -> InitFault
+    ensures { result ≢ InitFault.AlreadyThere }
+{
+    match error {
+        Error::SqliteFailure(ErrorCode::OutOfMemory) => InitFault::Memory,
+        _ => InitFault::Disk,
+    }
+}
+
+// The columns of the row of `meta`.
+fn meta_columns(meta: Meta) -> [ValueRef<'static>; 6]
+    ensures { bound result ≡ meta_of meta }
+{
+    [
+        ValueRef::Int(1),
+        ValueRef::Text(b"ticket-escrow"),
+        ValueRef::Int(1),
+        ValueRef::Int(meta.me.number() as i64),
+        ValueRef::Int(meta.sites.count() as i64),
+        ValueRef::Int(meta.limit.entries() as i64),
+    ]
+}
+
+// The three statements of new records.
+fn fill<S: Alter>(tx: &mut Transaction<'_, S>, meta: Meta) -> Result<(), Error>
+    requires inside { tx.old.conn.now.in_transaction ≡ true }
+    requires empty { tx.old.conn.now.schema ≡ no_schema }
+    ensures same_reference { tx.new.conn.ghost_name ≡ tx.old.conn.ghost_name }
+    ensures made { HasCleanDisk (state S.Store tx.new.conn.now) → OnOk result (IsNew meta (state S.Store tx.new.conn.now).now) }
+    ensures kept { HasCleanDisk (state S.Store tx.new.conn.now) → IsTrue (state S.Store tx.new.conn.now).is_open
+        → (state S.Store tx.new.conn.now).committed ≡ (state S.Store tx.old.conn.now).committed }
+    ensures survives { Survives (state S.Store tx.old.conn.now) (state S.Store tx.new.conn.now) (λ _. ⊥) }
+{
+    tx.execute(META, &[])?;
+    tx.execute(ENTRIES, &[])?;
+    let row = meta_columns(meta);
+    tx.execute(META_INSERT, &row)?;
+    Ok(())
+}
+
+impl<S: Alter> Records<S> {
+    /// Makes the records of a site that has no entry yet, in an empty database, in one transaction.
+    ///
+    /// A stop leaves the database as it was or the new records, and so does an error; `AlreadyThere` leaves it.
+    pub fn init(
+        conn: &mut Connection<S>,
+        me: SiteId,
+        sites: Sites,
+        limit: Limit,
+    ) -> Result<(), InitFault>
+        requires me { me < sites }
+        requires autocommit { conn.old.in_transaction ≡ false }
+        ensures there { (result ≡ Err InitFault.AlreadyThere) ↔ (conn.old.schema ≢ no_schema) }
+        ensures as_it_was { result ≡ Err InitFault.AlreadyThere → conn.new ≡ conn.old }
+        ensures rest { HasCleanDisk (state S.Store conn.new) → OnOk result (IsAtRest (state S.Store conn.new) 0) }
+        ensures made { HasCleanDisk (state S.Store conn.new) → OnOk result
+            (IsNew (record { me = me; sites = sites; limit = limit }) (state S.Store conn.new).now) }
+        ensures leaves { HasCleanDisk (state S.Store conn.new) → OnOk result (LeavesOnly [] (MayLeaveIn (state S.Store conn.new))) }
+        ensures crash { HasCleanDisk (state S.Store conn.new)
+            → LeavesAsBeforeOrNew (record { me = me; sites = sites; limit = limit }) (state S.Store conn.old) (state S.Store conn.new) }
+        ensures as_before { HasCleanDisk (state S.Store conn.new) → IsTrue (state S.Store conn.new).is_open → OnErr result
+            ((state S.Store conn.new).committed ≡ (state S.Store conn.old).committed) }
+        ensures ended { conn.new.in_transaction ≡ false }
+        ensures clean { HasCleanDisk (state S.Store conn.new) → HasCleanDisk (state S.Store conn.old) }
+    {
+        if !is_empty(conn.schema()) {
+            return Err(InitFault::AlreadyThere);
+        }
+        let mut tx = conn.transaction();
+        match fill(&mut tx, Meta { me, sites, limit }) {
+            Ok(()) => match tx.commit() {
+                Ok(()) => Ok(()),
+                Err(error) => Err(fault_of(error)),
+            },
+            Err(error) => {
+                tx.rollback();
+                Err(fault_of(error))
+            }
+        }
+    }
+}

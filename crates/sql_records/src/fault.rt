@@ -1,0 +1,34 @@
+//! Why a site's records are not made or not opened.
+use thiserror::Error;
+
+/// Why no new records were made.
+#[derive(Clone, Copy, Debug, PartialEq, Eq, Error)]
+pub enum InitFault {
+    /// The database has a table, an index or a view.
+    #[error("the database is not empty")]
+    AlreadyThere,
+    #[error("out of memory")]
+    Memory,
+    /// The database could not be written. It is as it was, or has the new records.
+    #[error("the database could not be written")]
+    Disk,
+}
+
+/// Why records are not opened.
+#[derive(Clone, Copy, Debug, PartialEq, Eq, Error)]
+pub enum OpenFault {
+    /// The tables are not those of records, or the numbers in them are those of no site.
+    #[error("the database holds no records of a site")]
+    NotOurs,
+    /// The records are of another version than is read here.
+    #[error("the records have the schema {version}")]
+    OtherSchema { version: i64 },
+    /// The first row, in the order of places, that is not the entry of its place.
+    #[error("the entry {place} is damaged")]
+    Damaged { place: u64 },
+    #[error("out of memory")]
+    Memory,
+    /// The database could not be read.
+    #[error("the database could not be read")]
+    Disk,
+}

@@ -1,0 +1,42 @@
+//! One entry more in the table.
+ghost use Rattle.std.specs.Prelude.{◌≡◌, ◌<◌, ◌+◌, ◌^◌, ◌≤◌, OnOk, [], ◌∷◌, ◌++◌, length};
+ghost use Rattle.sqlite.specs.State.{HasCleanDisk};
+ghost use Rattle.sqlite.specs.Held.{state};
+ghost use Rattle.book_core.specs.History.{delta_of};
+ghost use Rattle.delta_wire.specs.Grammar.{IsDelta, delta_text};
+ghost use Rattle.sql_records.specs.Rows.{HasRoom};
+ghost use Rattle.sql_records.specs.Held.{IsAtRest, LeavesWithOrWithout, LeavesMeta, history_in};
+ghost use Rattle.sql_records.specs.Layout.{meta_tree};
+
+use crate::columns::columns;
+use book_core::Entry;
+use sqlite::{Alter, Connection, Error};
+
+const INSERT: &str = "INSERT INTO entries VALUES (?1, ?2, ?3, ?4, ?5, ?6, ?7, ?8, ?9, ?10)";
+
+/// Adds the entry, with this text of its delta, at the place, which is the next.
+pub fn insert<S: Alter>(
+    conn: &mut Connection<S>,
+    place: u64,
+    entry: &Entry,
+    text: &str,
+) -> Result<usize, Error>
+    requires place { place < 2 ^ 62 }
+    requires text { text.now ≡ delta_text (delta_of entry.now) }
+    requires delta { IsDelta (delta_of entry.now) }
+    requires room { HasRoom entry.now (length text.now) }
+    requires rest { HasCleanDisk (state S.Store conn.old) → IsAtRest (state S.Store conn.old) place }
+    ensures rest { HasCleanDisk (state S.Store conn.new) → OnOk result (IsAtRest (state S.Store conn.new) (place + 1)) }
+    ensures added { HasCleanDisk (state S.Store conn.new) → OnOk result
+        (history_in (state S.Store conn.new).now.trees ≡ history_in (state S.Store conn.old).now.trees ++ entry.now ∷ []) }
+    ensures crash { HasCleanDisk (state S.Store conn.new)
+        → LeavesWithOrWithout (state S.Store conn.new) (history_in (state S.Store conn.old).now.trees) entry.now }
+    ensures meta { HasCleanDisk (state S.Store conn.new) → OnOk result
+        ((state S.Store conn.new).now.trees meta_tree ≡ (state S.Store conn.old).now.trees meta_tree) }
+    ensures crash_meta { HasCleanDisk (state S.Store conn.new)
+        → LeavesMeta (state S.Store conn.new) ((state S.Store conn.old).now.trees meta_tree) }
+    ensures clean { HasCleanDisk (state S.Store conn.new) → HasCleanDisk (state S.Store conn.old) }
+{
+    let row = columns(place, entry, text);
+    conn.execute(INSERT, &row)
+}

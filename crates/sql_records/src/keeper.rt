@@ -1,0 +1,50 @@
+//! What every keeper promises.
+ghost use Rattle.std.specs.Prelude.{◌≡◌, ◌≢◌, ℕ, List, [], ◌∷◌, ◌++◌, OnOk, OnErr, IsErrOf};
+ghost use Rattle.book_core.specs.declared.entry.Entry.{Entry as Entered};
+ghost use Rattle.sql_records.specs.Keeping.{Keeps, LeavesWithOrWithout};
+
+use book_core::Entry;
+use thiserror::Error;
+
+/// Why an entry is not known to be kept.
+#[derive(Clone, Copy, Debug, PartialEq, Eq, Error)]
+pub enum KeepFault {
+    #[error("out of memory")]
+    Memory,
+    /// The store could not be written. Whether it has the entry is known once it is opened again.
+    #[error("the store could not be written")]
+    Disk,
+    /// An earlier append failed.
+    #[error("an earlier append failed")]
+    Shut,
+}
+
+/// What a history is stored in: a list of entries that grows at its end.
+pub trait Keeper {
+    /// The entries that are kept, the oldest first.
+    ghost kept: { Self → List Entered };
+
+    /// The lists that a stop at this moment may leave.
+    ghost may_leave: { Self → List Entered → Type 0 };
+
+    /// How many appends have failed: 0, or 1 once it is shut.
+    ghost failed: { Self → ℕ };
+
+    /// Nothing else has written the store, and it has returned what was written.
+    ghost is_trusted: { Self → Type 0 };
+
+    /// Adds the entry at the end. After an error a stop leaves the list with the entry or without, and the keeper
+    /// is shut: each later append answers `Shut` and changes nothing.
+    fn append(&mut self, entry: &Entry) -> Result<(), KeepFault>
+        ensures kept { OnOk result (is_trusted self.new → Keeps (kept self.old ++ entry.now ∷ []) (kept self.new) (may_leave self.new)) }
+        ensures stopped { failed self.old ≡ 0 → OnErr result (is_trusted self.new → LeavesWithOrWithout (kept self.old) entry.now (may_leave self.new)) }
+        ensures open { OnOk result ((failed self.old ≡ 0) × (failed self.new ≡ 0)) }
+        ensures counted { failed self.old ≡ 0 → OnErr result (failed self.new ≡ 1) }
+        ensures named { failed self.old ≡ 0 → IsErrOf result KeepFault.Shut → ⊥ }
+        ensures shut { failed self.old ≢ 0 → (result ≡ Err KeepFault.Shut) × (self.new ≡ self.old) }
+        ensures trusted { is_trusted self.new → is_trusted self.old };
+
+    /// How many appends have failed: 0, or 1 once it is shut.
+    fn failures(&self) -> u64
+        ensures { result ≡ failed self.now };
+}

@@ -1,0 +1,30 @@
+//! What a site's history is stored in.
+//!
+//! A keeper holds a list of entries that grows at its end. From the first append that fails on it is shut, and
+//! the history is opened again from what was stored.
+#![tactic(auto)]
+
+mod columns;
+mod creation;
+mod fault;
+mod inserting;
+mod keeper;
+mod list;
+mod lookup;
+mod meta;
+mod opening;
+mod reading;
+mod records;
+mod shape;
+mod verb;
+
+pub use fault::{InitFault, OpenFault};
+pub use keeper::{KeepFault, Keeper};
+pub use list::ListKeeper;
+pub use lookup::{FindFault, Found, Listed};
+pub use meta::Meta;
+pub use opening::read_records;
+pub use records::Records;
+
+#[cfg(test)]
+mod tests;

@@ -1,0 +1,137 @@
+//! A keeper in memory.
+ghost use Rattle.std.specs.Prelude.{◌≡◌, ◌≢◌, ◌⊎◌, ◌++◌, [], ◌∷◌, Some, None, IsErr, false, true};
+ghost use Rattle.std.specs.Prelude.{OnOk, OnErr};
+ghost use Rattle.sql_records.specs.Listed.{IsDue, one_less};
+
+use crate::keeper::{KeepFault, Keeper};
+use book_core::Entry;
+use std::alloc::{AllocError, Global};
+use std::marker::Model;
+
+// Which append fails, counted from 1 from now on, and whether its entry is kept.
+#[derive(Clone, Copy)]
+struct Failing {
+    append: u64,
+    is_stored: bool,
+}
+
+/// A list in memory, whose appends fail where a test says so.
+#[derive(Drop)]
+pub struct ListKeeper {
+    alloc: Global,
+    entries: Vec<Entry>,
+    failures: u64,
+    failing: Option<Failing>,
+}
+
+impl Model for ListKeeper {
+    ghost use Rattle.sql_records.specs.Listed.{Listed, coded_listed};
+
+    ghost Value = { Listed };
+
+    ghost coded = { coded_listed };
+
+    ghost view = { λ k. record { kept = k.entries.items; failures = k.failures; failing = k.failing } };
+}
+
+impl ListKeeper {
+    /// Nothing is kept, and no append is to fail.
+    pub fn new(alloc: Global) -> ListKeeper
+        ensures { result ≡ record { kept = []; failures = 0; failing = None } }
+    {
+        ListKeeper::from(alloc, Vec::new(alloc))
+    }
+
+    /// These entries are kept, and no append is to fail.
+    pub fn from(alloc: Global, entries: Vec<Entry>) -> ListKeeper
+        ensures { result ≡ record { kept = entries.items; failures = 0; failing = None } }
+    {
+        ListKeeper {
+            alloc,
+            entries,
+            failures: 0,
+            failing: None,
+        }
+    }
+
+    /// The append with this number, counted from 1 from now on, answers `Disk`, and its entry is kept where
+    /// `is_stored`. The number 0 stands for the next append too.
+    pub fn fail_at(&mut self, append: u64, is_stored: bool)
+        ensures { self.new ≡ record self.old { failing = Some (record { append = append; is_stored = is_stored }) } }
+    {
+        self.failing = Some(Failing { append, is_stored });
+    }
+
+    /// The entries that are kept.
+    pub fn into_entries(self) -> Vec<Entry>
+        ensures { result.items ≡ self.kept }
+    {
+        let ListKeeper { entries, .. } = self;
+        entries
+    }
+
+    // As `append` of a keeper that is not shut, and which append answers what.
+    fn put(&mut self, entry: &Entry) -> Result<(), KeepFault>
+        requires { self.old.failures ≡ 0 }
+        ensures ok { OnOk result (self.new ≡ record self.old { kept = self.old.kept ++ entry.now ∷ []; failing = one_less self.old.failing }) }
+        ensures fails { IsDue self.old.failing → IsErr result }
+        ensures due { result ≡ Err KeepFault.Disk → IsDue self.old.failing }
+        ensures lost { result ≡ Err KeepFault.Disk → self.old.failing ≡ Some (record { append = 1; is_stored = false }) → self.new.kept ≡ self.old.kept }
+        ensures stored { result ≡ Err KeepFault.Disk → self.old.failing ≡ Some (record { append = 1; is_stored = true }) → self.new.kept ≡ self.old.kept ++ entry.now ∷ [] }
+        ensures memory { result ≡ Err KeepFault.Memory → self.new.kept ≡ self.old.kept }
+        ensures either { OnErr result ((self.new.kept ≡ self.old.kept) ⊎ (self.new.kept ≡ self.old.kept ++ entry.now ∷ [])) }
+        ensures counted { OnErr result (self.new.failures ≡ 1) }
+        ensures named { result ≢ Err KeepFault.Shut }
+    {
+        let (is_due, is_stored) = match self.failing {
+            Some(Failing { append, is_stored }) if append <= 1 => (true, is_stored),
+            _ => (false, true),
+        };
+        if is_stored && push_copy(self.alloc, &mut self.entries, entry).is_err() {
+            self.failures = 1;
+            return Err(KeepFault::Memory);
+        }
+        if is_due {
+            self.failures = 1;
+            return Err(KeepFault::Disk);
+        }
+        if let Some(Failing { append, is_stored }) = self.failing {
+            self.failing = Some(Failing {
+                append: append.saturating_sub(1),
+                is_stored,
+            });
+        }
+        Ok(())
+    }
+}
+
+// Adds a copy of the entry.
+fn push_copy(alloc: Global, entries: &mut Vec<Entry>, entry: &Entry) -> Result<(), AllocError>
+    ensures ok { OnOk result (entries.new.items ≡ entries.old.items ++ entry.now ∷ []) }
+    ensures err { OnErr result (entries.new.items ≡ entries.old.items) }
+{
+    let copy = entry.copy(alloc)?;
+    entries.push(copy)?;
+    Ok(())
+}
+
+impl Keeper for ListKeeper {
+    ghost kept = { λ k. k.kept };
+
+    ghost may_leave = { λ k list. list ≡ k.kept };
+
+    ghost failed = { λ k. k.failures };
+
+    ghost is_trusted = { λ k. Unit {0} };
+
+    fn append(&mut self, entry: &Entry) -> Result<(), KeepFault> {
+        if self.failures != 0 {
+            return Err(KeepFault::Shut);
+        }
+        self.put(entry)
+    }
+
+    fn failures(&self) -> u64 {
+        self.failures
+    }
+}

@@ -1,0 +1,323 @@
+//! The entry that the columns of a row stand for.
+ghost use Rattle.std.specs.Prelude.{◌≡◌, IfOk, IsTrue, true};
+ghost use Rattle.std.specs.Option.{option_map};
+ghost use Rattle.sqlite.specs.Order.{column};
+ghost use Rattle.sqlite_value.specs.Value.{owned};
+ghost use Rattle.delta_wire.specs.Name.{name_of};
+ghost use Rattle.sql_records.specs.Rows.{is_null, text_in, number_within, value_in, site_in, event_in, verb_in, announce_of, release_of, sell_of, refund_of, cede_of, request_of, request_in, reply_named, short_of, reply_of, reply_in, delta_in, asks_nothing, asked_of, joined_of, entry_with, entry_of};
+
+use crate::columns::LONGEST;
+use crate::verb::Verb;
+use book_core::Entry;
+use delta_mutators::Delta;
+use delta_wire::{WireFault, read_delta};
+use request_ledger::{Amount, Reply, Request, RequestNumber};
+use rights_lattice::{Event, SiteId};
+use sqlite::Row;
+use sqlite::types::ValueRef;
+use std::alloc::{AllocError, Global};
+
+/// The value in a column, and null past the end.
+pub fn value_at(row: &Row, at: usize) -> ValueRef<'_>
+    ensures { owned result ≡ column row.now at }
+{
+    match row.get_ref(at) {
+        Ok(value) => value,
+        Err(_) => ValueRef::Null,
+    }
+}
+
+fn is_null(value: ValueRef<'_>) -> bool
+    ensures { result ≡ is_null (owned value.entry) }
+{
+    matches!(value, ValueRef::Null)
+}
+
+fn text_in(value: ValueRef<'_>) -> Option<&[u8]>
+    ensures { option_map (λ text. text.now) result ≡ text_in (owned value.entry) }
+{
+    match value {
+        ValueRef::Text(text) => Some(text),
+        _ => None,
+    }
+}
+
+/// The number in a value, where it is one from `low` to `high`.
+pub fn number_within(low: u64, high: u64, value: ValueRef<'_>) -> Option<u64>
+    ensures { result ≡ number_within low high (owned value.entry) }
+{
+    match value {
+        ValueRef::Int(n) => match u64::try_from(n) {
+            Ok(n) if low <= n && n <= high => Some(n),
+            _ => None,
+        },
+        _ => None,
+    }
+}
+
+/// A request number.
+pub fn request_number_in(value: ValueRef<'_>) -> Option<RequestNumber>
+    ensures { result ≡ value_in (owned value.entry) }
+{
+    let number = number_within(1, 1_000_000_000_000, value)?;
+    RequestNumber::of(number)
+}
+
+fn amount_in(value: ValueRef<'_>) -> Option<Amount>
+    ensures { result ≡ value_in (owned value.entry) }
+{
+    let seats = number_within(1, 1_000_000_000_000, value)?;
+    Amount::of(seats)
+}
+
+/// The number of a site.
+pub fn site_in(value: ValueRef<'_>) -> Option<SiteId>
+    ensures { result ≡ site_in (owned value.entry) }
+{
+    let number = number_within(0, 63, value)?;
+    SiteId::of(number)
+}
+
+fn read_event(bytes: &[u8]) -> Option<Event>
+    ensures { result ≡ name_of bytes.now }
+{
+    Event::read(bytes)
+}
+
+#[tactic(auto, unfolding(crate::specs::Rows::event_in))]
+fn event_in(value: ValueRef<'_>) -> Option<Event>
+    ensures { result ≡ event_in (owned value.entry) }
+{
+    let text = text_in(value)?;
+    read_event(text)
+}
+
+#[tactic(auto, unfolding(crate::specs::Rows::verb_in))]
+fn verb_in(value: ValueRef<'_>) -> Option<Verb>
+    ensures { result ≡ verb_in (owned value.entry) }
+{
+    let word = text_in(value)?;
+    Verb::named(word)
+}
+
+#[tactic(auto, unfolding(crate::specs::Rows::announce_of))]
+fn announce_of(event: ValueRef<'_>, amount: ValueRef<'_>, target: ValueRef<'_>) -> Option<Request>
+    ensures { result ≡ announce_of (owned event.entry) (owned amount.entry) (owned target.entry) }
+{
+    let event = event_in(event)?;
+    if is_null(amount) && is_null(target) {
+        Some(Request::Announce { event })
+    } else {
+        None
+    }
+}
+
+#[tactic(auto, unfolding(crate::specs::Rows::release_of))]
+fn release_of(event: ValueRef<'_>, amount: ValueRef<'_>, target: ValueRef<'_>) -> Option<Request>
+    ensures { result ≡ release_of (owned event.entry) (owned amount.entry) (owned target.entry) }
+{
+    let event = event_in(event)?;
+    let amount = amount_in(amount)?;
+    if is_null(target) {
+        Some(Request::Release { event, amount })
+    } else {
+        None
+    }
+}
+
+#[tactic(auto, unfolding(crate::specs::Rows::sell_of))]
+fn sell_of(event: ValueRef<'_>, amount: ValueRef<'_>, target: ValueRef<'_>) -> Option<Request>
+    ensures { result ≡ sell_of (owned event.entry) (owned amount.entry) (owned target.entry) }
+{
+    let event = event_in(event)?;
+    let amount = amount_in(amount)?;
+    if is_null(target) {
+        Some(Request::Sell { event, amount })
+    } else {
+        None
+    }
+}
+
+#[tactic(auto, unfolding(crate::specs::Rows::refund_of))]
+fn refund_of(event: ValueRef<'_>, amount: ValueRef<'_>, target: ValueRef<'_>) -> Option<Request>
+    ensures { result ≡ refund_of (owned event.entry) (owned amount.entry) (owned target.entry) }
+{
+    let sale = request_number_in(target)?;
+    if is_null(event) && is_null(amount) {
+        Some(Request::Refund { sale })
+    } else {
+        None
+    }
+}
+
+#[tactic(auto, unfolding(crate::specs::Rows::cede_of))]
+fn cede_of(event: ValueRef<'_>, amount: ValueRef<'_>, target: ValueRef<'_>) -> Option<Request>
+    ensures { result ≡ cede_of (owned event.entry) (owned amount.entry) (owned target.entry) }
+{
+    let event = event_in(event)?;
+    let amount = amount_in(amount)?;
+    let to = site_in(target)?;
+    Some(Request::Cede { event, amount, to })
+}
+
+fn request_of(
+    verb: Verb,
+    event: ValueRef<'_>,
+    amount: ValueRef<'_>,
+    target: ValueRef<'_>,
+) -> Option<Request>
+    ensures { result ≡ request_of verb (owned event.entry) (owned amount.entry) (owned target.entry) }
+{
+    match verb {
+        Verb::Announce => announce_of(event, amount, target),
+        Verb::Release => release_of(event, amount, target),
+        Verb::Sell => sell_of(event, amount, target),
+        Verb::Refund => refund_of(event, amount, target),
+        Verb::Cede => cede_of(event, amount, target),
+    }
+}
+
+/// The request of these four columns.
+#[tactic(auto, unfolding(crate::specs::Rows::request_in))]
+pub fn request_in(
+    word: ValueRef<'_>,
+    event: ValueRef<'_>,
+    amount: ValueRef<'_>,
+    target: ValueRef<'_>,
+) -> Option<Request>
+    ensures { result ≡ request_in (owned word.entry) (owned event.entry) (owned amount.entry) (owned target.entry) }
+{
+    let verb = verb_in(word)?;
+    request_of(verb, event, amount, target)
+}
+
+#[tactic(auto, unfolding(crate::specs::Rows::reply_named))]
+fn reply_named(word: &[u8]) -> Option<Reply>
+    ensures { result ≡ reply_named word.now }
+{
+    if word == b"done".as_slice() {
+        Some(Reply::Done)
+    } else if word == b"known".as_slice() {
+        Some(Reply::Known)
+    } else if word == b"unknown".as_slice() {
+        Some(Reply::Unknown)
+    } else if word == b"full-cell".as_slice() {
+        Some(Reply::CellFull)
+    } else if word == b"no-sale".as_slice() {
+        Some(Reply::NoSale)
+    } else if word == b"refunded".as_slice() {
+        Some(Reply::Refunded)
+    } else if word == b"to-self".as_slice() {
+        Some(Reply::ToSelf)
+    } else if word == b"no-site".as_slice() {
+        Some(Reply::NoSite)
+    } else {
+        None
+    }
+}
+
+#[tactic(auto, unfolding(crate::specs::Rows::short_of))]
+fn short_of(rest: ValueRef<'_>) -> Option<Reply>
+    ensures { result ≡ short_of (owned rest.entry) }
+{
+    let left = number_within(0, 9_223_372_036_854_775_807, rest)?;
+    Some(Reply::Short { left })
+}
+
+fn reply_of(word: &[u8], rest: ValueRef<'_>) -> Option<Reply>
+    ensures { result ≡ reply_of word.now (owned rest.entry) }
+{
+    if word == b"short".as_slice() {
+        short_of(rest)
+    } else if is_null(rest) {
+        reply_named(word)
+    } else {
+        None
+    }
+}
+
+/// The reply of these two columns.
+#[tactic(auto, unfolding(crate::specs::Rows::reply_in))]
+pub fn reply_in(word: ValueRef<'_>, rest: ValueRef<'_>) -> Option<Reply>
+    ensures { result ≡ reply_in (owned word.entry) (owned rest.entry) }
+{
+    let word = text_in(word)?;
+    reply_of(word, rest)
+}
+
+#[tactic(auto, unfolding(crate::specs::Rows::delta_in))]
+fn delta_in(alloc: Global, value: ValueRef<'_>) -> Result<Option<Delta>, AllocError>
+    ensures { IfOk result (λ delta. delta ≡ delta_in (owned value.entry)) }
+{
+    let Some(text) = text_in(value) else {
+        return Ok(None);
+    };
+    if text.len() > LONGEST {
+        return Ok(None);
+    }
+    match read_delta(alloc, text) {
+        Ok(delta) => Ok(Some(delta)),
+        Err(WireFault::Memory) => Err(AllocError),
+        Err(_) => Ok(None),
+    }
+}
+
+// Whether the columns of a request and its reply are null.
+fn asks_nothing(row: &Row) -> bool
+    ensures { result ≡ asks_nothing row.now }
+{
+    is_null(value_at(row, 2))
+        && is_null(value_at(row, 3))
+        && is_null(value_at(row, 4))
+        && is_null(value_at(row, 5))
+        && is_null(value_at(row, 6))
+        && is_null(value_at(row, 7))
+        && is_null(value_at(row, 8))
+}
+
+#[tactic(auto, unfolding(crate::specs::Rows::asked_of))]
+fn asked_of(row: &Row, delta: Delta) -> Option<Entry>
+    ensures { result ≡ asked_of row.now delta }
+{
+    let number = request_number_in(value_at(row, 2))?;
+    let request = request_in(
+        value_at(row, 3),
+        value_at(row, 4),
+        value_at(row, 5),
+        value_at(row, 6),
+    )?;
+    let reply = reply_in(value_at(row, 7), value_at(row, 8))?;
+    Some(Entry::Asked {
+        number,
+        request,
+        reply,
+        delta,
+    })
+}
+
+#[tactic(auto, unfolding(crate::specs::Rows::joined_of))]
+fn joined_of(row: &Row, delta: Delta) -> Option<Entry>
+    ensures { result ≡ joined_of row.now delta }
+{
+    let peer = site_in(value_at(row, 1))?;
+    if asks_nothing(row) {
+        Some(Entry::Joined { peer, delta })
+    } else {
+        None
+    }
+}
+
+/// The entry that the ten columns of a row stand for, if they stand for one.
+#[tactic(auto, unfolding(crate::specs::Rows::entry_of))]
+pub fn read_entry(alloc: Global, row: &Row) -> Result<Option<Entry>, AllocError>
+    ensures { IfOk result (λ entry. entry ≡ entry_of row.now) }
+{
+    let Some(delta) = delta_in(alloc, value_at(row, 9))? else {
+        return Ok(None);
+    };
+    if is_null(value_at(row, 1)) {
+        Ok(asked_of(row, delta))
+    } else {
+        Ok(joined_of(row, delta))
+    }
+}

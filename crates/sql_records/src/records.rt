@@ -1,0 +1,150 @@
+//! The records of a site.
+ghost use Rattle.std.specs.Prelude.{◌≡◌};
+
+use crate::columns::fits;
+use crate::fault::OpenFault;
+use crate::inserting::insert;
+use crate::keeper::{KeepFault, Keeper};
+use crate::meta::Meta;
+use crate::opening::read_records;
+use book_core::Entry;
+use delta_wire::delta_text;
+use sqlite::{Alter, Connection, Error, ErrorCode};
+use std::alloc::Global;
+use std::marker::Model;
+
+mod finding;
+
+// More entries than any history has.
+const MOST: u64 = 1 << 61;
+
+/// The entries of a site's history, and its numbers, in two tables of a database.
+pub struct Records<S: Alter> {
+    conn: Connection<S>,
+    count: u64,
+    failures: u64,
+    alloc: Global,
+}
+
+impl<S: Alter> Model for Records<S> {
+    ghost use Rattle.sql_records.specs.Held.{Kept, kept_code, IsUnbroken};
+
+    ghost Value = { Kept S };
+
+    ghost coded = { kept_code S.code };
+
+    ghost view = { λ r. record { conn = r.conn; failures = r.failures } };
+
+    ghost invariant = { λ r. IsUnbroken S.Store r.conn r.failures r.count };
+}
+
+impl<S: Alter + Drop> Drop for Records<S> {
+    fn drop(self) {
+        let Records {
+            conn: _,
+            count: _,
+            failures: _,
+            alloc: _,
+        } = self;
+    }
+}
+
+impl<S: Alter> Keeper for Records<S> {
+    ghost use Rattle.sql_records.specs.Held.{kept_in, MayLeave, IsTrusted};
+
+    ghost kept = { kept_in S.Store };
+
+    ghost may_leave = { MayLeave S.Store };
+
+    ghost failed = { λ k. k.failures };
+
+    ghost is_trusted = { IsTrusted S.Store };
+
+    fn append(&mut self, entry: &Entry) -> Result<(), KeepFault> {
+        if self.failures != 0 {
+            return Err(KeepFault::Shut);
+        }
+        let text = match delta_text(self.alloc, entry.delta()) {
+            Ok(text) => text,
+            Err(_) => {
+                self.failures = 1;
+                return Err(KeepFault::Memory);
+            }
+        };
+        if self.count >= MOST || !fits(entry, &text) {
+            self.failures = 1;
+            return Err(KeepFault::Disk);
+        }
+        match insert(&mut self.conn, self.count, entry, &text) {
+            Ok(_) => {
+                self.count += 1;
+                Ok(())
+            }
+            Err(Error::SqliteFailure(ErrorCode::OutOfMemory)) => {
+                self.failures = 1;
+                Err(KeepFault::Memory)
+            }
+            Err(_) => {
+                self.failures = 1;
+                Err(KeepFault::Disk)
+            }
+        }
+    }
+
+    fn failures(&self) -> u64 {
+        self.failures
+    }
+}
+
+impl<S: Alter + Drop> Records<S> {
+    ghost use Rattle.std.specs.Prelude.{◌≡◌, ◌≢◌, false, IfOk};
+    ghost use Rattle.sqlite.specs.State.{HasCleanDisk};
+    ghost use Rattle.sqlite.specs.Held.{state};
+    ghost use Rattle.sql_records.specs.Keeping.{LeavesOnly};
+    ghost use Rattle.sql_records.specs.Layout.{our_schema, HasMeta, AreNumbers};
+    ghost use Rattle.sql_records.specs.Held.{kept_in, MayLeave, IsTrusted};
+
+    /// The records of a database, the entries that they hold, the oldest first, and the site's numbers.
+    ///
+    /// `read_records` has the same errors, and says what each means. After an error the connection is gone.
+    pub fn open(
+        alloc: Global,
+        mut conn: Connection<S>,
+    ) -> Result<(Records<S>, Vec<Entry>, Meta), OpenFault>
+        requires { conn.in_transaction ≡ false }
+        ensures foreign { conn.schema ≢ our_schema → result ≡ Err OpenFault.NotOurs }
+        ensures entries { IfOk result (λ it. IsTrusted S.Store it.0 → it.1.items ≡ kept_in S.Store it.0) }
+        ensures meta { IfOk result (λ it. IsTrusted S.Store it.0 → HasMeta it.2 (state S.Store it.0.conn).now.trees) }
+        ensures numbers { IfOk result (λ it. AreNumbers it.2) }
+        ensures same { IfOk result (λ it. IsTrusted S.Store it.0 → (state S.Store it.0.conn).now ≡ (state S.Store conn).now) }
+        ensures leaves { IfOk result (λ it. IsTrusted S.Store it.0 → LeavesOnly (kept_in S.Store it.0) (MayLeave S.Store it.0)) }
+        ensures open { IfOk result (λ it. it.0.failures ≡ 0) }
+        ensures clean { IfOk result (λ it. IsTrusted S.Store it.0 → HasCleanDisk (state S.Store conn)) }
+    {
+        let _settled = conn.is_autocommit();
+        let (entries, meta) = match read_records(alloc, &mut conn) {
+            Ok(read) => read,
+            Err(fault) => return Err(fault),
+        };
+        let records = Records {
+            conn,
+            count: entries.len() as u64,
+            failures: 0,
+            alloc,
+        };
+        Ok((records, entries, meta))
+    }
+
+    /// The connection, with the store as it is.
+    pub fn close(self) -> Connection<S>
+        ensures { result ≡ self.conn }
+    {
+        let Records {
+            conn: connection,
+            count: _,
+            failures: _,
+            alloc: _,
+        } = self;
+        connection
+    }
+}

@@ -1,0 +1,249 @@
+//! Looking up requests, by one query each.
+ghost use Rattle.std.specs.Prelude.{◌≡◌, ◌≢◌, ◌<◌, ◌≤◌, ◌^◌, ◌⊎◌, ℕ, List, Option, map, filter, pos, [], ◌∷◌, Some, None, IfOk, IfErr, OnOk, OnErr};
+ghost use Rattle.std.specs.Option.{option_map};
+ghost use Rattle.sql_records.specs.declared.lookup.Listed.{Listed};
+ghost use Rattle.sqlite.specs.State.{HasCleanDisk, IsUnchanged};
+ghost use Rattle.sqlite.specs.Held.{state};
+ghost use Rattle.sqlite.specs.Values.{bound};
+ghost use Rattle.sqlite.specs.declared.types.Value.TheVariants.{Int, Text};
+ghost use Rattle.sql_records.specs.Held.{IsAtRest, IsTrusted, history_in, kept_in, rows_in};
+ghost use Rattle.sql_records.specs.Lookups.{found_columns, found_in, found_of, first_found, has_event, has_number, listed_columns, listed_in, listed_of, place_in};
+
+use super::Records;
+use crate::lookup::{FindFault, Found, Listed};
+use crate::reading::{reply_in, request_in, request_number_in, value_at};
+use request_ledger::{Request, RequestNumber};
+use rights_lattice::Event;
+use sqlite::types::ValueRef;
+use sqlite::{Alter, Connection, Error, ErrorCode, Row};
+use std::alloc::Global;
+
+const FIND: &str = "SELECT pos, reply, rest FROM entries WHERE number = ?1 ORDER BY pos";
+
+const LIST: &str =
+    "SELECT pos, number, verb, event, amount, target, reply, rest FROM entries WHERE event = ?1 ORDER BY pos";
+
+fn fault(error: Error) -> FindFault
+    ensures shut { result ≢ FindFault.Shut }
+    ensures damaged { (place : ℕ) → result ≢ FindFault.Damaged place }
+{
+    match error {
+        Error::SqliteFailure(ErrorCode::OutOfMemory) => FindFault::Memory,
+        _ => FindFault::Disk,
+    }
+}
+
+fn number_param(number: RequestNumber) -> [ValueRef<'static>; 1]
+    ensures { bound result ≡ Int (pos number) ∷ [] }
+{
+    [ValueRef::Int(number.get() as i64)]
+}
+
+fn event_param(event: &Event) -> [ValueRef<'_>; 1]
+    ensures { bound result ≡ Text event.now ∷ [] }
+{
+    [ValueRef::Text(event.bytes())]
+}
+
+// The place and the reply of each row with this request number, by place.
+fn find_rows<S: Alter>(
+    conn: &mut Connection<S>,
+    number: RequestNumber,
+) -> Result<Vec<Row>, FindFault>
+    requires rest { HasCleanDisk (state S.Store conn.old) → (count : ℕ) × IsAtRest (state S.Store conn.old) count }
+    ensures rows { HasCleanDisk (state S.Store conn.new) → IfOk result (λ rows. rows.items ≡ map found_columns (filter (has_number number) (rows_in (state S.Store conn.old).now.trees))) }
+    ensures same { HasCleanDisk (state S.Store conn.new) → OnOk result (IsUnchanged (state S.Store conn.old) (state S.Store conn.new)) }
+    ensures clean { HasCleanDisk (state S.Store conn.new) → HasCleanDisk (state S.Store conn.old) }
+    ensures shut { result ≢ Err FindFault.Shut }
+    ensures damaged { (place : ℕ) → result ≢ Err (FindFault.Damaged place) }
+{
+    let params = number_param(number);
+    match conn.query_all(FIND, &params) {
+        Ok(rows) => Ok(rows),
+        Err(error) => Err(fault(error)),
+    }
+}
+
+// What each row with this event says, by place.
+fn list_rows<S: Alter>(conn: &mut Connection<S>, event: &Event) -> Result<Vec<Row>, FindFault>
+    requires rest { HasCleanDisk (state S.Store conn.old) → (count : ℕ) × IsAtRest (state S.Store conn.old) count }
+    ensures rows { HasCleanDisk (state S.Store conn.new) → IfOk result (λ rows. rows.items ≡ map listed_columns (filter (has_event event.now) (rows_in (state S.Store conn.old).now.trees))) }
+    ensures same { HasCleanDisk (state S.Store conn.new) → OnOk result (IsUnchanged (state S.Store conn.old) (state S.Store conn.new)) }
+    ensures clean { HasCleanDisk (state S.Store conn.new) → HasCleanDisk (state S.Store conn.old) }
+    ensures shut { result ≢ Err FindFault.Shut }
+    ensures damaged { (place : ℕ) → result ≢ Err (FindFault.Damaged place) }
+{
+    let params = event_param(event);
+    match conn.query_all(LIST, &params) {
+        Ok(rows) => Ok(rows),
+        Err(error) => Err(fault(error)),
+    }
+}
+
+fn place_in(row: &Row) -> Option<u64>
+    ensures { result ≡ place_in row.now }
+{
+    match value_at(row, 0) {
+        ValueRef::Int(place) => u64::try_from(place).ok(),
+        _ => None,
+    }
+}
+
+#[tactic(auto, unfolding(crate::specs::Lookups::found_of))]
+fn found_of(row: &Row) -> Option<Found>
+    ensures { result ≡ found_of row.now }
+{
+    let place = place_in(row)?;
+    let reply = reply_in(value_at(row, 1), value_at(row, 2))?;
+    Some(Found { place, reply })
+}
+
+#[tactic(auto, unfolding(crate::specs::Lookups::listed_of))]
+fn listed_of(row: &Row) -> Option<Listed>
+    ensures { result ≡ listed_of row.now }
+{
+    let place = place_in(row)?;
+    let number = request_number_in(value_at(row, 1))?;
+    let request = request_in(
+        value_at(row, 2),
+        value_at(row, 3),
+        value_at(row, 4),
+        value_at(row, 5),
+    )?;
+    let reply = reply_in(value_at(row, 6), value_at(row, 7))?;
+    Some(Listed {
+        place,
+        number,
+        request,
+        reply,
+    })
+}
+
+// A row that does not read.
+fn damaged(row: &Row) -> FindFault
+    ensures { (place : ℕ) × (result ≡ FindFault.Damaged place) }
+{
+    FindFault::Damaged {
+        place: place_in(row).unwrap_or(0),
+    }
+}
+
+// What the first row says.
+fn first_of(rows: &[Row]) -> Result<Option<Found>, FindFault>
+    ensures ok { IfOk result (λ found. option_map Some found ≡ first_found rows.now) }
+    ensures err { OnErr result (first_found rows.now ≡ Some None) }
+    ensures shut { result ≢ Err FindFault.Shut }
+{
+    match rows.first() {
+        None => Ok(None),
+        Some(row) => match found_of(row) {
+            Some(found) => Ok(Some(found)),
+            None => Err(damaged(row)),
+        },
+    }
+}
+
+// What each row says.
+fn all_of(alloc: Global, rows: &[Row]) -> Result<Vec<Listed>, FindFault>
+    ensures ok { IfOk result (λ listed. map Some listed.items ≡ map listed_of rows.now) }
+    ensures damaged { IfErr result (λ fault. (fault ≡ FindFault.Memory) ⊎ ((all : List Listed) → map Some all ≡ map listed_of rows.now → ⊥)) }
+    ensures shut { result ≢ Err FindFault.Shut }
+{
+    // The prover has to meet the type of what a `Listed` holds.
+    let _: Option<Request> = None;
+    let mut all = Vec::new(alloc);
+    'rows: for row in rows {
+        let Some(listed) = listed_of(row) else {
+            return Err(damaged(row));
+        };
+        let Ok(()) = all.push(listed) else {
+            return Err(FindFault::Memory);
+        };
+    }
+    Ok(all)
+}
+
+impl<S: Alter> Records<S> {
+    /// The place and the reply of the request that is kept under this number.
+    ///
+    /// After an error but `Shut` the records are shut; `Shut` changes nothing.
+    pub fn find(&mut self, number: RequestNumber) -> Result<Option<Found>, FindFault>
+        ensures found { IfOk result (λ found. IsTrusted S.Store self.new → found ≡ found_in (kept_in S.Store self.old) number) }
+        ensures same { OnOk result (IsTrusted S.Store self.new → IsUnchanged (state S.Store self.old.conn) (state S.Store self.new.conn)) }
+        ensures failures { OnOk result ((self.old.failures ≡ 0) × (self.new.failures ≡ 0)) }
+        ensures undamaged { IsTrusted S.Store self.new → (place : ℕ) → result ≢ Err (FindFault.Damaged place) }
+        ensures shut { self.old.failures ≢ 0 → (result ≡ Err FindFault.Shut) × (self.new ≡ self.old) }
+        ensures named { self.old.failures ≡ 0 → result ≢ Err FindFault.Shut }
+        ensures shuts { self.old.failures ≡ 0 → OnErr result (self.new.failures ≡ 1) }
+        ensures trusted { IsTrusted S.Store self.new → IsTrusted S.Store self.old }
+    {
+        if self.failures != 0 {
+            return Err(FindFault::Shut);
+        }
+        let answer = find_first(&mut self.conn, number);
+        if answer.is_err() {
+            self.failures = 1;
+        }
+        answer
+    }
+
+    /// The requests that name the event, by place.
+    ///
+    /// After an error but `Shut` the records are shut; `Shut` changes nothing.
+    pub fn list(&mut self, event: Event) -> Result<Vec<Listed>, FindFault>
+        ensures listed { IfOk result (λ listed. IsTrusted S.Store self.new → listed.items ≡ listed_in (kept_in S.Store self.old) event) }
+        ensures same { OnOk result (IsTrusted S.Store self.new → IsUnchanged (state S.Store self.old.conn) (state S.Store self.new.conn)) }
+        ensures failures { OnOk result ((self.old.failures ≡ 0) × (self.new.failures ≡ 0)) }
+        ensures undamaged { IsTrusted S.Store self.new → (place : ℕ) → result ≢ Err (FindFault.Damaged place) }
+        ensures shut { self.old.failures ≢ 0 → (result ≡ Err FindFault.Shut) × (self.new ≡ self.old) }
+        ensures named { self.old.failures ≡ 0 → result ≢ Err FindFault.Shut }
+        ensures shuts { self.old.failures ≡ 0 → OnErr result (self.new.failures ≡ 1) }
+        ensures trusted { IsTrusted S.Store self.new → IsTrusted S.Store self.old }
+    {
+        if self.failures != 0 {
+            return Err(FindFault::Shut);
+        }
+        let answer = list_all(self.alloc, &mut self.conn, &event);
+        if answer.is_err() {
+            self.failures = 1;
+        }
+        answer
+    }
+}
+
+// What is kept under the number.
+fn find_first<S: Alter>(
+    conn: &mut Connection<S>,
+    number: RequestNumber,
+) -> Result<Option<Found>, FindFault>
+    requires rest { HasCleanDisk (state S.Store conn.old) → (count : ℕ) × IsAtRest (state S.Store conn.old) count }
+    ensures found { HasCleanDisk (state S.Store conn.new) → IfOk result (λ found. found ≡ found_in (history_in (state S.Store conn.old).now.trees) number) }
+    ensures undamaged { HasCleanDisk (state S.Store conn.new) → (place : ℕ) → result ≢ Err (FindFault.Damaged place) }
+    ensures same { HasCleanDisk (state S.Store conn.new) → OnOk result (IsUnchanged (state S.Store conn.old) (state S.Store conn.new)) }
+    ensures clean { HasCleanDisk (state S.Store conn.new) → HasCleanDisk (state S.Store conn.old) }
+    ensures shut { result ≢ Err FindFault.Shut }
+{
+    match find_rows(conn, number) {
+        Ok(rows) => first_of(rows.as_slice()),
+        Err(fault) => Err(fault),
+    }
+}
+
+// The requests that name the event.
+fn list_all<S: Alter>(
+    alloc: Global,
+    conn: &mut Connection<S>,
+    event: &Event,
+) -> Result<Vec<Listed>, FindFault>
+    requires rest { HasCleanDisk (state S.Store conn.old) → (count : ℕ) × IsAtRest (state S.Store conn.old) count }
+    ensures listed { HasCleanDisk (state S.Store conn.new) → IfOk result (λ listed. listed.items ≡ listed_in (history_in (state S.Store conn.old).now.trees) event.now) }
+    ensures undamaged { HasCleanDisk (state S.Store conn.new) → (place : ℕ) → result ≢ Err (FindFault.Damaged place) }
+    ensures same { HasCleanDisk (state S.Store conn.new) → OnOk result (IsUnchanged (state S.Store conn.old) (state S.Store conn.new)) }
+    ensures clean { HasCleanDisk (state S.Store conn.new) → HasCleanDisk (state S.Store conn.old) }
+    ensures shut { result ≢ Err FindFault.Shut }
+{
+    match list_rows(conn, event) {
+        Ok(rows) => all_of(alloc, rows.as_slice()),
+        Err(fault) => Err(fault),
+    }
+}

@@ -1,0 +1,282 @@
+// What keepers answer, with ample memory.
+ghost use Rattle.std.specs.Prelude.{◌≡◌, false};
+
+use crate::{InitFault, KeepFault, Keeper, ListKeeper, Meta, OpenFault, Records};
+use book_core::{Entry, Limit};
+use delta_mutators::Delta;
+use delta_wire::read_delta;
+use request_ledger::{Amount, Reply, Request, RequestNumber};
+use rights_lattice::{Event, SiteId, Sites};
+use sqlite::types::ValueRef;
+use sqlite::{Connection, MemStore, Row};
+use std::alloc::Global;
+use std::process::Abort;
+use std::test::Fail;
+
+#[test]
+fn second_append_fails_and_shuts(rt: HostRuntime) -> Result<(), Fail> {
+    let alloc = rt.alloc();
+    let mut keeper = ListKeeper::new(alloc);
+    keeper.fail_at(2, true);
+    let entry = Entry::Joined {
+        peer: SiteId::of(3).expect(&rt, "a site"),
+        delta: Delta::empty(alloc),
+    };
+    assert_eq!(rt; keeper.append(&entry), Ok(()));
+    assert_eq!(rt; keeper.append(&entry), Err(KeepFault::Disk));
+    assert_eq!(rt; keeper.failures(), 1);
+    assert_eq!(rt; keeper.append(&entry), Err(KeepFault::Shut));
+    let again = ListKeeper::from(alloc, keeper.into_entries());
+    assert_eq!(rt; again.into_entries().len(), 2);
+    Ok(())
+}
+
+fn site(rt: &impl Abort, number: u64) -> SiteId {
+    SiteId::of(number).expect(rt, "a site")
+}
+
+fn gala(rt: &impl Abort) -> Event {
+    Event::read(b"gala").expect(rt, "a name")
+}
+
+fn seats(rt: &impl Abort, seats: u64) -> Amount {
+    Amount::of(seats).expect(rt, "seats")
+}
+
+fn number(rt: &impl Abort, number: u64) -> RequestNumber {
+    RequestNumber::of(number).expect(rt, "a request number")
+}
+
+fn delta(rt: &impl Abort, alloc: Global, text: &[u8]) -> Delta {
+    assert!(rt; text.len() <= 1000);
+    read_delta(alloc, text).expect(rt, "a delta")
+}
+
+fn asked(
+    rt: &impl Abort,
+    alloc: Global,
+    under: u64,
+    request: Request,
+    reply: Reply,
+    text: &[u8],
+) -> Entry {
+    Entry::Asked {
+        number: number(rt, under),
+        request,
+        reply,
+        delta: delta(rt, alloc, text),
+    }
+}
+
+fn announced(rt: &impl Abort, alloc: Global) -> Entry {
+    let request = Request::Announce { event: gala(rt) };
+    asked(rt, alloc, 1, request, Reply::Done, b"name gala\n")
+}
+
+fn released(rt: &impl Abort, alloc: Global) -> Entry {
+    let request = Request::Release {
+        event: gala(rt),
+        amount: seats(rt, 100),
+    };
+    asked(rt, alloc, 2, request, Reply::Done, b"gave gala 0 0 100\n")
+}
+
+fn sold(rt: &impl Abort, alloc: Global) -> Entry {
+    let request = Request::Sell {
+        event: gala(rt),
+        amount: seats(rt, 3),
+    };
+    asked(rt, alloc, 3, request, Reply::Done, b"used gala 0 3\n")
+}
+
+fn refused(rt: &impl Abort, alloc: Global) -> Entry {
+    let request = Request::Sell {
+        event: gala(rt),
+        amount: seats(rt, 98),
+    };
+    asked(rt, alloc, 4, request, Reply::Short { left: 97 }, b"")
+}
+
+fn refunded(rt: &impl Abort, alloc: Global) -> Entry {
+    let request = Request::Refund {
+        sale: number(rt, 3),
+    };
+    asked(rt, alloc, 5, request, Reply::Done, b"back gala 0 3\n")
+}
+
+fn ceded(rt: &impl Abort, alloc: Global) -> Entry {
+    let request = Request::Cede {
+        event: gala(rt),
+        amount: seats(rt, 40),
+        to: site(rt, 1),
+    };
+    asked(rt, alloc, 6, request, Reply::Done, b"gave gala 0 1 40\n")
+}
+
+fn joined(rt: &impl Abort, alloc: Global) -> Entry {
+    Entry::Joined {
+        peer: site(rt, 1),
+        delta: delta(rt, alloc, b"name expo\nused gala 1 8\n"),
+    }
+}
+
+fn numbers(rt: &impl Abort) -> Meta {
+    Meta {
+        me: site(rt, 0),
+        sites: Sites::of(2).expect(rt, "a count"),
+        limit: Limit::of(1000).expect(rt, "a limit"),
+    }
+}
+
+// A database in memory with new records.
+fn made(rt: &impl Abort, alloc: Global) -> Connection<MemStore>
+    ensures { result.in_transaction ≡ false }
+{
+    let mut conn = Connection::open_in_memory(alloc).expect(rt, "a database");
+    let Meta { me, sites, limit } = numbers(rt);
+    assert!(rt; me.number() < sites.count());
+    assert_eq!(rt; Records::init(&mut conn, me, sites, limit), Ok(()));
+    conn
+}
+
+fn opened(
+    rt: &impl Abort,
+    alloc: Global,
+    conn: Connection<MemStore>,
+) -> (Records<MemStore>, Vec<Entry>) {
+    assert!(rt; conn.is_autocommit());
+    let Ok((records, entries, meta)) = Records::open(alloc, conn) else {
+        panic!(rt; "no records")
+    };
+    assert_eq!(rt; meta, numbers(rt));
+    (records, entries)
+}
+
+fn append(rt: &impl Abort, records: &mut Records<MemStore>, entry: Entry) {
+    assert_eq!(rt; records.append(&entry), Ok(()));
+    assert_eq!(rt; records.failures(), 0);
+}
+
+fn assert_same(rt: &impl Abort, left: &Entry, right: &Entry) {
+    assert_eq!(rt; left.delta().names(), right.delta().names());
+    assert_eq!(rt; left.delta().marks(), right.delta().marks());
+    match (left, right) {
+        (
+            Entry::Asked {
+                number,
+                request,
+                reply,
+                ..
+            },
+            Entry::Asked {
+                number: other_number,
+                request: other_request,
+                reply: other_reply,
+                ..
+            },
+        ) => {
+            assert_eq!(rt; number, other_number);
+            assert_eq!(rt; request, other_request);
+            assert_eq!(rt; reply, other_reply);
+        }
+        (Entry::Joined { peer, .. }, Entry::Joined { peer: other, .. }) => {
+            assert_eq!(rt; peer, other);
+        }
+        _ => panic!(rt; "entries of two kinds"),
+    }
+}
+
+#[test]
+fn records_open_with_what_was_kept(rt: HostRuntime) {
+    let alloc = rt.alloc();
+    let (mut records, none) = opened(&rt, alloc, made(&rt, alloc));
+    assert_eq!(rt; none.len(), 0);
+    append(&rt, &mut records, announced(&rt, alloc));
+    append(&rt, &mut records, released(&rt, alloc));
+    append(&rt, &mut records, sold(&rt, alloc));
+    append(&rt, &mut records, refused(&rt, alloc));
+    append(&rt, &mut records, refunded(&rt, alloc));
+    append(&rt, &mut records, ceded(&rt, alloc));
+    append(&rt, &mut records, joined(&rt, alloc));
+    let (_records, entries) = opened(&rt, alloc, records.close());
+    let want = [
+        announced(&rt, alloc),
+        released(&rt, alloc),
+        sold(&rt, alloc),
+        refused(&rt, alloc),
+        refunded(&rt, alloc),
+        ceded(&rt, alloc),
+        joined(&rt, alloc),
+    ];
+    assert_eq!(rt; entries.len(), want.len());
+    for (entry, other) in entries.iter().zip(&want) {
+        assert_same(&rt, entry, other);
+    }
+}
+
+// The columns of a row, as text with a bar between two.
+fn columns(rt: &impl Abort, alloc: Global, row: &Row) -> String {
+    let mut text = String::new(alloc);
+    for at in 0..10usize {
+        let value = row.get_ref(at).expect(rt, "a column");
+        let word = match value {
+            ValueRef::Null => format!(in alloc; "null|"),
+            ValueRef::Int(n) => format!(in alloc; "{n}|"),
+            ValueRef::Text(bytes) => format!(in alloc;
+                "{}|",
+                str::from_utf8(bytes).expect(rt, "text")
+            ),
+            _ => panic!(rt; "another type"),
+        };
+        text.push_str(&word.expect(rt, "memory"))
+            .expect(rt, "memory");
+    }
+    text
+}
+
+#[test]
+fn rows_have_the_columns_of_their_entries(rt: HostRuntime) {
+    let alloc = rt.alloc();
+    let (mut records, _) = opened(&rt, alloc, made(&rt, alloc));
+    append(&rt, &mut records, announced(&rt, alloc));
+    append(&rt, &mut records, released(&rt, alloc));
+    append(&rt, &mut records, sold(&rt, alloc));
+    append(&rt, &mut records, refused(&rt, alloc));
+    append(&rt, &mut records, refunded(&rt, alloc));
+    append(&rt, &mut records, ceded(&rt, alloc));
+    append(&rt, &mut records, joined(&rt, alloc));
+    let mut conn = records.close();
+    let rows = conn.query_all("SELECT * FROM entries ORDER BY pos", &[]);
+    let rows = rows.expect(&rt, "rows");
+    let want = [
+        "0|null|1|announce|gala|null|null|done|null|name gala\n|",
+        "1|null|2|release|gala|100|null|done|null|gave gala 0 0 100\n|",
+        "2|null|3|sell|gala|3|null|done|null|used gala 0 3\n|",
+        "3|null|4|sell|gala|98|null|short|97||",
+        "4|null|5|refund|null|null|3|done|null|back gala 0 3\n|",
+        "5|null|6|cede|gala|40|1|done|null|gave gala 0 1 40\n|",
+        "6|1|null|null|null|null|null|null|null|name expo\nused gala 1 8\n|",
+    ];
+    assert_eq!(rt; rows.len(), want.len());
+    for (row, text) in rows.iter().zip(want) {
+        assert_eq!(rt; columns(&rt, alloc, row).as_str(), text);
+    }
+}
+
+#[test]
+fn records_are_made_once(rt: HostRuntime) {
+    let alloc = rt.alloc();
+    let mut conn = made(&rt, alloc);
+    let Meta { me, sites, limit } = numbers(&rt);
+    assert!(rt; me.number() < sites.count());
+    let again = Records::init(&mut conn, me, sites, limit);
+    assert_eq!(rt; again, Err(InitFault::AlreadyThere));
+}
+
+#[test]
+fn empty_database_is_not_ours(rt: HostRuntime) {
+    let alloc = rt.alloc();
+    let conn = Connection::open_in_memory(alloc).expect(&rt, "a database");
+    let fault = Records::open(alloc, conn).err();
+    assert_eq!(rt; fault, Some(OpenFault::NotOurs));
+}
