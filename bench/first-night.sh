@@ -1,8 +1,6 @@
 #!/bin/sh
-# Builds the program, which proves it first, and runs a night at two box offices.
+# Builds the program and runs a night at two box offices from a script.
 set -eu
 here=$(cd "$(dirname "$0")" && pwd)
-cd "$here/../crates/boxoffice"
-mkdir -p out
-rt run -- world < "$here/first-night.script" > out/build.log 2>&1 || { cat out/build.log; exit 1; }
-out/boxoffice world < "$here/first-night.script"
+"$here/build.sh"
+"$here/../crates/boxoffice/out/boxoffice" world < "$here/first-night.script"

@@ -8,6 +8,8 @@ mod messages;
 #[cfg(test)]
 mod one_site;
 #[cfg(test)]
+mod records;
+#[cfg(test)]
 mod scripts;
 #[cfg(test)]
 mod texts;

@@ -4,3 +4,6 @@ pub mod CommandLaws
 pub mod ReadingLaws
 pub mod TotalLines
 pub mod ScriptLaws
+pub mod RequestLines
+pub mod EndLaws
+pub mod PrintLaws

@@ -9,3 +9,6 @@ pub mod Faults
 pub mod Script
 pub mod Ran
 pub mod Orders
+pub mod Records
+pub mod Told
+pub mod Printed

@@ -1,26 +1,130 @@
--- The commands of the program, and which command words give.
-use Rattle.std.specs.Prelude.{◌≡◌, List, true, Option, Some, None, codes, if◌then◌else◌}
+-- The commands of the program with their values, and which command words give. (Our own.)
+use Rattle.std.specs.Prelude.{◌≡◌, ℕ, List, true, Option, Some, None, codes, if◌then◌else◌}
 use Rattle.std.specs.Str.{bytes_eq}
-use Rattle.clap.specs.Words.{App, Row, Text, new_app, with_subcommand, subcommand_of, takes}
+use Rattle.clap.specs.Words.{App, Row, Rule, Text, first_of, new_app, new_rule, with_rule, with_subcommand, subcommand_of, takes}
+use Rattle.plain_words.specs.Words.{◌>>=◌}
+use Rattle.plain_words.specs.Number.{number_of}
 use Rattle.operator_cli.specs.declared.orders.Order.{Order}
-use Rattle.operator_cli.specs.declared.orders.Order.TheVariants.{World}
+use Rattle.operator_cli.specs.declared.orders.Order.TheVariants as order
 use Rattle.operator_cli.specs.declared.orders.WordsFault.{WordsFault}
 use Rattle.operator_cli.specs.declared.orders.WordsFault.TheVariants.{NotUnderstood, Memory}
 
+-- a value that has to be given, by its place
+abbrev pub operand : Text → Rule
+operand id = record (new_rule id) { required = true }
+
+-- a command that takes one more value
+abbrev pub taking : App → Text → App
+taking a id = with_rule a (operand id)
+
 abbrev pub world_app : App
 world_app = new_app (codes "world")
+
+abbrev pub init_app : App
+init_app = taking (taking (taking (taking (new_app (codes "init")) (codes "FILE")) (codes "ME")) (codes "SITES")) (codes "LIMIT")
+
+abbrev pub ask_app : App
+ask_app = taking (new_app (codes "ask")) (codes "FILE")
+
+abbrev pub find_app : App
+find_app = taking (taking (new_app (codes "find")) (codes "FILE")) (codes "NUMBER")
+
+abbrev pub list_app : App
+list_app = taking (taking (new_app (codes "list")) (codes "FILE")) (codes "EVENT")
+
+abbrev pub export_app : App
+export_app = taking (taking (new_app (codes "export")) (codes "FILE")) (codes "TO")
+
+abbrev pub import_app : App
+import_app = taking (new_app (codes "import")) (codes "FILE")
 
 -- a command that is not used alone
 abbrev pub needing : App → App
 needing a = record a { top = record a.top { subcommand_required = true } }
 
+-- a command with one more below it
+abbrev pub above : App → App → App
+above a b = with_subcommand a b.top
+
 abbrev pub boxoffice : App
-boxoffice = with_subcommand (needing (new_app (codes "boxoffice"))) world_app.top
+boxoffice = above (above (above (above (above (above (above (needing (new_app (codes "boxoffice"))) world_app) init_app) ask_app) find_app) list_app) export_app) import_app
+
+-- What is ordered: a command with its values, words as bytes and numbers as themselves.
+pub data Said : Type 0 where
+  SaysWorld : Said
+  SaysInit : (file : Text) (me sites limit : ℕ) → Said
+  SaysAsk : (file : Text) → Said
+  SaysFind : (file : Text) (number : ℕ) → Said
+  SaysList : (file event : Text) → Said
+  SaysExport : (file : Text) (to : ℕ) → Said
+  SaysImport : (file : Text) → Said
+
+abbrev pub said_by : Order → Said
+said_by order.World = SaysWorld
+said_by (order.Init file me sites limit) = SaysInit file.now me sites limit
+said_by (order.Ask file) = SaysAsk file.now
+said_by (order.Find file number) = SaysFind file.now number
+said_by (order.List file event) = SaysList file.now event.now
+said_by (order.Export file to) = SaysExport file.now to
+said_by (order.Import file) = SaysImport file.now
+
+-- the number from low to high that the value of this name spells
+unfoldable pub number_in : Text → ℕ → ℕ → List Row → Option ℕ
+number_in id low high rows = do
+  word ← first_of id rows
+  number_of low high word
+
+unfoldable pub init_in : List Row → Option Said
+init_in rows = do
+  file ← first_of (codes "FILE") rows
+  me ← number_in (codes "ME") 0 63 rows
+  sites ← number_in (codes "SITES") 1 16 rows
+  limit ← number_in (codes "LIMIT") 1 1000000 rows
+  Some (SaysInit file me sites limit)
+
+unfoldable pub ask_in : List Row → Option Said
+ask_in rows = do
+  file ← first_of (codes "FILE") rows
+  Some (SaysAsk file)
+
+unfoldable pub find_in : List Row → Option Said
+find_in rows = do
+  file ← first_of (codes "FILE") rows
+  number ← number_in (codes "NUMBER") 1 1000000000000 rows
+  Some (SaysFind file number)
+
+unfoldable pub list_in : List Row → Option Said
+list_in rows = do
+  file ← first_of (codes "FILE") rows
+  event ← first_of (codes "EVENT") rows
+  Some (SaysList file event)
+
+unfoldable pub export_in : List Row → Option Said
+export_in rows = do
+  file ← first_of (codes "FILE") rows
+  to ← number_in (codes "TO") 0 63 rows
+  Some (SaysExport file to)
+
+unfoldable pub import_in : List Row → Option Said
+import_in rows = do
+  file ← first_of (codes "FILE") rows
+  Some (SaysImport file)
+
+-- the order that the command of this name gives with these values
+unfoldable pub named_order : Text → List Row → Option Said
+named_order name rows =
+    if bytes_eq name (codes "world") then Some SaysWorld else (
+    if bytes_eq name (codes "init") then init_in rows else (
+    if bytes_eq name (codes "ask") then ask_in rows else (
+    if bytes_eq name (codes "find") then find_in rows else (
+    if bytes_eq name (codes "list") then list_in rows else (
+    if bytes_eq name (codes "export") then export_in rows else (
+    if bytes_eq name (codes "import") then import_in rows else None))))))
 
 -- the order of the subcommand that was met
-abbrev pub order_in : Option (Text × List Row) → Option Order
+abbrev pub order_in : Option (Text × List Row) → Option Said
 order_in None = None
-order_in (Some met) = if bytes_eq met.0 (codes "world") then Some World else None
+order_in (Some met) = named_order met.0 met.1
 
 -- Words that the command line's grammar takes are refused only where they meet no order, want of memory aside.
 abbrev pub IsRefusal : List Text → WordsFault → Type 0

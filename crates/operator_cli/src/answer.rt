@@ -33,7 +33,7 @@ pub(crate) enum Answer {
     Unread,
 }
 
-fn word(bytes: &[u8]) -> Text
+pub(crate) fn word(bytes: &[u8]) -> Text
     requires { length bytes.now ≤ 256 }
     ensures value { result.items ≡ bytes.now }
     ensures len { array_vec_len result ≡ length bytes.now }
@@ -43,19 +43,20 @@ fn word(bytes: &[u8]) -> Text
     text
 }
 
-fn numbered(bytes: &[u8], number: u64) -> Text
+pub(crate) fn numbered(bytes: &[u8], number: u64) -> Text
     requires { length bytes.now ≤ 100 }
     ensures value { result.items ≡ bytes.now ++ decimal number }
-    ensures len { array_vec_len result ≤ 200 }
+    ensures len { array_vec_len result ≤ length bytes.now + 20 }
 {
     let mut text = word(bytes);
     put_number(&mut text, number);
     text
 }
 
-fn reply_text(reply: Reply) -> Text
+/// The text of a reply.
+pub(crate) fn reply_text(reply: Reply) -> Text
     ensures value { result.items ≡ reply_text reply }
-    ensures len { array_vec_len result ≤ 200 }
+    ensures len { array_vec_len result ≤ 40 }
 {
     match reply {
         Reply::Done => word(b"done"),
@@ -81,7 +82,8 @@ fn refusal_text(fault: PlanFault) -> Text
     }
 }
 
-fn take_fault_text(fault: TakeFault) -> Text
+/// The text of why a message is not taken.
+pub(crate) fn take_fault_text(fault: TakeFault) -> Text
     ensures value { result.items ≡ take_fault_text fault }
     ensures len { array_vec_len result ≤ 200 }
 {
@@ -115,7 +117,8 @@ fn outcome_text(outcome: Outcome) -> Text
     }
 }
 
-fn totals_text(totals: Totals) -> Text
+/// The text of totals.
+pub(crate) fn totals_text(totals: Totals) -> Text
     ensures value { result.items ≡ totals_text totals }
     ensures len { array_vec_len result ≤ 200 }
 {

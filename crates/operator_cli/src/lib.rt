@@ -3,16 +3,30 @@
 
 mod answer;
 mod answering;
+mod asking;
 mod commands;
+mod ending;
+mod exchanging;
 mod fault;
+mod looking;
+mod making;
+mod opening;
 mod orders;
 mod reading;
+mod request_lines;
 mod requests;
 mod script_line;
 mod scripting;
 mod status;
+mod store_fault;
+mod told;
 mod totals;
+mod words;
 
+pub use asking::ask_store;
+pub use exchanging::{export_store, import_store};
+pub use looking::{find_store, list_store};
+pub use making::{init_store, refuse_site};
 pub use orders::{Order, WordsFault, read_words};
 pub use scripting::world_script;
 pub use status::Status;

@@ -1,18 +1,54 @@
 //! The words that the program is called with.
 
-ghost use Rattle.std.specs.Prelude.{◌≡◌, IfOk, IfErr, Some, map};
-ghost use Rattle.clap.specs.Words.{app_of, subcommand_of, subcommand_rows_of, kind_of};
-ghost use Rattle.operator_cli.specs.Orders.{boxoffice, order_in, IsRefusal};
+ghost use Rattle.std.specs.Prelude.{◌≡◌, ◌≤◌, IfSome, IfOk, IfErr, MatchResult, Some, None, map, codes};
+ghost use Rattle.std.specs.Option.{option_map};
+ghost use Rattle.clap.specs.Words.{subcommand_of, subcommand_rows_of, kind_of, first_of, found_of, rows_of};
+ghost use Rattle.operator_cli.specs.Orders.{boxoffice, order_in, said_by, number_in, init_in, ask_in, find_in, list_in, export_in, import_in, named_order, IsRefusal};
 
+use crate::words::boxoffice;
+use book_core::Limit;
 use clap::error::ErrorKind;
-use clap::{ArgMatches, Command, Error};
-use std::alloc::{AllocError, Global};
+use clap::{ArgMatches, Error};
+use plain_words::read_number;
+use request_ledger::RequestNumber;
+use rights_lattice::{MAX_VALUE, SiteId, Sites};
+use std::alloc::Global;
 
-/// A command of the program.
+/// A command of the program, with its values.
 #[derive(Clone, Copy, Debug, PartialEq, Eq)]
-pub enum Order {
+pub enum Order<'a> {
     /// Runs the script on standard input.
     World,
+    /// Makes the records of a site.
+    Init {
+        file: &'a str,
+        me: SiteId,
+        sites: Sites,
+        limit: Limit,
+    },
+    /// Answers the requests on standard input.
+    Ask {
+        file: &'a str,
+    },
+    /// Prints the place and the reply that are kept under a number.
+    Find {
+        file: &'a str,
+        number: RequestNumber,
+    },
+    /// Prints the requests that name an event. The event is any word.
+    List {
+        file: &'a str,
+        event: &'a str,
+    },
+    /// Prints a message with all that the site knows.
+    Export {
+        file: &'a str,
+        to: SiteId,
+    },
+    /// Takes the message on standard input.
+    Import {
+        file: &'a str,
+    },
 }
 
 /// Why the words give no command.
@@ -25,27 +61,160 @@ pub enum WordsFault {
     Memory,
 }
 
-fn boxoffice<'a>(alloc: Global) -> Result<Command<'a>, AllocError>
-    ensures { IfOk result (λ command. app_of command ≡ boxoffice) }
-{
-    let world = Command::new(alloc, "world").about("Runs the script on standard input");
-    let whole = Command::new(alloc, "boxoffice")
-        .about("Sells the seats of events at several sites")
-        .subcommand_required(true)
-        .subcommand(world)?;
-    Ok(whole)
+// What is wrong with the values of a command.
+#[derive(Clone, Copy, Debug, thiserror::Error)]
+enum Misfit {
+    #[error("no such command")]
+    Command,
+    #[error("FILE is missing")]
+    File,
+    #[error("EVENT is missing")]
+    Event,
+    #[error("ME is the number of a site, 0 to 63")]
+    Me,
+    #[error("SITES is a count of sites, 1 to 16")]
+    Sites,
+    #[error("LIMIT is a count of entries, 1 to 1000000")]
+    Limit,
+    #[error("NUMBER is the number of a request, 1 to 1000000000000")]
+    Number,
+    #[error("TO is the number of a site, 0 to 63")]
+    To,
 }
 
-// The command that was met.
-fn order_of(matches: &ArgMatches<'_>) -> Option<Order>
-    ensures { result ≡ order_in (subcommand_rows_of matches.now) }
+fn value_of<'a>(values: &ArgMatches<'a>, id: &str) -> Option<&'a str>
+    ensures { option_map (λ word. word.now) result ≡ first_of id.now (rows_of (found_of values.now)) }
 {
-    let name = matches.subcommand_name()?;
+    values.get_str(id)
+}
+
+#[tactic(auto, unfolding(crate::specs::Orders::number_in))]
+fn number_of(values: &ArgMatches<'_>, id: &str, low: u64, high: u64) -> Option<u64>
+    ensures value { result ≡ number_in id.now low high (rows_of (found_of values.now)) }
+    ensures within { IfSome result (λ n. (low ≤ n) × (n ≤ high)) }
+{
+    let word = value_of(values, id)?;
+    read_number(word.as_bytes(), low, high)
+}
+
+fn site_of(values: &ArgMatches<'_>, id: &str) -> Option<SiteId>
+    ensures { result ≡ number_in id.now 0 63 (rows_of (found_of values.now)) }
+{
+    let number = number_of(values, id, 0, 63)?;
+    SiteId::of(number)
+}
+
+fn sites_of(values: &ArgMatches<'_>) -> Option<Sites>
+    ensures { result ≡ number_in (codes "SITES") 1 16 (rows_of (found_of values.now)) }
+{
+    let count = number_of(values, "SITES", 1, 16)?;
+    Sites::of(count)
+}
+
+fn limit_of(values: &ArgMatches<'_>) -> Option<Limit>
+    ensures { result ≡ number_in (codes "LIMIT") 1 1000000 (rows_of (found_of values.now)) }
+{
+    let entries = number_of(values, "LIMIT", 1, Limit::MAX)?;
+    Limit::of(entries)
+}
+
+fn request_number_of(values: &ArgMatches<'_>) -> Option<RequestNumber>
+    ensures { result ≡ number_in (codes "NUMBER") 1 1000000000000 (rows_of (found_of values.now)) }
+{
+    let number = number_of(values, "NUMBER", 1, MAX_VALUE)?;
+    RequestNumber::of(number)
+}
+
+#[tactic(auto, unfolding(crate::specs::Orders::init_in))]
+fn init_of<'a>(values: &ArgMatches<'a>) -> Result<Order<'a>, Misfit>
+    ensures { MatchResult result (λ order. init_in (rows_of (found_of values.now)) ≡ Some (said_by order)) (λ _. init_in (rows_of (found_of values.now)) ≡ None) }
+{
+    let file = value_of(values, "FILE").ok_or(Misfit::File)?;
+    let me = site_of(values, "ME").ok_or(Misfit::Me)?;
+    let sites = sites_of(values).ok_or(Misfit::Sites)?;
+    let limit = limit_of(values).ok_or(Misfit::Limit)?;
+    Ok(Order::Init {
+        file,
+        me,
+        sites,
+        limit,
+    })
+}
+
+#[tactic(auto, unfolding(crate::specs::Orders::ask_in))]
+fn ask_of<'a>(values: &ArgMatches<'a>) -> Result<Order<'a>, Misfit>
+    ensures { MatchResult result (λ order. ask_in (rows_of (found_of values.now)) ≡ Some (said_by order)) (λ _. ask_in (rows_of (found_of values.now)) ≡ None) }
+{
+    let file = value_of(values, "FILE").ok_or(Misfit::File)?;
+    Ok(Order::Ask { file })
+}
+
+#[tactic(auto, unfolding(crate::specs::Orders::find_in))]
+fn find_of<'a>(values: &ArgMatches<'a>) -> Result<Order<'a>, Misfit>
+    ensures { MatchResult result (λ order. find_in (rows_of (found_of values.now)) ≡ Some (said_by order)) (λ _. find_in (rows_of (found_of values.now)) ≡ None) }
+{
+    let file = value_of(values, "FILE").ok_or(Misfit::File)?;
+    let number = request_number_of(values).ok_or(Misfit::Number)?;
+    Ok(Order::Find { file, number })
+}
+
+#[tactic(auto, unfolding(crate::specs::Orders::list_in))]
+fn list_of<'a>(values: &ArgMatches<'a>) -> Result<Order<'a>, Misfit>
+    ensures { MatchResult result (λ order. list_in (rows_of (found_of values.now)) ≡ Some (said_by order)) (λ _. list_in (rows_of (found_of values.now)) ≡ None) }
+{
+    let file = value_of(values, "FILE").ok_or(Misfit::File)?;
+    let event = value_of(values, "EVENT").ok_or(Misfit::Event)?;
+    Ok(Order::List { file, event })
+}
+
+#[tactic(auto, unfolding(crate::specs::Orders::export_in))]
+fn export_of<'a>(values: &ArgMatches<'a>) -> Result<Order<'a>, Misfit>
+    ensures { MatchResult result (λ order. export_in (rows_of (found_of values.now)) ≡ Some (said_by order)) (λ _. export_in (rows_of (found_of values.now)) ≡ None) }
+{
+    let file = value_of(values, "FILE").ok_or(Misfit::File)?;
+    let to = site_of(values, "TO").ok_or(Misfit::To)?;
+    Ok(Order::Export { file, to })
+}
+
+#[tactic(auto, unfolding(crate::specs::Orders::import_in))]
+fn import_of<'a>(values: &ArgMatches<'a>) -> Result<Order<'a>, Misfit>
+    ensures { MatchResult result (λ order. import_in (rows_of (found_of values.now)) ≡ Some (said_by order)) (λ _. import_in (rows_of (found_of values.now)) ≡ None) }
+{
+    let file = value_of(values, "FILE").ok_or(Misfit::File)?;
+    Ok(Order::Import { file })
+}
+
+#[tactic(auto, unfolding(crate::specs::Orders::named_order))]
+fn named_order<'a>(name: &str, values: &ArgMatches<'a>) -> Result<Order<'a>, Misfit>
+    ensures { MatchResult result (λ order. named_order name.now (rows_of (found_of values.now)) ≡ Some (said_by order)) (λ _. named_order name.now (rows_of (found_of values.now)) ≡ None) }
+{
     if name == "world" {
-        Some(Order::World)
+        Ok(Order::World)
+    } else if name == "init" {
+        init_of(values)
+    } else if name == "ask" {
+        ask_of(values)
+    } else if name == "find" {
+        find_of(values)
+    } else if name == "list" {
+        list_of(values)
+    } else if name == "export" {
+        export_of(values)
+    } else if name == "import" {
+        import_of(values)
     } else {
-        None
+        Err(Misfit::Command)
     }
+}
+
+// The command that was met, with its values.
+fn order_of<'a>(matches: &ArgMatches<'a>) -> Result<Order<'a>, Misfit>
+    ensures { MatchResult result (λ order. order_in (subcommand_rows_of matches.now) ≡ Some (said_by order)) (λ _. order_in (subcommand_rows_of matches.now) ≡ None) }
+{
+    let Some((name, values)) = matches.subcommand() else {
+        return Err(Misfit::Command);
+    };
+    named_order(name, values)
 }
 
 fn not_understood(alloc: Global, error: &Error) -> WordsFault
@@ -60,9 +229,18 @@ fn not_understood(alloc: Global, error: &Error) -> WordsFault
     }
 }
 
+fn misfit_told(alloc: Global, misfit: Misfit) -> WordsFault {
+    match format!(in alloc; "error: {misfit}\n") {
+        Ok(text) => WordsFault::NotUnderstood { text },
+        Err(_) => WordsFault::Memory,
+    }
+}
+
 /// Reads the words that the program is called with, of which the first is its name.
-pub fn read_words<'a>(alloc: Global, words: &'a [&'a str]) -> Result<Order, WordsFault>
-    ensures order { IfOk result (λ order. order_in (subcommand_of boxoffice (map (λ w. w.now) words.now)) ≡ Some order) }
+///
+/// Numbers are decimal, without a sign and without leading zeros.
+pub fn read_words<'a>(alloc: Global, words: &'a [&'a str]) -> Result<Order<'a>, WordsFault>
+    ensures order { IfOk result (λ order. order_in (subcommand_of boxoffice (map (λ w. w.now) words.now)) ≡ Some (said_by order)) }
     ensures refusal { IfErr result (IsRefusal (map (λ w. w.now) words.now)) }
 {
     let Ok(command) = boxoffice(alloc) else {
@@ -73,9 +251,7 @@ pub fn read_words<'a>(alloc: Global, words: &'a [&'a str]) -> Result<Order, Word
         Err(error) => return Err(not_understood(alloc, &error)),
     };
     match order_of(&matches) {
-        Some(order) => Ok(order),
-        None => Err(WordsFault::NotUnderstood {
-            text: String::new(alloc),
-        }),
+        Ok(order) => Ok(order),
+        Err(misfit) => Err(misfit_told(alloc, misfit)),
     }
 }

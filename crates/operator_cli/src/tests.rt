@@ -1,6 +1,11 @@
 //! Whole scripts, and the words of the program.
 
 use super::*;
+use book_core::Limit;
+use request_ledger::RequestNumber;
+use rights_lattice::{SiteId, Sites};
+use std::alloc::Global;
+use std::process::Abort;
 use std::test::Fail;
 
 fn printed(
@@ -70,26 +75,112 @@ fn bad_scripts(rt: HostRuntime) -> Result<(), Fail> {
     Ok(())
 }
 
+fn order<'a>(rt: &impl Abort, alloc: Global, words: &'a [&'a str]) -> Order<'a> {
+    match read_words(alloc, words) {
+        Ok(order) => order,
+        Err(_) => panic!(rt; "the words are a command"),
+    }
+}
+
 #[test]
 fn words(rt: HostRuntime) {
-    assert!(rt;
-        matches!(
-            read_words(rt.alloc(), &["boxoffice", "world"]),
-            Ok(Order::World)
-        )
+    let file = "a.db";
+    assert_eq!(rt;
+        order(&rt, rt.alloc(), &["boxoffice", "world"]),
+        Order::World
     );
-    let unknown: [&[&str]; 4] = [
+    let init = Order::Init {
+        file,
+        me: SiteId::of(63).expect(&rt, "a site"),
+        sites: Sites::of(16).expect(&rt, "a count of sites"),
+        limit: Limit::of(1000).expect(&rt, "a limit"),
+    };
+    let words = ["boxoffice", "init", file, "63", "16", "1000"];
+    assert_eq!(rt; order(&rt, rt.alloc(), &words), init);
+    let find = Order::Find {
+        file,
+        number: RequestNumber::of(1_000_000_000_000).expect(&rt, "a number"),
+    };
+    let words = ["boxoffice", "find", file, "1000000000000"];
+    assert_eq!(rt; order(&rt, rt.alloc(), &words), find);
+    let list = Order::List {
+        file,
+        event: "No event!",
+    };
+    let words = ["boxoffice", "list", file, "No event!"];
+    assert_eq!(rt; order(&rt, rt.alloc(), &words), list);
+    let export = Order::Export {
+        file,
+        to: SiteId::of(0).expect(&rt, "a site"),
+    };
+    assert_eq!(rt;
+        order(&rt, rt.alloc(), &["boxoffice", "export", file, "0"]),
+        export
+    );
+    let import = Order::Import { file };
+    assert_eq!(rt;
+        order(&rt, rt.alloc(), &["boxoffice", "import", file]),
+        import
+    );
+}
+
+// What is told of words that are no command.
+fn told(rt: &HostRuntime, words: &[&str]) -> Result<String, Fail> {
+    match read_words(rt.alloc(), words) {
+        Ok(_) => Ok(String::from_str(rt.alloc(), "understood")?),
+        Err(WordsFault::Memory) => Ok(String::from_str(rt.alloc(), "memory")?),
+        Err(WordsFault::NotUnderstood { text }) => Ok(text),
+    }
+}
+
+#[test]
+fn words_not_understood(rt: HostRuntime) -> Result<(), Fail> {
+    let none: [&[&str]; 7] = [
         &["boxoffice"],
         &["boxoffice", "find"],
+        &["boxoffice", "find", "a.db"],
         &["boxoffice", "world", "1"],
-        &["boxoffice", "help"],
+        &["boxoffice", "sell", "a.db"],
+        &["boxoffice", "list", "a.db", "gala", "expo"],
+        &["boxoffice", "import", "a.db", "b.db"],
     ];
-    for words in unknown {
-        assert!(rt;
-            matches!(
-                read_words(rt.alloc(), words),
-                Err(WordsFault::NotUnderstood { .. })
-            )
-        );
+    for words in none {
+        let text = told(&rt, words)?;
+        assert!(rt; text.starts_with("error: "), "{text}");
     }
+    let help = told(&rt, &["boxoffice", "help"])?;
+    assert!(rt; help.starts_with("Sells the seats of events at several sites\n"));
+    Ok(())
+}
+
+#[test]
+fn numbers_out_of_limit(rt: HostRuntime) -> Result<(), Fail> {
+    let number = "error: NUMBER is the number of a request, 1 to 1000000000000\n";
+    let cases: [(&[&str], &str); 8] = [
+        (
+            &["boxoffice", "init", "a.db", "64", "2", "9"],
+            "error: ME is the number of a site, 0 to 63\n",
+        ),
+        (
+            &["boxoffice", "init", "a.db", "1", "17", "9"],
+            "error: SITES is a count of sites, 1 to 16\n",
+        ),
+        (
+            &["boxoffice", "init", "a.db", "1", "2", "1000001"],
+            "error: LIMIT is a count of entries, 1 to 1000000\n",
+        ),
+        (&["boxoffice", "find", "a.db", "0"], number),
+        (&["boxoffice", "find", "a.db", "1000000000001"], number),
+        (&["boxoffice", "find", "a.db", "007"], number),
+        (&["boxoffice", "find", "a.db", "+7"], number),
+        (
+            &["boxoffice", "export", "a.db", "64"],
+            "error: TO is the number of a site, 0 to 63\n",
+        ),
+    ];
+    for (words, wanted) in cases {
+        let text = told(&rt, words)?;
+        assert_eq!(rt; text.as_str(), wanted);
+    }
+    Ok(())
 }

@@ -1,0 +1,81 @@
+#!/usr/bin/env python3
+"""Times durable sales on a file, and opening a file of many entries.
+
+usage: records.py PROGRAM [FOLDER]
+
+PROGRAM is the built boxoffice, which answers sales from a session: each is an entry in the file before it is
+answered. It is compared with C SQLite (Python's sqlite3), which makes the same INSERTs one by one in WAL mode with
+synchronous=FULL, in the same run and FOLDER (where the files stand; a temporary one without it). Each rate is the
+best of three runs.
+"""
+import os
+import sqlite3
+import subprocess
+import sys
+import tempfile
+import time
+
+TABLE = (
+    'CREATE TABLE entries (pos INTEGER PRIMARY KEY, peer INTEGER, number INTEGER UNIQUE, verb TEXT, event TEXT, amount INTEGER,'
+    ' target INTEGER, reply TEXT, rest INTEGER, delta TEXT NOT NULL) STRICT'
+)
+
+
+def fresh(path):
+    for end in ('', '-wal', '-shm'):
+        if os.path.exists(path + end):
+            os.remove(path + end)
+
+
+def ours(program, path, sales):
+    fresh(path)
+    subprocess.run([program, 'init', path, '0', '1', '1000000'], stdout=subprocess.DEVNULL, check=True)
+    lines = 'announce 1 gala\nrelease 2 gala 1000000\n'
+    subprocess.run([program, 'ask', path], input=lines, text=True, stdout=subprocess.DEVNULL, check=True)
+    lines = ''.join('sell %d gala 1\n' % (3 + k) for k in range(sales))
+    began = time.perf_counter()
+    subprocess.run([program, 'ask', path], input=lines, text=True, stdout=subprocess.DEVNULL, check=True)
+    return time.perf_counter() - began
+
+
+def theirs(path, sales):
+    fresh(path)
+    db = sqlite3.connect(path, isolation_level=None)
+    db.execute('PRAGMA journal_mode=WAL')
+    db.execute('PRAGMA synchronous=FULL')
+    db.execute(TABLE)
+    began = time.perf_counter()
+    for k in range(sales):
+        columns = (k, None, 3 + k, 'sell', 'gala', 1, None, 'done', None, 'used gala 0 %d\n' % (k + 1))
+        db.execute('INSERT INTO entries VALUES (?1, ?2, ?3, ?4, ?5, ?6, ?7, ?8, ?9, ?10)', columns)
+    took = time.perf_counter() - began
+    db.close()
+    return took
+
+
+def opening(program, path):
+    times = []
+    for _ in range(3):
+        began = time.perf_counter()
+        subprocess.run([program, 'find', path, '2'], stdout=subprocess.DEVNULL, check=True)
+        times.append(time.perf_counter() - began)
+    return min(times)
+
+
+def main(words):
+    if len(words) not in (1, 2):
+        sys.exit(__doc__)
+    program = words[0]
+    with tempfile.TemporaryDirectory(dir=words[1] if len(words) == 2 else None) as folder:
+        path, plain = os.path.join(folder, 'ours.db'), os.path.join(folder, 'theirs.db')
+        sales = 5000
+        mine = min(ours(program, path, sales) for _ in range(3))
+        other = min(theirs(plain, sales) for _ in range(3))
+        print('durable sales: %.0f a second, C SQLite %.0f, ratio %.2f' % (sales / mine, sales / other, other / mine))
+        for entries in (1000, 10000, 100000):
+            ours(program, path, entries - 2)
+            took = opening(program, path)
+            print('opening %d entries: %.3f s, %.1f us an entry' % (entries, took, took / entries * 1e6))
+
+
+main(sys.argv[1:])

@@ -1,0 +1,35 @@
+-- What a command printed, from the write to the status.
+use Rattle.std.proofs.Common.{◌≡◌, ◌⊎◌, ℕ, List, Option, Result, Ok, Err, inl, inr, sym, subst}
+use Rattle.std.specs.Prelude.{MatchResult, IfOk}
+use Rattle.std.specs.Io.KnownBytes.{Appends, Keeps}
+use Rattle.std.proofs.KnownBytes.{Appends-kept}
+use Rattle.plain_words.specs.Writing.{Writes}
+use Rattle.operator_cli.specs.declared.status.Status.{Status}
+use Rattle.operator_cli.specs.declared.status.Status.TheVariants.{Done, Refused, NotUnderstood, Failed}
+use Rattle.operator_cli.specs.declared.store_fault.StoreFault.{StoreFault}
+use Rattle.operator_cli.specs.declared.told.Told.{Told}
+use Rattle.operator_cli.specs.Told.{told_line, told_status}
+use Rattle.operator_cli.specs.Printed.{Printed, IsTellingOf}
+
+pub printed : (P : Status → List ℕ → Type 0) (a b : Option (List ℕ)) (status : Status) (text : List ℕ) → P status text → Appends a b text → Printed P a b status
+printed P a b Done text p h = (text, p, h)
+printed P a b Refused text p h = (text, p, h)
+printed P a b NotUnderstood text p h = (text, p, h)
+printed P a b Failed text p h = tt
+
+-- what is told
+pub told_printed : (P : Status → List ℕ → Type 0) (a b : Option (List ℕ)) (r : Result Status StoreFault) (told : Told) → P (told_status told) (told_line told) → Writes a b r (told_line told) → IfOk r (λ status. status ≡ told_status told) → IfOk r (Printed P a b)
+told_printed P a b (Ok status) told p h e = subst (Printed P a b) (sym e) (printed P a b (told_status told) (told_line told) p h)
+told_printed P a b (Err f) told p h e = tt
+
+kept : (P : Status → List ℕ → Type 0) (a b c : Option (List ℕ)) (status : Status) → Printed P a b status → Keeps b c → Printed P a c status
+kept P a b c Done h k = (h.0, h.1, Appends-kept a b c h.0 h.2 k)
+kept P a b c Refused h k = (h.0, h.1, Appends-kept a b c h.0 h.2 k)
+kept P a b c NotUnderstood h k = (h.0, h.1, Appends-kept a b c h.0 h.2 k)
+kept P a b c Failed h k = tt
+
+-- the end of the command
+pub ends_printed : (P : Status → List ℕ → Type 0) (a b c : Option (List ℕ)) (came : Result Status StoreFault) (status : Status) → IfOk came (Printed P a b) → Keeps b c → MatchResult came (λ s. (status ≡ s) ⊎ (status ≡ Failed)) (λ _. status ≡ Failed) → Printed P a c status
+ends_printed P a b c (Err f) status h k e = subst (Printed P a c) (sym e) tt
+ends_printed P a b c (Ok s) status h k (inl e) = subst (Printed P a c) (sym e) (kept P a b c s h k)
+ends_printed P a b c (Ok s) status h k (inr e) = subst (Printed P a c) (sym e) tt

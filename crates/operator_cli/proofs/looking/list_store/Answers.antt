@@ -1,0 +1,7 @@
+use Rattle.operator_cli.specs.Printed.{IsListText}
+use Rattle.operator_cli.proofs.PrintLaws.{ends_printed}
+use Rattle.operator_cli.proofs.looking.list_store.Goals as goal
+
+pub returns-in-Ok-clause-out : goal.returns-in-Ok-clause-out
+returns-in-Ok-clause-out g c =
+    ends_printed IsListText (g.W.Write.contents c.args.out.now) (g.W.Write.contents c.write_listed-came.new.out) (g.W.Write.contents c.ended.new.out) c.write_listed-came.result c.ended.result c.write_listed-came.ensures c.ended.ensures.kept c.ended.ensures.status

@@ -1,0 +1,9 @@
+use Rattle.std.proofs.Common.{refl}
+use Rattle.operator_cli.specs.declared.told.Told.TheVariants.{NoSite, Nothing, NotFound}
+use Rattle.operator_cli.specs.Printed.{IsListText}
+use Rattle.operator_cli.proofs.PrintLaws.{told_printed}
+use Rattle.operator_cli.proofs.looking.write_all.Goals as goal
+
+pub returns-then-is_empty : goal.returns-then-is_empty
+returns-then-is_empty g c =
+    told_printed IsListText (g.W.Write.contents c.args.out.now) (g.W.Write.contents c.tell.new.out) c.tell.result NotFound (NotFound, tt, refl, refl) c.tell.ensures.written c.tell.ensures.status

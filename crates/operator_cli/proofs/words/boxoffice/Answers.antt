@@ -1,0 +1,20 @@
+use Rattle.std.proofs.Common.{ap, ap₂, ◌∙◌, ◌≡◌}
+use Rattle.clap.specs.Words.{App, Shape, with_subcommand}
+use Rattle.clap.specs.Simple.{app_of_fields}
+use Rattle.operator_cli.specs.Orders.{needing}
+use Rattle.operator_cli.proofs.words.boxoffice.Goals as goal
+
+top_of : App → Shape
+top_of a = a.top
+
+pub returns : goal.returns
+unfolding top_of
+returns c =
+    let none = ap app_of_fields c.subcommand_required.ensures ∙ ap needing c.named.ensures.app in
+    let world = c.in_ok-subcommand.ensures.shape c.named-world.ensures.local ∙ ap₂ with_subcommand none (ap top_of c.named-world.ensures.app) in
+    let init = c.in_ok-subcommand-2.ensures.shape c.in_ok-init.ensures.local ∙ ap₂ with_subcommand world (ap top_of c.in_ok-init.ensures.app) in
+    let ask = c.in_ok-subcommand-3.ensures.shape c.in_ok-ask.ensures.local ∙ ap₂ with_subcommand init (ap top_of c.in_ok-ask.ensures.app) in
+    let find = c.in_ok-subcommand-4.ensures.shape c.in_ok-find.ensures.local ∙ ap₂ with_subcommand ask (ap top_of c.in_ok-find.ensures.app) in
+    let list = c.in_ok-subcommand-5.ensures.shape c.in_ok-list.ensures.local ∙ ap₂ with_subcommand find (ap top_of c.in_ok-list.ensures.app) in
+    let export = c.in_ok-subcommand-6.ensures.shape c.in_ok-export.ensures.local ∙ ap₂ with_subcommand list (ap top_of c.in_ok-export.ensures.app) in
+    c.in_ok-whole.ensures.shape c.in_ok-import.ensures.local ∙ ap₂ with_subcommand export (ap top_of c.in_ok-import.ensures.app)

@@ -1,0 +1,77 @@
+-- What the commands over records print on standard output, status by status. (Our own.)
+use Rattle.std.specs.Prelude.{◌≡◌, ℕ, ◌<◌, ⊤, List, length, Option}
+use Rattle.std.specs.List.{flat_map}
+use Rattle.std.specs.Io.KnownBytes.{Appends}
+use Rattle.request_ledger.specs.declared.reply.Reply.{Reply}
+use Rattle.site_exchange.specs.declared.message.Message.{Message}
+use Rattle.delta_wire.specs.Grammar.{IsMessage, message_text}
+use Rattle.sql_records.specs.declared.lookup.Listed.{Listed}
+use Rattle.operator_cli.specs.declared.told.Told.{Told}
+use Rattle.operator_cli.specs.declared.told.Told.TheVariants.{Made, Joined, NothingNew, Acked, AlreadyThere, NoSite, Nothing, NotFound, TooLong, Unread, NotTaken}
+use Rattle.operator_cli.specs.declared.status.Status.{Status}
+use Rattle.operator_cli.specs.declared.status.Status.TheVariants.{Done, Refused, NotUnderstood, Failed}
+use Rattle.operator_cli.specs.Records.{found_line, listed_line}
+use Rattle.operator_cli.specs.Told.{told_line, told_status}
+
+-- what went out is a text that goes with the status; of status 3 nothing is said
+abbrev pub Printed : (Status → List ℕ → Type 0) → Option (List ℕ) → Option (List ℕ) → Status → Type 0
+Printed P old new Failed = ⊤
+Printed P old new Done = (text : List ℕ) × P Done text × Appends old new text
+Printed P old new Refused = (text : List ℕ) × P Refused text × Appends old new text
+Printed P old new NotUnderstood = (text : List ℕ) × P NotUnderstood text × Appends old new text
+
+-- the line of something told, with its status
+abbrev pub IsTellingOf : (Told → Type 0) → Status → List ℕ → Type 0
+IsTellingOf Q status text = (told : Told) × Q told × (told_status told ≡ status) × (text ≡ told_line told)
+
+-- what making records may tell
+abbrev pub IsOfMaking : Told → Type 0
+IsOfMaking Made = ⊤
+IsOfMaking AlreadyThere = ⊤
+IsOfMaking NoSite = ⊤
+IsOfMaking _ = ⊥
+
+-- what looking up may tell
+abbrev pub IsOfLooking : Told → Type 0
+IsOfLooking NotFound = ⊤
+IsOfLooking _ = ⊥
+
+-- what sending may tell
+abbrev pub IsOfSending : Told → Type 0
+IsOfSending Nothing = ⊤
+IsOfSending NoSite = ⊤
+IsOfSending _ = ⊥
+
+-- what taking a message may tell
+abbrev pub IsOfTaking : Told → Type 0
+IsOfTaking Joined = ⊤
+IsOfTaking NothingNew = ⊤
+IsOfTaking Acked = ⊤
+IsOfTaking TooLong = ⊤
+IsOfTaking (Unread f) = ⊤
+IsOfTaking (NotTaken f) = ⊤
+IsOfTaking _ = ⊥
+
+abbrev pub IsMadeText : Status → List ℕ → Type 0
+IsMadeText = IsTellingOf IsOfMaking
+
+abbrev pub IsTakenText : Status → List ℕ → Type 0
+IsTakenText = IsTellingOf IsOfTaking
+
+-- one reply with its place, or none
+abbrev pub IsFoundText : Status → List ℕ → Type 0
+IsFoundText Done text = (place : ℕ) × (reply : Reply) × (text ≡ found_line place reply)
+IsFoundText status text = IsTellingOf IsOfLooking status text
+
+abbrev pub row_line : Listed → List ℕ
+row_line row = listed_line row.place row.number row.request row.reply
+
+-- one line or more, or none
+abbrev pub IsListText : Status → List ℕ → Type 0
+IsListText Done text = (rows : List Listed) × (0 < length rows) × (text ≡ flat_map row_line rows)
+IsListText status text = IsTellingOf IsOfLooking status text
+
+-- one message, or none
+abbrev pub IsSentText : Status → List ℕ → Type 0
+IsSentText Done text = (message : Message) × IsMessage message × (text ≡ message_text message)
+IsSentText status text = IsTellingOf IsOfSending status text

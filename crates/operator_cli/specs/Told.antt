@@ -1,0 +1,127 @@
+-- What the commands over records tell: an answer or a refusal, or the fault that ended them. (Our own.)
+use Rattle.std.specs.Prelude.{◌≡◌, ℕ, List, [], ◌∷◌, ◌++◌, Option, Result, Ok, Err, codes}
+use Rattle.std.specs.Io.KnownBytes.{Appends, Keeps}
+use Rattle.std.specs.Fmt.{decimal, signed_decimal}
+use Rattle.plain_words.specs.Writing.{AppendsFront}
+use Rattle.site_exchange.specs.declared.message.TakeFault.{TakeFault}
+use Rattle.site_exchange.specs.declared.message.TakeFault.TheVariants as take
+use Rattle.delta_wire.specs.declared.fault.WireFault.{WireFault}
+use Rattle.delta_wire.specs.declared.fault.WireFault.TheVariants as wire
+use Rattle.book_core.specs.declared.plan.ReplayFault.{ReplayFault}
+use Rattle.book_core.specs.declared.plan.ReplayFault.TheVariants as replay
+use Rattle.sql_records.specs.declared.fault.OpenFault.{OpenFault}
+use Rattle.sql_records.specs.declared.fault.OpenFault.TheVariants as opening
+use Rattle.sql_records.specs.declared.lookup.FindFault.{FindFault}
+use Rattle.sql_records.specs.declared.lookup.FindFault.TheVariants as find
+use Rattle.operator_cli.specs.declared.fault.ScriptFault.{ScriptFault}
+use Rattle.operator_cli.specs.declared.fault.ScriptFault.TheVariants as script
+use Rattle.operator_cli.specs.declared.store_fault.StoreFault.{StoreFault}
+use Rattle.operator_cli.specs.declared.store_fault.StoreFault.TheVariants as fault
+use Rattle.operator_cli.specs.declared.told.Told.{Told}
+use Rattle.operator_cli.specs.declared.told.Told.TheVariants.{Made, Joined, NothingNew, Acked, AlreadyThere, NoSite, Nothing, NotFound, TooLong, Unread, NotTaken}
+use Rattle.operator_cli.specs.declared.status.Status.{Status}
+use Rattle.operator_cli.specs.declared.status.Status.TheVariants.{Done, Refused, NotUnderstood, Failed}
+use Rattle.operator_cli.specs.Replies.{take_fault_text}
+
+-- the cause of status 3, one line on standard error
+abbrev pub store_fault_text : StoreFault → List ℕ
+store_fault_text fault.NotOurs = codes "not-ours"
+store_fault_text (fault.OtherSchema version) = codes "other-schema " ++ signed_decimal version
+store_fault_text (fault.Damaged place) = codes "damaged " ++ decimal place
+store_fault_text fault.Disk = codes "disk"
+store_fault_text fault.Memory = codes "memory"
+store_fault_text fault.Store = codes "store"
+store_fault_text fault.Read = codes "read"
+store_fault_text fault.Write = codes "write"
+store_fault_text fault.LineTooLong = codes "line-too-long"
+store_fault_text fault.TooManyLines = codes "too-many-lines"
+
+abbrev pub store_fault_line : StoreFault → List ℕ
+store_fault_line f = store_fault_text f ++ 10 ∷ []
+
+abbrev pub wire_fault_text : WireFault → List ℕ
+wire_fault_text wire.Truncated = codes "truncated"
+wire_fault_text (wire.BadLine line) = codes "bad-line " ++ decimal line
+wire_fault_text (wire.OutOfOrder line) = codes "out-of-order " ++ decimal line
+wire_fault_text wire.Trailing = codes "trailing"
+wire_fault_text wire.Memory = codes "memory"
+
+abbrev pub told_text : Told → List ℕ
+told_text Made = codes "done"
+told_text Joined = codes "joined"
+told_text NothingNew = codes "nothing-new"
+told_text Acked = codes "acked"
+told_text AlreadyThere = codes "already-there"
+told_text NoSite = codes "no-site"
+told_text Nothing = codes "nothing"
+told_text NotFound = codes "none"
+told_text TooLong = codes "too-long"
+told_text (Unread f) = wire_fault_text f
+told_text (NotTaken f) = take_fault_text f
+
+abbrev pub told_line : Told → List ℕ
+told_line told = told_text told ++ 10 ∷ []
+
+abbrev pub told_status : Told → Status
+told_status Made = Done
+told_status Joined = Done
+told_status NothingNew = Done
+told_status Acked = Done
+told_status AlreadyThere = Refused
+told_status NoSite = Refused
+told_status Nothing = Refused
+told_status NotFound = Refused
+told_status TooLong = Refused
+told_status (Unread f) = Refused
+told_status (NotTaken f) = Refused
+
+-- a fault of reading is told, but want of memory ends the command
+abbrev pub ended_by_wire : WireFault → Result Told StoreFault
+ended_by_wire wire.Truncated = Ok (Unread wire.Truncated)
+ended_by_wire (wire.BadLine line) = Ok (Unread (wire.BadLine line))
+ended_by_wire (wire.OutOfOrder line) = Ok (Unread (wire.OutOfOrder line))
+ended_by_wire wire.Trailing = Ok (Unread wire.Trailing)
+ended_by_wire wire.Memory = Err fault.Memory
+
+-- a refusal of a message is told, but want of memory and failed records end the command
+abbrev pub ended_by_take : TakeFault → Result Told StoreFault
+ended_by_take take.NotForMe = Ok (NotTaken take.NotForMe)
+ended_by_take take.UnknownSite = Ok (NotTaken take.UnknownSite)
+ended_by_take (take.StrayAck len) = Ok (NotTaken (take.StrayAck len))
+ended_by_take (take.ForeignRow mark) = Ok (NotTaken (take.ForeignRow mark))
+ended_by_take take.Full = Ok (NotTaken take.Full)
+ended_by_take take.Memory = Err fault.Memory
+ended_by_take take.Closed = Err fault.Store
+ended_by_take take.Store = Err fault.Store
+
+-- At status 3 the line of a fault went to the second writer, or a front of it; else nothing went there.
+abbrev pub FaultTold : Option (List ℕ) → Option (List ℕ) → Status → Type 0
+FaultTold old new Failed = (f : StoreFault) × AppendsFront old new (store_fault_line f)
+FaultTold old new Done = Keeps old new
+FaultTold old new Refused = Keeps old new
+FaultTold old new NotUnderstood = Keeps old new
+
+abbrev pub of_open_fault : OpenFault → StoreFault
+of_open_fault opening.NotOurs = fault.NotOurs
+of_open_fault (opening.OtherSchema version) = fault.OtherSchema version
+of_open_fault (opening.Damaged place) = fault.Damaged place
+of_open_fault opening.Memory = fault.Memory
+of_open_fault opening.Disk = fault.Disk
+
+-- a list that is not legal is told like one that cannot be read
+abbrev pub of_replay_fault : ReplayFault → StoreFault
+of_replay_fault (replay.IllegalAt place) = fault.Damaged place
+of_replay_fault replay.Memory = fault.Memory
+
+abbrev pub of_find_fault : FindFault → StoreFault
+of_find_fault find.Shut = fault.Store
+of_find_fault (find.Damaged place) = fault.Damaged place
+of_find_fault find.Memory = fault.Memory
+of_find_fault find.Disk = fault.Disk
+
+abbrev pub of_script_fault : ScriptFault → StoreFault
+of_script_fault script.Read = fault.Read
+of_script_fault script.Write = fault.Write
+of_script_fault script.LineTooLong = fault.LineTooLong
+of_script_fault script.TooManyLines = fault.TooManyLines
+of_script_fault script.Memory = fault.Memory

@@ -1,0 +1,217 @@
+//! A session with the book of a site.
+
+ghost use Rattle.std.specs.Prelude.{◌≡◌, ◌≤◌, None, IfSome};
+ghost use Rattle.arrayvec.specs.ArrayVec.{array_vec_len};
+ghost use Rattle.operator_cli.specs.Told.{FaultTold};
+ghost use Rattle.operator_cli.specs.declared.status.Status.TheVariants.{Failed};
+
+use crate::answer::{numbered, reply_text, totals_text, word};
+use crate::ending::ended;
+use crate::fault::ScriptFault;
+use crate::opening::open_book;
+use crate::requests::{Verb, event_at, numbered_at, verb_at};
+use crate::status::Status;
+use crate::store_fault::StoreFault;
+use plain_words::{LineBytes, Text, Words, has_more, next_line, put, write_bytes};
+use request_ledger::{Request, RequestNumber};
+use rights_lattice::Event;
+use site_desk::{AskFault, LookFault, SiteBook};
+use sql_records::Keeper;
+use sqlite::{Alter, Connection};
+use std::alloc::Global;
+use std::io::{BufRead, BufReader, Read, Write};
+
+// The most lines of a session.
+const MOST_LINES: u32 = 1_000_000;
+
+// What a line of a session asks.
+#[derive(Clone, Copy, Debug)]
+enum SessionLine {
+    Ask {
+        number: RequestNumber,
+        request: Request,
+    },
+    Left {
+        event: Event,
+    },
+    Totals {
+        event: Event,
+    },
+    Quit,
+}
+
+// The event that is the last word.
+fn last_event(words: &mut Words<'_>) -> Option<Event> {
+    let event = event_at(words)?;
+    if words.is_empty() { Some(event) } else { None }
+}
+
+fn session_line(bytes: &[u8]) -> Option<SessionLine> {
+    if bytes == b"quit".as_slice() {
+        return Some(SessionLine::Quit);
+    }
+    let mut words = Words::new(bytes);
+    match verb_at(&mut words)? {
+        Verb::Left => {
+            let event = last_event(&mut words)?;
+            Some(SessionLine::Left { event })
+        }
+        Verb::Totals => {
+            let event = last_event(&mut words)?;
+            Some(SessionLine::Totals { event })
+        }
+        verb => {
+            let (number, request) = numbered_at(verb, &mut words)?;
+            Some(SessionLine::Ask { number, request })
+        }
+    }
+}
+
+fn asked_text<K: Keeper>(
+    alloc: Global,
+    book: &mut SiteBook<K>,
+    number: RequestNumber,
+    request: &Request,
+) -> Text
+    ensures { array_vec_len result ≤ 200 }
+{
+    match book.ask(alloc, number, request) {
+        Ok(answer) => reply_text(answer.reply),
+        Err(AskFault::Closed) => word(b"closed"),
+        Err(AskFault::Reused { .. }) => word(b"reused"),
+        Err(AskFault::Full) => word(b"history-full"),
+        Err(AskFault::Memory) => word(b"memory"),
+        Err(AskFault::Store) => word(b"store"),
+    }
+}
+
+fn left_text<K: Keeper>(book: &SiteBook<K>, event: Event) -> Text
+    ensures { array_vec_len result ≤ 200 }
+{
+    match book.look(event) {
+        Ok(seen) => numbered(b"left ", seen.left),
+        Err(LookFault::Unknown) => word(b"unknown"),
+        Err(LookFault::Closed) => word(b"closed"),
+    }
+}
+
+fn seen_totals_text<K: Keeper>(book: &SiteBook<K>, event: Event) -> Text
+    ensures { array_vec_len result ≤ 200 }
+{
+    match book.look(event) {
+        Ok(seen) => totals_text(seen.totals),
+        Err(LookFault::Unknown) => word(b"unknown"),
+        Err(LookFault::Closed) => word(b"closed"),
+    }
+}
+
+fn asked_reply<K: Keeper>(alloc: Global, book: &mut SiteBook<K>, asked: SessionLine) -> Option<Text>
+    ensures { IfSome result (λ text. array_vec_len text ≤ 200) }
+{
+    match asked {
+        SessionLine::Ask { number, request } => Some(asked_text(alloc, book, number, &request)),
+        SessionLine::Left { event } => Some(left_text(book, event)),
+        SessionLine::Totals { event } => Some(seen_totals_text(book, event)),
+        SessionLine::Quit => None,
+    }
+}
+
+// The reply to a line, and none to the last.
+fn session_reply<K: Keeper>(alloc: Global, book: &mut SiteBook<K>, line: &[u8]) -> Option<Text>
+    ensures { IfSome result (λ text. array_vec_len text ≤ 200) }
+{
+    match session_line(line) {
+        Some(asked) => asked_reply(alloc, book, asked),
+        None => Some(word(b"bad-line")),
+    }
+}
+
+// The whole line is at its writer's end.
+fn write_reply<W: Write>(mut reply: Text, out: &mut W) -> Result<(), ScriptFault>
+    requires { array_vec_len reply ≤ 200 }
+{
+    put(&mut reply, b"\n");
+    write_bytes(reply.as_slice(), out)?;
+    match out.flush() {
+        Ok(()) => Ok(()),
+        Err(_) => Err(ScriptFault::Write),
+    }
+}
+
+// Answers the next line: false where there is none, or it is the last.
+fn answer_next<K: Keeper, R: BufRead, W: Write>(
+    alloc: Global,
+    book: &mut SiteBook<K>,
+    reader: &mut R,
+    out: &mut W,
+) -> Result<bool, ScriptFault> {
+    let mut line = LineBytes::new();
+    if !next_line(reader, &mut line)? {
+        return Ok(false);
+    }
+    let Some(reply) = session_reply(alloc, book, line.as_slice()) else {
+        return Ok(false);
+    };
+    write_reply(reply, out)?;
+    Ok(true)
+}
+
+fn answer_all<K: Keeper, R: BufRead, W: Write>(
+    alloc: Global,
+    book: &mut SiteBook<K>,
+    reader: &mut R,
+    out: &mut W,
+) -> Result<(), ScriptFault> {
+    'lines: for _count in 0..MOST_LINES {
+        let is_answered = answer_next(alloc, book, reader, out)?;
+        if !is_answered {
+            return Ok(());
+        }
+    }
+    let is_more = has_more(reader)?;
+    if is_more {
+        return Err(ScriptFault::TooManyLines);
+    }
+    Ok(())
+}
+
+fn run_session<K: Keeper, R: Read + Drop, W: Write>(
+    alloc: Global,
+    book: &mut SiteBook<K>,
+    input: R,
+    out: &mut W,
+) -> Result<Status, StoreFault> {
+    let Ok(mut reader) = BufReader::new(alloc, input) else {
+        return Err(StoreFault::Memory);
+    };
+    match answer_all(alloc, book, &mut reader, out) {
+        Ok(()) => Ok(Status::Done),
+        Err(fault) => Err(StoreFault::from(fault)),
+    }
+}
+
+/// Answers the session lines of the input, each before the next is read, up to `quit` or the end:
+/// its reply, what the site shows of an event, or `bad-line`; `memory`, `store` and `closed` are
+/// answers too.
+///
+/// The records are opened before anything is read. What ends the session early is told on `err`,
+/// with status 3, and what was answered stays entered. The connection comes back unless its
+/// records were refused.
+pub fn ask_store<S: Alter + Drop, R: Read + Drop, W: Write, E: Write>(
+    alloc: Global,
+    conn: Connection<S>,
+    input: R,
+    out: &mut W,
+    err: &mut E,
+) -> (Status, Option<Connection<S>>)
+    ensures err { FaultTold (E.contents err.old) (E.contents err.new) result.0 }
+    ensures lost { result.1 ≡ None → result.0 ≡ Failed }
+{
+    match open_book(alloc, conn) {
+        Ok(mut book) => {
+            let came = run_session(alloc, &mut book, input, out);
+            (ended(came, out, err), Some(book.into_keeper().close()))
+        }
+        Err((fault, conn)) => (ended(Err(fault), out, err), conn),
+    }
+}

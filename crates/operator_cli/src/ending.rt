@@ -1,0 +1,67 @@
+//! The end of a command over records.
+
+ghost use Rattle.std.specs.Prelude.{◌≡◌, ◌⊎◌, IfOk, IfErr, MatchResult};
+ghost use Rattle.std.specs.Io.KnownBytes.{Keeps};
+ghost use Rattle.plain_words.specs.Writing.{Writes};
+ghost use Rattle.operator_cli.specs.Told.{store_fault_line, FaultTold};
+ghost use Rattle.operator_cli.specs.declared.status.Status.TheVariants.{Failed};
+ghost use Rattle.operator_cli.specs.declared.store_fault.StoreFault.TheVariants.{Write as WriteFailed};
+
+use crate::status::Status;
+use crate::store_fault::{StoreFault, store_fault_line};
+use plain_words::{Text, write_bytes};
+use std::io::Write;
+
+/// Writes a line.
+pub(crate) fn write_line<W: Write>(line: &Text, out: &mut W) -> Result<(), StoreFault>
+    ensures written { Writes (W.contents out.old) (W.contents out.new) result line.now.items }
+    ensures fault { IfErr result (λ fault. fault ≡ WriteFailed) }
+{
+    match write_bytes(line.as_slice(), out) {
+        Ok(()) => Ok(()),
+        Err(_) => Err(StoreFault::Write),
+    }
+}
+
+// What was written is at its writer's end.
+fn flushed<W: Write>(status: Status, out: &mut W) -> Result<Status, StoreFault>
+    ensures kept { Keeps (W.contents out.old) (W.contents out.new) }
+    ensures status { IfOk result (λ s. s ≡ status) }
+{
+    match out.flush() {
+        Ok(()) => Ok(status),
+        Err(_) => Err(StoreFault::Write),
+    }
+}
+
+// Tells a fault.
+fn tell_fault<E: Write>(fault: StoreFault, err: &mut E) -> Status
+    ensures told { FaultTold (E.contents err.old) (E.contents err.new) result }
+    ensures status { result ≡ Failed }
+{
+    let line = store_fault_line(fault);
+    let _ = write_bytes(line.as_slice(), err);
+    Status::Failed
+}
+
+/// The status of a command that came to this. A fault is told on `err`.
+pub(crate) fn ended<W: Write, E: Write>(
+    came: Result<Status, StoreFault>,
+    out: &mut W,
+    err: &mut E,
+) -> Status
+    ensures kept { Keeps (W.contents out.old) (W.contents out.new) }
+    ensures told { FaultTold (E.contents err.old) (E.contents err.new) result }
+    ensures status { MatchResult came (λ status. (result ≡ status) ⊎ (result ≡ Failed)) (λ _. result ≡ Failed) }
+{
+    match came {
+        Ok(status) => match flushed(status, out) {
+            Ok(status) => status,
+            Err(fault) => tell_fault(fault, err),
+        },
+        Err(fault) => {
+            let _ = out.flush();
+            tell_fault(fault, err)
+        }
+    }
+}

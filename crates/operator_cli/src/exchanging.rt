@@ -1,0 +1,158 @@
+//! Messages to and from the records of a site.
+
+ghost use Rattle.std.specs.Prelude.{◌≡◌, ◌≤◌, None, IfOk, IfSome, length, vec_len};
+ghost use Rattle.operator_cli.specs.Told.{FaultTold};
+ghost use Rattle.operator_cli.specs.Printed.{Printed, IsSentText, IsTakenText, IsOfTaking};
+ghost use Rattle.operator_cli.specs.declared.status.Status.TheVariants.{Failed};
+
+use crate::ending::ended;
+use crate::opening::open_book;
+use crate::status::Status;
+use crate::store_fault::StoreFault;
+use crate::told::{Told, ended_by_take, ended_by_wire, tell};
+use delta_wire::{read_message, write_message};
+use rights_lattice::SiteId;
+use site_desk::{NextFault, SiteBook, Taken};
+use sql_records::Keeper;
+use sqlite::{Alter, Connection};
+use std::alloc::Global;
+use std::io::{ErrorKind, Read, Write};
+
+// The most bytes that a message may have.
+const MOST_BYTES: usize = 4_294_967_296;
+
+fn write_next<K: Keeper, W: Write>(
+    alloc: Global,
+    book: &SiteBook<K>,
+    to: SiteId,
+    out: &mut W,
+) -> Result<Status, StoreFault>
+    ensures { IfOk result (Printed IsSentText (W.contents out.old) (W.contents out.new)) }
+{
+    match book.next(alloc, to) {
+        Ok(Some(message)) => match write_message(&message, out) {
+            Ok(()) => Ok(Status::Done),
+            Err(_) => Err(StoreFault::Write),
+        },
+        Ok(None) => tell(&Told::Nothing, out),
+        Err(NextFault::NoSite) => tell(&Told::NoSite, out),
+        Err(NextFault::Closed) => Err(StoreFault::Store),
+        Err(NextFault::Memory) => Err(StoreFault::Memory),
+    }
+}
+
+/// Prints the message to a peer that has acknowledged nothing; `nothing` where the history is
+/// empty, or `no-site` where `to` is no other site of the records, with status 1.
+///
+/// A fault is told on `err`, with status 3. The connection comes back unless its records were
+/// refused.
+pub fn export_store<S: Alter + Drop, W: Write, E: Write>(
+    alloc: Global,
+    conn: Connection<S>,
+    to: SiteId,
+    out: &mut W,
+    err: &mut E,
+) -> (Status, Option<Connection<S>>)
+    ensures out { Printed IsSentText (W.contents out.old) (W.contents out.new) result.0 }
+    ensures err { FaultTold (E.contents err.old) (E.contents err.new) result.0 }
+    ensures lost { result.1 ≡ None → result.0 ≡ Failed }
+{
+    match open_book(alloc, conn) {
+        Ok(book) => {
+            let came = write_next(alloc, &book, to, out);
+            (ended(came, out, err), Some(book.into_keeper().close()))
+        }
+        Err((fault, conn)) => (ended(Err(fault), out, err), conn),
+    }
+}
+
+// All of the input, or None where it is longer than a message may be.
+fn read_input<R: Read + Drop>(alloc: Global, input: R) -> Result<Option<Vec<u8>>, StoreFault>
+    ensures { IfOk result (λ read. IfSome read (λ bytes. vec_len bytes ≤ 4294967296)) }
+{
+    let mut bytes = Vec::new(alloc);
+    match input.take(MOST_BYTES as u64 + 1).read_to_end(&mut bytes) {
+        Ok(_) => {}
+        Err(error) => match error.kind() {
+            ErrorKind::OutOfMemory => return Err(StoreFault::Memory),
+            _ => return Err(StoreFault::Read),
+        },
+    }
+    if bytes.len() > MOST_BYTES {
+        return Ok(None);
+    }
+    Ok(Some(bytes))
+}
+
+fn take_bytes<K: Keeper>(
+    alloc: Global,
+    book: &mut SiteBook<K>,
+    bytes: &[u8],
+) -> Result<Told, StoreFault>
+    requires { length bytes.now ≤ 4294967296 }
+    ensures { IfOk result IsOfTaking }
+{
+    let message = match read_message(alloc, bytes) {
+        Ok(message) => message,
+        Err(fault) => return ended_by_wire(fault),
+    };
+    match book.take(message) {
+        Ok(Taken::Joined { .. }) => Ok(Told::Joined),
+        Ok(Taken::NothingNew { .. }) => Ok(Told::NothingNew),
+        Ok(Taken::Acked) => Ok(Told::Acked),
+        Err(fault) => ended_by_take(fault),
+    }
+}
+
+fn take_input<K: Keeper, R: Read + Drop>(
+    alloc: Global,
+    book: &mut SiteBook<K>,
+    input: R,
+) -> Result<Told, StoreFault>
+    ensures { IfOk result IsOfTaking }
+{
+    match read_input(alloc, input) {
+        Ok(Some(bytes)) => take_bytes(alloc, book, bytes.as_slice()),
+        Ok(None) => Ok(Told::TooLong),
+        Err(fault) => Err(fault),
+    }
+}
+
+fn write_taken<K: Keeper, R: Read + Drop, W: Write>(
+    alloc: Global,
+    book: &mut SiteBook<K>,
+    input: R,
+    out: &mut W,
+) -> Result<Status, StoreFault>
+    ensures { IfOk result (Printed IsTakenText (W.contents out.old) (W.contents out.new)) }
+{
+    match take_input(alloc, book, input) {
+        Ok(told) => tell(&told, out),
+        Err(fault) => Err(fault),
+    }
+}
+
+/// Takes the one message that the input is, and prints `joined`, `nothing-new` or `acked`; what is
+/// no message, and what is refused, is told with status 1 and changes nothing.
+///
+/// The records are opened before anything is read. A fault is told on `err`, with status 3. The
+/// connection comes back unless its records were refused.
+pub fn import_store<S: Alter + Drop, R: Read + Drop, W: Write, E: Write>(
+    alloc: Global,
+    conn: Connection<S>,
+    input: R,
+    out: &mut W,
+    err: &mut E,
+) -> (Status, Option<Connection<S>>)
+    ensures out { Printed IsTakenText (W.contents out.old) (W.contents out.new) result.0 }
+    ensures err { FaultTold (E.contents err.old) (E.contents err.new) result.0 }
+    ensures lost { result.1 ≡ None → result.0 ≡ Failed }
+{
+    match open_book(alloc, conn) {
+        Ok(mut book) => {
+            let came = write_taken(alloc, &mut book, input, out);
+            (ended(came, out, err), Some(book.into_keeper().close()))
+        }
+        Err((fault, conn)) => (ended(Err(fault), out, err), conn),
+    }
+}

@@ -1,0 +1,128 @@
+//! Looking requests up in the records of a site.
+
+ghost use Rattle.std.specs.Prelude.{◌≡◌, IfOk, None};
+ghost use Rattle.operator_cli.specs.Told.{of_find_fault, FaultTold};
+ghost use Rattle.operator_cli.specs.Printed.{Printed, IsFoundText, IsListText};
+ghost use Rattle.operator_cli.specs.declared.status.Status.TheVariants.{Failed};
+
+use crate::ending::{ended, write_line};
+use crate::opening::open_book;
+use crate::request_lines::{found_line, listed_line};
+use crate::status::Status;
+use crate::store_fault::StoreFault;
+use crate::told::{Told, tell};
+use request_ledger::RequestNumber;
+use rights_lattice::Event;
+use sql_records::{FindFault, Listed, Records};
+use sqlite::{Alter, Connection};
+use std::alloc::Global;
+use std::io::Write;
+
+fn of_find_fault(fault: FindFault) -> StoreFault
+    ensures { result ≡ of_find_fault fault }
+{
+    match fault {
+        FindFault::Shut => StoreFault::Store,
+        FindFault::Damaged { place } => StoreFault::Damaged { place },
+        FindFault::Memory => StoreFault::Memory,
+        FindFault::Disk => StoreFault::Disk,
+    }
+}
+
+fn write_found<S: Alter, W: Write>(
+    records: &mut Records<S>,
+    number: RequestNumber,
+    out: &mut W,
+) -> Result<Status, StoreFault>
+    ensures { IfOk result (Printed IsFoundText (W.contents out.old) (W.contents out.new)) }
+{
+    match records.find(number) {
+        Ok(Some(found)) => {
+            write_line(&found_line(found.place, found.reply), out)?;
+            Ok(Status::Done)
+        }
+        Ok(None) => tell(&Told::NotFound, out),
+        Err(fault) => Err(of_find_fault(fault)),
+    }
+}
+
+/// Prints the place and the reply that are kept under a number; `none` where nothing is, with
+/// status 1.
+///
+/// A fault is told on `err`, with status 3. The connection comes back unless its records were
+/// refused.
+pub fn find_store<S: Alter + Drop, W: Write, E: Write>(
+    alloc: Global,
+    conn: Connection<S>,
+    number: RequestNumber,
+    out: &mut W,
+    err: &mut E,
+) -> (Status, Option<Connection<S>>)
+    ensures out { Printed IsFoundText (W.contents out.old) (W.contents out.new) result.0 }
+    ensures err { FaultTold (E.contents err.old) (E.contents err.new) result.0 }
+    ensures lost { result.1 ≡ None → result.0 ≡ Failed }
+{
+    match open_book(alloc, conn) {
+        Ok(book) => {
+            let mut records = book.into_keeper();
+            let came = write_found(&mut records, number, out);
+            (ended(came, out, err), Some(records.close()))
+        }
+        Err((fault, conn)) => (ended(Err(fault), out, err), conn),
+    }
+}
+
+fn write_all<W: Write>(listed: &[Listed], out: &mut W) -> Result<Status, StoreFault>
+    ensures { IfOk result (Printed IsListText (W.contents out.old) (W.contents out.new)) }
+{
+    if listed.is_empty() {
+        return tell(&Told::NotFound, out);
+    }
+    'rows: for row in listed {
+        let line = listed_line(row.place, row.number, row.request, row.reply);
+        write_line(&line, out)?;
+    }
+    Ok(Status::Done)
+}
+
+fn write_listed<S: Alter, W: Write>(
+    records: &mut Records<S>,
+    event: &str,
+    out: &mut W,
+) -> Result<Status, StoreFault>
+    ensures { IfOk result (Printed IsListText (W.contents out.old) (W.contents out.new)) }
+{
+    let Some(event) = Event::read(event.as_bytes()) else {
+        return tell(&Told::NotFound, out);
+    };
+    match records.list(event) {
+        Ok(listed) => write_all(listed.as_slice(), out),
+        Err(fault) => Err(of_find_fault(fault)),
+    }
+}
+
+/// Prints a line for each request that names the event, by place: the place, the session line and
+/// the reply; `none` where there is none, also for a word that is no event name, with status 1.
+///
+/// A fault is told on `err`, with status 3. The connection comes back unless its records were
+/// refused.
+pub fn list_store<S: Alter + Drop, W: Write, E: Write>(
+    alloc: Global,
+    conn: Connection<S>,
+    event: &str,
+    out: &mut W,
+    err: &mut E,
+) -> (Status, Option<Connection<S>>)
+    ensures out { Printed IsListText (W.contents out.old) (W.contents out.new) result.0 }
+    ensures err { FaultTold (E.contents err.old) (E.contents err.new) result.0 }
+    ensures lost { result.1 ≡ None → result.0 ≡ Failed }
+{
+    match open_book(alloc, conn) {
+        Ok(book) => {
+            let mut records = book.into_keeper();
+            let came = write_listed(&mut records, event, out);
+            (ended(came, out, err), Some(records.close()))
+        }
+        Err((fault, conn)) => (ended(Err(fault), out, err), conn),
+    }
+}

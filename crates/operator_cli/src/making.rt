@@ -1,0 +1,82 @@
+//! Making the records of a site.
+
+ghost use Rattle.std.specs.Prelude.{◌≡◌, IfOk};
+ghost use Rattle.operator_cli.specs.Told.{FaultTold};
+ghost use Rattle.operator_cli.specs.Printed.{Printed, IsTellingOf, IsMadeText, IsOfMaking};
+ghost use Rattle.operator_cli.specs.declared.told.Told.TheVariants.{NoSite};
+
+use crate::ending::ended;
+use crate::status::Status;
+use crate::store_fault::StoreFault;
+use crate::told::{Told, tell};
+use book_core::Limit;
+use rights_lattice::{SiteId, Sites};
+use sql_records::{InitFault, Records};
+use sqlite::{Alter, Connection};
+use std::io::Write;
+
+/// Tells that there is no such site among so many, which needs no file: `no-site`, status 1.
+pub fn refuse_site<W: Write, E: Write>(out: &mut W, err: &mut E) -> Status
+    ensures out { Printed (IsTellingOf (λ told. told ≡ NoSite)) (W.contents out.old) (W.contents out.new) result }
+    ensures err { FaultTold (E.contents err.old) (E.contents err.new) result }
+{
+    let came = tell(&Told::NoSite, out);
+    ended(came, out, err)
+}
+
+fn make<S: Alter>(
+    conn: &mut Connection<S>,
+    me: SiteId,
+    sites: Sites,
+    limit: Limit,
+) -> Result<Told, StoreFault>
+    ensures { IfOk result IsOfMaking }
+{
+    if me.number() >= sites.count() {
+        return Ok(Told::NoSite);
+    }
+    if !conn.is_autocommit() {
+        return Err(StoreFault::Disk);
+    }
+    match Records::init(conn, me, sites, limit) {
+        Ok(()) => Ok(Told::Made),
+        Err(InitFault::AlreadyThere) => Ok(Told::AlreadyThere),
+        Err(InitFault::Memory) => Err(StoreFault::Memory),
+        Err(InitFault::Disk) => Err(StoreFault::Disk),
+    }
+}
+
+fn write_made<S: Alter, W: Write>(
+    conn: &mut Connection<S>,
+    me: SiteId,
+    sites: Sites,
+    limit: Limit,
+    out: &mut W,
+) -> Result<Status, StoreFault>
+    ensures { IfOk result (Printed IsMadeText (W.contents out.old) (W.contents out.new)) }
+{
+    match make(conn, me, sites, limit) {
+        Ok(told) => tell(&told, out),
+        Err(fault) => Err(fault),
+    }
+}
+
+/// Makes the records of a site with no entries, and prints `done`; or `already-there` where the
+/// database is not empty, or `no-site` where `me` is not below `sites`, with status 1.
+///
+/// `memory` and `disk` are told on `err`, with status 3. Only `done` changes the database, save
+/// that after a fault the records may be there.
+pub fn init_store<S: Alter, W: Write, E: Write>(
+    conn: &mut Connection<S>,
+    me: SiteId,
+    sites: Sites,
+    limit: Limit,
+    out: &mut W,
+    err: &mut E,
+) -> Status
+    ensures out { Printed IsMadeText (W.contents out.old) (W.contents out.new) result }
+    ensures err { FaultTold (E.contents err.old) (E.contents err.new) result }
+{
+    let came = write_made(conn, me, sites, limit, out);
+    ended(came, out, err)
+}

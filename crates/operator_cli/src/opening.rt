@@ -1,0 +1,54 @@
+//! Opening the records of a site.
+
+ghost use Rattle.std.specs.Prelude.{◌≡◌};
+ghost use Rattle.operator_cli.specs.Told.{of_open_fault, of_replay_fault};
+
+use crate::store_fault::StoreFault;
+use book_core::ReplayFault;
+use site_desk::SiteBook;
+use sql_records::{OpenFault, Records};
+use sqlite::{Alter, Connection};
+use std::alloc::Global;
+
+fn of_open_fault(fault: OpenFault) -> StoreFault
+    ensures { result ≡ of_open_fault fault }
+{
+    match fault {
+        OpenFault::NotOurs => StoreFault::NotOurs,
+        OpenFault::OtherSchema { version } => StoreFault::OtherSchema { version },
+        OpenFault::Damaged { place } => StoreFault::Damaged { place },
+        OpenFault::Memory => StoreFault::Memory,
+        OpenFault::Disk => StoreFault::Disk,
+    }
+}
+
+fn of_replay_fault(fault: ReplayFault) -> StoreFault
+    ensures { result ≡ of_replay_fault fault }
+{
+    match fault {
+        ReplayFault::IllegalAt { place } => StoreFault::Damaged {
+            place: place as u64,
+        },
+        ReplayFault::Memory => StoreFault::Memory,
+    }
+}
+
+/// The book of the records, whose history is legal.
+///
+/// A fault comes with the connection, unless it is the opening that was refused.
+pub(crate) fn open_book<S: Alter + Drop>(
+    alloc: Global,
+    conn: Connection<S>,
+) -> Result<SiteBook<Records<S>>, (StoreFault, Option<Connection<S>>)> {
+    if !conn.is_autocommit() {
+        return Err((StoreFault::Disk, Some(conn)));
+    }
+    let (records, entries, meta) = match Records::open(alloc, conn) {
+        Ok(opened) => opened,
+        Err(fault) => return Err((of_open_fault(fault), None)),
+    };
+    match SiteBook::start(alloc, records, entries, meta) {
+        Ok(book) => Ok(book),
+        Err((records, fault)) => Err((of_replay_fault(fault), Some(records.close()))),
+    }
+}

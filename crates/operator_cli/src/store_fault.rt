@@ -1,0 +1,91 @@
+//! What ends a command over records.
+
+ghost use Rattle.std.specs.Prelude.{◌≡◌, ◌++◌, ◌≤◌, length};
+ghost use Rattle.arrayvec.specs.ArrayVec.{array_vec_len};
+ghost use Rattle.std.specs.Fmt.{signed_decimal};
+ghost use Rattle.operator_cli.specs.Told.{store_fault_text, store_fault_line};
+
+use crate::answer::{numbered, word};
+use crate::fault::ScriptFault;
+use plain_words::{Text, put, put_number};
+
+/// What ends a command over records early, and is told on standard error.
+#[derive(Clone, Copy, Debug, PartialEq, Eq)]
+pub(crate) enum StoreFault {
+    /// The file holds no records of a site.
+    NotOurs,
+    /// The records are of another version.
+    OtherSchema { version: i64 },
+    /// The entry at this place is missing, unreadable or none that may stand there.
+    Damaged { place: u64 },
+    Disk,
+    Memory,
+    /// An entry could not be stored.
+    Store,
+    /// The input failed.
+    Read,
+    /// The output failed.
+    Write,
+    /// A line of a session has more than 200 bytes.
+    LineTooLong,
+    /// A session has more than 1,000,000 lines.
+    TooManyLines,
+}
+
+impl From<ScriptFault> for StoreFault {
+    ghost use Rattle.std.specs.Prelude.{◌≡◌};
+    ghost use Rattle.operator_cli.specs.Told.{of_script_fault};
+
+    ghost from_gives = { λ script fault. fault ≡ of_script_fault script };
+
+    fn from(fault: ScriptFault) -> StoreFault {
+        match fault {
+            ScriptFault::Read => StoreFault::Read,
+            ScriptFault::Write => StoreFault::Write,
+            ScriptFault::LineTooLong => StoreFault::LineTooLong,
+            ScriptFault::TooManyLines => StoreFault::TooManyLines,
+            ScriptFault::Memory => StoreFault::Memory,
+        }
+    }
+}
+
+// A number that may be negative, after a word.
+fn signed(bytes: &[u8], number: i64) -> Text
+    requires { length bytes.now ≤ 100 }
+    ensures value { result.items ≡ bytes.now ++ signed_decimal number }
+    ensures len { array_vec_len result ≤ 200 }
+{
+    let mut text = word(bytes);
+    if number < 0 {
+        put(&mut text, b"-");
+    }
+    put_number(&mut text, number.unsigned_abs());
+    text
+}
+
+fn store_fault_text(fault: StoreFault) -> Text
+    ensures value { result.items ≡ store_fault_text fault }
+    ensures len { array_vec_len result ≤ 200 }
+{
+    match fault {
+        StoreFault::NotOurs => word(b"not-ours"),
+        StoreFault::OtherSchema { version } => signed(b"other-schema ", version),
+        StoreFault::Damaged { place } => numbered(b"damaged ", place),
+        StoreFault::Disk => word(b"disk"),
+        StoreFault::Memory => word(b"memory"),
+        StoreFault::Store => word(b"store"),
+        StoreFault::Read => word(b"read"),
+        StoreFault::Write => word(b"write"),
+        StoreFault::LineTooLong => word(b"line-too-long"),
+        StoreFault::TooManyLines => word(b"too-many-lines"),
+    }
+}
+
+/// The line that names the cause on standard error.
+pub(crate) fn store_fault_line(fault: StoreFault) -> Text
+    ensures { result.items ≡ store_fault_line fault }
+{
+    let mut text = store_fault_text(fault);
+    put(&mut text, b"\n");
+    text
+}

@@ -1,0 +1,118 @@
+//! What a command over records tells in one line of standard output.
+
+ghost use Rattle.std.specs.Prelude.{◌≡◌, ◌≤◌, IfOk, IfErr};
+ghost use Rattle.arrayvec.specs.ArrayVec.{array_vec_len};
+ghost use Rattle.plain_words.specs.Writing.{Writes};
+ghost use Rattle.operator_cli.specs.Told.{told_text, told_line, told_status, wire_fault_text, ended_by_wire, ended_by_take};
+ghost use Rattle.operator_cli.specs.declared.store_fault.StoreFault.TheVariants.{Write as WriteFailed};
+
+use crate::answer::{numbered, take_fault_text, word};
+use crate::status::Status;
+use crate::store_fault::StoreFault;
+use delta_wire::WireFault;
+use plain_words::{Text, put, write_bytes};
+use site_exchange::TakeFault;
+use std::io::Write;
+
+/// What a command tells.
+#[derive(Clone, Copy, Debug)]
+pub(crate) enum Told {
+    /// The records are made.
+    Made,
+    /// The message brought something new.
+    Joined,
+    /// The message brought what was known.
+    NothingNew,
+    /// The message was an acknowledgement.
+    Acked,
+    /// The file holds records already.
+    AlreadyThere,
+    /// The site is not there, or would send to itself.
+    NoSite,
+    /// There is nothing to send.
+    Nothing,
+    /// Nothing was found.
+    NotFound,
+    /// The input is longer than a message may be.
+    TooLong,
+    /// The input is no message.
+    Unread(WireFault),
+    /// The message is refused.
+    NotTaken(TakeFault),
+}
+
+fn wire_fault_text(fault: WireFault) -> Text
+    ensures value { result.items ≡ wire_fault_text fault }
+    ensures len { array_vec_len result ≤ 200 }
+{
+    match fault {
+        WireFault::Truncated => word(b"truncated"),
+        WireFault::BadLine { line } => numbered(b"bad-line ", line),
+        WireFault::OutOfOrder { line } => numbered(b"out-of-order ", line),
+        WireFault::Trailing => word(b"trailing"),
+        WireFault::Memory => word(b"memory"),
+    }
+}
+
+fn told_text(told: &Told) -> Text
+    ensures value { result.items ≡ told_text told.now }
+    ensures len { array_vec_len result ≤ 200 }
+{
+    match told {
+        Told::Made => word(b"done"),
+        Told::Joined => word(b"joined"),
+        Told::NothingNew => word(b"nothing-new"),
+        Told::Acked => word(b"acked"),
+        Told::AlreadyThere => word(b"already-there"),
+        Told::NoSite => word(b"no-site"),
+        Told::Nothing => word(b"nothing"),
+        Told::NotFound => word(b"none"),
+        Told::TooLong => word(b"too-long"),
+        Told::Unread(fault) => wire_fault_text(*fault),
+        Told::NotTaken(fault) => take_fault_text(*fault),
+    }
+}
+
+fn told_status(told: &Told) -> Status
+    ensures { result ≡ told_status told.now }
+{
+    match told {
+        Told::Made | Told::Joined | Told::NothingNew | Told::Acked => Status::Done,
+        _ => Status::Refused,
+    }
+}
+
+/// Writes the line of what is told, and answers the status that goes with it.
+pub(crate) fn tell<W: Write>(told: &Told, out: &mut W) -> Result<Status, StoreFault>
+    ensures written { Writes (W.contents out.old) (W.contents out.new) result (told_line told.now) }
+    ensures status { IfOk result (λ status. status ≡ told_status told.now) }
+    ensures fault { IfErr result (λ fault. fault ≡ WriteFailed) }
+{
+    let mut text = told_text(told);
+    put(&mut text, b"\n");
+    match write_bytes(text.as_slice(), out) {
+        Ok(()) => Ok(told_status(told)),
+        Err(_) => Err(StoreFault::Write),
+    }
+}
+
+/// What an input that is no message comes to.
+pub(crate) fn ended_by_wire(fault: WireFault) -> Result<Told, StoreFault>
+    ensures { result ≡ ended_by_wire fault }
+{
+    match fault {
+        WireFault::Memory => Err(StoreFault::Memory),
+        _ => Ok(Told::Unread(fault)),
+    }
+}
+
+/// What a message that is not taken comes to.
+pub(crate) fn ended_by_take(fault: TakeFault) -> Result<Told, StoreFault>
+    ensures { result ≡ ended_by_take fault }
+{
+    match fault {
+        TakeFault::Memory => Err(StoreFault::Memory),
+        TakeFault::Store | TakeFault::Closed => Err(StoreFault::Store),
+        _ => Ok(Told::NotTaken(fault)),
+    }
+}

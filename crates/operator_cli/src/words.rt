@@ -1,0 +1,131 @@
+//! The grammar of the program's words: each command and the values that it takes.
+
+ghost use Rattle.std.specs.Prelude.{◌≡◌, IfOk, false, codes};
+ghost use Rattle.clap.specs.Words.{app_of, new_app, rule_of};
+ghost use Rattle.clap.specs.declared.builder.command.Command.TheViews.{out-Command as fields_of};
+ghost use Rattle.operator_cli.specs.Orders.{operand, boxoffice, init_app, ask_app, find_app, list_app, export_app, import_app};
+
+use clap::{Arg, Command};
+use std::alloc::{AllocError, Global};
+
+fn named<'a>(alloc: Global, name: &'a str, about: &'a str) -> Command<'a>
+    ensures app { app_of result ≡ new_app name.now }
+    ensures local { (fields_of result).has_globals ≡ false }
+{
+    Command::new(alloc, name).about(about)
+}
+
+fn operand<'a>(alloc: Global, id: &'a str, help: &'a str) -> Arg<'a>
+    ensures rule { rule_of result ≡ operand id.now }
+    ensures local { result.global ≡ false }
+{
+    Arg::new(alloc, id).help(help).required(true)
+}
+
+fn file<'a>(alloc: Global) -> Arg<'a>
+    ensures rule { rule_of result ≡ operand (codes "FILE") }
+    ensures local { result.global ≡ false }
+{
+    operand(alloc, "FILE", "The file of a site's records")
+}
+
+fn init<'a>(alloc: Global) -> Result<Command<'a>, AllocError>
+    ensures app { IfOk result (λ command. app_of command ≡ init_app) }
+    ensures local { IfOk result (λ command. (fields_of command).has_globals ≡ false) }
+{
+    let me = operand(
+        alloc,
+        "ME",
+        "The number of the site, 0 to 63 and below SITES",
+    );
+    let sites = operand(alloc, "SITES", "How many sites there are, 1 to 16");
+    let limit = operand(
+        alloc,
+        "LIMIT",
+        "How long the history may become, 1 to 1000000",
+    );
+    named(alloc, "init", "Makes the records of a site")
+        .arg(file(alloc))?
+        .arg(me)?
+        .arg(sites)?
+        .arg(limit)
+}
+
+fn ask<'a>(alloc: Global) -> Result<Command<'a>, AllocError>
+    ensures app { IfOk result (λ command. app_of command ≡ ask_app) }
+    ensures local { IfOk result (λ command. (fields_of command).has_globals ≡ false) }
+{
+    named(alloc, "ask", "Answers the requests on standard input").arg(file(alloc))
+}
+
+fn find<'a>(alloc: Global) -> Result<Command<'a>, AllocError>
+    ensures app { IfOk result (λ command. app_of command ≡ find_app) }
+    ensures local { IfOk result (λ command. (fields_of command).has_globals ≡ false) }
+{
+    let number = operand(
+        alloc,
+        "NUMBER",
+        "The number of a request, 1 to 1000000000000",
+    );
+    named(alloc, "find", "Prints the place and the reply of a request")
+        .arg(file(alloc))?
+        .arg(number)
+}
+
+fn list<'a>(alloc: Global) -> Result<Command<'a>, AllocError>
+    ensures app { IfOk result (λ command. app_of command ≡ list_app) }
+    ensures local { IfOk result (λ command. (fields_of command).has_globals ≡ false) }
+{
+    let event = operand(alloc, "EVENT", "The name of an event");
+    named(alloc, "list", "Prints the requests that name an event")
+        .arg(file(alloc))?
+        .arg(event)
+}
+
+fn export<'a>(alloc: Global) -> Result<Command<'a>, AllocError>
+    ensures app { IfOk result (λ command. app_of command ≡ export_app) }
+    ensures local { IfOk result (λ command. (fields_of command).has_globals ≡ false) }
+{
+    let to = operand(alloc, "TO", "The number of another site, 0 to 63");
+    named(
+        alloc,
+        "export",
+        "Prints a message with all that the site knows",
+    )
+    .arg(file(alloc))?
+    .arg(to)
+}
+
+fn import<'a>(alloc: Global) -> Result<Command<'a>, AllocError>
+    ensures app { IfOk result (λ command. app_of command ≡ import_app) }
+    ensures local { IfOk result (λ command. (fields_of command).has_globals ≡ false) }
+{
+    named(alloc, "import", "Takes the message on standard input").arg(file(alloc))
+}
+
+/// The program's command line.
+pub(crate) fn boxoffice<'a>(alloc: Global) -> Result<Command<'a>, AllocError>
+    ensures { IfOk result (λ command. app_of command ≡ boxoffice) }
+{
+    let world = named(alloc, "world", "Runs the script on standard input");
+    let init = init(alloc)?;
+    let ask = ask(alloc)?;
+    let find = find(alloc)?;
+    let list = list(alloc)?;
+    let export = export(alloc)?;
+    let import = import(alloc)?;
+    let whole = named(
+        alloc,
+        "boxoffice",
+        "Sells the seats of events at several sites",
+    )
+    .subcommand_required(true)
+    .subcommand(world)?
+    .subcommand(init)?
+    .subcommand(ask)?
+    .subcommand(find)?
+    .subcommand(list)?
+    .subcommand(export)?
+    .subcommand(import)?;
+    Ok(whole)
+}

@@ -1,0 +1,105 @@
+#!/usr/bin/env python3
+"""Makes the records of two sites with the built program and reads them with C SQLite, column by column.
+
+Usage: tests/records_are_plain_sqlite.py [PROGRAM]     (PROGRAM: crates/boxoffice/out/boxoffice)
+
+Says what differs and ends with status 1 where anything does.
+"""
+
+import os
+import sqlite3
+import subprocess
+import sys
+import tempfile
+
+HERE = os.path.dirname(os.path.abspath(__file__))
+PROGRAM = sys.argv[1] if len(sys.argv) > 1 else os.path.join(HERE, "..", "crates", "boxoffice", "out", "boxoffice")
+
+META = (
+    "CREATE TABLE meta (one INTEGER PRIMARY KEY CHECK (one = 1), kind TEXT NOT NULL, version INTEGER NOT NULL,"
+    " me INTEGER NOT NULL, sites INTEGER NOT NULL, bound INTEGER NOT NULL) STRICT"
+)
+ENTRIES = (
+    "CREATE TABLE entries (pos INTEGER PRIMARY KEY, peer INTEGER, number INTEGER UNIQUE, verb TEXT, event TEXT,"
+    " amount INTEGER, target INTEGER, reply TEXT, rest INTEGER, delta TEXT NOT NULL) STRICT"
+)
+
+# Each request of the first site with its reply and the columns from `peer` on.
+ASKED = [
+    ("announce 1 gala", "done", (None, 1, "announce", "gala", None, None, "done", None, "name gala\n")),
+    ("announce 2 gala", "known", (None, 2, "announce", "gala", None, None, "known", None, "")),
+    ("release 3 gala 100", "done", (None, 3, "release", "gala", 100, None, "done", None, "gave gala 0 0 100\n")),
+    ("cede 4 gala 40 1", "done", (None, 4, "cede", "gala", 40, 1, "done", None, "gave gala 0 1 40\n")),
+    ("sell 5 gala 61", "short 60", (None, 5, "sell", "gala", 61, None, "short", 60, "")),
+    ("sell 6 gala 7", "done", (None, 6, "sell", "gala", 7, None, "done", None, "used gala 0 7\n")),
+    ("refund 7 6", "done", (None, 7, "refund", None, None, 6, "done", None, "back gala 0 7\n")),
+    ("refund 8 6", "refunded", (None, 8, "refund", None, None, 6, "refunded", None, "")),
+    ("refund 9 5", "no-sale", (None, 9, "refund", None, None, 5, "no-sale", None, "")),
+    ("cede 10 gala 1 0", "to-self", (None, 10, "cede", "gala", 1, 0, "to-self", None, "")),
+    ("cede 11 gala 1 2", "no-site", (None, 11, "cede", "gala", 1, 2, "no-site", None, "")),
+    ("sell 12 expo 1", "unknown", (None, 12, "sell", "expo", 1, None, "unknown", None, "")),
+    (
+        "release 13 gala 1000000000000",
+        "full-cell",
+        (None, 13, "release", "gala", 1000000000000, None, "full-cell", None, ""),
+    ),
+]
+MESSAGE = "delta 0 1 13\nname gala\ngave gala 0 0 100\ngave gala 0 1 40\nused gala 0 7\nback gala 0 7\nend\n"
+JOINED = (0, None, None, None, None, None, None, None, "name gala\ngave gala 0 0 100\ngave gala 0 1 40\nused gala 0 7\nback gala 0 7\n")
+
+failures = 0
+
+
+def same(what, found, wanted):
+    global failures
+    if found != wanted:
+        failures += 1
+        print(f"{what}: found {found!r}, wanted {wanted!r}")
+
+
+def run(words, given="", status=0):
+    done = subprocess.run([PROGRAM, *words], input=given, capture_output=True, text=True, timeout=60)
+    same(f"status of {' '.join(words)}", done.returncode, status)
+    return done.stdout
+
+
+def read(path, me, rows):
+    with sqlite3.connect(path) as db:
+        same(f"{path}: integrity", db.execute("PRAGMA integrity_check").fetchall(), [("ok",)])
+        texts = db.execute("SELECT name, sql FROM sqlite_schema WHERE type = 'table' ORDER BY name").fetchall()
+        same(f"{path}: tables", texts, [("entries", ENTRIES), ("meta", META)])
+        strict = db.execute("SELECT name, strict FROM pragma_table_list WHERE schema = 'main' AND name IN ('meta', 'entries') ORDER BY name")
+        same(f"{path}: strict", strict.fetchall(), [("entries", 1), ("meta", 1)])
+        meta = db.execute("SELECT one, kind, version, me, sites, bound FROM meta").fetchall()
+        same(f"{path}: meta", meta, [(1, "ticket-escrow", 1, me, 2, 1000)])
+        found = db.execute(
+            "SELECT pos, peer, number, verb, event, amount, target, reply, rest, delta FROM entries ORDER BY pos"
+        ).fetchall()
+    same(f"{path}: rows", len(found), len(rows))
+    for place, (row, wanted) in enumerate(zip(found, rows)):
+        same(f"{path}: place {place}", row, (place, *wanted))
+
+
+def main():
+    with tempfile.TemporaryDirectory() as folder:
+        first, second = os.path.join(folder, "first.db"), os.path.join(folder, "second.db")
+        same("init of the first site", run(["init", first, "0", "2", "1000"]), "done\n")
+        same("init of the second site", run(["init", second, "1", "2", "1000"]), "done\n")
+        same("init again", run(["init", first, "0", "2", "1000"], status=1), "already-there\n")
+        asked = "".join(line + "\n" for line, _, _ in ASKED)
+        same("replies", run(["ask", first], asked), "".join(reply + "\n" for _, reply, _ in ASKED))
+        message = run(["export", first, "1"])
+        same("message", message, MESSAGE)
+        same("first import", run(["import", second], message), "joined\n")
+        same("second import", run(["import", second], message), "nothing-new\n")
+        read(first, 0, [columns for _, _, columns in ASKED])
+        read(second, 1, [JOINED])
+        # The program opens what C SQLite had open.
+        same("find", run(["find", first, "5"]), "4 short 60\n")
+        listed = [f"{place} {line} {reply}\n" for place, (line, reply, _) in enumerate(ASKED) if " gala" in line]
+        same("list", run(["list", first, "gala"]), "".join(listed))
+    print("the records are plain SQLite files" if failures == 0 else f"{failures} differences")
+    return 1 if failures else 0
+
+
+sys.exit(main())
