@@ -6,6 +6,7 @@ Usage: tests/records_are_plain_sqlite.py [PROGRAM]     (PROGRAM: crates/boxoffic
 Says what differs and ends with status 1 where anything does.
 """
 
+import contextlib
 import os
 import sqlite3
 import subprocess
@@ -64,7 +65,7 @@ def run(words, given="", status=0):
 
 
 def read(path, me, rows):
-    with sqlite3.connect(path) as db:
+    with contextlib.closing(sqlite3.connect(path)) as db:
         same(f"{path}: integrity", db.execute("PRAGMA integrity_check").fetchall(), [("ok",)])
         texts = db.execute("SELECT name, sql FROM sqlite_schema WHERE type = 'table' ORDER BY name").fetchall()
         same(f"{path}: tables", texts, [("entries", ENTRIES), ("meta", META)])

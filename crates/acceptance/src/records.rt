@@ -65,18 +65,16 @@ fn open<S: Alter + Drop>(
     }
 }
 
-// Asks requests under the numbers from 1 on.
+// Asks requests, each under its number.
 fn ask<S: Alter + Drop>(
     rt: &impl Abort,
     alloc: Global,
     conn: Connection<S>,
-    asked: &[(Request, Reply)],
+    asked: &[(u64, Request, Reply)],
 ) -> Connection<S> {
     let mut book = open(rt, alloc, conn);
-    let mut last = 0;
-    for (request, reply) in asked {
-        last += 1;
-        match book.ask(alloc, number(rt, last), request) {
+    for (asked, request, reply) in asked {
+        match book.ask(alloc, number(rt, *asked), request) {
             Ok(answer) => assert_eq!(rt; answer.reply, *reply),
             Err(_) => panic!(rt; "the request is answered"),
         }
@@ -111,8 +109,9 @@ fn sold_eight<S: Alter + Drop>(
     init(rt, alloc, &mut conn, 1, b"done\n", Status::Done);
     let event = gala(rt);
     let asked = [
-        (Request::Announce { event }, Reply::Done),
+        (1, Request::Announce { event }, Reply::Done),
         (
+            2,
             Request::Release {
                 event,
                 amount: seats(rt, 50),
@@ -120,6 +119,7 @@ fn sold_eight<S: Alter + Drop>(
             Reply::Done,
         ),
         (
+            3,
             Request::Sell {
                 event,
                 amount: seats(rt, 8),
@@ -127,6 +127,7 @@ fn sold_eight<S: Alter + Drop>(
             Reply::Done,
         ),
         (
+            4,
             Request::Sell {
                 event,
                 amount: seats(rt, 100),

@@ -4,6 +4,7 @@ use operator_cli::Status;
 use sqlite::{Connection, Error, ErrorCode};
 use sqlite_std_file::File;
 use sqlite_store::FileStore;
+use std::fs;
 
 /// The file of records and its log.
 pub(crate) type Files = FileStore<File>;
@@ -23,8 +24,19 @@ fn failed(rt: &HostRuntime, error: &Error) -> Status {
     Status::Failed
 }
 
+/// Opens a file that is there. One that is not holds no records, and is not made. A fault is told.
+pub(crate) fn open_there(rt: &HostRuntime, path: &str) -> Result<Connection<Files>, Status> {
+    match fs::exists(rt, path) {
+        Ok(false) => {
+            let _ = eprintln!(rt; "not-ours");
+            Err(Status::Failed)
+        }
+        _ => open_or_make(rt, path),
+    }
+}
+
 /// Opens a file by its path, or makes it. A fault is told.
-pub(crate) fn open(rt: &HostRuntime, path: &str) -> Result<Connection<Files>, Status> {
+pub(crate) fn open_or_make(rt: &HostRuntime, path: &str) -> Result<Connection<Files>, Status> {
     match Connection::open(rt, path) {
         Ok(conn) => Ok(conn),
         Err(error) => Err(failed(rt, &error)),

@@ -3,7 +3,7 @@
 
 mod files;
 
-use crate::files::{close, open};
+use crate::files::{close, open_or_make, open_there};
 use book_core::Limit;
 use operator_cli::{
     Order, Status, WordsFault, ask_store, export_store, find_store, import_store, init_store,
@@ -34,7 +34,7 @@ fn run_init(rt: &HostRuntime, file: &str, me: SiteId, sites: Sites, limit: Limit
     if me.number() >= sites.count() {
         return refuse_site(&mut out, &mut err);
     }
-    match open(rt, file) {
+    match open_or_make(rt, file) {
         Ok(mut conn) => {
             let status = init_store(&mut conn, me, sites, limit, &mut out, &mut err);
             close(rt, status, Some(conn))
@@ -44,7 +44,7 @@ fn run_init(rt: &HostRuntime, file: &str, me: SiteId, sites: Sites, limit: Limit
 }
 
 fn run_ask(rt: &HostRuntime, file: &str) -> Status {
-    match open(rt, file) {
+    match open_there(rt, file) {
         Ok(conn) => {
             let (status, conn) = ask_store(
                 rt.alloc(),
@@ -60,7 +60,7 @@ fn run_ask(rt: &HostRuntime, file: &str) -> Status {
 }
 
 fn run_find(rt: &HostRuntime, file: &str, number: RequestNumber) -> Status {
-    match open(rt, file) {
+    match open_there(rt, file) {
         Ok(conn) => {
             let (status, conn) = find_store(
                 rt.alloc(),
@@ -79,7 +79,7 @@ fn run_list(rt: &HostRuntime, file: &str, event: &str) -> Status {
     let Ok(mut out) = BufWriter::new(rt.alloc(), rt.stdout()) else {
         return out_of_memory(rt);
     };
-    match open(rt, file) {
+    match open_there(rt, file) {
         Ok(conn) => {
             let (status, conn) = list_store(rt.alloc(), conn, event, &mut out, &mut rt.stderr());
             close(rt, status, conn)
@@ -92,7 +92,7 @@ fn run_export(rt: &HostRuntime, file: &str, to: SiteId) -> Status {
     let Ok(mut out) = BufWriter::new(rt.alloc(), rt.stdout()) else {
         return out_of_memory(rt);
     };
-    match open(rt, file) {
+    match open_there(rt, file) {
         Ok(conn) => {
             let (status, conn) = export_store(rt.alloc(), conn, to, &mut out, &mut rt.stderr());
             close(rt, status, conn)
@@ -102,7 +102,7 @@ fn run_export(rt: &HostRuntime, file: &str, to: SiteId) -> Status {
 }
 
 fn run_import(rt: &HostRuntime, file: &str) -> Status {
-    match open(rt, file) {
+    match open_there(rt, file) {
         Ok(conn) => {
             let (status, conn) = import_store(
                 rt.alloc(),

@@ -1,5 +1,5 @@
 -- What is told at the end of a command over records.
-use Rattle.std.proofs.Common.{◌≡◌, ℕ, List, [], ◌++◌, Option, Result, Ok, Err, sym, append-nil}
+use Rattle.std.proofs.Common.{ℕ, List, [], Option, Result, Ok, Err, sym, append-nil}
 use Rattle.std.proofs.KnownBytes.{Keeps-refl}
 use Rattle.plain_words.specs.Writing.{AppendsFront, Writes}
 use Rattle.plain_words.proofs.WriteLaws.{AppendsFront-nothing}

@@ -9,7 +9,7 @@ use Rattle.operator_cli.specs.declared.status.Status.TheVariants.{Done, Refused,
 use Rattle.operator_cli.specs.declared.store_fault.StoreFault.{StoreFault}
 use Rattle.operator_cli.specs.declared.told.Told.{Told}
 use Rattle.operator_cli.specs.Told.{told_line, told_status}
-use Rattle.operator_cli.specs.Printed.{Printed, IsTellingOf}
+use Rattle.operator_cli.specs.Printed.{Printed}
 
 pub printed : (P : Status → List ℕ → Type 0) (a b : Option (List ℕ)) (status : Status) (text : List ℕ) → P status text → Appends a b text → Printed P a b status
 printed P a b Done text p h = (text, p, h)

@@ -1,13 +1,12 @@
 -- A session line is read as the request that it was written for.
-use Rattle.std.proofs.Common.{◌≡◌, ℕ, List, [], ◌∷◌, Some, refl, ap, ◌∙◌, codes}
+use Rattle.std.proofs.Common.{◌≡◌, ℕ, [], ◌∷◌, Some}
 use Rattle.std.specs.Fmt.{decimal}
 use Rattle.std.specs.List.{join_with_byte, slice_split}
-use Rattle.plain_words.specs.Words.{is_space, ◌>>=◌}
+use Rattle.plain_words.specs.Words.{is_space}
 use Rattle.plain_words.proofs.WordLaws.{split_join}
 use Rattle.request_ledger.specs.declared.request.Request.{Request}
 use Rattle.request_ledger.specs.declared.request.Request.TheVariants.{Announce, Release, Sell, Refund, Cede}
 use Rattle.operator_cli.specs.Grammar.{request_words, IsAmount, IsRequest}
-use Rattle.operator_cli.specs.Requests.{verb_at, numbered_at}
 use Rattle.operator_cli.specs.Records.{request_line, asked_by}
 use Rattle.operator_cli.proofs.RequestLaws.{verb_at_again, verb_of_request, request_rest, request_spelled, numbered_again, request_lacks}
 

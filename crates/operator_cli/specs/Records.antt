@@ -1,6 +1,6 @@
 -- The lines that tell of requests: the session line that asks one, and what is printed of it. (Our own.)
-use Rattle.std.specs.Prelude.{ℕ, List, [], ◌∷◌, ◌++◌, Option, Some, Result, Ok, Err, codes}
-use Rattle.std.specs.Fmt.{decimal, signed_decimal}
+use Rattle.std.specs.Prelude.{ℕ, List, [], ◌∷◌, ◌++◌, Option}
+use Rattle.std.specs.Fmt.{decimal}
 use Rattle.std.specs.List.{join_with_byte, slice_split}
 use Rattle.plain_words.specs.Words.{is_space, ◌>>=◌}
 use Rattle.request_ledger.specs.declared.request.Request.{Request}

@@ -1,6 +1,6 @@
 -- What the commands over records tell: an answer or a refusal, or the fault that ended them. (Our own.)
-use Rattle.std.specs.Prelude.{◌≡◌, ℕ, List, [], ◌∷◌, ◌++◌, Option, Result, Ok, Err, codes}
-use Rattle.std.specs.Io.KnownBytes.{Appends, Keeps}
+use Rattle.std.specs.Prelude.{ℕ, List, [], ◌∷◌, ◌++◌, Option, Result, Ok, Err, codes}
+use Rattle.std.specs.Io.KnownBytes.{Keeps}
 use Rattle.std.specs.Fmt.{decimal, signed_decimal}
 use Rattle.plain_words.specs.Writing.{AppendsFront}
 use Rattle.site_exchange.specs.declared.message.TakeFault.{TakeFault}

@@ -117,6 +117,8 @@ fn words(rt: HostRuntime) {
         order(&rt, rt.alloc(), &["boxoffice", "export", file, "0"]),
         export
     );
+    let ask = Order::Ask { file };
+    assert_eq!(rt; order(&rt, rt.alloc(), &["boxoffice", "ask", file]), ask);
     let import = Order::Import { file };
     assert_eq!(rt;
         order(&rt, rt.alloc(), &["boxoffice", "import", file]),

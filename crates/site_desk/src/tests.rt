@@ -126,6 +126,7 @@ fn asked_again(
     (answer, book.book().left(gala), book.book().len())
 }
 
+// A book that always answers `Store` fails here (always_store).
 #[test]
 fn keeper_fails_and_restarts_with_the_entry_lost(rt: HostRuntime) {
     let entries = stopped(&rt, rt.alloc(), false);

@@ -1,5 +1,4 @@
-use Rattle.std.proofs.Common.{◌≡◌, ◌∙◌, List, ℕ}
-use Rattle.plain_words.specs.Writing.{Writes}
+use Rattle.std.proofs.Common.{◌≡◌, ◌∙◌}
 use Rattle.operator_cli.specs.Told.{store_fault_line}
 use Rattle.operator_cli.proofs.EndLaws.{front_written}
 use Rattle.operator_cli.proofs.ending.tell_fault.Goals as goal

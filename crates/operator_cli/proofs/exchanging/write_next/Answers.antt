@@ -1,5 +1,5 @@
 use Rattle.std.proofs.Common.{refl}
-use Rattle.operator_cli.specs.declared.told.Told.TheVariants.{NoSite, Nothing, NotFound}
+use Rattle.operator_cli.specs.declared.told.Told.TheVariants.{NoSite, Nothing}
 use Rattle.operator_cli.specs.Printed.{IsSentText}
 use Rattle.operator_cli.proofs.PrintLaws.{told_printed}
 use Rattle.operator_cli.proofs.exchanging.write_next.Goals as goal

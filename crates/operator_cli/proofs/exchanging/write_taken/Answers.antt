@@ -1,5 +1,4 @@
 use Rattle.std.proofs.Common.{refl}
-use Rattle.operator_cli.specs.declared.told.Told.TheVariants.{NoSite, Nothing, NotFound}
 use Rattle.operator_cli.specs.Printed.{IsTakenText}
 use Rattle.operator_cli.proofs.PrintLaws.{told_printed}
 use Rattle.operator_cli.proofs.exchanging.write_taken.Goals as goal

@@ -1,5 +1,5 @@
 use Rattle.std.proofs.Common.{refl}
-use Rattle.operator_cli.specs.declared.told.Told.TheVariants.{NoSite, Nothing, NotFound}
+use Rattle.operator_cli.specs.declared.told.Told.TheVariants.{NotFound}
 use Rattle.operator_cli.specs.Printed.{IsFoundText}
 use Rattle.operator_cli.proofs.PrintLaws.{told_printed}
 use Rattle.operator_cli.proofs.looking.write_found.Goals as goal

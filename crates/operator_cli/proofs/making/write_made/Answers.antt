@@ -1,5 +1,4 @@
 use Rattle.std.proofs.Common.{refl}
-use Rattle.operator_cli.specs.declared.told.Told.TheVariants.{NoSite, Nothing, NotFound}
 use Rattle.operator_cli.specs.Printed.{IsMadeText}
 use Rattle.operator_cli.proofs.PrintLaws.{told_printed}
 use Rattle.operator_cli.proofs.making.write_made.Goals as goal

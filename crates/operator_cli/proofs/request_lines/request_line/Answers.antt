@@ -1,4 +1,4 @@
-use Rattle.std.proofs.Common.{◌≡◌, ap, ◌∙◌}
+use Rattle.std.proofs.Common.{ap, ◌∙◌}
 use Rattle.operator_cli.specs.Records.{request_line, asked_by}
 use Rattle.operator_cli.proofs.RequestLines.{request_line_reads}
 use Rattle.operator_cli.proofs.request_lines.request_line.Goals as goal
