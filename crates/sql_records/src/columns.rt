@@ -1,9 +1,9 @@
 //! The columns that an entry is written as.
-ghost use Rattle.std.specs.Prelude.{◌≡◌, ◌≤◌, ◌<◌, ◌^◌, length, string_bytes, IsTrue};
+ghost use Rattle.std.specs.Prelude.{◌≡◌, ◌↔◌, ◌<◌, ◌^◌, length, IsTrue};
 ghost use Rattle.sqlite.specs.Values.{bound};
 ghost use Rattle.book_core.specs.History.{delta_of};
 ghost use Rattle.delta_wire.specs.Grammar.{IsDelta, delta_text};
-ghost use Rattle.sql_records.specs.Rows.{request_columns, reply_columns, columns_of, HasRequestColumns, HasReplyColumns, HasRoom, IsStorable, longest};
+ghost use Rattle.sql_records.specs.Rows.{request_columns, reply_columns, columns_of, HasRequestColumns, HasReplyColumns, HasRoom, IsStorable};
 
 use book_core::Entry;
 use request_ledger::{Reply, Request};
@@ -71,7 +71,7 @@ fn reply_columns(reply: &Reply) -> [ValueRef<'static>; 2]
 
 /// Whether the columns have room for the entry with this text of its delta.
 pub fn fits(entry: &Entry, text: &str) -> bool
-    ensures { IsTrue result → HasRoom entry.now (length text.now) }
+    ensures { IsTrue result ↔ HasRoom entry.now (length text.now) }
 {
     match entry {
         Entry::Asked {
