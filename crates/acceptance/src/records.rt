@@ -54,7 +54,6 @@ fn open<S: Alter + Drop>(
     alloc: Global,
     conn: Connection<S>,
 ) -> SiteBook<Records<S>> {
-    assert!(rt; conn.is_autocommit());
     let (records, entries, meta) = match Records::open(alloc, conn) {
         Ok(opened) => opened,
         Err(_) => panic!(rt; "the records can be opened"),

@@ -35,9 +35,6 @@ fn make<S: Alter>(
     if me.number() >= sites.count() {
         return Ok(Told::NoSite);
     }
-    if !conn.is_autocommit() {
-        return Err(StoreFault::Disk);
-    }
     match Records::init(conn, me, sites, limit) {
         Ok(()) => Ok(Told::Made),
         Err(InitFault::AlreadyThere) => Ok(Told::AlreadyThere),

@@ -40,9 +40,6 @@ pub(crate) fn open_book<S: Alter + Drop>(
     alloc: Global,
     conn: Connection<S>,
 ) -> Result<SiteBook<Records<S>>, (StoreFault, Option<Connection<S>>)> {
-    if !conn.is_autocommit() {
-        return Err((StoreFault::Disk, Some(conn)));
-    }
     let (records, entries, meta) = match Records::open(alloc, conn) {
         Ok(opened) => opened,
         Err(fault) => return Err((of_open_fault(fault), None)),

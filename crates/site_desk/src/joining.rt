@@ -7,6 +7,7 @@ ghost use Rattle.book_core.specs.OwnRow.{HasOwnRights, cell_in};
 ghost use Rattle.site_exchange.specs.Exchange.{Joins, verdict_of};
 ghost use Rattle.site_exchange.specs.Taking.{extended};
 ghost use Rattle.sql_records.specs.Keeping.{Keeps};
+ghost use Rattle.sql_records.specs.declared.meta.Meta.{Meta as Numbers};
 ghost use Rattle.site_desk.specs.Answers.{IsTaken, IsTakeFault, LeavesEither};
 
 use crate::answer::Taken;
@@ -38,6 +39,7 @@ pub(crate) fn join<K: Keeper>(
     ensures same { OnOk result (K.is_trusted keeper.new → book.new.history ≡ K.kept keeper.new) }
     ensures kept { OnOk result (verdict_of (join_decision book.old.office book.old.history peer delta) ≡ Joins → K.is_trusted keeper.new → Keeps book.new.history (K.kept keeper.new) (K.may_leave keeper.new)) }
     ensures stopped { result ≡ Err TakeFault.Store → K.is_trusted keeper.new → LeavesEither book.old.history (entry_of_join book.old.office book.old.history peer delta) (K.may_leave keeper.new) }
+    ensures site { K.is_trusted keeper.new → (meta : Numbers) → K.is_of keeper.old meta → K.is_of keeper.new meta }
     ensures trusted { K.is_trusted keeper.new → K.is_trusted keeper.old }
     ensures own_row { (event : List ℕ) (cell : Cell) → owner_of cell ≡ book.old.office.me → cell_in book.new event cell ≡ cell_in book.old event cell }
     ensures has_rights { HasOwnRights book.new }

@@ -9,6 +9,7 @@ ghost use Rattle.book_core.specs.Replay.{IsReplayFault};
 ghost use Rattle.site_exchange.specs.Exchange.{Joins, ack_for, entry_of_take, next, zeros};
 ghost use Rattle.site_exchange.specs.Taking.{site_after, with_entry};
 ghost use Rattle.sql_records.specs.Keeping.{Keeps};
+ghost use Rattle.sql_records.specs.declared.meta.Meta.{Meta as Numbers};
 ghost use Rattle.site_desk.specs.Answers.{IsAnswer, IsAskFault, IsSeen, IsTakeFault, IsTaken, LeavesEither, is_peer};
 ghost use Rattle.site_desk.specs.SiteView.{decision_in, entry_in, office_of, site_of, verdict_in};
 
@@ -133,6 +134,7 @@ impl<K: Keeper> SiteBook<K> {
         ensures kept { IfOk result (λ a. a.fresh ≡ true → K.is_trusted self.new.keeper → Keeps self.new.book.history (K.kept self.new.keeper) (K.may_leave self.new.keeper)) }
         ensures stopped { result ≡ Err AskFault.Store → K.is_trusted self.new.keeper → LeavesEither self.old.book.history (entry_in self.old.book number request.now) (K.may_leave self.new.keeper) }
         ensures in_step { self.new.closed ≡ false → K.is_trusted self.new.keeper → self.new.book.history ≡ K.kept self.new.keeper }
+        ensures site { K.is_trusted self.new.keeper → (meta : Numbers) → K.is_of self.old.keeper meta → K.is_of self.new.keeper meta }
         ensures trusted { K.is_trusted self.new.keeper → K.is_trusted self.old.keeper }
 
         ensures has_rights { HasOwnRights self.new.book }
@@ -165,6 +167,7 @@ impl<K: Keeper> SiteBook<K> {
         ensures kept { OnOk result (verdict_in self.old.book message ≡ Joins → K.is_trusted self.new.keeper → Keeps self.new.book.history (K.kept self.new.keeper) (K.may_leave self.new.keeper)) }
         ensures stopped { result ≡ Err TakeFault.Store → K.is_trusted self.new.keeper → LeavesEither self.old.book.history (entry_of_take self.old.book.office self.old.book.history message) (K.may_leave self.new.keeper) }
         ensures in_step { self.new.closed ≡ false → K.is_trusted self.new.keeper → self.new.book.history ≡ K.kept self.new.keeper }
+        ensures site { K.is_trusted self.new.keeper → (meta : Numbers) → K.is_of self.old.keeper meta → K.is_of self.new.keeper meta }
         ensures trusted { K.is_trusted self.new.keeper → K.is_trusted self.old.keeper }
 
         ensures own_row { (event : List ℕ) (cell : Cell) → owner_of cell ≡ self.old.book.office.me → cell_in self.new.book event cell ≡ cell_in self.old.book event cell }

@@ -3,6 +3,7 @@ ghost use Rattle.std.specs.Prelude.{◌≡◌, ◌++◌, ◌∷◌, [], OnOk, On
 ghost use Rattle.book_core.specs.OwnRow.{HasOwnRights, LeavesOwnRow};
 ghost use Rattle.book_core.specs.Plans.{IsReady};
 ghost use Rattle.sql_records.specs.Keeping.{Keeps, LeavesWithOrWithout};
+ghost use Rattle.sql_records.specs.declared.meta.Meta.{Meta as Numbers};
 
 use book_core::{Book, Planned};
 use sql_records::{KeepFault, Keeper};
@@ -22,6 +23,7 @@ pub(crate) fn store<K: Keeper>(
     ensures failed { MatchResult result (λ _. K.failed keeper.new ≡ 0) (λ _. K.failed keeper.new ≡ 1) }
     ensures kept { OnOk result (K.is_trusted keeper.new → Keeps book.new.history (K.kept keeper.new) (K.may_leave keeper.new)) }
     ensures stopped { OnErr result (K.is_trusted keeper.new → LeavesWithOrWithout book.old.history planned (K.may_leave keeper.new)) }
+    ensures site { K.is_trusted keeper.new → (meta : Numbers) → K.is_of keeper.old meta → K.is_of keeper.new meta }
     ensures trusted { K.is_trusted keeper.new → K.is_trusted keeper.old }
     ensures own_row { OnOk result (LeavesOwnRow planned book.old book.new) }
     ensures has_rights { OnOk result (HasOwnRights book.new) }

@@ -19,15 +19,15 @@ use Rattle.sqlite_sql.specs.declared.ops.BinaryOp.TheVariants.{Compare}
 use Rattle.sqlite_sql.specs.declared.ops.CompareOp.TheVariants.{Eq}
 use Rattle.sqlite_tied.specs.Compute.{everything}
 use Rattle.sqlite.specs.Tree.{Trees}
-use Rattle.sqlite.specs.State.{State, Shown, IsUnchanged}
+use Rattle.sqlite.specs.State.{State, HasCleanDisk, Survives, CommitsShowing, Shown, IsUnchanged}
 use Rattle.sqlite.specs.Order.{Row, column, value_cmp}
 use Rattle.sqlite.specs.declared.types.Value.TheVariants.{Null, Int, Text as Words}
 use Rattle.sql_records.specs.Layout.{our_schema}
 use Rattle.sql_records.specs.Rows.{by_place, in_order, shown, AreWhole}
-use Rattle.sql_records.specs.Held.{rows_in}
+use Rattle.sql_records.specs.Held.{LeavesNoMore, rows_in}
 use Rattle.sql_records.specs.Lookups.{found_columns, has_number, listed_columns, has_event}
 use Rattle.sql_records.proofs.RowLemmas.{lower_id, by_place_total}
-use Rattle.sql_records.proofs.QueryLemmas.{unchanged_as, then_equal}
+use Rattle.sql_records.proofs.QueryLemmas.{unchanged_as, leaves_as, then_equal}
 
 abbrev pub find_text : List ℕ
 find_text = codes "SELECT pos, reply, rest FROM entries WHERE number = ?1 ORDER BY pos"
@@ -117,6 +117,9 @@ find_shows old new n rows has whole h =
 pub find_same : (old new : State) (n : ℕ) (rows : List Row) → old.now.schema ≡ our_schema → Shown find_text (number_params n) old new rows → IsUnchanged old new
 find_same old new n rows has h = unchanged_as find_text (number_params n) old new our_schema has find_plain rows h
 
+pub find_left : (old new : State) (params : Row) → old.now.schema ≡ our_schema → Survives old new (CommitsShowing find_text params old) → HasCleanDisk new → LeavesNoMore old new
+find_left old new params has survives clean = leaves_as find_text params old new our_schema has find_plain survives clean
+
 -- ---- the query for an event
 
 abbrev list_query : Query
@@ -172,3 +175,6 @@ list_shows old new name rows has whole h =
 
 pub list_same : (old new : State) (name : List ℕ) (rows : List Row) → old.now.schema ≡ our_schema → Shown list_text (event_params name) old new rows → IsUnchanged old new
 list_same old new name rows has h = unchanged_as list_text (event_params name) old new our_schema has list_plain rows h
+
+pub list_left : (old new : State) (params : Row) → old.now.schema ≡ our_schema → Survives old new (CommitsShowing list_text params old) → HasCleanDisk new → LeavesNoMore old new
+list_left old new params has survives clean = leaves_as list_text params old new our_schema has list_plain survives clean

@@ -1,5 +1,5 @@
 -- What an open finds.
-use Rattle.std.proofs.Common.{◌≡◌, ◌⊎◌, inl, inr, ℕ, suc, ◌+◌, ◌<◌, pos, false, List, [], ◌∷◌, ◌++◌, length, take, get_or, IsTrue, IsSome, Option, Some, None, refl, sym, ap, subst, ◌∙◌, arith, Result, Ok, Err, OnOk}
+use Rattle.std.proofs.Common.{◌≡◌, ◌⊎◌, inl, inr, ℕ, suc, ◌+◌, ◌<◌, pos, false, List, [], ◌∷◌, ◌++◌, length, take, get_or, IsTrue, IsSome, Option, Some, None, refl, sym, ap, subst, ◌∙◌, arith, Result, Ok, Err, OnOk, Bool, true, not}
 use Rattle.std.specs.List.{filter_map, cons_option}
 use Rattle.std.proofs.lemmas.List.{take_more, length-take-le}
 use Rattle.std.proofs.lemmas.Option.{slice_get_read}
@@ -12,9 +12,10 @@ use Rattle.book_core.specs.declared.entry.Entry.{Entry}
 use Rattle.sql_records.specs.declared.fault.OpenFault.{OpenFault}
 use Rattle.sql_records.specs.declared.fault.OpenFault.TheVariants.{Damaged, Memory}
 use Rattle.sql_records.specs.Keeping.{LeavesOnly}
-use Rattle.sql_records.specs.Layout.{our_schema}
+use Rattle.sql_records.specs.declared.meta.Meta.{Meta}
+use Rattle.sql_records.specs.Layout.{our_schema, HasMeta}
 use Rattle.sql_records.specs.Rows.{entry_of, AreInOrder, AreWhole, IsEntryAt}
-use Rattle.sql_records.specs.Held.{IsAtRest, history_in, rows_in}
+use Rattle.sql_records.specs.Held.{IsAtRest, LeavesNumbers, history_in, rows_in}
 use Rattle.sql_records.specs.Opening.{AreRowsFault}
 use Rattle.sql_records.proofs.RowLemmas.{whole_next, entries_next}
 use Rattle.sql_records.proofs.QueryLemmas.{whole_order}
@@ -95,3 +96,24 @@ leaves_only s count rest only stays =
       left = (s.committed.trees, stays rest.is_open, sym same);
       alone = λ other left. left.2 ∙ ap history_in (only left.0 rest.is_open left.1) ∙ same;
     }
+
+-- at rest a stop leaves the numbers that are there
+pub leaves_numbers : (s : State) (count : ℕ) (meta : Meta) → IsAtRest s count → HasMeta meta s.now.trees → ((db : Trees) → IsTrue s.is_open → s.may_leave db → db ≡ s.committed.trees) → LeavesNumbers s meta
+leaves_numbers s count meta rest now only db left =
+    subst (HasMeta meta) (sym (only db rest.is_open left)) (subst (λ (d : Database). HasMeta meta d.trees) (sym rest.settled) now)
+
+abbrev numbers : ℕ → ℕ → ℕ → Meta
+numbers me sites limit = record { me = me; sites = sites; limit = limit }
+
+-- a database has the numbers of one site
+pub one_meta : (a b : Meta) (db : Trees) → HasMeta a db → HasMeta b db → a ≡ b
+one_meta a b db first second =
+    let rows = sym first ∙ second in
+    let me : a.me ≡ b.me = cc in
+    let sites : a.sites ≡ b.sites = cc in
+    let limit : a.limit ≡ b.limit = cc in
+    ap (λ m. numbers m a.sites a.limit) me ∙ ap (λ s. numbers b.me s a.limit) sites ∙ ap (numbers b.me b.sites) limit
+
+pub not_true : (b : Bool) → not b ≡ true → b ≡ false
+not_true true h = absurd cc
+not_true false h = refl

@@ -164,7 +164,7 @@ unchanged_as sql params old new schema has plain rows h =
     (rw (bare.0) at h.2).3
 
 -- and commits nothing
-leaves_as : (sql : List ℕ) (params : Row) (old new : State) (schema : Schema) → old.now.schema ≡ schema → IsPlain (understood schema sql) → Survives old new (CommitsShowing sql params old) → HasCleanDisk new → LeavesNoMore old new
+pub leaves_as : (sql : List ℕ) (params : Row) (old new : State) (schema : Schema) → old.now.schema ≡ schema → IsPlain (understood schema sql) → Survives old new (CommitsShowing sql params old) → HasCleanDisk new → LeavesNoMore old new
 unfolding CommitsShowing
 leaves_as sql params old new schema has plain survives clean db left = elim (survives.crash clean db left) [
   | inl before ↦ before

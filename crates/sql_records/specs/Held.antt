@@ -9,7 +9,7 @@ use Rattle.sqlite.specs.Effect.{Database}
 use Rattle.sqlite.specs.State.{State, HasCleanDisk}
 use Rattle.sqlite.specs.Held.{Held, held_code, state}
 use Rattle.sql_records.specs.declared.meta.Meta.{Meta}
-use Rattle.sql_records.specs.Layout.{our_schema, HasMeta, meta_tree}
+use Rattle.sql_records.specs.Layout.{our_schema, HasMeta}
 use Rattle.sql_records.specs.Rows.{shown, in_order, history_of, AreWhole}
 
 abbrev pub entries_tree : ℕ
@@ -49,9 +49,9 @@ LeavesNoMore old new = (db : Trees) → new.may_leave db → old.may_leave db
 abbrev pub LeavesWithOrWithout : State → List Entry → Entry → Type 0
 LeavesWithOrWithout s list entry = (db : Trees) → s.may_leave db → (history_in db ≡ list) ⊎ (history_in db ≡ list ++ entry ∷ [])
 
--- each database that a stop may leave has these rows in `meta`
-abbrev pub LeavesMeta : State → List Row → Type 0
-LeavesMeta s meta = (db : Trees) → s.may_leave db → db meta_tree ≡ meta
+-- each database that a stop may leave has these numbers
+abbrev pub LeavesNumbers : State → Meta → Type 0
+LeavesNumbers s meta = (db : Trees) → s.may_leave db → HasMeta meta db
 
 -- each database that a stop may leave is one that it could leave before, or the new one
 abbrev pub LeavesAsBeforeOrNew : Meta → State → State → Type 0
@@ -71,6 +71,9 @@ module _ {S : Type 0} (g : Ghosts S) where
 
   abbrev pub MayLeave : Kept S → List Entry → Type 0
   MayLeave k = MayLeaveIn (state g k.conn)
+
+  abbrev pub IsOf : Kept S → Meta → Type 0
+  IsOf k = LeavesNumbers (state g k.conn)
 
   abbrev pub IsTrusted : Kept S → Type 0
   IsTrusted k = HasCleanDisk (state g k.conn)

@@ -4,7 +4,7 @@ ghost use Rattle.sqlite.specs.State.{HasCleanDisk, Survives};
 ghost use Rattle.sqlite.specs.Held.{state};
 ghost use Rattle.sqlite.specs.Values.{bound};
 ghost use Rattle.sql_records.specs.Layout.{no_schema, meta_of, HasMeta};
-ghost use Rattle.sql_records.specs.Held.{IsNew, IsAtRest, LeavesAsBeforeOrNew, MayLeaveIn};
+ghost use Rattle.sql_records.specs.Held.{IsNew, IsAtRest, LeavesAsBeforeOrNew, LeavesNumbers, MayLeaveIn};
 ghost use Rattle.sql_records.specs.Keeping.{LeavesOnly};
 
 use crate::fault::InitFault;
@@ -75,6 +75,7 @@ impl<S: Alter> Records<S> {
     /// Makes the records of a site that has no entry yet, in an empty database, in one transaction.
     ///
     /// A stop leaves the database as it was or the new records, and so does an error; `AlreadyThere` leaves it.
+    /// `Disk` too where a transaction is open, which leaves it.
     pub fn init(
         conn: &mut Connection<S>,
         me: SiteId,
@@ -82,22 +83,26 @@ impl<S: Alter> Records<S> {
         limit: Limit,
     ) -> Result<(), InitFault>
         requires me { me < sites }
-        requires autocommit { conn.old.in_transaction ≡ false }
         ensures there { (result ≡ Err InitFault.AlreadyThere) ↔ (conn.old.schema ≢ no_schema) }
         ensures as_it_was { result ≡ Err InitFault.AlreadyThere → conn.new ≡ conn.old }
         ensures rest { HasCleanDisk (state S.Store conn.new) → OnOk result (IsAtRest (state S.Store conn.new) 0) }
         ensures made { HasCleanDisk (state S.Store conn.new) → OnOk result
             (IsNew (record { me = me; sites = sites; limit = limit }) (state S.Store conn.new).now) }
         ensures leaves { HasCleanDisk (state S.Store conn.new) → OnOk result (LeavesOnly [] (MayLeaveIn (state S.Store conn.new))) }
+        ensures site { HasCleanDisk (state S.Store conn.new) → OnOk result
+            (LeavesNumbers (state S.Store conn.new) (record { me = me; sites = sites; limit = limit })) }
         ensures crash { HasCleanDisk (state S.Store conn.new)
             → LeavesAsBeforeOrNew (record { me = me; sites = sites; limit = limit }) (state S.Store conn.old) (state S.Store conn.new) }
         ensures as_before { HasCleanDisk (state S.Store conn.new) → IsTrue (state S.Store conn.new).is_open → OnErr result
             ((state S.Store conn.new).committed ≡ (state S.Store conn.old).committed) }
-        ensures ended { conn.new.in_transaction ≡ false }
+        ensures ended { conn.old.in_transaction ≡ false → conn.new.in_transaction ≡ false }
         ensures clean { HasCleanDisk (state S.Store conn.new) → HasCleanDisk (state S.Store conn.old) }
     {
         if !is_empty(conn.schema()) {
             return Err(InitFault::AlreadyThere);
+        }
+        if !conn.is_autocommit() {
+            return Err(InitFault::Disk);
         }
         let mut tx = conn.transaction();
         match fill(&mut tx, Meta { me, sites, limit }) {

@@ -1,6 +1,7 @@
 //! What every keeper promises.
 ghost use Rattle.std.specs.Prelude.{◌≡◌, ◌≢◌, ℕ, List, [], ◌∷◌, ◌++◌, OnOk, OnErr, IsErrOf};
 ghost use Rattle.book_core.specs.declared.entry.Entry.{Entry as Entered};
+ghost use Rattle.sql_records.specs.declared.meta.Meta.{Meta};
 ghost use Rattle.sql_records.specs.Keeping.{Keeps, LeavesWithOrWithout};
 
 use book_core::Entry;
@@ -27,6 +28,9 @@ pub trait Keeper {
     /// The lists that a stop at this moment may leave.
     ghost may_leave: { Self → List Entered → Type 0 };
 
+    /// A stop at this moment leaves the records of a site with these numbers, as far as they tell them.
+    ghost is_of: { Self → Meta → Type 0 };
+
     /// How many appends have failed: 0, or 1 once it is shut.
     ghost failed: { Self → ℕ };
 
@@ -42,6 +46,7 @@ pub trait Keeper {
         ensures counted { failed self.old ≡ 0 → OnErr result (failed self.new ≡ 1) }
         ensures named { failed self.old ≡ 0 → IsErrOf result KeepFault.Shut → ⊥ }
         ensures shut { failed self.old ≢ 0 → (result ≡ Err KeepFault.Shut) × (self.new ≡ self.old) }
+        ensures site { is_trusted self.new → (meta : Meta) → is_of self.old meta → is_of self.new meta }
         ensures trusted { is_trusted self.new → is_trusted self.old };
 
     /// How many appends have failed: 0, or 1 once it is shut.

@@ -120,6 +120,8 @@ impl Keeper for ListKeeper {
 
     ghost may_leave = { λ k list. list ≡ k.kept };
 
+    ghost is_of = { λ k meta. Unit {0} };
+
     ghost failed = { λ k. k.failures };
 
     ghost is_trusted = { λ k. Unit {0} };

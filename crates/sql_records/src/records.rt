@@ -50,11 +50,13 @@ impl<S: Alter + Drop> Drop for Records<S> {
 }
 
 impl<S: Alter> Keeper for Records<S> {
-    ghost use Rattle.sql_records.specs.Held.{kept_in, MayLeave, IsTrusted};
+    ghost use Rattle.sql_records.specs.Held.{kept_in, MayLeave, IsOf, IsTrusted};
 
     ghost kept = { kept_in S.Store };
 
     ghost may_leave = { MayLeave S.Store };
+
+    ghost is_of = { IsOf S.Store };
 
     ghost failed = { λ k. k.failures };
 
@@ -97,35 +99,41 @@ impl<S: Alter> Keeper for Records<S> {
 }
 
 impl<S: Alter + Drop> Records<S> {
-    ghost use Rattle.std.specs.Prelude.{◌≡◌, ◌≢◌, false, IfOk};
+    ghost use Rattle.std.specs.Prelude.{◌≡◌, ◌≢◌, IfOk};
     ghost use Rattle.sqlite.specs.State.{HasCleanDisk};
     ghost use Rattle.sqlite.specs.Held.{state};
     ghost use Rattle.sql_records.specs.Keeping.{LeavesOnly};
     ghost use Rattle.sql_records.specs.Layout.{our_schema, HasMeta, AreNumbers};
-    ghost use Rattle.sql_records.specs.Held.{kept_in, MayLeave, IsTrusted};
+    ghost use Rattle.sql_records.specs.declared.meta.Meta.{Meta as Numbers};
+    ghost use Rattle.sql_records.specs.Held.{kept_in, MayLeave, IsOf, IsTrusted};
 
     /// The records of a database, the entries that they hold, the oldest first, and the site's numbers.
     ///
-    /// `read_records` has the same errors, and says what each means. After an error the connection is gone.
+    /// `read_records` has the same errors, and says what each means; here `Disk` too where a transaction is open.
+    /// After an error the connection is gone.
     pub fn open(
         alloc: Global,
         mut conn: Connection<S>,
     ) -> Result<(Records<S>, Vec<Entry>, Meta), OpenFault>
-        requires { conn.in_transaction ≡ false }
         ensures foreign { conn.schema ≢ our_schema → result ≡ Err OpenFault.NotOurs }
         ensures entries { IfOk result (λ it. IsTrusted S.Store it.0 → it.1.items ≡ kept_in S.Store it.0) }
         ensures meta { IfOk result (λ it. IsTrusted S.Store it.0 → HasMeta it.2 (state S.Store it.0.conn).now.trees) }
+        ensures given { IfOk result (λ it. IsTrusted S.Store it.0 → (meta : Numbers) → HasMeta meta (state S.Store conn).now.trees → it.2 ≡ meta) }
         ensures numbers { IfOk result (λ it. AreNumbers it.2) }
+        ensures site { IfOk result (λ it. IsTrusted S.Store it.0 → IsOf S.Store it.0 it.2) }
         ensures same { IfOk result (λ it. IsTrusted S.Store it.0 → (state S.Store it.0.conn).now ≡ (state S.Store conn).now) }
         ensures leaves { IfOk result (λ it. IsTrusted S.Store it.0 → LeavesOnly (kept_in S.Store it.0) (MayLeave S.Store it.0)) }
         ensures open { IfOk result (λ it. it.0.failures ≡ 0) }
         ensures clean { IfOk result (λ it. IsTrusted S.Store it.0 → HasCleanDisk (state S.Store conn)) }
     {
-        let _settled = conn.is_autocommit();
+        let is_settled = conn.is_autocommit();
         let (entries, meta) = match read_records(alloc, &mut conn) {
             Ok(read) => read,
             Err(fault) => return Err(fault),
         };
+        if !is_settled {
+            return Err(OpenFault::Disk);
+        }
         let records = Records {
             conn,
             count: entries.len() as u64,

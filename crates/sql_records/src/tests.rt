@@ -144,7 +144,6 @@ fn opened(
     alloc: Global,
     conn: Connection<MemStore>,
 ) -> (Records<MemStore>, Vec<Entry>) {
-    assert!(rt; conn.is_autocommit());
     let Ok((records, entries, meta)) = Records::open(alloc, conn) else {
         panic!(rt; "no records")
     };

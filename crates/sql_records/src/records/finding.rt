@@ -6,7 +6,7 @@ ghost use Rattle.sqlite.specs.State.{HasCleanDisk, IsUnchanged};
 ghost use Rattle.sqlite.specs.Held.{state};
 ghost use Rattle.sqlite.specs.Values.{bound};
 ghost use Rattle.sqlite.specs.declared.types.Value.TheVariants.{Int, Text};
-ghost use Rattle.sql_records.specs.Held.{IsAtRest, IsTrusted, history_in, kept_in, rows_in};
+ghost use Rattle.sql_records.specs.Held.{IsAtRest, IsTrusted, LeavesNoMore, history_in, kept_in, rows_in};
 ghost use Rattle.sql_records.specs.Lookups.{found_columns, found_in, found_of, first_found, has_event, has_number, listed_columns, listed_in, listed_of, place_in};
 
 use super::Records;
@@ -53,6 +53,7 @@ fn find_rows<S: Alter>(
     requires rest { HasCleanDisk (state S.Store conn.old) → (count : ℕ) × IsAtRest (state S.Store conn.old) count }
     ensures rows { HasCleanDisk (state S.Store conn.new) → IfOk result (λ rows. rows.items ≡ map found_columns (filter (has_number number) (rows_in (state S.Store conn.old).now.trees))) }
     ensures same { HasCleanDisk (state S.Store conn.new) → OnOk result (IsUnchanged (state S.Store conn.old) (state S.Store conn.new)) }
+    ensures left { HasCleanDisk (state S.Store conn.new) → LeavesNoMore (state S.Store conn.old) (state S.Store conn.new) }
     ensures clean { HasCleanDisk (state S.Store conn.new) → HasCleanDisk (state S.Store conn.old) }
     ensures shut { result ≢ Err FindFault.Shut }
     ensures damaged { (place : ℕ) → result ≢ Err (FindFault.Damaged place) }
@@ -69,6 +70,7 @@ fn list_rows<S: Alter>(conn: &mut Connection<S>, event: &Event) -> Result<Vec<Ro
     requires rest { HasCleanDisk (state S.Store conn.old) → (count : ℕ) × IsAtRest (state S.Store conn.old) count }
     ensures rows { HasCleanDisk (state S.Store conn.new) → IfOk result (λ rows. rows.items ≡ map listed_columns (filter (has_event event.now) (rows_in (state S.Store conn.old).now.trees))) }
     ensures same { HasCleanDisk (state S.Store conn.new) → OnOk result (IsUnchanged (state S.Store conn.old) (state S.Store conn.new)) }
+    ensures left { HasCleanDisk (state S.Store conn.new) → LeavesNoMore (state S.Store conn.old) (state S.Store conn.new) }
     ensures clean { HasCleanDisk (state S.Store conn.new) → HasCleanDisk (state S.Store conn.old) }
     ensures shut { result ≢ Err FindFault.Shut }
     ensures damaged { (place : ℕ) → result ≢ Err (FindFault.Damaged place) }
@@ -175,6 +177,7 @@ impl<S: Alter> Records<S> {
         ensures shut { self.old.failures ≢ 0 → (result ≡ Err FindFault.Shut) × (self.new ≡ self.old) }
         ensures named { self.old.failures ≡ 0 → result ≢ Err FindFault.Shut }
         ensures shuts { self.old.failures ≡ 0 → OnErr result (self.new.failures ≡ 1) }
+        ensures left { IsTrusted S.Store self.new → LeavesNoMore (state S.Store self.old.conn) (state S.Store self.new.conn) }
         ensures trusted { IsTrusted S.Store self.new → IsTrusted S.Store self.old }
     {
         if self.failures != 0 {
@@ -198,6 +201,7 @@ impl<S: Alter> Records<S> {
         ensures shut { self.old.failures ≢ 0 → (result ≡ Err FindFault.Shut) × (self.new ≡ self.old) }
         ensures named { self.old.failures ≡ 0 → result ≢ Err FindFault.Shut }
         ensures shuts { self.old.failures ≡ 0 → OnErr result (self.new.failures ≡ 1) }
+        ensures left { IsTrusted S.Store self.new → LeavesNoMore (state S.Store self.old.conn) (state S.Store self.new.conn) }
         ensures trusted { IsTrusted S.Store self.new → IsTrusted S.Store self.old }
     {
         if self.failures != 0 {
@@ -220,6 +224,7 @@ fn find_first<S: Alter>(
     ensures found { HasCleanDisk (state S.Store conn.new) → IfOk result (λ found. found ≡ found_in (history_in (state S.Store conn.old).now.trees) number) }
     ensures undamaged { HasCleanDisk (state S.Store conn.new) → (place : ℕ) → result ≢ Err (FindFault.Damaged place) }
     ensures same { HasCleanDisk (state S.Store conn.new) → OnOk result (IsUnchanged (state S.Store conn.old) (state S.Store conn.new)) }
+    ensures left { HasCleanDisk (state S.Store conn.new) → LeavesNoMore (state S.Store conn.old) (state S.Store conn.new) }
     ensures clean { HasCleanDisk (state S.Store conn.new) → HasCleanDisk (state S.Store conn.old) }
     ensures shut { result ≢ Err FindFault.Shut }
 {
@@ -239,6 +244,7 @@ fn list_all<S: Alter>(
     ensures listed { HasCleanDisk (state S.Store conn.new) → IfOk result (λ listed. listed.items ≡ listed_in (history_in (state S.Store conn.old).now.trees) event.now) }
     ensures undamaged { HasCleanDisk (state S.Store conn.new) → (place : ℕ) → result ≢ Err (FindFault.Damaged place) }
     ensures same { HasCleanDisk (state S.Store conn.new) → OnOk result (IsUnchanged (state S.Store conn.old) (state S.Store conn.new)) }
+    ensures left { HasCleanDisk (state S.Store conn.new) → LeavesNoMore (state S.Store conn.old) (state S.Store conn.new) }
     ensures clean { HasCleanDisk (state S.Store conn.new) → HasCleanDisk (state S.Store conn.old) }
     ensures shut { result ≢ Err FindFault.Shut }
 {

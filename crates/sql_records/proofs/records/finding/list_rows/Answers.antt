@@ -1,7 +1,7 @@
 use Rattle.std.proofs.Common.{arith, subst}
 use Rattle.sqlite.specs.Held.{state}
 use Rattle.sqlite.specs.State.{Shown}
-use Rattle.sql_records.proofs.FindLemmas.{list_text, list_shows, list_same}
+use Rattle.sql_records.proofs.FindLemmas.{list_text, list_shows, list_same, list_left}
 use Rattle.sql_records.proofs.records.finding.list_rows.Goals as goal
 
 pub returns-in-Ok-clause-rows : goal.returns-in-Ok-clause-rows
@@ -17,3 +17,13 @@ returns-in-Ok-clause-same g c clean =
     let new = state g.S.Store c.query_all.new.self in
     let rest = c.requires.rest (omega (arith, c.query_all.ensures.survives.clean)) in
     list_same old new c.args.event.now c.in-Ok.rows.items rest.1.schema (subst (λ p. Shown list_text p old new c.in-Ok.rows.items) c.event_param-params.ensures (c.in-Ok.ensures.ok clean))
+
+pub returns-in-Ok-clause-left : goal.returns-in-Ok-clause-left
+returns-in-Ok-clause-left g c clean =
+    let rest = c.requires.rest (omega (arith, c.query_all.ensures.survives.clean)) in
+    list_left (state g.S.Store c.args.conn.now) (state g.S.Store c.query_all.new.self) _ rest.1.schema c.query_all.ensures.survives clean
+
+pub returns-in-Err-clause-left : goal.returns-in-Err-clause-left
+returns-in-Err-clause-left g c clean =
+    let rest = c.requires.rest (omega (arith, c.query_all.ensures.survives.clean)) in
+    list_left (state g.S.Store c.args.conn.now) (state g.S.Store c.query_all.new.self) _ rest.1.schema c.query_all.ensures.survives clean
