@@ -1,5 +1,5 @@
 -- What contracts see of a keeper in memory. (Our own.)
-use Rattle.std.specs.Prelude.{◌≤◌, ◌-◌, ℕ, List, Option, Some, None, refl}
+use Rattle.std.specs.Prelude.{◌≤◌, ◌-◌, ◌++◌, ◌∷◌, [], ℕ, List, Option, Some, None, if◌then◌else◌, refl}
 use Rattle.std.specs.Coded.{Coded, code_by, coded×, coded_ℕ, coded_list, coded_option}
 use Rattle.book_core.specs.BookCode.{coded_entry}
 use Rattle.book_core.specs.declared.entry.Entry.{Entry}
@@ -25,3 +25,8 @@ IsDue (Some failing) = failing.append ≤ 1
 abbrev pub one_less : Option Failing → Option Failing
 one_less None = None
 one_less (Some failing) = Some (record failing { append = failing.append - 1 })
+
+-- what is kept once an append failed that was to fail: the entry too, where it is stored
+abbrev pub left_by : Option Failing → List Entry → Entry → List Entry
+left_by None kept entry = kept
+left_by (Some failing) kept entry = if failing.is_stored then kept ++ entry ∷ [] else kept

@@ -1,7 +1,7 @@
 //! A keeper in memory.
 ghost use Rattle.std.specs.Prelude.{◌≡◌, ◌≢◌, ◌⊎◌, ◌++◌, [], ◌∷◌, Some, None, IsErr, false, true};
 ghost use Rattle.std.specs.Prelude.{OnOk, OnErr};
-ghost use Rattle.sql_records.specs.Listed.{IsDue, one_less};
+ghost use Rattle.sql_records.specs.Listed.{IsDue, left_by, one_less};
 
 use crate::keeper::{KeepFault, Keeper};
 use book_core::Entry;
@@ -74,10 +74,8 @@ impl ListKeeper {
     fn put(&mut self, entry: &Entry) -> Result<(), KeepFault>
         requires { self.old.failures ≡ 0 }
         ensures ok { OnOk result (self.new ≡ record self.old { kept = self.old.kept ++ entry.now ∷ []; failing = one_less self.old.failing }) }
-        ensures fails { IsDue self.old.failing → IsErr result }
-        ensures due { result ≡ Err KeepFault.Disk → IsDue self.old.failing }
-        ensures lost { result ≡ Err KeepFault.Disk → self.old.failing ≡ Some (record { append = 1; is_stored = false }) → self.new.kept ≡ self.old.kept }
-        ensures stored { result ≡ Err KeepFault.Disk → self.old.failing ≡ Some (record { append = 1; is_stored = true }) → self.new.kept ≡ self.old.kept ++ entry.now ∷ [] }
+        ensures due { IsDue self.old.failing → IsErr result }
+        ensures disk { result ≡ Err KeepFault.Disk → IsDue self.old.failing × (self.new.kept ≡ left_by self.old.failing self.old.kept entry.now) }
         ensures memory { result ≡ Err KeepFault.Memory → self.new.kept ≡ self.old.kept }
         ensures either { OnErr result ((self.new.kept ≡ self.old.kept) ⊎ (self.new.kept ≡ self.old.kept ++ entry.now ∷ [])) }
         ensures counted { OnErr result (self.new.failures ≡ 1) }
@@ -126,7 +124,17 @@ impl Keeper for ListKeeper {
 
     ghost is_trusted = { λ k. Unit {0} };
 
-    fn append(&mut self, entry: &Entry) -> Result<(), KeepFault> {
+    /// As of every keeper; and `Disk` exactly where `fail_at` says so, with the entry kept where it says so.
+    fn append(&mut self, entry: &Entry) -> Result<(), KeepFault>
+        ensures added { OnOk result ((self.old.failures ≡ 0) × (self.new ≡ record self.old { kept = self.old.kept ++ entry.now ∷ []; failing = one_less self.old.failing })) }
+        ensures due { IsDue self.old.failing → IsErr result }
+        ensures disk { result ≡ Err KeepFault.Disk → IsDue self.old.failing × (self.new.kept ≡ left_by self.old.failing self.old.kept entry.now) }
+        ensures memory { result ≡ Err KeepFault.Memory → self.new.kept ≡ self.old.kept }
+        ensures stopped { OnErr result ((self.new.kept ≡ self.old.kept) ⊎ (self.new.kept ≡ self.old.kept ++ entry.now ∷ [])) }
+        ensures counted { self.old.failures ≡ 0 → OnErr result (self.new.failures ≡ 1) }
+        ensures named { self.old.failures ≡ 0 → result ≢ Err KeepFault.Shut }
+        ensures shut { self.old.failures ≢ 0 → (result ≡ Err KeepFault.Shut) × (self.new ≡ self.old) }
+    {
         if self.failures != 0 {
             return Err(KeepFault::Shut);
         }
