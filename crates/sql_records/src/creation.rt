@@ -84,6 +84,7 @@ impl<S: Alter> Records<S> {
     ) -> Result<(), InitFault>
         requires me { me < sites }
         ensures there { (result ≡ Err InitFault.AlreadyThere) ↔ (conn.old.schema ≢ no_schema) }
+        ensures busy { conn.old.schema ≡ no_schema → conn.old.in_transaction ≡ true → (result ≡ Err InitFault.Disk) × (conn.new ≡ conn.old) }
         ensures as_it_was { result ≡ Err InitFault.AlreadyThere → conn.new ≡ conn.old }
         ensures rest { HasCleanDisk (state S.Store conn.new) → OnOk result (IsAtRest (state S.Store conn.new) 0) }
         ensures made { HasCleanDisk (state S.Store conn.new) → OnOk result

@@ -99,7 +99,7 @@ impl<S: Alter> Keeper for Records<S> {
 }
 
 impl<S: Alter + Drop> Records<S> {
-    ghost use Rattle.std.specs.Prelude.{◌≡◌, ◌≢◌, IfOk};
+    ghost use Rattle.std.specs.Prelude.{◌≡◌, ◌≢◌, true, IfOk, IsErr};
     ghost use Rattle.sqlite.specs.State.{HasCleanDisk};
     ghost use Rattle.sqlite.specs.Held.{state};
     ghost use Rattle.sql_records.specs.Keeping.{LeavesOnly};
@@ -116,6 +116,7 @@ impl<S: Alter + Drop> Records<S> {
         mut conn: Connection<S>,
     ) -> Result<(Records<S>, Vec<Entry>, Meta), OpenFault>
         ensures foreign { conn.schema ≢ our_schema → result ≡ Err OpenFault.NotOurs }
+        ensures busy { conn.in_transaction ≡ true → IsErr result }
         ensures entries { IfOk result (λ it. IsTrusted S.Store it.0 → it.1.items ≡ kept_in S.Store it.0) }
         ensures meta { IfOk result (λ it. IsTrusted S.Store it.0 → HasMeta it.2 (state S.Store it.0.conn).now.trees) }
         ensures given { IfOk result (λ it. IsTrusted S.Store it.0 → (meta : Numbers) → HasMeta meta (state S.Store conn).now.trees → it.2 ≡ meta) }
