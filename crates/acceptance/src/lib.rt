@@ -8,7 +8,11 @@ mod messages;
 #[cfg(test)]
 mod one_site;
 #[cfg(test)]
+mod program_words;
+#[cfg(test)]
 mod records;
+#[cfg(test)]
+mod script_lines;
 #[cfg(test)]
 mod scripts;
 #[cfg(test)]

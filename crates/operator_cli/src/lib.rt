@@ -30,6 +30,3 @@ pub use making::{init_store, refuse_site};
 pub use orders::{Order, WordsFault, read_words};
 pub use scripting::world_script;
 pub use status::Status;
-
-#[cfg(test)]
-mod tests;
