@@ -26,7 +26,7 @@ use Rattle.book_core.specs.declared.entry.Entry.TheVariants.{Asked, Joined}
 use Rattle.sql_records.specs.declared.meta.Meta.{Meta}
 use Rattle.sql_records.specs.Layout.{our_schema, HasMeta, meta_shown}
 use Rattle.sql_records.specs.Rows.{event_column, amount_column, target_column, rest_column, columns_of, stored, shown, IsStorable, entry_of, in_order, AreWhole}
-use Rattle.sql_records.specs.Held.{IsAtRest, LeavesWithOrWithout, LeavesNumbers, history_in, rows_in}
+use Rattle.sql_records.specs.Held.{IsAtRest, LeavesWithOrWithout, LeavesMeta, LeavesNumbers, history_in, rows_in}
 use Rattle.sql_records.proofs.EntryBack.{entry_back}
 use Rattle.sql_records.proofs.RowLemmas.{put_next, whole_next, entries_next}
 use Rattle.sql_records.proofs.InsertLemmas.{insert_text, insert_command, insert_is, insert_plain, cast_int, cast_null, Inserted, inserts}
@@ -165,8 +165,12 @@ module _ (place : ℕ) (entry : Entry) (fits : IsStorable entry) (row : Row) (is
         | inr commit ↦ inr (commit_adds place entry fits old new at_rest db (subst (λ p. CommitsBy insert_text p old db) is (commits db commit))).0
       ]
 
-  same_meta : ((db : Trees) → IsTrue old.is_open → old.may_leave db → db ≡ old.committed.trees) → HasCleanDisk new → (db : Trees) → new.may_leave db → db 0 ≡ old.now.trees 0
-  same_meta only clean db left =
+  pub insert_meta : (r : Result ℕ Error) → (HasCleanDisk new → Executes insert_text row old new r) → HasCleanDisk new → OnOk r (new.now.trees 0 ≡ old.now.trees 0)
+  insert_meta (Ok count) runs clean = (insert_ok place entry fits old new (rest (was_clean clean)) count (subst (λ p. Executes insert_text p old new (Ok count)) is (runs clean))).2
+  insert_meta (Err e) runs clean = tt
+
+  pub insert_leaves_meta : ((db : Trees) → IsTrue old.is_open → old.may_leave db → db ≡ old.committed.trees) → HasCleanDisk new → LeavesMeta new (old.now.trees 0)
+  insert_leaves_meta only clean db left =
       let at_rest = rest (was_clean clean) in
       elim (survives.crash clean db left) [
         | inl before ↦ ap (λ (t : Trees). t 0) (only db at_rest.is_open before) ∙ ap (λ (d : Database). d.trees 0) at_rest.settled
@@ -179,4 +183,4 @@ module _ (place : ℕ) (entry : Entry) (fits : IsStorable entry) (row : Row) (is
   insert_site only stays clean meta had db left =
       let at_rest = rest (was_clean clean) in
       let now : HasMeta meta old.now.trees = subst (λ (d : Database). HasMeta meta d.trees) at_rest.settled (had old.committed.trees (stays at_rest.is_open)) in
-      ap (map meta_shown) (same_meta only clean db left) ∙ now
+      ap (map meta_shown) (insert_leaves_meta only clean db left) ∙ now

@@ -9,7 +9,7 @@ use Rattle.sqlite.specs.Effect.{Database}
 use Rattle.sqlite.specs.State.{State, HasCleanDisk}
 use Rattle.sqlite.specs.Held.{Held, held_code, state}
 use Rattle.sql_records.specs.declared.meta.Meta.{Meta}
-use Rattle.sql_records.specs.Layout.{our_schema, HasMeta}
+use Rattle.sql_records.specs.Layout.{our_schema, HasMeta, meta_tree}
 use Rattle.sql_records.specs.Rows.{shown, in_order, history_of, AreWhole}
 
 abbrev pub entries_tree : ℕ
@@ -48,6 +48,10 @@ LeavesNoMore old new = (db : Trees) → new.may_leave db → old.may_leave db
 -- each database that a stop may leave has this history, or the same with the entry at its end
 abbrev pub LeavesWithOrWithout : State → List Entry → Entry → Type 0
 LeavesWithOrWithout s list entry = (db : Trees) → s.may_leave db → (history_in db ≡ list) ⊎ (history_in db ≡ list ++ entry ∷ [])
+
+-- each database that a stop may leave has these rows in `meta`
+abbrev pub LeavesMeta : State → List Row → Type 0
+LeavesMeta s meta = (db : Trees) → s.may_leave db → db meta_tree ≡ meta
 
 -- each database that a stop may leave has these numbers
 abbrev pub LeavesNumbers : State → Meta → Type 0

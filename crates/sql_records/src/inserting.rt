@@ -6,7 +6,8 @@ ghost use Rattle.book_core.specs.History.{delta_of};
 ghost use Rattle.sql_records.specs.declared.meta.Meta.{Meta};
 ghost use Rattle.delta_wire.specs.Grammar.{IsDelta, delta_text};
 ghost use Rattle.sql_records.specs.Rows.{HasRoom};
-ghost use Rattle.sql_records.specs.Held.{IsAtRest, LeavesWithOrWithout, LeavesNumbers, history_in};
+ghost use Rattle.sql_records.specs.Held.{IsAtRest, LeavesWithOrWithout, LeavesMeta, LeavesNumbers, history_in};
+ghost use Rattle.sql_records.specs.Layout.{meta_tree};
 
 use crate::columns::columns;
 use book_core::Entry;
@@ -31,6 +32,10 @@ pub fn insert<S: Alter>(
         (history_in (state S.Store conn.new).now.trees ≡ history_in (state S.Store conn.old).now.trees ++ entry.now ∷ []) }
     ensures crash { HasCleanDisk (state S.Store conn.new)
         → LeavesWithOrWithout (state S.Store conn.new) (history_in (state S.Store conn.old).now.trees) entry.now }
+    ensures meta { HasCleanDisk (state S.Store conn.new) → OnOk result
+        ((state S.Store conn.new).now.trees meta_tree ≡ (state S.Store conn.old).now.trees meta_tree) }
+    ensures crash_meta { HasCleanDisk (state S.Store conn.new)
+        → LeavesMeta (state S.Store conn.new) ((state S.Store conn.old).now.trees meta_tree) }
     ensures site { HasCleanDisk (state S.Store conn.new) → (meta : Meta)
         → LeavesNumbers (state S.Store conn.old) meta → LeavesNumbers (state S.Store conn.new) meta }
     ensures clean { HasCleanDisk (state S.Store conn.new) → HasCleanDisk (state S.Store conn.old) }

@@ -124,7 +124,8 @@ impl Keeper for ListKeeper {
 
     ghost is_trusted = { λ k. Unit {0} };
 
-    /// As of every keeper; and `Disk` exactly where `fail_at` says so, with the entry kept where it says so.
+    /// As of every keeper; and `Disk` only where `fail_at` says so, with the entry kept where it says so. There the
+    /// append is never Ok.
     fn append(&mut self, entry: &Entry) -> Result<(), KeepFault>
         ensures added { OnOk result ((self.old.failures ≡ 0) × (self.new ≡ record self.old { kept = self.old.kept ++ entry.now ∷ []; failing = one_less self.old.failing })) }
         ensures due { IsDue self.old.failing → IsErr result }

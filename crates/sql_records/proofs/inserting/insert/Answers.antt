@@ -1,5 +1,5 @@
 use Rattle.sqlite.specs.Held.{state}
-use Rattle.sql_records.proofs.AppendLemmas.{insert_rests, insert_adds, insert_leaves, insert_site}
+use Rattle.sql_records.proofs.AppendLemmas.{insert_rests, insert_adds, insert_leaves, insert_meta, insert_leaves_meta, insert_site}
 use Rattle.sql_records.proofs.inserting.insert.Goals as goal
 
 pub returns-clause-rest : goal.returns-clause-rest
@@ -15,6 +15,16 @@ returns-clause-added g c =
 pub returns-clause-crash : goal.returns-clause-crash
 returns-clause-crash g c =
     insert_leaves c.args.place c.args.entry.now c.columns-row.ensures.storable _ c.columns-row.ensures.columns (state g.S.Store c.args.conn.now) (state g.S.Store c.execute.new.self) c.requires.rest _ c.execute.ensures.survives (λ db h. h)
+    (λ db is_open left. g.met.S.Store.settled c.args.conn.now.store db is_open left)
+
+pub returns-clause-meta : goal.returns-clause-meta
+returns-clause-meta g c =
+    insert_meta c.args.place c.args.entry.now c.columns-row.ensures.storable _ c.columns-row.ensures.columns (state g.S.Store c.args.conn.now) (state g.S.Store c.execute.new.self) c.requires.rest _ c.execute.ensures.survives (λ db h. h)
+    c.execute.result c.execute.ensures.runs
+
+pub returns-clause-crash_meta : goal.returns-clause-crash_meta
+returns-clause-crash_meta g c =
+    insert_leaves_meta c.args.place c.args.entry.now c.columns-row.ensures.storable _ c.columns-row.ensures.columns (state g.S.Store c.args.conn.now) (state g.S.Store c.execute.new.self) c.requires.rest _ c.execute.ensures.survives (λ db h. h)
     (λ db is_open left. g.met.S.Store.settled c.args.conn.now.store db is_open left)
 
 pub returns-clause-site : goal.returns-clause-site
