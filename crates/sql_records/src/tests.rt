@@ -280,3 +280,27 @@ fn empty_database_is_not_ours(rt: HostRuntime) {
     let fault = Records::open(alloc, conn).err();
     assert_eq!(rt; fault, Some(OpenFault::NotOurs));
 }
+
+fn begin(rt: &impl Abort, conn: &mut Connection<MemStore>) {
+    assert!(rt; conn.execute("BEGIN", &[]).is_ok());
+}
+
+#[test]
+fn records_are_not_made_in_an_open_transaction(rt: HostRuntime) {
+    let alloc = rt.alloc();
+    let mut conn = Connection::open_in_memory(alloc).expect(&rt, "a database");
+    begin(&rt, &mut conn);
+    let Meta { me, sites, limit } = numbers(&rt);
+    assert!(rt; me.number() < sites.count());
+    let fault = Records::init(&mut conn, me, sites, limit);
+    assert_eq!(rt; fault, Err(InitFault::Disk));
+}
+
+#[test]
+fn records_are_not_opened_in_an_open_transaction(rt: HostRuntime) {
+    let alloc = rt.alloc();
+    let mut conn = made(&rt, alloc);
+    begin(&rt, &mut conn);
+    let fault = Records::open(alloc, conn).err();
+    assert_eq!(rt; fault, Some(OpenFault::Disk));
+}
