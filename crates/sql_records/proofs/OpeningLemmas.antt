@@ -1,5 +1,5 @@
 -- What an open finds.
-use Rattle.std.proofs.Common.{◌≡◌, ◌⊎◌, inl, inr, ℕ, suc, ◌+◌, ◌<◌, pos, false, List, [], ◌∷◌, ◌++◌, length, take, get_or, IsTrue, IsSome, Option, Some, None, refl, sym, ap, subst, ◌∙◌, arith, Result, Ok, Err, OnOk, Bool, true, not}
+use Rattle.std.proofs.Common.{◌≡◌, ◌⊎◌, inl, inr, ℕ, suc, ◌+◌, ◌<◌, pos, false, List, [], ◌∷◌, ◌++◌, length, take, get_or, IsTrue, IsSome, Option, Some, None, refl, sym, ap, subst, ◌∙◌, arith, Result, Ok, Err, OnOk, IfErr, IsErrAnd, Bool, true, not}
 use Rattle.std.specs.List.{filter_map, cons_option}
 use Rattle.std.proofs.lemmas.List.{take_more, length-take-le}
 use Rattle.std.proofs.lemmas.Option.{slice_get_read}
@@ -45,6 +45,11 @@ one_more (Some entry) entries n is long = ap suc long
 pub length_whole : (rows : List Row) (from : ℕ) → AreWhole from rows → length (filter_map entry_of rows) ≡ length rows
 length_whole [] from h = refl
 length_whole (r ∷ rows) from h = one_more (entry_of r) (filter_map entry_of rows) (length rows) h.0.reads (length_whole rows (from + 1) h.1)
+
+-- an error that is handed on
+pub if_err : {T E : Type 0} (r : Result T E) (P Q : E → Type 0) → IsErrAnd r Q → ((e : E) → Q e → P e) → IfErr r P
+if_err (Ok x) P Q h k = tt
+if_err (Err e) P Q h k = k e h
 
 pub on_ok : {T E : Type 0} (r : Result T E) (P : Type 0) → P → OnOk r P
 on_ok (Ok x) P h = h

@@ -21,7 +21,7 @@ pub fn insert<S: Alter>(
     place: u64,
     entry: &Entry,
     text: &str,
-) -> Result<usize, Error>
+) -> Result<(), Error>
     requires place { place < 2 ^ 62 }
     requires text { text.now ≡ delta_text (delta_of entry.now) }
     requires delta { IsDelta (delta_of entry.now) }
@@ -41,5 +41,6 @@ pub fn insert<S: Alter>(
     ensures clean { HasCleanDisk (state S.Store conn.new) → HasCleanDisk (state S.Store conn.old) }
 {
     let row = columns(place, entry, text);
-    conn.execute(INSERT, &row)
+    conn.execute(INSERT, &row)?;
+    Ok(())
 }

@@ -89,10 +89,7 @@ fn read_entries(alloc: Global, rows: &[Row]) -> Result<Vec<Entry>, OpenFault>
 {
     let mut entries = Vec::new(alloc);
     'rows: for (place, row) in rows.iter().enumerate() {
-        let entry = match read_next(alloc, place as u64, row) {
-            Ok(entry) => entry,
-            Err(fault) => return Err(fault),
-        };
+        let entry = read_next(alloc, place as u64, row)?;
         let Ok(()) = entries.push(entry) else {
             return Err(OpenFault::Memory);
         };
@@ -218,16 +215,8 @@ pub fn read_records<S: Alter>(
     if !is_ours(conn.schema()) {
         return Err(OpenFault::NotOurs);
     }
-    let meta = match read_meta(conn) {
-        Ok(meta) => meta,
-        Err(fault) => return Err(fault),
-    };
-    let rows = match read_rows(conn) {
-        Ok(rows) => rows,
-        Err(fault) => return Err(fault),
-    };
-    match read_entries(alloc, rows.as_slice()) {
-        Ok(entries) => Ok((entries, meta)),
-        Err(fault) => Err(fault),
-    }
+    let meta = read_meta(conn)?;
+    let rows = read_rows(conn)?;
+    let entries = read_entries(alloc, rows.as_slice())?;
+    Ok((entries, meta))
 }

@@ -78,7 +78,7 @@ impl<S: Alter> Keeper for Records<S> {
             return Err(KeepFault::Disk);
         }
         match insert(&mut self.conn, self.count, entry, &text) {
-            Ok(_) => {
+            Ok(()) => {
                 self.count += 1;
                 Ok(())
             }
@@ -128,10 +128,7 @@ impl<S: Alter + Drop> Records<S> {
         ensures clean { IfOk result (λ it. IsTrusted S.Store it.0 → HasCleanDisk (state S.Store conn)) }
     {
         let is_settled = conn.is_autocommit();
-        let (entries, meta) = match read_records(alloc, &mut conn) {
-            Ok(read) => read,
-            Err(fault) => return Err(fault),
-        };
+        let (entries, meta) = read_records(alloc, &mut conn)?;
         if !is_settled {
             return Err(OpenFault::Disk);
         }

@@ -12,8 +12,8 @@ invariant_of-records g c _ clean =
     let last = state g.S.Store c.read_records.new.conn in
     let autocommit : IsTrue c.is_autocommit-is_settled.result = c.if-not-is_settled.false in
     let outside : c.args.conn.in_transaction ≡ false = not_true _ (sym c.is_autocommit-is_settled.ensures.value ∙ autocommit) in
-    let count : c.len.result ≡ length (history_in first.now.trees) = omega (arith, c.in-Ok.read.0.ok.0, ap length (c.in-Ok.ensures.entries clean)) in
-    opened first last c.len.result (c.in-Ok.ensures.same clean) outside (c.is_autocommit-is_settled.ensures.settled autocommit) c.in-Ok.ensures.schema (c.in-Ok.ensures.whole clean) count
+    let count : c.len.result ≡ length (history_in first.now.trees) = omega (arith, c.in_ok-entries.entries.ok.0, ap length (c.in_ok-entries.ensures.entries clean)) in
+    opened first last c.len.result (c.in_ok-entries.ensures.same clean) outside (c.is_autocommit-is_settled.ensures.settled autocommit) c.in_ok-entries.ensures.schema (c.in_ok-entries.ensures.whole clean) count
 
 pub returns-clause-leaves : goal.returns-clause-leaves
 returns-clause-leaves g c clean =
@@ -21,12 +21,12 @@ returns-clause-leaves g c clean =
     let last = state g.S.Store c.read_records.new.conn in
     let autocommit : IsTrue c.is_autocommit-is_settled.result = c.if-not-is_settled.false in
     let outside : c.args.conn.in_transaction ≡ false = not_true _ (sym c.is_autocommit-is_settled.ensures.value ∙ autocommit) in
-    let count : c.len.result ≡ length (history_in first.now.trees) = omega (arith, c.in-Ok.read.0.ok.0, ap length (c.in-Ok.ensures.entries clean)) in
-    let rest = opened first last c.len.result (c.in-Ok.ensures.same clean) outside (c.is_autocommit-is_settled.ensures.settled autocommit) c.in-Ok.ensures.schema (c.in-Ok.ensures.whole clean) count in
+    let count : c.len.result ≡ length (history_in first.now.trees) = omega (arith, c.in_ok-entries.entries.ok.0, ap length (c.in_ok-entries.ensures.entries clean)) in
+    let rest = opened first last c.len.result (c.in_ok-entries.ensures.same clean) outside (c.is_autocommit-is_settled.ensures.settled autocommit) c.in_ok-entries.ensures.schema (c.in_ok-entries.ensures.whole clean) count in
     leaves_only last c.len.result rest (λ db is_open left. g.met.S.Store.settled c.read_records.new.conn.store db is_open left) (λ is_open. g.met.S.Store.stays c.read_records.new.conn.store is_open)
 
 pub returns-clause-given : goal.returns-clause-given
-returns-clause-given g c clean meta has = one_meta _ meta (state g.S.Store c.args.conn).now.trees (c.in-Ok.ensures.meta clean) has
+returns-clause-given g c clean meta has = one_meta _ meta (state g.S.Store c.args.conn).now.trees (c.in_ok-entries.ensures.meta clean) has
 
 pub returns-clause-site : goal.returns-clause-site
 returns-clause-site g c clean =
@@ -34,7 +34,7 @@ returns-clause-site g c clean =
     let last = state g.S.Store c.read_records.new.conn in
     let autocommit : IsTrue c.is_autocommit-is_settled.result = c.if-not-is_settled.false in
     let outside : c.args.conn.in_transaction ≡ false = not_true _ (sym c.is_autocommit-is_settled.ensures.value ∙ autocommit) in
-    let count : c.len.result ≡ length (history_in first.now.trees) = omega (arith, c.in-Ok.read.0.ok.0, ap length (c.in-Ok.ensures.entries clean)) in
-    let rest = opened first last c.len.result (c.in-Ok.ensures.same clean) outside (c.is_autocommit-is_settled.ensures.settled autocommit) c.in-Ok.ensures.schema (c.in-Ok.ensures.whole clean) count in
-    let now = subst (λ (d : Database). HasMeta c.in-Ok.read.1 d.trees) (sym (c.in-Ok.ensures.same clean).0.now_is) (c.in-Ok.ensures.meta clean) in
+    let count : c.len.result ≡ length (history_in first.now.trees) = omega (arith, c.in_ok-entries.entries.ok.0, ap length (c.in_ok-entries.ensures.entries clean)) in
+    let rest = opened first last c.len.result (c.in_ok-entries.ensures.same clean) outside (c.is_autocommit-is_settled.ensures.settled autocommit) c.in_ok-entries.ensures.schema (c.in_ok-entries.ensures.whole clean) count in
+    let now = subst (λ (d : Database). HasMeta c.in_ok-entries.meta d.trees) (sym (c.in_ok-entries.ensures.same clean).0.now_is) (c.in_ok-entries.ensures.meta clean) in
     leaves_numbers last c.len.result _ rest now (λ db is_open left. g.met.S.Store.settled c.read_records.new.conn.store db is_open left)
