@@ -1,4 +1,3 @@
-pub mod NameLaws
 pub mod RequestLaws
 pub mod CommandLaws
 pub mod ReadingLaws

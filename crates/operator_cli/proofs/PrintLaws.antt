@@ -1,5 +1,5 @@
 -- What a command printed, from the write to the status.
-use Rattle.std.proofs.Common.{◌≡◌, ◌⊎◌, ℕ, List, Option, Result, Ok, Err, inl, inr, sym, subst}
+use Rattle.std.proofs.Common.{◌≡◌, ◌⊎◌, ℕ, List, [], ◌∷◌, length, Option, Result, Ok, Err, inl, inr, refl, sym, subst}
 use Rattle.std.specs.Prelude.{MatchResult, IfOk}
 use Rattle.std.specs.Io.KnownBytes.{Appends, Keeps}
 use Rattle.std.proofs.KnownBytes.{Appends-kept}
@@ -9,6 +9,7 @@ use Rattle.operator_cli.specs.declared.status.Status.TheVariants.{Done, Refused,
 use Rattle.operator_cli.specs.declared.store_fault.StoreFault.{StoreFault}
 use Rattle.operator_cli.specs.declared.told.Told.{Told}
 use Rattle.operator_cli.specs.Told.{told_line, told_status}
+use Rattle.sql_records.specs.declared.lookup.Listed.{Listed}
 use Rattle.operator_cli.specs.Printed.{Printed}
 
 pub printed : (P : Status → List ℕ → Type 0) (a b : Option (List ℕ)) (status : Status) (text : List ℕ) → P status text → Appends a b text → Printed P a b status
@@ -27,6 +28,22 @@ kept P a b c Done h k = (h.0, h.1, Appends-kept a b c h.0 h.2 k)
 kept P a b c Refused h k = (h.0, h.1, Appends-kept a b c h.0 h.2 k)
 kept P a b c NotUnderstood h k = (h.0, h.1, Appends-kept a b c h.0 h.2 k)
 kept P a b c Failed h k = tt
+
+-- what goes with the status of what is told
+pub told_ends : (C : Status → Type 0) (r : Result Status StoreFault) (told : Told) → IfOk r (λ status. status ≡ told_status told) → C (told_status told) → IfOk r C
+told_ends C (Ok status) told e c = subst C (sym e) c
+told_ends C (Err f) told e c = tt
+
+-- what goes with the status at the end of the command
+pub ends_as : (C : Status → Type 0) (came : Result Status StoreFault) (status : Status) → IfOk came C → C Failed → MatchResult came (λ s. (status ≡ s) ⊎ (status ≡ Failed)) (λ _. status ≡ Failed) → C status
+ends_as C (Err f) status h failed e = subst C (sym e) failed
+ends_as C (Ok s) status h failed (inl e) = subst C (sym e) h
+ends_as C (Ok s) status h failed (inr e) = subst C (sym e) failed
+
+-- a list of no length is empty
+pub no_rows : (rows : List Listed) → length rows ≡ 0 → rows ≡ []
+no_rows [] e = refl
+no_rows (row ∷ rows) e = absurd (let is = e in cc)
 
 -- the end of the command
 pub ends_printed : (P : Status → List ℕ → Type 0) (a b c : Option (List ℕ)) (came : Result Status StoreFault) (status : Status) → IfOk came (Printed P a b) → Keeps b c → MatchResult came (λ s. (status ≡ s) ⊎ (status ≡ Failed)) (λ _. status ≡ Failed) → Printed P a c status

@@ -11,6 +11,7 @@ use Rattle.plain_words.specs.Words.{first_word, is_space, ended, ◌>>=◌}
 use Rattle.plain_words.specs.Number.{number_of, number_at}
 use Rattle.plain_words.proofs.WordLaws.{lacks_space, split_join, some_is, bind_some, word_found, ended_found}
 use Rattle.plain_words.proofs.NumberLaws.{number_found, number_again, number_at_found, number_at_again, decimal_lacks_space}
+use Rattle.delta_wire.proofs.Names.{name_lacks_space}
 use Rattle.world_steps.specs.declared.step.Step.TheVariants as step
 use Rattle.operator_cli.specs.declared.script_line.ScriptLine.{ScriptLine}
 use Rattle.operator_cli.specs.declared.script_line.ScriptLine.TheVariants.{Make, Left, Totals}
@@ -19,7 +20,6 @@ use Rattle.operator_cli.specs.declared.requests.Verb.TheVariants as verb
 use Rattle.operator_cli.specs.declared.commands.Command.{Command}
 use Rattle.operator_cli.specs.declared.commands.Command.TheVariants as command
 use Rattle.operator_cli.specs.Grammar.{request_words, input_words, stored_text, script_words, script_text, IsAmount, IsSiteNumber, IsRequest, IsScriptLine}
-use Rattle.operator_cli.proofs.NameLaws.{name_lacks_space}
 use Rattle.operator_cli.specs.Requests.{verb_text, verb_at, event_at, numbered_at}
 use Rattle.operator_cli.specs.Commands.{command_text, send_at, deliver_at, restart_at, after_command, commanded}
 use Rattle.operator_cli.specs.Reading.{ask_at, left_at, totals_at, after_verb, at_site, after_first, line_of_words, line_of, named_number}

@@ -13,11 +13,12 @@ use Rattle.plain_words.specs.Words.{first_word, ended, ◌>>=◌}
 use Rattle.plain_words.specs.Number.{number_at}
 use Rattle.plain_words.proofs.WordLaws.{lacks_space, some_is, bind_some, word_found, ended_found}
 use Rattle.plain_words.proofs.NumberLaws.{number_at_found, number_at_again, decimal_lacks_space}
+use Rattle.delta_wire.specs.Name.{name_of}
+use Rattle.delta_wire.proofs.Names.{name_of_again, name_of_found, name_lacks_space}
 use Rattle.operator_cli.specs.declared.requests.Verb.{Verb}
 use Rattle.operator_cli.specs.declared.requests.Verb.TheVariants as verb
 use Rattle.operator_cli.specs.Grammar.{request_words, IsAmount, IsSiteNumber, IsRequest}
-use Rattle.operator_cli.proofs.NameLaws.{event_again, event_found, name_lacks_space}
-use Rattle.operator_cli.specs.Requests.{verb_text, verb_of, verb_at, event_of, event_at, site_at, amount_at, sized_at, announce_at, release_at, sell_at, refund_at, cede_at, request_at, numbered_at}
+use Rattle.operator_cli.specs.Requests.{verb_text, verb_of, verb_at, event_at, site_at, amount_at, sized_at, announce_at, release_at, sell_at, refund_at, cede_at, request_at, numbered_at}
 
 -- ---- verbs
 
@@ -55,9 +56,9 @@ verb_at_found words x e =
 pub event_at_found : (words : List (List ℕ)) (x : List ℕ × List (List ℕ)) → event_at words ≡ Some x → (words ≡ x.0 ∷ x.1) × IsEventName x.0
 unfolding event_at
 event_at_found words x e =
-    let a = bind_some (first_word words) (λ w. event_of w.0 >>= λ v. Some (v, w.1)) x e in
-    let b = bind_some (event_of a.0.0) (λ v. Some (v, a.0.1)) x a.2 in
-    let f = event_found a.0.0 b.0 b.1 in
+    let a = bind_some (first_word words) (λ w. name_of w.0 >>= λ v. Some (v, w.1)) x e in
+    let b = bind_some (name_of a.0.0) (λ v. Some (v, a.0.1)) x a.2 in
+    let f = name_of_found a.0.0 b.0 b.1 in
     let same : (b.0, a.0.1) ≡ x = some_is (b.0, a.0.1) x b.2 in
     (word_found words a.0 a.1 ∙ ap (λ (w : List ℕ). w ∷ a.0.1) f.0 ∙ ap (λ (p : List ℕ × List (List ℕ)). p.0 ∷ p.1) same, subst (λ (p : List ℕ × List (List ℕ)). IsEventName p.0) same f.1)
 
@@ -156,7 +157,7 @@ site_again i ws h = number_at_again 0 63 i ws (lit< tt) (omega arith) h
 
 pub name_again : (e : List ℕ) (ws : List (List ℕ)) → IsEventName e → event_at (e ∷ ws) ≡ Some (e, ws)
 unfolding event_at
-name_again e ws h = rw (event_again e h) refl
+name_again e ws h = rw (name_of_again e h) refl
 
 sized_again : (e : List ℕ) (a : ℕ) (ws : List (List ℕ)) → IsEventName e → IsAmount a → sized_at (e ∷ decimal a ∷ ws) ≡ Some ((e, a), ws)
 unfolding sized_at

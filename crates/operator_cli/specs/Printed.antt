@@ -1,11 +1,15 @@
 -- What the commands over records print on standard output, status by status. (Our own.)
-use Rattle.std.specs.Prelude.{◌≡◌, ℕ, ◌<◌, ⊤, List, length, Option}
+use Rattle.std.specs.Prelude.{◌≡◌, ℕ, ◌<◌, ⊤, List, [], length, Option, Some, None}
 use Rattle.std.specs.List.{flat_map}
 use Rattle.std.specs.Io.KnownBytes.{Appends}
 use Rattle.request_ledger.specs.declared.reply.Reply.{Reply}
 use Rattle.site_exchange.specs.declared.message.Message.{Message}
 use Rattle.delta_wire.specs.Grammar.{IsMessage, message_text}
+use Rattle.rights_lattice.specs.EventName.{IsEventName}
+use Rattle.book_core.specs.declared.entry.Entry.{Entry}
+use Rattle.sql_records.specs.declared.lookup.Found.{Found}
 use Rattle.sql_records.specs.declared.lookup.Listed.{Listed}
+use Rattle.sql_records.specs.Lookups.{found_in, listed_in}
 use Rattle.operator_cli.specs.declared.told.Told.{Told}
 use Rattle.operator_cli.specs.declared.told.Told.TheVariants.{Made, Joined, NothingNew, Acked, AlreadyThere, NoSite, Nothing, NotFound, TooLong, Unread, NotTaken}
 use Rattle.operator_cli.specs.declared.status.Status.{Status}
@@ -63,6 +67,11 @@ abbrev pub IsFoundText : Status → List ℕ → Type 0
 IsFoundText Done text = (place : ℕ) × (reply : Reply) × (text ≡ found_line place reply)
 IsFoundText status text = IsTellingOf IsOfLooking status text
 
+-- what these entries keep under a number, or that they keep nothing under it
+abbrev pub IsFoundIn : List Entry → ℕ → Status → List ℕ → Type 0
+IsFoundIn h number Done text = (found : Found) × (found_in h number ≡ Some found) × (text ≡ found_line found.place found.reply)
+IsFoundIn h number status text = (found_in h number ≡ None) × IsTellingOf IsOfLooking status text
+
 abbrev pub row_line : Listed → List ℕ
 row_line row = listed_line row.place row.number row.request row.reply
 
@@ -70,6 +79,16 @@ row_line row = listed_line row.place row.number row.request row.reply
 abbrev pub IsListText : Status → List ℕ → Type 0
 IsListText Done text = (rows : List Listed) × (0 < length rows) × (text ≡ flat_map row_line rows)
 IsListText status text = IsTellingOf IsOfLooking status text
+
+-- these rows, or that there are none
+abbrev pub AreListed : List Listed → Status → List ℕ → Type 0
+AreListed rows Done text = (0 < length rows) × (text ≡ flat_map row_line rows)
+AreListed rows status text = (rows ≡ []) × IsTellingOf IsOfLooking status text
+
+-- the requests in these entries that name an event, or that none does
+abbrev pub IsListIn : List Entry → List ℕ → Status → List ℕ → Type 0
+IsListIn h name Done text = AreListed (listed_in h name) Done text
+IsListIn h name status text = (IsEventName name → listed_in h name ≡ []) × IsTellingOf IsOfLooking status text
 
 -- one message, or none
 abbrev pub IsSentText : Status → List ℕ → Type 0

@@ -1,11 +1,10 @@
 -- Reading a request from left to right.
-use Rattle.std.specs.Prelude.{ℕ, Bool, ◌&&◌, nat_le, List, length, Option, Some, None, codes, if◌then◌else◌}
+use Rattle.std.specs.Prelude.{ℕ, List, Option, Some, None, codes, if◌then◌else◌}
 use Rattle.std.specs.Str.{bytes_eq}
-use Rattle.std.specs.List.{list_all}
-use Rattle.rights_lattice.specs.EventName.{is_event_byte}
 use Rattle.rights_lattice.specs.Cells.{max_value}
 use Rattle.plain_words.specs.Words.{first_word, ended, ◌>>=◌}
 use Rattle.plain_words.specs.Number.{number_at}
+use Rattle.delta_wire.specs.Name.{name_of}
 use Rattle.request_ledger.specs.declared.request.Request.{Request}
 use Rattle.request_ledger.specs.declared.request.Request.TheVariants.{Announce, Release, Sell, Refund, Cede}
 use Rattle.operator_cli.specs.declared.requests.Verb.{Verb}
@@ -30,13 +29,6 @@ verb_of w =
     if bytes_eq w (codes "left") then Some verb.Left else (
     if bytes_eq w (codes "totals") then Some verb.Totals else None))))))
 
--- the test of a name: 1 to 32 bytes of a-z, 0-9 and -
-abbrev pub is_event_name : List ℕ → Bool
-is_event_name w = nat_le 1 (length w) && nat_le (length w) 32 && list_all is_event_byte w
-
-unfoldable pub event_of : List ℕ → Option (List ℕ)
-event_of w = if is_event_name w then Some w else None
-
 -- A word read, and the words after it.
 unfoldable pub verb_at : List (List ℕ) → Option (Verb × List (List ℕ))
 verb_at words = do
@@ -47,7 +39,7 @@ verb_at words = do
 unfoldable pub event_at : List (List ℕ) → Option (List ℕ × List (List ℕ))
 event_at words = do
   w ← first_word words
-  e ← event_of w.0
+  e ← name_of w.0
   Some (e, w.1)
 
 -- a site's number, whether the site is there or not

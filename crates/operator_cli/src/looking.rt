@@ -1,8 +1,11 @@
 //! Looking requests up in the records of a site.
 
-ghost use Rattle.std.specs.Prelude.{◌≡◌, IfOk, None};
+ghost use Rattle.std.specs.Prelude.{◌≡◌, IfOk, IfSome, None};
+ghost use Rattle.sqlite.specs.State.{HasCleanDisk};
+ghost use Rattle.sqlite.specs.Held.{state};
+ghost use Rattle.sql_records.specs.Held.{IsTrusted, kept_in, history_in};
 ghost use Rattle.operator_cli.specs.Told.{of_find_fault, FaultTold};
-ghost use Rattle.operator_cli.specs.Printed.{Printed, IsFoundText, IsListText};
+ghost use Rattle.operator_cli.specs.Printed.{Printed, IsFoundText, IsFoundIn, IsListText, AreListed, IsListIn};
 ghost use Rattle.operator_cli.specs.declared.status.Status.TheVariants.{Failed};
 
 use crate::ending::{ended, write_line};
@@ -34,7 +37,10 @@ fn write_found<S: Alter, W: Write>(
     number: RequestNumber,
     out: &mut W,
 ) -> Result<Status, StoreFault>
-    ensures { IfOk result (Printed IsFoundText (W.contents out.old) (W.contents out.new)) }
+    ensures out { IfOk result (Printed IsFoundText (W.contents out.old) (W.contents out.new)) }
+    ensures found { IsTrusted S.Store records.new
+        → IfOk result (Printed (IsFoundIn (kept_in S.Store records.old) number) (W.contents out.old) (W.contents out.new)) }
+    ensures trusted { IsTrusted S.Store records.new → IsTrusted S.Store records.old }
 {
     match records.find(number) {
         Ok(Some(found)) => {
@@ -59,6 +65,8 @@ pub fn find_store<S: Alter + Drop, W: Write, E: Write>(
     err: &mut E,
 ) -> (Status, Option<Connection<S>>)
     ensures out { Printed IsFoundText (W.contents out.old) (W.contents out.new) result.0 }
+    ensures found { IfSome result.1 (λ after. HasCleanDisk (state S.Store after)
+        → Printed (IsFoundIn (history_in (state S.Store conn).now.trees) number) (W.contents out.old) (W.contents out.new) result.0) }
     ensures err { FaultTold (E.contents err.old) (E.contents err.new) result.0 }
     ensures lost { result.1 ≡ None → result.0 ≡ Failed }
 {
@@ -73,7 +81,7 @@ pub fn find_store<S: Alter + Drop, W: Write, E: Write>(
 }
 
 fn write_all<W: Write>(listed: &[Listed], out: &mut W) -> Result<Status, StoreFault>
-    ensures { IfOk result (Printed IsListText (W.contents out.old) (W.contents out.new)) }
+    ensures { IfOk result (Printed (AreListed listed.now) (W.contents out.old) (W.contents out.new)) }
 {
     if listed.is_empty() {
         return tell(&Told::NotFound, out);
@@ -90,7 +98,10 @@ fn write_listed<S: Alter, W: Write>(
     event: &str,
     out: &mut W,
 ) -> Result<Status, StoreFault>
-    ensures { IfOk result (Printed IsListText (W.contents out.old) (W.contents out.new)) }
+    ensures out { IfOk result (Printed IsListText (W.contents out.old) (W.contents out.new)) }
+    ensures listed { IsTrusted S.Store records.new
+        → IfOk result (Printed (IsListIn (kept_in S.Store records.old) event.now) (W.contents out.old) (W.contents out.new)) }
+    ensures trusted { IsTrusted S.Store records.new → IsTrusted S.Store records.old }
 {
     let Some(event) = Event::read(event.as_bytes()) else {
         return tell(&Told::NotFound, out);
@@ -114,6 +125,8 @@ pub fn list_store<S: Alter + Drop, W: Write, E: Write>(
     err: &mut E,
 ) -> (Status, Option<Connection<S>>)
     ensures out { Printed IsListText (W.contents out.old) (W.contents out.new) result.0 }
+    ensures listed { IfSome result.1 (λ after. HasCleanDisk (state S.Store after)
+        → Printed (IsListIn (history_in (state S.Store conn).now.trees) event.now) (W.contents out.old) (W.contents out.new) result.0) }
     ensures err { FaultTold (E.contents err.old) (E.contents err.new) result.0 }
     ensures lost { result.1 ≡ None → result.0 ≡ Failed }
 {

@@ -1,8 +1,12 @@
 //! Making the records of a site.
 
 ghost use Rattle.std.specs.Prelude.{◌≡◌, IfOk};
-ghost use Rattle.operator_cli.specs.Told.{FaultTold};
+ghost use Rattle.sqlite.specs.State.{HasCleanDisk};
+ghost use Rattle.sqlite.specs.Held.{state};
+ghost use Rattle.sql_records.specs.Held.{IsNew};
+ghost use Rattle.operator_cli.specs.Told.{FaultTold, told_status};
 ghost use Rattle.operator_cli.specs.Printed.{Printed, IsTellingOf, IsMadeText, IsOfMaking};
+ghost use Rattle.operator_cli.specs.declared.status.Status.TheVariants.{Done, Refused};
 ghost use Rattle.operator_cli.specs.declared.told.Told.TheVariants.{NoSite};
 
 use crate::ending::ended;
@@ -30,7 +34,10 @@ fn make<S: Alter>(
     sites: Sites,
     limit: Limit,
 ) -> Result<Told, StoreFault>
-    ensures { IfOk result IsOfMaking }
+    ensures told { IfOk result IsOfMaking }
+    ensures made { HasCleanDisk (state S.Store conn.new) → IfOk result (λ told. told_status told ≡ Done
+        → IsNew (record { me = me; sites = sites; limit = limit }) (state S.Store conn.new).now) }
+    ensures kept { IfOk result (λ told. told_status told ≡ Refused → conn.new ≡ conn.old) }
 {
     if me.number() >= sites.count() {
         return Ok(Told::NoSite);
@@ -50,7 +57,10 @@ fn write_made<S: Alter, W: Write>(
     limit: Limit,
     out: &mut W,
 ) -> Result<Status, StoreFault>
-    ensures { IfOk result (Printed IsMadeText (W.contents out.old) (W.contents out.new)) }
+    ensures out { IfOk result (Printed IsMadeText (W.contents out.old) (W.contents out.new)) }
+    ensures made { HasCleanDisk (state S.Store conn.new) → IfOk result (λ status. status ≡ Done
+        → IsNew (record { me = me; sites = sites; limit = limit }) (state S.Store conn.new).now) }
+    ensures kept { IfOk result (λ status. status ≡ Refused → conn.new ≡ conn.old) }
 {
     match make(conn, me, sites, limit) {
         Ok(told) => tell(&told, out),
@@ -73,6 +83,9 @@ pub fn init_store<S: Alter, W: Write, E: Write>(
 ) -> Status
     ensures out { Printed IsMadeText (W.contents out.old) (W.contents out.new) result }
     ensures err { FaultTold (E.contents err.old) (E.contents err.new) result }
+    ensures made { HasCleanDisk (state S.Store conn.new) → result ≡ Done
+        → IsNew (record { me = me; sites = sites; limit = limit }) (state S.Store conn.new).now }
+    ensures kept { result ≡ Refused → conn.new ≡ conn.old }
 {
     let came = write_made(conn, me, sites, limit, out);
     ended(came, out, err)

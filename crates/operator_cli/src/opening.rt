@@ -1,6 +1,8 @@
 //! Opening the records of a site.
 
-ghost use Rattle.std.specs.Prelude.{◌≡◌};
+ghost use Rattle.std.specs.Prelude.{◌≡◌, IfOk};
+ghost use Rattle.sqlite.specs.Held.{state};
+ghost use Rattle.sql_records.specs.Held.{IsTrusted, kept_in, history_in};
 ghost use Rattle.operator_cli.specs.Told.{of_open_fault, of_replay_fault};
 
 use crate::store_fault::StoreFault;
@@ -39,7 +41,10 @@ fn of_replay_fault(fault: ReplayFault) -> StoreFault
 pub(crate) fn open_book<S: Alter + Drop>(
     alloc: Global,
     conn: Connection<S>,
-) -> Result<SiteBook<Records<S>>, (StoreFault, Option<Connection<S>>)> {
+) -> Result<SiteBook<Records<S>>, (StoreFault, Option<Connection<S>>)>
+    ensures kept { IfOk result (λ book. IsTrusted S.Store book.keeper
+        → kept_in S.Store book.keeper ≡ history_in (state S.Store conn).now.trees) }
+{
     let (records, entries, meta) = match Records::open(alloc, conn) {
         Ok(opened) => opened,
         Err(fault) => return Err((of_open_fault(fault), None)),

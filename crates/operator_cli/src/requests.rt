@@ -2,7 +2,8 @@
 
 ghost use Rattle.std.specs.Prelude.{◌≡◌};
 ghost use Rattle.std.specs.Option.{option_map};
-ghost use Rattle.operator_cli.specs.Requests.{verb_of, event_of, verb_at, event_at, site_at, amount_at, sized_at, announce_at, release_at, sell_at, refund_at, cede_at, request_at, numbered_at};
+ghost use Rattle.delta_wire.specs.Name.{name_of};
+ghost use Rattle.operator_cli.specs.Requests.{verb_of, verb_at, event_at, site_at, amount_at, sized_at, announce_at, release_at, sell_at, refund_at, cede_at, request_at, numbered_at};
 
 use plain_words::{Words, number_at};
 use request_ledger::{Amount, Request, RequestNumber};
@@ -52,13 +53,10 @@ pub(crate) fn verb_at(words: &mut Words<'_>) -> Option<Verb>
     Some(verb)
 }
 
-fn event_of(word: &[u8]) -> Option<Event>
-    ensures { result ≡ event_of word.now }
+fn read_event(word: &[u8]) -> Option<Event>
+    ensures { result ≡ name_of word.now }
 {
-    match Event::read(word) {
-        Some(event) => Some(event),
-        None => None,
-    }
+    Event::read(word)
 }
 
 #[tactic(auto, unfolding(crate::specs::Requests::event_at))]
@@ -66,7 +64,7 @@ pub(crate) fn event_at(words: &mut Words<'_>) -> Option<Event>
     ensures { option_map (λ e. (e, words.new)) result ≡ event_at words.old }
 {
     let word = words.next()?;
-    let event = event_of(word)?;
+    let event = read_event(word)?;
     Some(event)
 }
 

@@ -1,7 +1,23 @@
-use Rattle.operator_cli.specs.Printed.{IsFoundText}
+use Rattle.std.proofs.Common.{ap, subst, ◌∙◌}
+use Rattle.std.specs.Prelude.{List, IfOk}
+use Rattle.sqlite.specs.State.{HasCleanDisk}
+use Rattle.sqlite.specs.Held.{Held, state}
+use Rattle.book_core.specs.declared.entry.Entry.{Entry}
+use Rattle.sql_records.specs.Held.{IsTrusted, kept_in, history_in}
+use Rattle.operator_cli.specs.Printed.{Printed, IsFoundText, IsFoundIn}
 use Rattle.operator_cli.proofs.PrintLaws.{ends_printed}
 use Rattle.operator_cli.proofs.looking.find_store.Goals as goal
 
 pub returns-in-Ok-clause-out : goal.returns-in-Ok-clause-out
 returns-in-Ok-clause-out g c =
-    ends_printed IsFoundText (g.W.Write.contents c.args.out.now) (g.W.Write.contents c.write_found-came.new.out) (g.W.Write.contents c.ended.new.out) c.write_found-came.result c.ended.result c.write_found-came.ensures c.ended.ensures.kept c.ended.ensures.status
+    ends_printed IsFoundText (g.W.Write.contents c.args.out.now) (g.W.Write.contents c.write_found-came.new.out) (g.W.Write.contents c.ended.new.out) c.write_found-came.result c.ended.result c.write_found-came.ensures.out c.ended.ensures.kept c.ended.ensures.status
+
+pub returns-in-Ok-clause-found : goal.returns-in-Ok-clause-found
+returns-in-Ok-clause-found g c clean =
+    let a = g.W.Write.contents c.args.out.now in
+    let b = g.W.Write.contents c.write_found-came.new.out in
+    let trusted : IsTrusted g.S.Store c.write_found-came.new.records = subst (λ (conn : Held g.row.S.Denot). HasCleanDisk (state g.S.Store conn)) c.close.ensures clean in
+    let before = subst (IsTrusted g.S.Store) c.into_keeper-records.ensures (c.write_found-came.ensures.trusted trusted) in
+    let entries = ap (kept_in g.S.Store) c.into_keeper-records.ensures ∙ c.in-Ok.ensures.kept before in
+    let came = subst (λ (h : List Entry). IfOk c.write_found-came.result (Printed (IsFoundIn h c.args.number) a b)) entries (c.write_found-came.ensures.found trusted) in
+    ends_printed (IsFoundIn (history_in (state g.S.Store c.args.conn).now.trees) c.args.number) a b (g.W.Write.contents c.ended.new.out) c.write_found-came.result c.ended.result came c.ended.ensures.kept c.ended.ensures.status

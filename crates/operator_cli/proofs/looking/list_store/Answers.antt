@@ -1,7 +1,23 @@
-use Rattle.operator_cli.specs.Printed.{IsListText}
+use Rattle.std.proofs.Common.{ap, subst, ◌∙◌}
+use Rattle.std.specs.Prelude.{List, IfOk}
+use Rattle.sqlite.specs.State.{HasCleanDisk}
+use Rattle.sqlite.specs.Held.{Held, state}
+use Rattle.book_core.specs.declared.entry.Entry.{Entry}
+use Rattle.sql_records.specs.Held.{IsTrusted, kept_in, history_in}
+use Rattle.operator_cli.specs.Printed.{Printed, IsListText, IsListIn}
 use Rattle.operator_cli.proofs.PrintLaws.{ends_printed}
 use Rattle.operator_cli.proofs.looking.list_store.Goals as goal
 
 pub returns-in-Ok-clause-out : goal.returns-in-Ok-clause-out
 returns-in-Ok-clause-out g c =
-    ends_printed IsListText (g.W.Write.contents c.args.out.now) (g.W.Write.contents c.write_listed-came.new.out) (g.W.Write.contents c.ended.new.out) c.write_listed-came.result c.ended.result c.write_listed-came.ensures c.ended.ensures.kept c.ended.ensures.status
+    ends_printed IsListText (g.W.Write.contents c.args.out.now) (g.W.Write.contents c.write_listed-came.new.out) (g.W.Write.contents c.ended.new.out) c.write_listed-came.result c.ended.result c.write_listed-came.ensures.out c.ended.ensures.kept c.ended.ensures.status
+
+pub returns-in-Ok-clause-listed : goal.returns-in-Ok-clause-listed
+returns-in-Ok-clause-listed g c clean =
+    let a = g.W.Write.contents c.args.out.now in
+    let b = g.W.Write.contents c.write_listed-came.new.out in
+    let trusted : IsTrusted g.S.Store c.write_listed-came.new.records = subst (λ (conn : Held g.row.S.Denot). HasCleanDisk (state g.S.Store conn)) c.close.ensures clean in
+    let before = subst (IsTrusted g.S.Store) c.into_keeper-records.ensures (c.write_listed-came.ensures.trusted trusted) in
+    let entries = ap (kept_in g.S.Store) c.into_keeper-records.ensures ∙ c.in-Ok.ensures.kept before in
+    let came = subst (λ (h : List Entry). IfOk c.write_listed-came.result (Printed (IsListIn h c.args.event.now) a b)) entries (c.write_listed-came.ensures.listed trusted) in
+    ends_printed (IsListIn (history_in (state g.S.Store c.args.conn).now.trees) c.args.event.now) a b (g.W.Write.contents c.ended.new.out) c.write_listed-came.result c.ended.result came c.ended.ensures.kept c.ended.ensures.status
