@@ -1,7 +1,10 @@
 #!/bin/sh
-# Builds the program, which proves it first: crates/boxoffice/out/boxoffice.
+# Builds the program, which proves it first, and shows how far it is: crates/boxoffice/out/boxoffice.
 set -eu
 here=$(cd "$(dirname "$0")" && pwd)
 cd "$here/../crates/boxoffice"
 mkdir -p out
-rt run -- world < "$here/first-night.script" > out/build.log 2>&1 || { cat out/build.log; exit 1; }
+status=0
+{ rt run -- world < "$here/first-night.script" 2>&1 || echo failed > out/build.failed; } | tee out/build.log >&2
+[ ! -e out/build.failed ] || { rm out/build.failed; status=1; }
+exit "$status"

@@ -77,29 +77,10 @@ delta_within office h request reply me answer = by_test (is_done reply) refl
     by_test true q = addition_within office h request (done_of_sites office h request me (ap is_done (sym answer) ∙ q))
     by_test false q = within_zero office.sites
 
-cell_of_sites : (n : ℕ) (c : Cell) → is_cell_of n c ≡ true → IsCellOf n c
-cell_of_sites n (Gave i j) h = let p = and_parts (nat_lt i n) (nat_lt j n) h in (ltb-true i n p.0, ltb-true j n p.1)
-cell_of_sites n (Used i) h = ltb-true i n h
-cell_of_sites n (Back i) h = ltb-true i n h
-
-all_within : (n : ℕ) (ms : List Valued) → are_within n ms ≡ true → MarksAreWithin n ms
-all_within n [] h e c some = absurd (omega arith)
-all_within n (m ∷ ms) h e c some =
-    let parts = and_parts (is_cell_of n m.cell) (are_within n ms) h in
-    elim (is_of m e c) as (λ b. is_of m e c ≡ b → IsCellOf n c) [
-      | true ↦ λ t. subst (λ (k : Key). IsCellOf n k.1) (sym (of_same m e c t)) (cell_of_sites n m.cell parts.0)
-      | false ↦ λ t. let none : value_in m e c ≡ 0 = ap (λ b. cond b m.value 0) t in all_within n ms parts.1 e c (omega arith)
-    ] refl
-
-joined_within : (office : Office) (peer : ℕ) (delta : State) → is_of_sites office peer delta ≡ true → IsWithin office.sites delta.cells
-joined_within office peer delta h e c some =
-    let last = (and_parts (nat_lt peer office.sites && not (peer == office.me)) (are_within office.sites (marks_of delta.cells)) h).1 in
-    all_within office.sites (marks_of delta.cells) last e c (omega (arith, greatest-marks_of delta.cells e c))
-
 next_within : (office : Office) (h : List Entry) (entry : Entry) → office.me < office.sites → IsNext office h entry → IsWithin office.sites (delta_of entry).cells
 next_within office h (Asked number request reply delta) me next =
     subst (λ (d : State). IsWithin office.sites d.cells) (sym next.change) (delta_within office h request reply me next.answer)
-next_within office h (Joined peer delta) me next = joined_within office peer delta next.sites
+next_within office h (Joined peer delta) me next = next.sites
 
 pub marks_within : (office : Office) (h : List Entry) (entry : Entry) (ms : List Valued) → office.me < office.sites → IsNext office h entry → ms ≡ marks_of (delta_of entry).cells → MarksAreWithin office.sites ms
 marks_within office h entry ms me next is e c some =

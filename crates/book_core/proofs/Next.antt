@@ -21,6 +21,7 @@ use Rattle.book_core.specs.History.{delta_of, state_of, kept, sale_of}
 use Rattle.book_core.specs.Decision.{Office, Change, cell_of, change_of, refund_of, marked, addition_of, delta_for, reply_to, decision_if, entry_if, entry_of_ask, Again, Reused, Full, Fresh}
 use Rattle.book_core.specs.Joining.{foreign, is_of_sites, Joins, NothingNew, Refuses, join_if, join_decision, joined_if, entry_of_join}
 use Rattle.book_core.specs.Legal.{IsNext, IsNextJoined, IsNextAsked}
+use Rattle.book_core.proofs.OrderTests.{sites_test, row_test, is_new, passes}
 use Rattle.book_core.proofs.Rows.{own_cell}
 
 marked_foreign : (me : ℕ) (X : Cells) (o : Option Change) (event : List ℕ) (cell : Cell) → owner_of cell ≢ me → value_at (marked me X o).cells event cell ≡ 0
@@ -86,7 +87,7 @@ join_next office h peer delta e =
     go true (Some mark) within full q r s t found = cc
     go true None true full q r s t found = cc
     go true None false true q r s t found = cc
-    go true None false false q r s t found = record { room = leb-false office.limit (length h) t; sites = q; own_row = r; news = s }
+    go true None false false q r s t found = passes office h peer delta t q r s
 
 -- a delta that holds nothing new is at or below the state
 pub nothing_new : (office : Office) (h : List Entry) (peer : ℕ) (delta : State) → join_decision office h peer delta ≡ NothingNew → is_within delta (state_of h) ≡ true
@@ -112,7 +113,7 @@ asked_entry office h number request reply delta next =
 -- and the one that joining adds
 pub joined_entry : (office : Office) (h : List Entry) (peer : ℕ) (delta : State) → IsNextJoined office h peer delta → entry_of_join office h peer delta ≡ Some (Joined peer delta)
 joined_entry office h peer delta next =
-    ap (λ b. joined_if (cond (not b) (Refuses join_fault.UnknownSite) (join_if (foreign office.me (state_of h).cells (marks_of delta.cells)) (is_within delta (state_of h)) (nat_le office.limit (length h)))) peer delta) next.sites
-    ∙ ap (λ o. joined_if (join_if o (is_within delta (state_of h)) (nat_le office.limit (length h))) peer delta) next.own_row
-    ∙ ap (λ b. joined_if (join_if None b (nat_le office.limit (length h))) peer delta) next.news
+    ap (λ b. joined_if (cond (not b) (Refuses join_fault.UnknownSite) (join_if (foreign office.me (state_of h).cells (marks_of delta.cells)) (is_within delta (state_of h)) (nat_le office.limit (length h)))) peer delta) ((sites_test office peer delta).1 (next.from_peer, next.sites))
+    ∙ ap (λ o. joined_if (join_if o (is_within delta (state_of h)) (nat_le office.limit (length h))) peer delta) ((row_test office.me delta (state_of h)).1 next.own_row)
+    ∙ ap (λ b. joined_if (join_if None b (nat_le office.limit (length h))) peer delta) (is_new delta (state_of h) next.news)
     ∙ ap (λ b. joined_if (join_if None false b) peer delta) (lt-leb office.limit (length h) next.room)

@@ -1,24 +1,15 @@
 -- What an entry that is next leaves as it was: the own row, where it is a delta of a peer, and rights that are not negative.
-use Rattle.std.proofs.Common.{◌≡◌, ℕ, ◌≤◌, List, [], ◌∷◌, ◌++◌, None, ap, ◌∙◌, arith}
+use Rattle.std.proofs.Common.{◌≡◌, List, [], ◌∷◌, ◌++◌, ap, ◌∙◌}
 use Rattle.rights_lattice.specs.declared.cell.Cell.{Cell}
 use Rattle.rights_lattice.specs.Cell.{owner_of}
-use Rattle.rights_lattice.specs.Cells.{value_at, marks_of}
-use Rattle.rights_lattice.specs.State.{State}
-use Rattle.rights_lattice.proofs.CellLaws.{greatest-marks_of}
+use Rattle.rights_lattice.specs.Cells.{value_at}
 use Rattle.book_core.specs.declared.entry.Entry.{Entry}
 use Rattle.book_core.specs.declared.entry.Entry.TheVariants.{Asked, Joined}
 use Rattle.book_core.specs.History.{state_of}
-use Rattle.book_core.specs.Joining.{foreign}
 use Rattle.book_core.specs.Legal.{IsNext, IsLegal}
 use Rattle.book_core.specs.BookView.{BookView}
 use Rattle.book_core.specs.OwnRow.{LeavesOwnRow, HasOwnRights}
-use Rattle.book_core.proofs.Rows.{own_row_kept, joined_own, legal_rights}
-
--- a delta with no mark of the own row above its value is at or below the own row
-pub within_own : (me : ℕ) (h : List Entry) (delta : State) → foreign me (state_of h).cells (marks_of delta.cells) ≡ None
-    → (event : List ℕ) (cell : Cell) → owner_of cell ≡ me → value_at delta.cells event cell ≤ value_at (state_of h).cells event cell
-within_own me h delta none event cell own =
-    omega (arith, own_row_kept me (state_of h).cells (marks_of delta.cells) none event cell own, greatest-marks_of delta.cells event cell)
+use Rattle.book_core.proofs.Rows.{joined_own, legal_rights}
 
 -- a delta that is entered leaves the own row
 pub entered_own : (old new : BookView) (entry : Entry) → IsNext old.office old.history entry → new.history ≡ old.history ++ entry ∷ [] → LeavesOwnRow entry old new

@@ -24,7 +24,7 @@ use Rattle.book_core.specs.declared.entry.Entry.{Entry}
 use Rattle.book_core.specs.declared.entry.Entry.TheVariants.{Asked, Joined}
 use Rattle.book_core.specs.History.{state_of, sale_of}
 use Rattle.book_core.specs.Decision.{Office, Kind, Releasing, Selling, Refunding, Ceding, Change, cell_of, change_of, refund_of, marked, addition_of, delta_for, reply_to, own_left}
-use Rattle.book_core.specs.Joining.{foreign}
+use Rattle.book_core.specs.Joining.{RowAtMost}
 use Rattle.book_core.specs.Legal.{IsNext, IsLegal}
 use Rattle.book_core.specs.Operations.{operations, operation_of, operation_if, counted, total, same_kind}
 use Rattle.book_core.proofs.Histories.{at-push, operations_push, legal_along}
@@ -234,32 +234,10 @@ rights_after me x y (Some c) step may event before = by_test (same_event event c
           gained_le x y event me (λ cell. omega (arith, step event cell)),
         )
 
--- where no mark of the own row is above the state, the own cells stay
-pub own_row_kept : (me : ℕ) (x : Cells) (ms : List Valued) → foreign me x ms ≡ None → (event : List ℕ) (cell : Cell) → owner_of cell ≡ me → greatest ms event cell ≤ (value_at x event cell)
-own_row_kept me x [] h event cell own = omega arith
-own_row_kept me x (m ∷ ms) h event cell own =
-    let rest = passed (owner_of m.cell == me) (nat_lt ((value_at x m.event m.cell)) m.value) h in
-    omega (arith, value_in-tests m event cell, by_test (same_event event m.event && same_cell cell m.cell) refl rest.0, own_row_kept me x ms rest.1 event cell own)
-  where
-    passed : (b c : Bool) → cond (b && c) (Some m) (foreign me x ms) ≡ None → ((b && c) ≡ false) × (foreign me x ms ≡ None)
-    passed true true e = cc
-    passed true false e = (refl, e)
-    passed false c e = (refl, e)
-
-    by_test : (b : Bool) → (same_event event m.event && same_cell cell m.cell) ≡ b → ((owner_of m.cell == me) && nat_lt ((value_at x m.event m.cell)) m.value) ≡ false → cond b m.value 0 ≤ (value_at x event cell)
-    by_test false q out = omega arith
-    by_test true q out =
-        let p = and_parts (same_event event m.event) (same_cell cell m.cell) q in
-        let of : event ≡ m.event = same_event_is event m.event p.0 in
-        let at : cell ≡ m.cell = same_cell_is cell m.cell p.1 in
-        let mine : (owner_of m.cell == me) ≡ true = eq-eqb (owner_of m.cell) me (ap owner_of (sym at) ∙ own) in
-        let below : nat_lt ((value_at x m.event m.cell)) m.value ≡ false = cc (ap (λ b. b && nat_lt ((value_at x m.event m.cell)) m.value) mine) in
-        rw (of, at) (ltb-false ((value_at x m.event m.cell)) m.value below)
-
-pub joined_own : (me : ℕ) (h : List Entry) (peer : ℕ) (delta : State) → foreign me (state_of h).cells (marks_of delta.cells) ≡ None → (event : List ℕ) (cell : Cell) → owner_of cell ≡ me
+-- a delta with no more on the own row than the state leaves that row
+pub joined_own : (me : ℕ) (h : List Entry) (peer : ℕ) (delta : State) → RowAtMost me delta (state_of h) → (event : List ℕ) (cell : Cell) → owner_of cell ≡ me
     → (value_at (state_of (h ++ Joined peer delta ∷ [])).cells event cell) ≡ (value_at (state_of h).cells event cell)
-joined_own me h peer delta out event cell own =
-    omega (arith, at-push h (Joined peer delta) (At event cell), own_row_kept me (state_of h).cells (marks_of delta.cells) out event cell own, greatest-marks_of delta.cells event cell)
+joined_own me h peer delta row event cell own = omega (arith, at-push h (Joined peer delta) (At event cell), row event cell own)
 
 zero_le : (b : Bool) (v : ℕ) → v ≡ 0 → cond b 0 v ≤ 0
 zero_le true v h = omega arith

@@ -1,26 +1,29 @@
--- Legal histories. (Our own.)
-use Rattle.std.specs.Prelude.{◌≡◌, ℕ, ◌<◌, false, true, List, length, take, slice_get, Some, None}
-use Rattle.rights_lattice.specs.Cells.{marks_of}
-use Rattle.rights_lattice.specs.State.{State, is_within}
+-- Legal histories. (That a site alone changes its row: SRDS 2015; the order: RR-7506; the rest: our own.)
+use Rattle.std.specs.Prelude.{◌≡◌, ℕ, ◌<◌, List, length, take, slice_get, Some, None}
+use Rattle.rights_lattice.specs.RightsView.{IsWithin}
+use Rattle.rights_lattice.specs.State.{State, AtOrBelow}
 use Rattle.request_ledger.specs.declared.request.Request.{Request}
 use Rattle.request_ledger.specs.declared.reply.Reply.{Reply}
 use Rattle.book_core.specs.declared.entry.Entry.{Entry}
 use Rattle.book_core.specs.declared.entry.Entry.TheVariants.{Asked, Joined}
 use Rattle.book_core.specs.Decision.{Office, delta_for, reply_to}
 use Rattle.book_core.specs.History.{state_of, kept}
-use Rattle.book_core.specs.Joining.{foreign, is_of_sites}
+use Rattle.book_core.specs.Joining.{IsPeer, RowAtMost}
 
+-- a new number within the limit, with the reply and the delta that are due
 pub record IsNextAsked (office : Office) (h : List Entry) (number : ℕ) (request : Request) (reply : Reply) (delta : State) : Type 0 where
   pub room : length h < office.limit
   pub new : kept h number ≡ None
   pub answer : reply ≡ reply_to office h request
   pub change : delta ≡ delta_for office h request reply
 
+-- a peer's delta within the limit, of the book's sites, with nothing new on the own row and something new elsewhere
 pub record IsNextJoined (office : Office) (h : List Entry) (peer : ℕ) (delta : State) : Type 0 where
   pub room : length h < office.limit
-  pub sites : is_of_sites office peer delta ≡ true
-  pub own_row : foreign office.me (state_of h).cells (marks_of delta.cells) ≡ None
-  pub news : is_within delta (state_of h) ≡ false
+  pub from_peer : IsPeer office peer
+  pub sites : IsWithin office.sites delta.cells
+  pub own_row : RowAtMost office.me delta (state_of h)
+  pub news : AtOrBelow delta (state_of h) → ⊥
 
 -- the entry is legal after this history
 abbrev pub IsNext : Office → List Entry → Entry → Type 0

@@ -1,5 +1,6 @@
 -- What a plan is, and why there is none. (Our own.)
-use Rattle.std.specs.Prelude.{◌≡◌, ℕ}
+use Rattle.std.specs.Prelude.{◌≡◌, ℕ, false}
+use Rattle.request_ledger.specs.Requests.{is_done}
 use Rattle.book_core.specs.declared.entry.Entry.{Entry}
 use Rattle.book_core.specs.declared.entry.Entry.TheVariants.{Asked, Joined}
 use Rattle.request_ledger.specs.declared.request.Request.{Request}
@@ -46,10 +47,26 @@ IsFault book number request (fault.Reused place) = decision book.office book.his
 IsFault book number request fault.Full = decision book.office book.history number request ≡ Full
 IsFault book number request fault.Memory = IsFresh (decision book.office book.history number request)
 
+-- where nothing is entered the book stays wholly as it is, its room too
+abbrev pub LeavesRoom : Decision → BookView → BookView → Type 0
+LeavesRoom (Fresh reply) old new = Unit {0}
+LeavesRoom _ old new = new ≡ old
+
+-- a fresh reply that adds nothing to the state
+abbrev pub IsFreshRefusal : Decision → Type 0
+IsFreshRefusal (Fresh reply) = is_done reply ≡ false
+IsFreshRefusal _ = ⊥
+
 -- the plan is the decision on the delta
 abbrev pub IsJoinPlan : BookView → ℕ → State → JoinPlan → Type 0
 IsJoinPlan book peer delta join_plan.NothingNew = join_decision book.office book.history peer delta ≡ join.NothingNew
-IsJoinPlan book peer delta (join_plan.New entry) = (entry ≡ Joined peer delta) × IsReady book entry
+IsJoinPlan book peer delta (join_plan.New entry) =
+    (join_decision book.office book.history peer delta ≡ join.Joins) × (entry ≡ Joined peer delta) × IsReady book entry
+
+-- where nothing is joined the book stays wholly as it is, its room too
+abbrev pub LeavesJoinRoom : join.JoinDecision → BookView → BookView → Type 0
+LeavesJoinRoom join.Joins old new = Unit {0}
+LeavesJoinRoom _ old new = new ≡ old
 
 -- the fault is the decision on the delta, or memory was refused to one that is joined
 abbrev pub IsJoinFault : BookView → ℕ → State → JoinFault → Type 0

@@ -1,5 +1,5 @@
 //! The book of a site.
-ghost use Rattle.std.specs.Prelude.{vec_len, vec_capacity, nat_le, IfOk, IfErr, OnOk, ◌++◌, ◌∷◌, ◌≡◌, ℕ, ◌<◌, ◌≤◌, [], length, slice_get, Some, None};
+ghost use Rattle.std.specs.Prelude.{vec_len, vec_capacity, nat_le, IsOk, IfOk, IfErr, OnOk, ◌++◌, ◌∷◌, ◌≡◌, ℕ, ◌<◌, ◌≤◌, [], length, slice_get, Some, None};
 ghost use Rattle.std.specs.Option.{option_copied};
 ghost use Rattle.rights_lattice.specs.Cells.{value_at, raise_all, max_value};
 ghost use Rattle.rights_lattice.specs.State.{knows};
@@ -7,6 +7,7 @@ ghost use Rattle.local_rights.specs.Rights.{HasRights, released_in, sold_in, ref
 ghost use Rattle.request_ledger.specs.Ledger.{kept_under, IsRefundable};
 ghost use Rattle.book_core.specs.History.{state_of, kept, sale_of, names_of, asked_from};
 ghost use Rattle.book_core.specs.Decision.{own_left};
+ghost use Rattle.book_core.specs.Legal.{IsLegal};
 ghost use Rattle.book_core.specs.BookView.{HasRoomFor, IsUnkept, KeepsRefunds, MarksAreWithin, numbers_in};
 ghost use Rattle.book_core.specs.OwnRow.{HasOwnRights, LeavesOwnRow};
 ghost use Rattle.book_core.specs.Plans.{IsReady};
@@ -100,9 +101,10 @@ impl Book {
         self.limit
     }
 
-    /// The length of the history.
+    /// The length of the history, which is legal.
     pub fn len(&self) -> usize
-        ensures { result ≡ length self.now.history }
+        ensures len { result ≡ length self.now.history }
+        ensures legal { IsLegal self.now.office self.now.history }
     {
         self.history.len()
     }
@@ -203,6 +205,7 @@ impl Book {
     fn reserve(&mut self, entry: &Entry) -> Result<(), AllocError>
         ensures unchanged { self.new ≡ record self.old { room = self.new.room } }
         ensures ok { OnOk result (HasRoomFor self.new.room entry.now) }
+        ensures succeeds { HasRoomFor self.old.room entry.now → IsOk result }
     {
         self.rights.reserve(entry.delta().marks().len())?;
         self.names.reserve(entry.delta().names())?;

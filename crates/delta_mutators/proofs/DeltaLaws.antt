@@ -1,18 +1,47 @@
 -- Lists of a delta as the state that they are.
-use Rattle.std.proofs.Common.{◌≡◌, ℕ, ◌≤◌, List, [], ◌∷◌, length, ap, ◌∙◌, subst, arith}
-use Rattle.rights_lattice.specs.Cells.{Valued, all_zero, raise}
-use Rattle.rights_lattice.specs.State.{State, bottom, join}
+use Rattle.std.proofs.Common.{◌≡◌, ℕ, ◌≤◌, Bool, true, false, ◌||◌, List, [], ◌∷◌, length, refl, sym, ap, ◌∙◌, subst, arith}
+use Rattle.rights_lattice.specs.Cells.{Cells, Valued, all_zero, raise}
+use Rattle.rights_lattice.specs.Cells as cells
+use Rattle.rights_lattice.specs.State.{State, bottom, join, Names, knows, no_names, with_name, join_names}
 use Rattle.rights_lattice.specs.Marks.{cells_of, names_of}
 use Rattle.rights_lattice.specs.Merging.{IsMerged, IsMergedNames}
 use Rattle.rights_lattice.proofs.CellLaws.{same_cells, value_at-join, value_at-raise, value_at-all_zero}
+use Rattle.rights_lattice.proofs.StateLaws.{same_names, contains-union, knows-with_name, knows-no_names}
 use Rattle.rights_lattice.proofs.MarkLaws.{cells_of-none, cells_of-one, names_of-none, names_of-one, merged_cells, merged_names}
 use Rattle.delta_mutators.specs.declared.delta.Item.TheVariants.{Name, Cell}
 use Rattle.delta_mutators.specs.Lists.{AreLists}
 use Rattle.delta_mutators.specs.Items.{state_of}
-use Rattle.delta_mutators.specs.ApplyLaw.{ApplyingIsJoining}
+use Rattle.delta_mutators.specs.Rises.{pushed}
+use Rattle.delta_mutators.specs.ApplyLaw.{ApplyingIsJoining, AddingIsJoining}
 
 pub applying_is_joining : ApplyingIsJoining
 applying_is_joining X m = same_cells _ _ (λ e c. omega (arith, value_at-raise X m e c, value_at-join X (raise all_zero m) e c, value_at-raise all_zero m e c, value_at-all_zero e c))
+
+join-all_zero : (X : Cells) → X ≡ cells.join X all_zero
+join-all_zero X = same_cells _ _ (λ e c. omega (arith, value_at-join X all_zero e c, value_at-all_zero e c))
+
+join_names-no_names : (N : Names) → N ≡ join_names N no_names
+join_names-no_names N = same_names _ _ (λ n. sym (contains-union N no_names n ∙ ap (λ b. knows N n || b) (knows-no_names n) ∙ or_false (knows N n)))
+  where
+    or_false : (b : Bool) → (b || false) ≡ b
+    or_false true = refl
+    or_false false = refl
+
+with_name-join : (N : Names) (name : List ℕ) → with_name N name ≡ join_names N (with_name no_names name)
+with_name-join N name = same_names _ _ (λ n.
+    knows-with_name N name n ∙ turned (knows no_names n) _ (knows N n) (knows-no_names n)
+    ∙ sym (contains-union N (with_name no_names name) n ∙ ap (λ b. knows N n || b) (knows-with_name no_names name n)))
+  where
+    turned : (none is known : Bool) → none ≡ false → (is || known) ≡ (known || (is || none))
+    turned true is known h = cc
+    turned false true true h = refl
+    turned false true false h = refl
+    turned false false true h = refl
+    turned false false false h = refl
+
+pub adding_is_joining : AddingIsJoining
+adding_is_joining S (Name name) = λ i. record { cells = join-all_zero S.cells i; names = with_name-join S.names name i }
+adding_is_joining S (Cell mark) = λ i. record { cells = applying_is_joining S.cells mark i; names = join_names-no_names S.names i }
 
 abbrev pub state_from : List (List ℕ) → List Valued → State
 state_from ns ms = record { cells = cells_of ms; names = names_of ns }

@@ -166,13 +166,8 @@ rises_lists ns ms S i a view =
     ap (λ (T : State). rises T i) (sym view)
     ∙ (λ k. follows (names_in_order-names_of ns a.names_rise k) (marks_of-cells_of ms a.marks_rise a.positive k) i)
 
-pub rises_name : (ns : List (List ℕ)) (ms : List Valued) (S : State) (i : Item) (e : List ℕ) (b r : Bool) → AreLists ns ms → state_from ns ms ≡ S → i ≡ item.Name e → b ≡ eqb (length ms) 0 → b ≡ true → r ≡ is_after_names ns e → r ≡ rises S i
-rises_name ns ms S i e b r a view is b_is t r_is =
-    r_is ∙ ap (λ c. c && is_after_names ns e) (sym t ∙ b_is) ∙ sym (rises_lists ns ms S i a view ∙ ap (follows ns ms) is)
-
-pub rises_not : (ns : List (List ℕ)) (ms : List Valued) (S : State) (i : Item) (e : List ℕ) (b : Bool) → AreLists ns ms → state_from ns ms ≡ S → i ≡ item.Name e → b ≡ eqb (length ms) 0 → b ≡ false → b ≡ rises S i
-rises_not ns ms S i e b a view is b_is t =
-    t ∙ ap (λ c. c && is_after_names ns e) (sym t ∙ b_is) ∙ sym (rises_lists ns ms S i a view ∙ ap (follows ns ms) is)
+pub rises_name : (ns : List (List ℕ)) (ms : List Valued) (S : State) (i : Item) (e : List ℕ) (r : Bool) → AreLists ns ms → state_from ns ms ≡ S → i ≡ item.Name e → r ≡ is_after_names ns e → r ≡ rises S i
+rises_name ns ms S i e r a view is r_is = r_is ∙ sym (rises_lists ns ms S i a view ∙ ap (follows ns ms) is)
 
 pub rises_mark : (ns : List (List ℕ)) (ms : List Valued) (S : State) (i : Item) (m : Valued) (r : Bool) → AreLists ns ms → state_from ns ms ≡ S → i ≡ item.Cell m → r ≡ is_after_marks ms m → r ≡ rises S i
 rises_mark ns ms S i m r a view is r_is = r_is ∙ sym (rises_lists ns ms S i a view ∙ ap (follows ns ms) is)
@@ -186,7 +181,7 @@ pub record Pushes (ns ns' : List (List ℕ)) (ms ms' : List Valued) (S : State) 
 
 pub pushes_name : (ns ns' : List (List ℕ)) (ms : List Valued) (S : State) (i : Item) (e : List ℕ) → AreLists ns ms → state_from ns ms ≡ S → IsTrue (rises S i) → i ≡ item.Name e → ns' ≡ ns ++ e ∷ [] → Pushes ns ns' ms ms S i
 pushes_name ns ns' ms S i e a view r is new =
-    let after = (and_parts _ _ (sym (rises_lists ns ms S i a view ∙ ap (follows ns ms) is) ∙ r)).1 in
+    let after = sym (rises_lists ns ms S i a view ∙ ap (follows ns ms) is) ∙ r in
     let rise = rising_names-end ns e a.names_rise after in
     let names = names_in_order-names_of ns a.names_rise in
     rw (is, new, ← view) record {

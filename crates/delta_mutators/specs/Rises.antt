@@ -1,5 +1,5 @@
--- Items that come after all those of a state: names first, each rising, then marks, each rising. Our own.
-use Rattle.std.specs.Prelude.{ℕ, Bool, ◌&&◌, ◌==◌, List, [], ◌∷◌, length}
+-- Items that come after all those of their kind: a name above the last name, a mark above the last mark. Our own.
+use Rattle.std.specs.Prelude.{ℕ, Bool, List, [], ◌∷◌}
 use Rattle.std.specs.List.{list_all}
 use Rattle.std.specs.Ordering.{nat_cmp, is_lt}
 use Rattle.std.specs.Cmp.Lexicographic.{slice_cmp}
@@ -16,12 +16,12 @@ is_after_names names name = list_all (λ n. is_lt (slice_cmp nat_cmp n name)) na
 abbrev pub is_after_marks : List Valued → Valued → Bool
 is_after_marks marks mark = list_all (λ m. is_lt (key_cmp (m.event, m.cell) (mark.event, mark.cell))) marks
 
--- whether an item comes after these names and marks
+-- whether a name comes after these names, or a mark after these marks
 abbrev pub follows : List (List ℕ) → List Valued → Item → Bool
-follows names marks (item.Name name) = length marks == 0 && is_after_names names name
+follows names marks (item.Name name) = is_after_names names name
 follows names marks (item.Cell mark) = is_after_marks marks mark
 
--- whether an item comes after all those of the state
+-- whether an item comes after all those of its kind in the state
 abbrev pub rises : State → Item → Bool
 rises S item = follows (names_in_order S.names) (marks_of S.cells) item
 

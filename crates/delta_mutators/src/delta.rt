@@ -111,12 +111,12 @@ impl Delta {
         self.marks.as_slice()
     }
 
-    /// Whether the item comes after all of the delta's, names before marks.
+    /// Whether the item comes after all of its kind: a name above the last name, a mark above the last mark.
     pub fn rises(&self, item: &Item) -> bool
         ensures { result ≡ rises self.now item.now }
     {
         match item {
-            Item::Name(event) => self.marks.is_empty() && is_after_names(&self.names, event),
+            Item::Name(event) => is_after_names(&self.names, event),
             Item::Cell(mark) => is_after_marks(&self.marks, mark),
         }
     }
@@ -125,6 +125,7 @@ impl Delta {
     pub fn push(&mut self, item: Item) -> Result<(), AllocError>
         requires { IsTrue (rises self.old item) }
         ensures ok { OnOk result (self.new ≡ pushed self.old item) }
+        ensures joined { OnOk result (self.new ≡ join self.old (state_of item)) }
         ensures names { OnOk result
             (names_in_order self.new.names ≡ names_in_order self.old.names ++ names_in item) }
         ensures marks { OnOk result (marks_of self.new.cells ≡ marks_of self.old.cells ++ marks_in item) }

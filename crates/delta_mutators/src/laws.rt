@@ -1,7 +1,8 @@
 //! The law of deltas, over the definitions alone.
-ghost use Rattle.delta_mutators.specs.ApplyLaw.{ApplyingIsJoining};
+ghost use Rattle.delta_mutators.specs.ApplyLaw.{AddingIsJoining, ApplyingIsJoining};
 
-/// To raise a cell by a mark is to join the mark's delta.
+/// To apply an operation is to join its delta: to raise a cell by a mark, and to add an announced name or a mark.
 pub fn applying_is_joining()
-    ensures { ApplyingIsJoining }
+    ensures marks { ApplyingIsJoining }
+    ensures items { AddingIsJoining }
 {}

@@ -4,7 +4,8 @@ use Rattle.std.specs.Prelude.{IfErr}
 use Rattle.rights_lattice.specs.Cells.{Valued}
 use Rattle.rights_lattice.specs.State.{State}
 use Rattle.delta_mutators.specs.declared.delta.Item.{Item}
-use Rattle.delta_mutators.specs.Rises.{follows, names_in, marks_in}
+use Rattle.delta_mutators.specs.Rises.{names_in, marks_in}
+use Rattle.delta_wire.specs.Items.{comes_next}
 use Rattle.delta_wire.specs.declared.ending.Ending.TheVariants.{AtEndOfBytes}
 use Rattle.delta_wire.specs.declared.fault.WireFault.{WireFault}
 use Rattle.delta_wire.specs.declared.fault.WireFault.TheVariants.{Truncated, BadLine, OutOfOrder, Trailing, Memory}
@@ -18,14 +19,14 @@ at_last : (b : Bool) (S : State) → Trails (cond b (Ok S) (Err Truncated)) → 
 at_last true S e = cc
 at_last false S e = cc
 
-if_follows : (b : Bool) (n : ℕ) (r : Result State WireFault) → (Trails r → ⊥) → Trails (cond b r (Err (OutOfOrder n))) → ⊥
-if_follows true n r h e = h e
-if_follows false n r h e = cc
+if_next : (b : Bool) (n : ℕ) (r : Result State WireFault) → (Trails r → ⊥) → Trails (cond b r (Err (OutOfOrder n))) → ⊥
+if_next true n r h e = h e
+if_next false n r h e = cc
 
 at_item : (n : ℕ) (ns : List (List ℕ)) (ms : List Valued) (o : Option Item) (go : List (List ℕ) → List Valued → Result State WireFault)
     → ((ns' : List (List ℕ)) (ms' : List Valued) → Trails (go ns' ms') → ⊥) → Trails (with_item n ns ms o go) → ⊥
 at_item n ns ms None go h e = cc
-at_item n ns ms (Some i) go h e = if_follows (follows ns ms i) n (go (ns ++ names_in i) (ms ++ marks_in i)) (h (ns ++ names_in i) (ms ++ marks_in i)) e
+at_item n ns ms (Some i) go h e = if_next (comes_next ns ms i) n (go (ns ++ names_in i) (ms ++ marks_in i)) (h (ns ++ names_in i) (ms ++ marks_in i)) e
 
 no_item_trails : (n : ℕ) (ns : List (List ℕ)) (ms : List Valued) (pieces : List (List ℕ)) → Trails (items_from AtEndOfBytes n ns ms pieces) → ⊥
 unfolding items_from

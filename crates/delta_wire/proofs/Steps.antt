@@ -1,17 +1,21 @@
 -- One line of items read.
-use Rattle.std.proofs.Common.{◌≡◌, ℕ, ◌+◌, true, false, cond, List, [], ◌∷◌, ◌++◌, Option, Some, None, Result, Ok, Err, refl, sym, ap, ◌∙◌}
+use Rattle.std.proofs.Common.{◌≡◌, ℕ, ◌+◌, Bool, subst, codes, true, false, cond, List, [], ◌∷◌, ◌++◌, Option, Some, None, Result, Ok, Err, refl, sym, ap, ◌∙◌, inl, inr, ◌⊎◌}
+use Rattle.std.specs.Str.{bytes_eq}
 use Rattle.std.proofs.lemmas.Bool.{cond-true, cond-false}
 use Rattle.rights_lattice.specs.Cells.{marks_of, all_zero}
 use Rattle.rights_lattice.specs.State.{State, bottom, names_in_order, no_names}
 use Rattle.delta_mutators.specs.declared.delta.Item.{Item}
-use Rattle.delta_mutators.specs.Rises.{rises, names_in, marks_in}
+use Rattle.delta_mutators.specs.Rises.{names_in, marks_in}
 use Rattle.rights_lattice.proofs.MarkLaws.{names_of-none, cells_of-none, names_in_order-names_of, marks_of-cells_of}
 use Rattle.delta_mutators.proofs.EndLaws.{state_again}
 use Rattle.delta_wire.specs.declared.ending.Ending.{Ending}
 use Rattle.delta_wire.specs.declared.fault.WireFault.{WireFault}
 use Rattle.delta_wire.specs.declared.fault.WireFault.TheVariants.{Truncated, BadLine, OutOfOrder, Trailing, Memory}
-use Rattle.delta_wire.specs.Reading.{item_of}
-use Rattle.delta_wire.specs.Wire.{Gives, is_over, ends, at_last, with_item, items_from}
+use Rattle.delta_wire.specs.Items.{comes_next}
+use Rattle.delta_wire.specs.Reading.{item_of, header_of}
+use Rattle.site_exchange.specs.declared.message.Message.{Message}
+use Rattle.delta_wire.specs.declared.ending.Ending.TheVariants.{AtEndLine, AtEndOfBytes}
+use Rattle.delta_wire.specs.Wire.{Gives, is_over, ends, at_last, with_item, items_from, ack_from, BeginsWithItem}
 
 abbrev pub Read : Type 0
 Read = Result State WireFault
@@ -79,16 +83,54 @@ is_bad e n S now rest line total h t is none =
     sym h ∙ at_item e n S now line t.next t.more t.before is
     ∙ ap (λ (o : Option Item). with_item n (names_in_order S.names) (marks_of S.cells) o (λ ns ms. items_from e (n + 1) ns ms (t.next ∷ t.more))) none
 
-pub is_low : (e : Ending) (n : ℕ) (S : State) (now rest : List (List ℕ)) (line : List ℕ) (i : Item) (total : Read) → reads e n S now ≡ total → Taken now rest line → ends e line ≡ false → item_of line ≡ Some i → rises S i ≡ false → total ≡ Err (OutOfOrder n)
+pub is_low : (e : Ending) (n : ℕ) (S : State) (now rest : List (List ℕ)) (line : List ℕ) (i : Item) (total : Read) → reads e n S now ≡ total → Taken now rest line → ends e line ≡ false → item_of line ≡ Some i → comes_next (names_in_order S.names) (marks_of S.cells) i ≡ false → total ≡ Err (OutOfOrder n)
 is_low e n S now rest line i total h t is some low =
     sym h ∙ at_item e n S now line t.next t.more t.before is
     ∙ ap (λ (o : Option Item). with_item n (names_in_order S.names) (marks_of S.cells) o (λ ns ms. items_from e (n + 1) ns ms (t.next ∷ t.more))) some
-    ∙ cond-false (rises S i) _ _ low
+    ∙ cond-false (comes_next (names_in_order S.names) (marks_of S.cells) i) _ _ low
 
-pub goes_on : (e : Ending) (n : ℕ) (S S' : State) (now rest : List (List ℕ)) (line : List ℕ) (i : Item) (total : Read) → reads e n S now ≡ total → Taken now rest line → ends e line ≡ false → item_of line ≡ Some i → rises S i ≡ true
+pub goes_on : (e : Ending) (n : ℕ) (S S' : State) (now rest : List (List ℕ)) (line : List ℕ) (i : Item) (total : Read) → reads e n S now ≡ total → Taken now rest line → ends e line ≡ false → item_of line ≡ Some i → comes_next (names_in_order S.names) (marks_of S.cells) i ≡ true
     → names_in_order S'.names ≡ names_in_order S.names ++ names_in i → marks_of S'.cells ≡ marks_of S.cells ++ marks_in i → reads e (n + 1) S' rest ≡ total
 goes_on e n S S' now rest line i total h t is some up names marks =
     (λ k. items_from e (n + 1) (names k) (marks k) (t.after k))
-    ∙ sym (cond-true (rises S i) _ _ up)
+    ∙ sym (cond-true (comes_next (names_in_order S.names) (marks_of S.cells) i) _ _ up)
     ∙ sym (ap (λ (o : Option Item). with_item n (names_in_order S.names) (marks_of S.cells) o (λ ns ms. items_from e (n + 1) ns ms (t.next ∷ t.more))) some)
     ∙ sym (at_item e n S now line t.next t.more t.before is) ∙ h
+
+-- ---- where memory is wanted
+
+-- what was grown so far: nothing yet, or from the first line on
+abbrev pub Grown : List (List ℕ) → List (List ℕ) → Type 0
+Grown first now = (now ≡ first) ⊎ BeginsWithItem first
+
+item_is_there : (now rest : List (List ℕ)) (line : List ℕ) (i : Item) → Taken now rest line → item_of line ≡ Some i → BeginsWithItem now
+item_is_there now rest line i t is = subst BeginsWithItem (sym t.before) (i, is)
+
+-- an item was read, so the first line spells one
+pub grows : (first now rest : List (List ℕ)) (line : List ℕ) (i : Item) → Grown first now → Taken now rest line → item_of line ≡ Some i → BeginsWithItem first
+grows first now rest line i (inl same) t is = subst BeginsWithItem same (item_is_there now rest line i t is)
+grows first now rest line i (inr h) t is = h
+
+cond_wants_none : (b : Bool) (S : State) → ◌≡◌ {A = Read} (cond b (Ok S) (Err Truncated)) (Err Memory) → ⊥
+cond_wants_none true S e = cc
+cond_wants_none false S e = cc
+
+pub last_wants_none : (e : Ending) (pieces : List (List ℕ)) (S : State) → at_last e pieces S ≡ Err Memory → ⊥
+last_wants_none AtEndLine pieces S h = cc
+last_wants_none AtEndOfBytes pieces S h = cond_wants_none (is_over pieces) S h
+
+abbrev Whole : Type 0
+Whole = Result Message WireFault
+
+ack_cond : (b : Bool) (m : Message) (f : WireFault) → (f ≡ Memory → ⊥) → ◌≡◌ {A = Whole} (cond b (Ok m) (Err f)) (Err Memory) → ⊥
+ack_cond true m f h e = cc
+ack_cond false m f h e = h (let same : f ≡ Memory = cc in same)
+
+ack_or_bad : (b c : Bool) (m : Message) → ◌≡◌ {A = Whole} (cond b (cond c (Ok m) (Err Trailing)) (Err (BadLine 2))) (Err Memory) → ⊥
+ack_or_bad true c m e = ack_cond c m Trailing (λ f. cc) e
+ack_or_bad false c m e = cc
+
+pub ack_wants_none : (m : Message) (pieces : List (List ℕ)) → ack_from m pieces ≡ Err Memory → ⊥
+ack_wants_none m [] e = cc
+ack_wants_none m (last ∷ []) e = cc
+ack_wants_none m (line ∷ next ∷ more) e = ack_or_bad (bytes_eq line (codes "end")) (is_over (next ∷ more)) m e

@@ -10,7 +10,7 @@ use Rattle.rights_lattice.specs.State.{State, names_in_order}
 use Rattle.delta_mutators.specs.declared.delta.Item.{Item}
 use Rattle.delta_mutators.specs.declared.delta.Item.TheVariants as item
 use Rattle.rights_lattice.specs.Marks.{are_rising_marks, are_rising_names}
-use Rattle.delta_mutators.specs.Rises.{is_after_names, follows, names_in, marks_in}
+use Rattle.delta_mutators.specs.Rises.{is_after_names, names_in, marks_in}
 use Rattle.rights_lattice.proofs.MarkLaws.{names_in_order-names_of, marks_of-cells_of}
 use Rattle.delta_mutators.proofs.EndLaws.{AreLists, lists_of, state_again, rising_names-end, rising_marks-end, AreMarks-end, name_after, mark_after}
 use Rattle.delta_wire.specs.declared.ending.Ending.{Ending}
@@ -18,7 +18,7 @@ use Rattle.delta_wire.specs.declared.ending.Ending.TheVariants.{AtEndLine, AtEnd
 use Rattle.delta_wire.specs.declared.fault.WireFault.{WireFault}
 use Rattle.delta_wire.specs.declared.fault.WireFault.TheVariants.{Truncated, OutOfOrder, Trailing}
 use Rattle.delta_wire.specs.Grammar.{item_line, items_of, lines_text, delta_lines, delta_text, IsValue, IsItem, IsDelta}
-use Rattle.delta_wire.specs.Items.{all_names, all_marks, Extends}
+use Rattle.delta_wire.specs.Items.{comes_next, all_names, all_marks, Extends}
 use Rattle.delta_wire.specs.Reading.{item_of}
 use Rattle.plain_words.specs.Input.{is_line_break}
 use Rattle.delta_wire.specs.Wire.{Gives, is_over, state_from, ends, at_last, with_item, items_from, delta_of}
@@ -64,7 +64,7 @@ last_found AtEndOfBytes ns ms pieces S e =
     let c = cond_ok (is_over pieces) (state_from ns ms) S Truncated e in
     ([], sym c.1 ∙ state_is ns ms, tt, over_is pieces c.0)
 
-one_more : (e : Ending) (ns : List (List ℕ)) (ms : List Valued) (line : List ℕ) (rest : List (List ℕ)) (S : State) (i : Item) → (line ≡ item_line i) × IsItem i → follows ns ms i ≡ true
+one_more : (e : Ending) (ns : List (List ℕ)) (ms : List Valued) (line : List ℕ) (rest : List (List ℕ)) (S : State) (i : Item) → (line ≡ item_line i) × IsItem i → comes_next ns ms i ≡ true
     → Spelled e (ns ++ names_in i) (ms ++ marks_in i) rest S → Spelled e ns ms (line ∷ rest) S
 one_more e ns ms line rest S i f up w = (
   i ∷ w.0,
@@ -76,11 +76,11 @@ one_more e ns ms line rest S i f up w = (
 item_step : (e : Ending) (n : ℕ) (ns : List (List ℕ)) (ms : List Valued) (line : List ℕ) (rest : List (List ℕ)) (S : State) (o : Option Item) (go : List (List ℕ) → List Valued → Read) → item_of line ≡ o
     → ((ns' : List (List ℕ)) (ms' : List Valued) → go ns' ms' ≡ Ok S → Spelled e ns' ms' rest S) → with_item n ns ms o go ≡ Ok S → Spelled e ns ms (line ∷ rest) S
 item_step e n ns ms line rest S None go is ih h = absurd cc
-item_step e n ns ms line rest S (Some i) go is ih h = elim (cases_Bool (follows ns ms i)) [
+item_step e n ns ms line rest S (Some i) go is ih h = elim (cases_Bool (comes_next ns ms i)) [
   | inl up ↦
-      let more : go (ns ++ names_in i) (ms ++ marks_in i) ≡ Ok S = sym (cond-true (follows ns ms i) _ _ up) ∙ h in
+      let more : go (ns ++ names_in i) (ms ++ marks_in i) ≡ Ok S = sym (cond-true (comes_next ns ms i) _ _ up) ∙ h in
       one_more e ns ms line rest S i (item_found line i is) up (ih (ns ++ names_in i) (ms ++ marks_in i) more)
-  | inr other ↦ let bad : ◌≡◌ {A = Read} (Err (OutOfOrder n)) (Ok S) = sym (cond-false (follows ns ms i) _ _ other) ∙ h in absurd cc
+  | inr other ↦ let bad : ◌≡◌ {A = Read} (Err (OutOfOrder n)) (Ok S) = sym (cond-false (comes_next ns ms i) _ _ other) ∙ h in absurd cc
 ]
 
 pub found_from : (e : Ending) (n : ℕ) (ns : List (List ℕ)) (ms : List Valued) (pieces : List (List ℕ)) (S : State) → items_from e n ns ms pieces ≡ Ok S → Spelled e ns ms pieces S
@@ -118,7 +118,7 @@ again_from e n ns ms (i ∷ items) next more h =
     let step : items_from e n ns ms (item_line i ∷ w.0 ∷ w.1) ≡ items_from e (n + 1) (ns ++ names_in i) (ms ++ marks_in i) (w.0 ∷ w.1) =
     cond-false (ends e (item_line i)) _ _ (not_ends e i h.0)
     ∙ ap (λ (o : Option Item). with_item n ns ms o (λ ns' ms'. items_from e (n + 1) ns' ms' (w.0 ∷ w.1))) (item_again i h.0)
-    ∙ cond-true (follows ns ms i) _ _ h.1 in
+    ∙ cond-true (comes_next ns ms i) _ _ h.1 in
     ap (λ (r : List (List ℕ)). items_from e n ns ms (item_line i ∷ r)) w.2
     ∙ step
     ∙ ap (items_from e (n + 1) (ns ++ names_in i) (ms ++ marks_in i)) (sym w.2)
@@ -127,12 +127,12 @@ again_from e n ns ms (i ∷ items) next more h =
 
 -- ---- items in order are those of the delta that they make
 
-name_extends : (ns : List (List ℕ)) (ms : List Valued) (e : List ℕ) → AreLists ns ms → follows ns ms (item.Name e) ≡ true → AreLists (ns ++ e ∷ []) (ms ++ [])
+name_extends : (ns : List (List ℕ)) (ms : List Valued) (e : List ℕ) → AreLists ns ms → comes_next ns ms (item.Name e) ≡ true → AreLists (ns ++ e ∷ []) (ms ++ [])
 name_extends ns ms e a up =
     let after = (and_parts (eqb (length ms) 0) (is_after_names ns e) up).1 in
     rw append-nil record { marks_rise = a.marks_rise; names_rise = rising_names-end ns e a.names_rise after; positive = a.positive }
 
-mark_extends : (ns : List (List ℕ)) (ms : List Valued) (m : Valued) → AreLists ns ms → IsValue m.value → follows ns ms (item.Cell m) ≡ true → AreLists (ns ++ []) (ms ++ m ∷ [])
+mark_extends : (ns : List (List ℕ)) (ms : List Valued) (m : Valued) → AreLists ns ms → IsValue m.value → comes_next ns ms (item.Cell m) ≡ true → AreLists (ns ++ []) (ms ++ m ∷ [])
 mark_extends ns ms m a v up =
     rw append-nil record { marks_rise = rising_marks-end ms m a.marks_rise up; names_rise = a.names_rise; positive = AreMarks-end ms m a.positive v.0 }
 

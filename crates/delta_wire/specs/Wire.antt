@@ -7,9 +7,10 @@ use Rattle.rights_lattice.specs.Cells.{Valued}
 use Rattle.rights_lattice.specs.State.{State}
 use Rattle.delta_mutators.specs.declared.delta.Item.{Item}
 use Rattle.rights_lattice.specs.Marks.{cells_of, names_of}
-use Rattle.delta_mutators.specs.Rises.{follows, names_in, marks_in}
+use Rattle.delta_mutators.specs.Rises.{names_in, marks_in}
 use Rattle.site_exchange.specs.declared.message.Message.{Message}
 use Rattle.site_exchange.specs.declared.message.Message.TheVariants.{Delta, Ack}
+use Rattle.delta_wire.specs.Items.{comes_next}
 use Rattle.delta_wire.specs.Reading.{item_of, header_of}
 use Rattle.delta_wire.specs.declared.header.Header.{Header}
 use Rattle.delta_wire.specs.declared.header.Purpose.{Purpose}
@@ -54,7 +55,7 @@ at_last AtEndOfBytes pieces S = if is_over pieces then Ok S else Err Truncated
 -- one item line, and what comes after it
 abbrev pub with_item : ℕ → List (List ℕ) → List Valued → Option Item → (List (List ℕ) → List Valued → Result State WireFault) → Result State WireFault
 with_item n names marks None go = Err (BadLine n)
-with_item n names marks (Some i) go = if follows names marks i then go (names ++ names_in i) (marks ++ marks_in i) else Err (OutOfOrder n)
+with_item n names marks (Some i) go = if comes_next names marks i then go (names ++ names_in i) (marks ++ marks_in i) else Err (OutOfOrder n)
 
 -- what lies between the line breaks, from line n on, after these names and marks
 unfoldable pub items_from : Ending → ℕ → List (List ℕ) → List Valued → List (List ℕ) → Result State WireFault
@@ -96,3 +97,21 @@ message_from (line ∷ next ∷ more) = after_header (header_of line) (next ∷ 
 -- the message that the bytes spell, or the first fault from the top
 abbrev pub message_of : List ℕ → Result Message WireFault
 message_of bytes = message_from (slice_split is_line_break bytes)
+
+-- ---- where memory is wanted
+
+-- the first line spells an item, so that the delta grows
+abbrev pub BeginsWithItem : List (List ℕ) → Type 0
+BeginsWithItem [] = ⊥
+BeginsWithItem (last ∷ []) = ⊥
+BeginsWithItem (line ∷ next ∷ more) = (i : Item) × (item_of line ≡ Some i)
+
+-- a delta's message has an item
+abbrev pub HasItem : Purpose → List (List ℕ) → Type 0
+HasItem purpose.Delta pieces = BeginsWithItem pieces
+HasItem purpose.Ack pieces = ⊥
+
+-- the first line is the header of a delta's message, and the second spells an item
+abbrev pub BeginsWithDelta : List (List ℕ) → Type 0
+BeginsWithDelta [] = ⊥
+BeginsWithDelta (line ∷ pieces) = (h : Header) × (header_of line ≡ Some h) × HasItem h.purpose pieces

@@ -32,8 +32,11 @@ fn first_break(bytes: &[u8]) -> Option<usize>
 
 impl<'a> Lines<'a> {
     pub fn new(bytes: &'a [u8]) -> Lines<'a>
-        ensures { result ≡ slice_split is_line_break bytes.now }
+        ensures lines { result ≡ slice_split is_line_break bytes.now }
+        ensures few { length result < 2 ^ 63 + 1 }
     {
+        // How long a slice may be bounds its lines.
+        let _length = bytes.len();
         Lines { rest: bytes }
     }
 

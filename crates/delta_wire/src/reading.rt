@@ -1,19 +1,22 @@
 //! Reading deltas and messages.
-ghost use Rattle.std.specs.Prelude.{◌≡◌, ◌≢◌, ◌≤◌, length, [], Ok, IfOk, IfErr};
-ghost use Rattle.rights_lattice.specs.State.{State};
+ghost use Rattle.std.specs.Prelude.{◌≡◌, ◌≢◌, ◌≤◌, ◌<◌, ◌+◌, ◌^◌, length, [], Ok, Err, IfOk, IfErr, IsTrue};
+ghost use Rattle.rights_lattice.specs.Cells.{marks_of};
+ghost use Rattle.rights_lattice.specs.State.{State, names_in_order};
+ghost use Rattle.delta_mutators.specs.Rises.{rises};
 ghost use Rattle.site_exchange.specs.declared.message.Message.{Message};
 ghost use Rattle.delta_wire.specs.Grammar.{IsDelta, delta_text, IsMessage, message_text};
 ghost use Rattle.std.specs.List.{slice_split};
 ghost use Rattle.plain_words.specs.Input.{is_line_break};
-ghost use Rattle.delta_wire.specs.Wire.{items_from, delta_of, message_of, Gives, ends, at_last, ack_from, with_delta, for_purpose, after_header, message_from, is_over};
-ghost use Rattle.delta_wire.specs.declared.fault.WireFault.TheVariants.{Trailing};
+ghost use Rattle.delta_wire.specs.Wire.{items_from, delta_of, message_of, Gives, ends, at_last, ack_from, with_delta, for_purpose, after_header, message_from, is_over, BeginsWithItem, HasItem, BeginsWithDelta};
+ghost use Rattle.delta_wire.specs.Items.{comes_next};
+ghost use Rattle.delta_wire.specs.declared.fault.WireFault.TheVariants.{Trailing, Memory};
 
 use crate::ending::Ending;
 use crate::fault::WireFault;
 use crate::header::{Header, Purpose, header_of};
 use crate::items::item_of;
 use crate::lines::Lines;
-use delta_mutators::Delta;
+use delta_mutators::{Delta, Item};
 use site_exchange::Message;
 use std::alloc::Global;
 
@@ -24,9 +27,10 @@ fn read_items(
     first: u64,
     lines: &mut Lines<'_>,
 ) -> Result<Delta, WireFault>
-    requires few_lines { length lines.old ≤ 4294967297 }
+    requires few_lines { length lines.old < 2 ^ 63 + 1 }
     requires first { first ≤ 2 }
     ensures exact { Gives result (items_from ending first [] [] lines.old) }
+    ensures memory { result ≡ Err Memory → BeginsWithItem lines.old }
 {
     let mut delta = Delta::empty(alloc);
     let mut n = first;
@@ -43,11 +47,22 @@ fn read_items(
         let Some(item) = item_of(line) else {
             return Err(WireFault::BadLine { line: n });
         };
-        if !delta.rises(&item) {
+        if !comes_next(&delta, &item) {
             return Err(WireFault::OutOfOrder { line: n });
         }
         delta.push(item)?;
         n += 1;
+    }
+}
+
+// Whether the item's line may stand next: the item rises, and no name stands behind a mark.
+fn comes_next(delta: &Delta, item: &Item) -> bool
+    ensures value { result ≡ comes_next (names_in_order delta.now.names) (marks_of delta.now.cells) item.now }
+    ensures rises { IsTrue result → IsTrue (rises delta.now item.now) }
+{
+    match item {
+        Item::Name(_) => delta.marks().is_empty() && delta.rises(item),
+        Item::Cell(_) => delta.rises(item),
     }
 }
 
@@ -94,7 +109,8 @@ fn read_ack(message: Message, lines: &mut Lines<'_>) -> Result<Message, WireFaul
 }
 
 fn read_after(alloc: Global, header: Header, lines: &mut Lines<'_>) -> Result<Message, WireFault>
-    requires few_lines { length lines.old ≤ 4294967297 }
+    requires few_lines { length lines.old < 2 ^ 63 + 1 }
+    ensures memory { result ≡ Err Memory → HasItem header.purpose lines.old }
     ensures exact { Gives result (for_purpose header.purpose header lines.old) }
 {
     let Header {
@@ -118,8 +134,8 @@ fn read_after(alloc: Global, header: Header, lines: &mut Lines<'_>) -> Result<Me
 }
 
 fn message_of(alloc: Global, bytes: &[u8]) -> Result<Message, WireFault>
-    requires { length bytes.now ≤ 4294967296 }
     ensures exact { Gives result (message_of bytes.now) }
+    ensures memory { result ≡ Err Memory → BeginsWithDelta (slice_split is_line_break bytes.now) }
 {
     let mut lines = Lines::new(bytes);
     let Some(line) = lines.next() else {
@@ -132,8 +148,8 @@ fn message_of(alloc: Global, bytes: &[u8]) -> Result<Message, WireFault>
 }
 
 fn delta_of(alloc: Global, bytes: &[u8]) -> Result<Delta, WireFault>
-    requires { length bytes.now ≤ 4294967296 }
     ensures exact { Gives result (delta_of bytes.now) }
+    ensures memory { result ≡ Err Memory → BeginsWithItem (slice_split is_line_break bytes.now) }
 {
     let mut lines = Lines::new(bytes);
     read_items(alloc, Ending::AtEndOfBytes, 1, &mut lines)
@@ -143,7 +159,6 @@ fn delta_of(alloc: Global, bytes: &[u8]) -> Result<Delta, WireFault>
 ///
 /// A fault is the first from the top, and never `Trailing`; so is a growth that is refused at the line that needs it.
 pub fn read_delta(alloc: Global, bytes: &[u8]) -> Result<Delta, WireFault>
-    requires { length bytes.now ≤ 4294967296 }
     // What is read is spelled so.
     ensures found { IfOk result (λ delta. IsDelta delta × (bytes.now ≡ delta_text delta)) }
     // What is spelled so is read, unless memory runs out.
@@ -151,6 +166,8 @@ pub fn read_delta(alloc: Global, bytes: &[u8]) -> Result<Delta, WireFault>
     // Which fault it is: the first from the top.
     ensures exact { Gives result (delta_of bytes.now) }
     ensures never_trailing { IfErr result (λ fault. fault ≢ Trailing) }
+    // Memory is wanted for an item alone.
+    ensures memory { result ≡ Err Memory → BeginsWithItem (slice_split is_line_break bytes.now) }
 {
     delta_of(alloc, bytes)
 }
@@ -159,13 +176,14 @@ pub fn read_delta(alloc: Global, bytes: &[u8]) -> Result<Delta, WireFault>
 ///
 /// A fault is the first from the top, and so is a growth that is refused at the line that needs it.
 pub fn read_message(alloc: Global, bytes: &[u8]) -> Result<Message, WireFault>
-    requires { length bytes.now ≤ 4294967296 }
     // What is read is spelled so.
     ensures found { IfOk result (λ message. IsMessage message × (bytes.now ≡ message_text message)) }
     // What is spelled so is read, unless memory runs out.
     ensures only { (message : Message) → IsMessage message → bytes.now ≡ message_text message → Gives result (Ok message) }
     // Which fault it is: the first from the top.
     ensures exact { Gives result (message_of bytes.now) }
+    // Memory is wanted for an item of a delta alone.
+    ensures memory { result ≡ Err Memory → BeginsWithDelta (slice_split is_line_break bytes.now) }
 {
     message_of(alloc, bytes)
 }

@@ -1,5 +1,5 @@
 //! The known names of events.
-ghost use Rattle.std.specs.Prelude.{◌≡◌, ◌+◌, ◌≤◌, [], ◌∷◌, false, length, slice_get, OnOk, IsOk};
+ghost use Rattle.std.specs.Prelude.{◌≡◌, ◌+◌, ◌≤◌, ◌||◌, ℕ, List, [], ◌∷◌, false, length, slice_get, OnOk, IsOk};
 ghost use Rattle.std.specs.List.{list_any, IsDistinct};
 ghost use Rattle.rights_lattice.specs.Cell.{same_event};
 ghost use Rattle.event_catalogue.specs.Catalogue.{with_new};
@@ -10,7 +10,7 @@ use std::alloc::{AllocError, Global};
 use std::marker::Model;
 
 /// The names of events that are known, each once, in the order of first knowing. Names only come to it.
-/// A look-up takes as long in a million names as in a thousand.
+/// A look-up is in a hash map: on average it takes as long in a million names as in a thousand.
 #[derive(Drop)]
 pub struct Catalogue {
     names: IndexSet<Event>,
@@ -81,10 +81,12 @@ impl Catalogue {
         }
     }
 
-    /// Makes all the names known, those that are new at the end in their order.
+    /// Makes all the names known, those that are new at the end in their order: the union (RR-7506).
     pub fn join(&mut self, names: &[Event])
         requires room { length names.now ≤ self.old.room }
         ensures names { self.new.names ≡ with_new self.old.names names.now }
+        ensures union { (name : List ℕ) → list_any (same_event name) self.new.names
+            ≡ (list_any (same_event name) self.old.names || list_any (same_event name) names.now) }
         ensures room { self.old.room ≤ self.new.room + length names.now }
     {
         for name in names {

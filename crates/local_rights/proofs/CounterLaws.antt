@@ -1,12 +1,13 @@
 -- The rights of a site are the bounded counter's local rights.
 use Rattle.std.proofs.Common.{◌≡◌, ℕ, ◌+◌, Bool, true, false, cond, List, refl, sym, ap, ◌∙◌, arith}
-use Rattle.std.specs.Prelude.{nat_eq, pos, ◌-ℤ◌}
+use Rattle.std.specs.Prelude.{nat_eq, ◌-◌, ◌≤◌, ℤ, pos, ◌-ℤ◌, ◌≤ℤ◌}
+use Rattle.std.proofs.lemmas.Int.{ints}
 use Rattle.std.proofs.lemmas.Cmp.{nat_eq_equiv}
 use Rattle.rights_lattice.specs.Cells.{Cells, value_at}
 use Rattle.rights_lattice.specs.declared.cell.Cell.TheVariants.{Gave, Used, Back}
 use Rattle.rights_lattice.specs.Sums.{max_sites, sum_below}
 use Rattle.local_rights.specs.Rights.{ceded, gained, spent, released_in, refunded_in}
-use Rattle.local_rights.specs.BoundedCounter.{matrix_of, sum_others, RightsAreLocalRights, ValueIsTheCounters}
+use Rattle.local_rights.specs.BoundedCounter.{matrix_of, sum_others, RightsAreLocalRights, RightsNotNegative, ValueIsTheCounters}
 use Rattle.local_rights.proofs.Sums.{sum_below_same, sum_below-add}
 
 -- off the diagonal, where two tests say so alike
@@ -36,3 +37,16 @@ value_is_the_counters X e =
     let created : released_in X e + refunded_in X e ≡ sum_below max_sites (λ i. matrix_of X e i i) =
     sym (sum_below-add max_sites (λ i. value_at X e (Gave i i)) (λ i. value_at X e (Back i))) ∙ sum_below_same max_sites _ _ (λ i l. sym (own X e i)) in
     λ k. pos (created k) -ℤ pos (sum_below max_sites (λ i. value_at X e (Used i)))
+
+-- a difference that is not cut off is the whole number
+pub whole_difference : (a b : ℕ) → b ≤ a → pos (a - b) ≡ pos a -ℤ pos b
+whole_difference a b h = omega (arith, ints)
+
+at_least : (a b : ℕ) → b ≤ a → pos 0 ≤ℤ (pos a -ℤ pos b)
+at_least a b h = omega (arith, ints)
+
+not_less : (a b : ℕ) → pos 0 ≤ℤ (pos a -ℤ pos b) → b ≤ a
+not_less a b h = omega (arith, ints)
+
+pub rights_not_negative : RightsNotNegative
+rights_not_negative X e i = (at_least (gained X e i) (spent X e i), not_less (gained X e i) (spent X e i))

@@ -1,10 +1,10 @@
 -- The bounded counter (Balegas et al., SRDS 2015), of a matrix R and a vector U: R i i is what site i created, R i j what it
 -- gave to site j, and U i what it consumed. That refunds add to R i i is our own.
-use Rattle.std.specs.Prelude.{◌≡◌, ℕ, ◌+◌, if◌then◌else◌, ◌==◌, List, ℤ, pos, ◌-ℤ◌}
+use Rattle.std.specs.Prelude.{◌≡◌, ◌↔◌, ◌≤ℤ◌, ℕ, ◌+◌, if◌then◌else◌, ◌==◌, List, ℤ, pos, ◌-ℤ◌}
 use Rattle.rights_lattice.specs.declared.cell.Cell.TheVariants.{Gave, Used, Back}
 use Rattle.rights_lattice.specs.Cells.{Cells, value_at}
 use Rattle.rights_lattice.specs.Sums.{max_sites, sum_below}
-use Rattle.local_rights.specs.Rights.{rights_of, paper_value}
+use Rattle.local_rights.specs.Rights.{rights_of, HasRights, paper_value}
 
 -- the sum of f at the sites other than i
 abbrev pub sum_others : ℕ → (ℕ → ℕ) → ℕ
@@ -30,3 +30,7 @@ RightsAreLocalRights = (X : Cells) (event : List ℕ) (i : ℕ) → rights_of X 
 
 abbrev pub ValueIsTheCounters : Type 0
 ValueIsTheCounters = (X : Cells) (event : List ℕ) → paper_value X event ≡ counter_value (matrix_of X event) (used_of X event)
+
+-- that nothing more was spent than gained is that the whole number of the rights is not negative
+abbrev pub RightsNotNegative : Type 0
+RightsNotNegative = (X : Cells) (event : List ℕ) (i : ℕ) → HasRights X event i ↔ (pos 0 ≤ℤ rights_of X event i)

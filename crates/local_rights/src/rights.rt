@@ -1,7 +1,7 @@
 //! Sums of the cells of an event.
-ghost use Rattle.std.specs.Prelude.{◌≡◌, ◌*◌, ◌≤◌};
+ghost use Rattle.std.specs.Prelude.{◌≡◌, ◌*◌, ◌≤◌, pos};
 ghost use Rattle.rights_lattice.specs.Cells.{max_value};
-ghost use Rattle.local_rights.specs.Rights.{HasRights, left_of, released_in, sold_in, refunded_in, paper_value};
+ghost use Rattle.local_rights.specs.Rights.{HasRights, left_of, rights_of, released_in, sold_in, refunded_in, paper_value};
 
 use crate::report::Totals;
 use rights_lattice::{Cell, Event, Rights, SiteId};
@@ -10,7 +10,8 @@ use rights_lattice::{Cell, Event, Rights, SiteId};
 /// less what it gave to them and sold.
 pub fn left(rights: &Rights, me: SiteId, event: Event) -> u64
     requires { HasRights rights.now.cells event me }
-    ensures { result ≡ left_of rights.now.cells event me }
+    ensures left { result ≡ left_of rights.now.cells event me }
+    ensures rights { pos result ≡ rights_of rights.now.cells event me }
 {
     let mut gained = rights.get(event, Cell::Gave { by: me, to: me });
     gained += rights.get(event, Cell::Back { by: me });

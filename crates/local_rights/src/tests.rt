@@ -49,3 +49,32 @@ fn cession_reaches_the_other_site(rt: HostRuntime) -> Result<(), Fail> {
     assert_eq!(rt; paper_value(&rights, event), 77);
     Ok(())
 }
+
+// The cells of the seller after five seats were released, sold, given back and sold again.
+#[test]
+fn value_of_a_refund_at_the_seller(rt: HostRuntime) {
+    let event = Event::read(b"gala").expect(&rt, "a name");
+    let sites = Sites::of(2).expect(&rt, "a count");
+    let seller = sites.site(0);
+    let mut rights = Rights::new(rt.alloc(), sites);
+    rights.reserve(3).expect(&rt, "memory");
+    rights.raise(Mark {
+        event,
+        cell: Cell::Gave {
+            by: seller,
+            to: seller,
+        },
+        value: 5,
+    });
+    rights.raise(Mark {
+        event,
+        cell: Cell::Used { by: seller },
+        value: 10,
+    });
+    rights.raise(Mark {
+        event,
+        cell: Cell::Back { by: seller },
+        value: 5,
+    });
+    assert_eq!(rt; paper_value(&rights, event), 0);
+}

@@ -3,6 +3,8 @@ pub mod CommandLaws
 pub mod ReadingLaws
 pub mod TotalLines
 pub mod ScriptLaws
+pub mod Promised
 pub mod RequestLines
 pub mod EndLaws
 pub mod PrintLaws
+pub mod Inputs

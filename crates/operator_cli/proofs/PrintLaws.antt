@@ -1,6 +1,6 @@
 -- What a command printed, from the write to the status.
 use Rattle.std.proofs.Common.{◌≡◌, ◌⊎◌, ℕ, List, [], ◌∷◌, length, Option, Result, Ok, Err, inl, inr, refl, sym, subst}
-use Rattle.std.specs.Prelude.{MatchResult, IfOk}
+use Rattle.std.specs.Prelude.{MatchResult, MatchOption, IfOk, IfSome, OnOk, Some, None}
 use Rattle.std.specs.Io.KnownBytes.{Appends, Keeps}
 use Rattle.std.proofs.KnownBytes.{Appends-kept}
 use Rattle.plain_words.specs.Writing.{Writes}
@@ -50,3 +50,16 @@ pub ends_printed : (P : Status → List ℕ → Type 0) (a b c : Option (List �
 ends_printed P a b c (Err f) status h k e = subst (Printed P a c) (sym e) tt
 ends_printed P a b c (Ok s) status h k (inl e) = subst (Printed P a c) (sym e) (kept P a b c s h k)
 ends_printed P a b c (Ok s) status h k (inr e) = subst (Printed P a c) (sym e) tt
+
+-- what holds where the command did not fail
+pub ok_unless_failed : (P : Type 0) (came : Result Status StoreFault) (status : Status) → OnOk came P → MatchResult came (λ s. (status ≡ s) ⊎ (status ≡ Failed)) (λ _. status ≡ Failed) → (status ≡ Failed → ⊥) → P
+ok_unless_failed P (Ok s) status h e alive = h
+ok_unless_failed P (Err f) status h e alive = absurd (alive e)
+
+pub if_some_map : {A : Type 0} (o : Option A) (P Q : A → Type 0) → ((a : A) → P a → Q a) → IfSome o P → IfSome o Q
+if_some_map None P Q f h = tt
+if_some_map (Some a) P Q f h = f a h
+
+pub refused_if_none : {A : Type 0} (o : Option A) (P : Type 0) (Q : A → Type 0) → MatchOption o P Q → o ≡ None → P
+refused_if_none None P Q h e = h
+refused_if_none (Some a) P Q h e = cc

@@ -7,8 +7,12 @@ pub mod Replies
 pub mod Answering
 pub mod Faults
 pub mod Script
+pub mod Session
 pub mod Ran
 pub mod Orders
+pub mod Laws
 pub mod Records
 pub mod Told
 pub mod Printed
+pub mod Exchanged
+pub mod Opened

@@ -1,7 +1,7 @@
 -- The commands of the program with their values, and which command words give. (Our own.)
-use Rattle.std.specs.Prelude.{◌≡◌, ℕ, List, true, Option, Some, None, codes, if◌then◌else◌}
+use Rattle.std.specs.Prelude.{◌≡◌, ℕ, List, [], ◌∷◌, true, Option, Some, None, codes, if◌then◌else◌}
 use Rattle.std.specs.Str.{bytes_eq}
-use Rattle.clap.specs.Words.{App, Row, Rule, Text, first_of, new_app, new_rule, with_rule, with_subcommand, subcommand_of, takes}
+use Rattle.clap.specs.Words.{App, Row, Rule, Text, first_of, new_app, new_rule, with_rule, with_subcommand, subcommand_of, fault_of}
 use Rattle.plain_words.specs.Words.{◌>>=◌}
 use Rattle.plain_words.specs.Number.{number_of}
 use Rattle.operator_cli.specs.declared.orders.Order.{Order}
@@ -126,7 +126,19 @@ abbrev pub order_in : Option (Text × List Row) → Option Said
 order_in None = None
 order_in (Some met) = named_order met.0 met.1
 
--- Words that the command line's grammar takes are refused only where they meet no order, want of memory aside.
+-- the command line's grammar finds no fault in the words
+abbrev pub AreUnderstood : List Text → Type 0
+AreUnderstood words = fault_of boxoffice words ≡ []
+
+-- the words are understood, and order this
+abbrev pub Ordered : List Text → Said → Type 0
+Ordered words said = AreUnderstood words × (order_in (subcommand_of boxoffice words) ≡ Some said)
+
+-- these words behind the program's name order this
+abbrev pub Give : List Text → Said → Type 0
+Give words said = Ordered (codes "boxoffice" ∷ words) said
+
+-- Words that are understood are refused only where they meet no order, want of memory aside.
 abbrev pub IsRefusal : List Text → WordsFault → Type 0
 IsRefusal words Memory = Unit {0}
-IsRefusal words (NotUnderstood text) = takes boxoffice words ≡ true → order_in (subcommand_of boxoffice words) ≡ None
+IsRefusal words (NotUnderstood text) = AreUnderstood words → order_in (subcommand_of boxoffice words) ≡ None

@@ -1,5 +1,5 @@
 -- What the commands over records print on standard output, status by status. (Our own.)
-use Rattle.std.specs.Prelude.{◌≡◌, ℕ, ◌<◌, ⊤, List, [], length, Option, Some, None}
+use Rattle.std.specs.Prelude.{◌≡◌, ℕ, ◌<◌, Bool, nat_le, if◌then◌else◌, ⊤, List, [], length, Option, Some, None}
 use Rattle.std.specs.List.{flat_map}
 use Rattle.std.specs.Io.KnownBytes.{Appends}
 use Rattle.request_ledger.specs.declared.reply.Reply.{Reply}
@@ -28,12 +28,9 @@ Printed P old new NotUnderstood = (text : List ℕ) × P NotUnderstood text × A
 abbrev pub IsTellingOf : (Told → Type 0) → Status → List ℕ → Type 0
 IsTellingOf Q status text = (told : Told) × Q told × (told_status told ≡ status) × (text ≡ told_line told)
 
--- what making records may tell
-abbrev pub IsOfMaking : Told → Type 0
-IsOfMaking Made = ⊤
-IsOfMaking AlreadyThere = ⊤
-IsOfMaking NoSite = ⊤
-IsOfMaking _ = ⊥
+-- what making records of site `me` of so many tells, where a table of ours is there or none is
+abbrev pub told_of_making : ℕ → ℕ → Bool → Told
+told_of_making me sites there = if nat_le sites me then NoSite else if there then AlreadyThere else Made
 
 -- what looking up may tell
 abbrev pub IsOfLooking : Told → Type 0
@@ -56,8 +53,8 @@ IsOfTaking (Unread f) = ⊤
 IsOfTaking (NotTaken f) = ⊤
 IsOfTaking _ = ⊥
 
-abbrev pub IsMadeText : Status → List ℕ → Type 0
-IsMadeText = IsTellingOf IsOfMaking
+abbrev pub IsMadeText : ℕ → ℕ → Bool → Status → List ℕ → Type 0
+IsMadeText me sites there = IsTellingOf (λ told. told ≡ told_of_making me sites there)
 
 abbrev pub IsTakenText : Status → List ℕ → Type 0
 IsTakenText = IsTellingOf IsOfTaking

@@ -1,82 +1,102 @@
 -- What the parts of a script leave in its reader and its writers.
-use Rattle.std.specs.Prelude.{◌≡◌, ℕ, ◌≤◌, List, [], ◌∷◌, ◌++◌, length, Bool, true, false, Option, Some, None, Result, Ok, Err, IfSome}
-use Rattle.std.specs.List.{join_with_byte, AllByRecursion}
+use Rattle.std.specs.Prelude.{◌≡◌, ℕ, suc, ◌≤◌, List, [], ◌∷◌, ◌++◌, length, Bool, true, false, Option, Some, None, Result, Ok, Err, IfSome}
+use Rattle.std.specs.List.{join_with_byte}
 use Rattle.std.specs.Io.KnownBytes.{Appends, Keeps}
-use Rattle.plain_words.specs.Input.{lines_of, Between}
+use Rattle.plain_words.specs.Input.{lines_of, Between, BeginsTooLong, End, AtEnd, AtLongLine, AtTooMany, Taken, taken}
 use Rattle.plain_words.specs.Writing.{AppendsFront}
 use Rattle.world_steps.specs.World.{World}
 use Rattle.operator_cli.specs.declared.fault.ScriptFault.{ScriptFault}
+use Rattle.operator_cli.specs.declared.fault.ScriptFault.TheVariants.{Read, Write, LineTooLong, TooManyLines, Memory}
 use Rattle.operator_cli.specs.declared.status.Status.{Status}
 use Rattle.operator_cli.specs.declared.status.Status.TheVariants as status
 use Rattle.operator_cli.specs.Grammar.{IsSites, sites_words}
 use Rattle.operator_cli.specs.Reading.{line_of, sites_of}
 use Rattle.operator_cli.specs.Replies.{reply_line}
 use Rattle.operator_cli.specs.Answering.{answer_to}
-use Rattle.operator_cli.specs.Faults.{IsCausedBy, IsCausedHere, fault_line}
-use Rattle.operator_cli.specs.Script.{run, run_sites, total_lines, bad_line, script}
+use Rattle.operator_cli.specs.Faults.{IsOutFault, fault_line}
+use Rattle.operator_cli.specs.Script.{answers, world_behind, run, replies_at, run_at, replies, script_of_lines, bad_line, most_lines, script}
 
 -- the first line gives the count of sites
 abbrev pub StartsWell : List (List ℕ) → Type 0
 StartsWell [] = ⊥
 StartsWell (first ∷ lines) = (n : ℕ) × IsSites n × (first ≡ join_with_byte 32 (sites_words n))
 
--- each line has at most 200 bytes
-abbrev pub AreShort : List (List ℕ) → Type 0
-AreShort lines = AllByRecursion (λ line. length line ≤ 200) lines
+-- no line yet, or a first one that gives the count of sites
+abbrev pub MayGoOn : List (List ℕ) → Type 0
+MayGoOn [] = Unit {0}
+MayGoOn (first ∷ lines) = StartsWell (first ∷ lines)
 
--- one line behind the first: its reply line went out, or none was left; after a fault a front of what the rest prints
+abbrev pub Always : List (List ℕ) → Type 0
+Always lines = Unit {0}
+
+-- what these lines print: all of it only where the input ends behind them, and else their replies
+abbrev pub printed : End → (List (List ℕ) → List ℕ) → (List (List ℕ) → List ℕ) → List (List ℕ) → List ℕ
+printed AtEnd replies whole lines = whole lines
+printed AtLongLine replies whole lines = replies lines
+printed AtTooMany replies whole lines = replies lines
+
+-- What is there after a fault, of the lines that are taken: where reading ended early the replies to the lines before, whole; where writing or memory failed, a front of what the lines print.
+abbrev pub EndsEarly : (List (List ℕ) → Type 0) → (List (List ℕ) → List ℕ) → (List (List ℕ) → List ℕ) → Taken → Option (List ℕ) → Option (List ℕ) → ScriptFault → Type 0
+EndsEarly goes replies whole t old new Read = (before : List (List ℕ)) × (after : List (List ℕ)) × (t.lines ≡ before ++ after) × goes before × Appends old new (replies before)
+EndsEarly goes replies whole t old new LineTooLong = (t.end ≡ AtLongLine) × goes t.lines × Appends old new (replies t.lines)
+EndsEarly goes replies whole t old new TooManyLines = (t.end ≡ AtTooMany) × goes t.lines × Appends old new (replies t.lines)
+EndsEarly goes replies whole t old new Write = AppendsFront old new (printed t.end replies whole t.lines)
+EndsEarly goes replies whole t old new Memory = AppendsFront old new (printed t.end replies whole t.lines)
+
+-- one line behind the second: its reply line went out, or none was left
 abbrev pub NextRan : Option (List ℕ) → Option (List ℕ) → Option (List ℕ) → Option (List ℕ) → World → World → Result Bool ScriptFault → Type 0
 NextRan input rest old new before after (Ok true) =
     (line : List ℕ) × (length line ≤ 200) × Between input rest (λ xs ys. lines_of xs ≡ line ∷ lines_of ys)
     × Appends old new (reply_line (answer_to before (line_of line)).0) × (after ≡ (answer_to before (line_of line)).1)
 NextRan input rest old new before after (Ok false) = Keeps old new × (after ≡ before) × Between input rest (λ xs ys. (lines_of xs ≡ []) × (lines_of ys ≡ []))
-NextRan input rest old new before after (Err f) = IfSome input (λ xs. AppendsFront old new (run before (lines_of xs)) × IsCausedHere (lines_of xs) f)
+NextRan input rest old new before after (Err f) = IfSome input (λ xs. (more : ℕ) → EndsEarly Always (answers before) (run before) (taken (suc more) (lines_of xs)) old new f)
 
--- all lines behind the second: what they print before the totals went out
+-- all of these lines were answered, and the input ends behind them
+abbrev pub AllAnswered : World → World → Taken → Option (List ℕ) → Option (List ℕ) → Type 0
+AllAnswered before after t old new = (t.end ≡ AtEnd) × Appends old new (answers before t.lines) × (after ≡ world_behind before t.lines)
+
+-- all lines behind the second
 abbrev pub RestRan : ℕ → Option (List ℕ) → Option (List ℕ) → Option (List ℕ) → World → World → Result (Unit {0}) ScriptFault → Type 0
-RestRan most input old new before after (Ok u) =
-    IfSome input (λ xs. ((text : List ℕ) × Appends old new text × (run before (lines_of xs) ≡ text ++ total_lines after)) × AreShort (lines_of xs) × (length (lines_of xs) ≤ most))
-RestRan most input old new before after (Err f) = IfSome input (λ xs. AppendsFront old new (run before (lines_of xs)) × IsCausedBy most (lines_of xs) f)
+RestRan most input old new before after (Ok u) = IfSome input (λ xs. AllAnswered before after (taken most (lines_of xs)) old new)
+RestRan most input old new before after (Err f) = IfSome input (λ xs. EndsEarly Always (answers before) (run before) (taken most (lines_of xs)) old new f)
 
--- what is left after the line behind the first, if that is there
-abbrev pub IsSecondRead : List (List ℕ) → List (List ℕ) → Type 0
-IsSecondRead [] rest = rest ≡ []
-IsSecondRead (second ∷ lines) rest = (rest ≡ lines) × (length second ≤ 200)
+-- the world that the second line opens, and what that line is answered
+abbrev pub Opens : ℕ → List ℕ → List ℕ → World → Type 0
+Opens sites second text world = (more : List (List ℕ)) → (replies_at sites (second ∷ more) ≡ text ++ answers world more) × (run_at sites (second ∷ more) ≡ text ++ run world more)
 
--- the line behind the first, which gives the limit or is answered, or is missing
-abbrev pub OpenRan : ℕ → Option (List ℕ) → Option (List ℕ) → Option (List ℕ) → Option (List ℕ) → Result World ScriptFault → Type 0
-OpenRan sites input rest old new (Ok world) =
-    (text : List ℕ) × Appends old new text
-    × Between input rest (λ xs ys. (run_sites sites (lines_of xs) ≡ text ++ run world (lines_of ys)) × IsSecondRead (lines_of xs) (lines_of ys))
-OpenRan sites input rest old new (Err f) = IfSome input (λ xs. AppendsFront old new (run_sites sites (lines_of xs)) × IsCausedHere (lines_of xs) f)
+-- the second line, which gives the limit or is answered
+abbrev pub OpenRan : ℕ → List ℕ → Option (List ℕ) → Option (List ℕ) → Result World ScriptFault → Type 0
+OpenRan sites second old new (Ok world) = (text : List ℕ) × Appends old new text × Opens sites second text world
+OpenRan sites second old new (Err f) = IsOutFault f × ((more : List (List ℕ)) → AppendsFront old new (replies_at sites (second ∷ more)))
 
--- the lines behind the first
+-- the second line and those behind it, of which this many may be there
+abbrev pub SecondRan : ℕ → ℕ → List ℕ → Option (List ℕ) → Option (List ℕ) → Option (List ℕ) → Result (Unit {0}) ScriptFault → Type 0
+SecondRan most sites second input old new (Ok u) = IfSome input (λ xs. ((taken most (lines_of xs)).end ≡ AtEnd) × Appends old new (run_at sites (second ∷ (taken most (lines_of xs)).lines)))
+SecondRan most sites second input old new (Err f) = IfSome input (λ xs. EndsEarly Always (λ lines. replies_at sites (second ∷ lines)) (λ lines. run_at sites (second ∷ lines)) (taken most (lines_of xs)) old new f)
+
+-- the lines behind the first, of which this many may be there
 abbrev pub SitesRan : ℕ → ℕ → Option (List ℕ) → Option (List ℕ) → Option (List ℕ) → Result (Unit {0}) ScriptFault → Type 0
-SitesRan most sites input old new (Ok u) = IfSome input (λ xs. Appends old new (run_sites sites (lines_of xs)) × AreShort (lines_of xs) × (length (lines_of xs) ≤ most))
-SitesRan most sites input old new (Err f) = IfSome input (λ xs. AppendsFront old new (run_sites sites (lines_of xs)) × IsCausedBy most (lines_of xs) f)
+SitesRan most sites input old new (Ok u) = IfSome input (λ xs. ((taken most (lines_of xs)).end ≡ AtEnd) × Appends old new (run_at sites (taken most (lines_of xs)).lines))
+SitesRan most sites input old new (Err f) = IfSome input (λ xs. EndsEarly Always (replies_at sites) (run_at sites) (taken most (lines_of xs)) old new f)
 
 -- the first line
 abbrev pub StartRan : Option (List ℕ) → Option (List ℕ) → Result (Option ℕ) ScriptFault → Type 0
 StartRan input rest (Ok (Some n)) = Between input rest (λ xs ys. (first : List ℕ) × (lines_of xs ≡ first ∷ lines_of ys) × (length first ≤ 200) × (sites_of first ≡ Some n) × StartsWell (lines_of xs))
-StartRan input rest (Ok None) = IfSome input (λ xs. (StartsWell (lines_of xs) → ⊥) × (script xs ≡ bad_line))
-StartRan input rest (Err f) = IfSome input (λ xs. IsCausedHere (lines_of xs) f)
+StartRan input rest (Ok None) = IfSome input (λ xs. (StartsWell (lines_of xs) → ⊥) × (BeginsTooLong (lines_of xs) → ⊥))
+StartRan input rest (Err f) = IfSome input (λ xs. (more : ℕ) (out : Option (List ℕ)) → EndsEarly MayGoOn replies script_of_lines (taken (suc more) (lines_of xs)) out out f)
 
--- the whole script: true where it started well
+-- A script: true where all of it was taken and what it prints went out, false where its first line is readable and gives no count of sites, and `bad-line` alone went out.
 abbrev pub ScriptRan : Option (List ℕ) → Option (List ℕ) → Option (List ℕ) → Result Bool ScriptFault → Type 0
-ScriptRan input old new (Ok true) = IfSome input (λ xs. StartsWell (lines_of xs) × AreShort (lines_of xs) × (length (lines_of xs) ≤ 1000000) × Appends old new (script xs))
-ScriptRan input old new (Ok false) = Appends old new bad_line × IfSome input (λ xs. (StartsWell (lines_of xs) → ⊥) × (script xs ≡ bad_line))
-ScriptRan input old new (Err f) = IfSome input (λ xs. AppendsFront old new (script xs) × IsCausedBy 1000000 (lines_of xs) f)
+ScriptRan input old new (Ok true) = IfSome input (λ xs. ((taken most_lines (lines_of xs)).end ≡ AtEnd) × StartsWell (lines_of xs) × Appends old new (script xs))
+ScriptRan input old new (Ok false) = Appends old new bad_line × IfSome input (λ xs. (StartsWell (lines_of xs) → ⊥) × (BeginsTooLong (lines_of xs) → ⊥))
+ScriptRan input old new (Err f) = IfSome input (λ xs. EndsEarly MayGoOn replies script_of_lines (taken most_lines (lines_of xs)) old new f)
 
--- At status 0 the script started well, stayed within its limits, and what went out is its text; at 1 it started badly, and `bad-line` went out; at 3 a front of its text went out.
-abbrev pub StatusRan : Option (List ℕ) → Option (List ℕ) → Option (List ℕ) → Status → Type 0
-StatusRan input old new status.Done = IfSome input (λ xs. StartsWell (lines_of xs) × AreShort (lines_of xs) × (length (lines_of xs) ≤ 1000000) × Appends old new (script xs))
-StatusRan input old new status.Refused = Appends old new bad_line × IfSome input (λ xs. StartsWell (lines_of xs) → ⊥)
-StatusRan input old new status.Failed = IfSome input (λ xs. AppendsFront old new (script xs))
-StatusRan input old new status.NotUnderstood = ⊥
+-- what is told of it: the status, and at status 3 the line that names the fault, or a front of that line
+abbrev pub ScriptTold : Option (List ℕ) → Option (List ℕ) → Result Bool ScriptFault → Status → Type 0
+ScriptTold old new (Ok true) told = (told ≡ status.Done) × Keeps old new
+ScriptTold old new (Ok false) told = (told ≡ status.Refused) × Keeps old new
+ScriptTold old new (Err f) told = (told ≡ status.Failed) × AppendsFront old new (fault_line f)
 
--- At status 3 the line that names the cause went to the second writer, or a front of it, and a line too long or too many lines are there where they are named; else nothing went there.
-abbrev pub CauseRan : Option (List ℕ) → Option (List ℕ) → Option (List ℕ) → Status → Type 0
-CauseRan input old new status.Failed = (f : ScriptFault) × AppendsFront old new (fault_line f) × IfSome input (λ xs. IsCausedBy 1000000 (lines_of xs) f)
-CauseRan input old new status.Done = Keeps old new
-CauseRan input old new status.Refused = Keeps old new
-CauseRan input old new status.NotUnderstood = Keeps old new
+-- a script that came to something, which is told
+abbrev pub WorldRan : Option (List ℕ) → Option (List ℕ) → Option (List ℕ) → Option (List ℕ) → Option (List ℕ) → Status → Type 0
+WorldRan input out_old out_new err_old err_new told = (came : Result Bool ScriptFault) × ScriptRan input out_old out_new came × ScriptTold err_old err_new came told

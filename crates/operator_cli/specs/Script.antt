@@ -17,10 +17,19 @@ total_line event t = event ++ codes " released " ++ decimal t.released ++ codes 
 abbrev pub total_lines : World → List ℕ
 total_lines w = flat_map (λ event. total_line event (totals_of w event)) (events_of w)
 
--- the reply line of each of these lines in turn, and then the totals
+-- the reply line of each of these lines in turn
+abbrev pub answers : World → List (List ℕ) → List ℕ
+answers w [] = []
+answers w (line ∷ lines) = reply_line (answer_to w (line_of line)).0 ++ answers (answer_to w (line_of line)).1 lines
+
+-- the world behind them
+abbrev pub world_behind : World → List (List ℕ) → World
+world_behind w [] = w
+world_behind w (line ∷ lines) = world_behind (answer_to w (line_of line)).1 lines
+
+-- and then the totals
 abbrev pub run : World → List (List ℕ) → List ℕ
-run w [] = total_lines w
-run w (line ∷ lines) = reply_line (answer_to w (line_of line)).0 ++ run (answer_to w (line_of line)).1 lines
+run w lines = answers w lines ++ total_lines (world_behind w lines)
 
 abbrev pub bad_line : List ℕ
 bad_line = codes "bad-line" ++ 10 ∷ []
@@ -29,20 +38,42 @@ bad_line = codes "bad-line" ++ 10 ∷ []
 abbrev pub greatest_limit : ℕ
 greatest_limit = 1000000
 
--- the second line is the first to be answered, unless it gives the limit
-abbrev pub run_limited : ℕ → Option ℕ → List ℕ → List (List ℕ) → List ℕ
-run_limited sites None second lines = run (opening sites greatest_limit) (second ∷ lines)
-run_limited sites (Some limit) second lines = run (opening sites limit) lines
+-- the most lines of a script
+abbrev pub most_lines : ℕ
+most_lines = 1000000
 
--- the lines after the first
-abbrev pub run_sites : ℕ → List (List ℕ) → List ℕ
-run_sites sites [] = run (opening sites greatest_limit) []
-run_sites sites (second ∷ lines) = run_limited sites (limit_of second) second lines
+-- the second line is the first to be answered, unless it gives the limit
+abbrev pub opened_by : ℕ → Option ℕ → List ℕ → List (List ℕ) → World × List (List ℕ)
+opened_by sites None second lines = (opening sites greatest_limit, second ∷ lines)
+opened_by sites (Some limit) second lines = (opening sites limit, lines)
+
+-- the world that the lines after the first open, and those of them that are answered
+abbrev pub opened : ℕ → List (List ℕ) → World × List (List ℕ)
+opened sites [] = (opening sites greatest_limit, [])
+opened sites (second ∷ lines) = opened_by sites (limit_of second) second lines
+
+-- the replies to the lines after the first
+abbrev pub replies_at : ℕ → List (List ℕ) → List ℕ
+replies_at sites lines = answers (opened sites lines).0 (opened sites lines).1
+
+-- and then the totals
+abbrev pub run_at : ℕ → List (List ℕ) → List ℕ
+run_at sites lines = run (opened sites lines).0 (opened sites lines).1
+
+abbrev pub replies_started : Option ℕ → List (List ℕ) → List ℕ
+replies_started None lines = bad_line
+replies_started (Some sites) lines = replies_at sites lines
 
 abbrev pub run_started : Option ℕ → List (List ℕ) → List ℕ
 run_started None lines = bad_line
-run_started (Some sites) lines = run_sites sites lines
+run_started (Some sites) lines = run_at sites lines
 
+-- what the lines of a script are answered, without the totals
+abbrev pub replies : List (List ℕ) → List ℕ
+replies [] = []
+replies (first ∷ lines) = replies_started (sites_of first) lines
+
+-- and with them
 abbrev pub script_of_lines : List (List ℕ) → List ℕ
 script_of_lines [] = bad_line
 script_of_lines (first ∷ lines) = run_started (sites_of first) lines

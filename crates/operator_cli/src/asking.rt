@@ -1,9 +1,12 @@
 //! A session with the book of a site.
 
-ghost use Rattle.std.specs.Prelude.{◌≡◌, ◌≤◌, None, IfSome};
+ghost use Rattle.std.specs.Prelude.{◌≡◌, ◌≤◌, ◌↔◌, None, IfSome};
 ghost use Rattle.arrayvec.specs.ArrayVec.{array_vec_len};
+ghost use Rattle.site_desk.specs.SiteView.{decision_in};
+ghost use Rattle.operator_cli.specs.Session.{session_line, asked_in, asked_after, left_in, totals_in, ask_in, AnswersAsk, look_text, shown_left, shown_totals};
+ghost use Rattle.operator_cli.specs.declared.asking.SessionLine.TheVariants.{Quit};
 ghost use Rattle.operator_cli.specs.Told.{FaultTold};
-ghost use Rattle.operator_cli.specs.declared.status.Status.TheVariants.{Failed};
+ghost use Rattle.operator_cli.specs.Opened.{IsLost};
 
 use crate::answer::{numbered, reply_text, totals_text, word};
 use crate::ending::ended;
@@ -24,9 +27,9 @@ use std::io::{BufRead, BufReader, Read, Write};
 // The most lines of a session.
 const MOST_LINES: u32 = 1_000_000;
 
-// What a line of a session asks.
+/// What a line of a session asks.
 #[derive(Clone, Copy, Debug)]
-enum SessionLine {
+pub(crate) enum SessionLine {
     Ask {
         number: RequestNumber,
         request: Request,
@@ -40,31 +43,63 @@ enum SessionLine {
     Quit,
 }
 
-// The event that is the last word.
-fn last_event(words: &mut Words<'_>) -> Option<Event> {
+#[tactic(auto, unfolding(crate::specs::Session::left_in))]
+fn left_in(words: &mut Words<'_>) -> Option<SessionLine>
+    ensures { result ≡ left_in words.old }
+{
     let event = event_at(words)?;
-    if words.is_empty() { Some(event) } else { None }
+    if words.is_empty() {
+        Some(SessionLine::Left { event })
+    } else {
+        None
+    }
 }
 
-fn session_line(bytes: &[u8]) -> Option<SessionLine> {
+#[tactic(auto, unfolding(crate::specs::Session::totals_in))]
+fn totals_in(words: &mut Words<'_>) -> Option<SessionLine>
+    ensures { result ≡ totals_in words.old }
+{
+    let event = event_at(words)?;
+    if words.is_empty() {
+        Some(SessionLine::Totals { event })
+    } else {
+        None
+    }
+}
+
+#[tactic(auto, unfolding(crate::specs::Session::ask_in))]
+fn ask_in(verb: Verb, words: &mut Words<'_>) -> Option<SessionLine>
+    ensures { result ≡ ask_in verb words.old }
+{
+    let (number, request) = numbered_at(verb, words)?;
+    Some(SessionLine::Ask { number, request })
+}
+
+fn asked_after(verb: Verb, words: &mut Words<'_>) -> Option<SessionLine>
+    ensures { result ≡ asked_after verb words.old }
+{
+    match verb {
+        Verb::Left => left_in(words),
+        Verb::Totals => totals_in(words),
+        _ => ask_in(verb, words),
+    }
+}
+
+#[tactic(auto, unfolding(crate::specs::Session::asked_in))]
+fn asked_in(words: &mut Words<'_>) -> Option<SessionLine>
+    ensures { result ≡ asked_in words.old }
+{
+    let verb = verb_at(words)?;
+    asked_after(verb, words)
+}
+
+fn session_line(bytes: &[u8]) -> Option<SessionLine>
+    ensures { result ≡ session_line bytes.now }
+{
     if bytes == b"quit".as_slice() {
         return Some(SessionLine::Quit);
     }
-    let mut words = Words::new(bytes);
-    match verb_at(&mut words)? {
-        Verb::Left => {
-            let event = last_event(&mut words)?;
-            Some(SessionLine::Left { event })
-        }
-        Verb::Totals => {
-            let event = last_event(&mut words)?;
-            Some(SessionLine::Totals { event })
-        }
-        verb => {
-            let (number, request) = numbered_at(verb, &mut words)?;
-            Some(SessionLine::Ask { number, request })
-        }
-    }
+    asked_in(&mut Words::new(bytes))
 }
 
 fn asked_text<K: Keeper>(
@@ -73,7 +108,8 @@ fn asked_text<K: Keeper>(
     number: RequestNumber,
     request: &Request,
 ) -> Text
-    ensures { array_vec_len result ≤ 200 }
+    ensures text { AnswersAsk book.old.closed (decision_in book.old.book number request.now) result.items }
+    ensures len { array_vec_len result ≤ 200 }
 {
     match book.ask(alloc, number, request) {
         Ok(answer) => reply_text(answer.reply),
@@ -86,7 +122,8 @@ fn asked_text<K: Keeper>(
 }
 
 fn left_text<K: Keeper>(book: &SiteBook<K>, event: Event) -> Text
-    ensures { array_vec_len result ≤ 200 }
+    ensures text { result.items ≡ look_text book.now.closed book.now.book event (shown_left book.now.book event) }
+    ensures len { array_vec_len result ≤ 200 }
 {
     match book.look(event) {
         Ok(seen) => numbered(b"left ", seen.left),
@@ -96,7 +133,8 @@ fn left_text<K: Keeper>(book: &SiteBook<K>, event: Event) -> Text
 }
 
 fn seen_totals_text<K: Keeper>(book: &SiteBook<K>, event: Event) -> Text
-    ensures { array_vec_len result ≤ 200 }
+    ensures text { result.items ≡ look_text book.now.closed book.now.book event (shown_totals book.now.book event) }
+    ensures len { array_vec_len result ≤ 200 }
 {
     match book.look(event) {
         Ok(seen) => totals_text(seen.totals),
@@ -106,7 +144,8 @@ fn seen_totals_text<K: Keeper>(book: &SiteBook<K>, event: Event) -> Text
 }
 
 fn asked_reply<K: Keeper>(alloc: Global, book: &mut SiteBook<K>, asked: SessionLine) -> Option<Text>
-    ensures { IfSome result (λ text. array_vec_len text ≤ 200) }
+    ensures quit { (result ≡ None) ↔ (asked ≡ Quit) }
+    ensures len { IfSome result (λ text. array_vec_len text ≤ 200) }
 {
     match asked {
         SessionLine::Ask { number, request } => Some(asked_text(alloc, book, number, &request)),
@@ -205,7 +244,7 @@ pub fn ask_store<S: Alter + Drop, R: Read + Drop, W: Write, E: Write>(
     err: &mut E,
 ) -> (Status, Option<Connection<S>>)
     ensures err { FaultTold (E.contents err.old) (E.contents err.new) result.0 }
-    ensures lost { result.1 ≡ None → result.0 ≡ Failed }
+    ensures lost { result.1 ≡ None → IsLost S.Store conn (E.contents err.old) (E.contents err.new) result.0 }
 {
     match open_book(alloc, conn) {
         Ok(mut book) => {

@@ -2,7 +2,7 @@
 
 ghost use Rattle.std.specs.Prelude.{◌≡◌, ◌⊎◌, IfOk, IfErr, MatchResult};
 ghost use Rattle.std.specs.Io.KnownBytes.{Keeps};
-ghost use Rattle.plain_words.specs.Writing.{Writes};
+ghost use Rattle.plain_words.specs.Writing.{Writes, AppendsFront};
 ghost use Rattle.operator_cli.specs.Told.{store_fault_line, FaultTold};
 ghost use Rattle.operator_cli.specs.declared.status.Status.TheVariants.{Failed};
 ghost use Rattle.operator_cli.specs.declared.store_fault.StoreFault.TheVariants.{Write as WriteFailed};
@@ -37,6 +37,7 @@ fn flushed<W: Write>(status: Status, out: &mut W) -> Result<Status, StoreFault>
 // Tells a fault.
 fn tell_fault<E: Write>(fault: StoreFault, err: &mut E) -> Status
     ensures told { FaultTold (E.contents err.old) (E.contents err.new) result }
+    ensures line { AppendsFront (E.contents err.old) (E.contents err.new) (store_fault_line fault) }
     ensures status { result ≡ Failed }
 {
     let line = store_fault_line(fault);
@@ -52,6 +53,7 @@ pub(crate) fn ended<W: Write, E: Write>(
 ) -> Status
     ensures kept { Keeps (W.contents out.old) (W.contents out.new) }
     ensures told { FaultTold (E.contents err.old) (E.contents err.new) result }
+    ensures line { IfErr came (λ fault. AppendsFront (E.contents err.old) (E.contents err.new) (store_fault_line fault)) }
     ensures status { MatchResult came (λ status. (result ≡ status) ⊎ (result ≡ Failed)) (λ _. result ≡ Failed) }
 {
     match came {

@@ -1,9 +1,19 @@
 //! Messages to and from the records of a site.
 
-ghost use Rattle.std.specs.Prelude.{◌≡◌, ◌≤◌, None, IfOk, IfSome, length, vec_len};
-ghost use Rattle.operator_cli.specs.Told.{FaultTold};
-ghost use Rattle.operator_cli.specs.Printed.{Printed, IsSentText, IsTakenText, IsOfTaking};
-ghost use Rattle.operator_cli.specs.declared.status.Status.TheVariants.{Failed};
+ghost use Rattle.std.specs.Prelude.{◌≡◌, ◌≤◌, None, Some, IfOk, IfSome, length};
+ghost use Rattle.sqlite.specs.State.{HasCleanDisk};
+ghost use Rattle.sqlite.specs.Held.{state};
+ghost use Rattle.sql_records.specs.Layout.{HasMeta};
+ghost use Rattle.sql_records.specs.declared.meta.Meta.{Meta as Numbers};
+ghost use Rattle.site_desk.specs.SiteView.{office_of, site_of};
+ghost use Rattle.operator_cli.specs.Exchanged.{IsDueText, IsInput, most_bytes, site_in, told_of_bytes, told_of_read};
+ghost use Rattle.delta_wire.specs.Wire.{message_of};
+ghost use Rattle.sql_records.specs.Held.{history_in};
+ghost use Rattle.operator_cli.specs.Told.{FaultTold, told_status};
+ghost use Rattle.operator_cli.specs.declared.status.Status.TheVariants.{Refused};
+ghost use Rattle.std.specs.Option.{option_map};
+ghost use Rattle.operator_cli.specs.Printed.{Printed, IsSentText, IsTakenText, IsOfTaking, IsTellingOf};
+ghost use Rattle.operator_cli.specs.Opened.{IsLost};
 
 use crate::ending::ended;
 use crate::opening::open_book;
@@ -27,7 +37,9 @@ fn write_next<K: Keeper, W: Write>(
     to: SiteId,
     out: &mut W,
 ) -> Result<Status, StoreFault>
-    ensures { IfOk result (Printed IsSentText (W.contents out.old) (W.contents out.new)) }
+    ensures out { IfOk result (Printed IsSentText (W.contents out.old) (W.contents out.new)) }
+    ensures due { IfOk result (Printed (IsDueText book.now.book.office (site_of book.now) to)
+        (W.contents out.old) (W.contents out.new)) }
 {
     match book.next(alloc, to) {
         Ok(Some(message)) => match write_message(&message, out) {
@@ -54,8 +66,14 @@ pub fn export_store<S: Alter + Drop, W: Write, E: Write>(
     err: &mut E,
 ) -> (Status, Option<Connection<S>>)
     ensures out { Printed IsSentText (W.contents out.old) (W.contents out.new) result.0 }
+    ensures due { IfSome result.1 (λ after. HasCleanDisk (state S.Store after)
+        → (meta : Numbers) → HasMeta meta (state S.Store conn).now.trees
+        → Printed (IsDueText (office_of meta) (site_in (state S.Store conn).now.trees) to)
+        (W.contents out.old) (W.contents out.new) result.0) }
+    ensures same { IfSome result.1 (λ after. HasCleanDisk (state S.Store after)
+        → (state S.Store after).now ≡ (state S.Store conn).now) }
     ensures err { FaultTold (E.contents err.old) (E.contents err.new) result.0 }
-    ensures lost { result.1 ≡ None → result.0 ≡ Failed }
+    ensures lost { result.1 ≡ None → IsLost S.Store conn (E.contents err.old) (E.contents err.new) result.0 }
 {
     match open_book(alloc, conn) {
         Ok(book) => {
@@ -68,7 +86,8 @@ pub fn export_store<S: Alter + Drop, W: Write, E: Write>(
 
 // All of the input, or None where it is longer than a message may be.
 fn read_input<R: Read + Drop>(alloc: Global, input: R) -> Result<Option<Vec<u8>>, StoreFault>
-    ensures { IfOk result (λ read. IfSome read (λ bytes. vec_len bytes ≤ 4294967296)) }
+    ensures { IfOk result (λ read. IfSome (R.remaining input)
+        (λ bytes. IsInput bytes (option_map (λ v. v.items) read))) }
 {
     let mut bytes = Vec::new(alloc);
     match input.take(MOST_BYTES as u64 + 1).read_to_end(&mut bytes) {
@@ -89,8 +108,11 @@ fn take_bytes<K: Keeper>(
     book: &mut SiteBook<K>,
     bytes: &[u8],
 ) -> Result<Told, StoreFault>
-    requires { length bytes.now ≤ 4294967296 }
-    ensures { IfOk result IsOfTaking }
+    ensures kind { IfOk result IsOfTaking }
+    ensures told { IfOk result (λ told. told
+        ≡ told_of_read book.old.book.office book.old.book.history (message_of bytes.now)) }
+    ensures kept { IfOk result (λ told. told_status told ≡ Refused → book.new.keeper ≡ book.old.keeper) }
+    ensures trusted { K.is_trusted book.new.keeper → K.is_trusted book.old.keeper }
 {
     let message = match read_message(alloc, bytes) {
         Ok(message) => message,
@@ -109,7 +131,11 @@ fn take_input<K: Keeper, R: Read + Drop>(
     book: &mut SiteBook<K>,
     input: R,
 ) -> Result<Told, StoreFault>
-    ensures { IfOk result IsOfTaking }
+    ensures kind { IfOk result IsOfTaking }
+    ensures told { IfSome (R.remaining input) (λ bytes. IfOk result (λ told. told
+        ≡ told_of_bytes book.old.book.office book.old.book.history bytes)) }
+    ensures kept { IfOk result (λ told. told_status told ≡ Refused → book.new.keeper ≡ book.old.keeper) }
+    ensures trusted { K.is_trusted book.new.keeper → K.is_trusted book.old.keeper }
 {
     match read_input(alloc, input) {
         Ok(Some(bytes)) => take_bytes(alloc, book, bytes.as_slice()),
@@ -124,7 +150,12 @@ fn write_taken<K: Keeper, R: Read + Drop, W: Write>(
     input: R,
     out: &mut W,
 ) -> Result<Status, StoreFault>
-    ensures { IfOk result (Printed IsTakenText (W.contents out.old) (W.contents out.new)) }
+    ensures out { IfOk result (Printed IsTakenText (W.contents out.old) (W.contents out.new)) }
+    ensures taken { IfSome (R.remaining input) (λ bytes. IfOk result (Printed
+        (IsTellingOf (λ told. told ≡ told_of_bytes book.old.book.office book.old.book.history bytes))
+        (W.contents out.old) (W.contents out.new))) }
+    ensures kept { IfOk result (λ status. status ≡ Refused → book.new.keeper ≡ book.old.keeper) }
+    ensures trusted { K.is_trusted book.new.keeper → K.is_trusted book.old.keeper }
 {
     match take_input(alloc, book, input) {
         Ok(told) => tell(&told, out),
@@ -145,8 +176,15 @@ pub fn import_store<S: Alter + Drop, R: Read + Drop, W: Write, E: Write>(
     err: &mut E,
 ) -> (Status, Option<Connection<S>>)
     ensures out { Printed IsTakenText (W.contents out.old) (W.contents out.new) result.0 }
+    ensures taken { IfSome result.1 (λ after. HasCleanDisk (state S.Store after)
+        → (meta : Numbers) → HasMeta meta (state S.Store conn).now.trees
+        → IfSome (R.remaining input) (λ bytes. Printed
+        (IsTellingOf (λ told. told ≡ told_of_bytes (office_of meta) (history_in (state S.Store conn).now.trees) bytes))
+        (W.contents out.old) (W.contents out.new) result.0)) }
+    ensures kept { IfSome result.1 (λ after. HasCleanDisk (state S.Store after) → result.0 ≡ Refused
+        → (state S.Store after).now ≡ (state S.Store conn).now) }
     ensures err { FaultTold (E.contents err.old) (E.contents err.new) result.0 }
-    ensures lost { result.1 ≡ None → result.0 ≡ Failed }
+    ensures lost { result.1 ≡ None → IsLost S.Store conn (E.contents err.old) (E.contents err.new) result.0 }
 {
     match open_book(alloc, conn) {
         Ok(mut book) => {

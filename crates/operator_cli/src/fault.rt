@@ -2,22 +2,24 @@
 
 ghost use Rattle.std.specs.Prelude.{◌≡◌};
 ghost use Rattle.operator_cli.specs.Faults.{fault_line, of_line_fault};
-ghost use Rattle.operator_cli.specs.declared.fault.ScriptFault.TheVariants.{Write, Memory};
+ghost use Rattle.operator_cli.specs.declared.fault.ScriptFault.TheVariants.{Read, Write, Memory};
 
-use plain_words::{LineFault, WriteFault};
+use plain_words::{LineFault, ReadFault, WriteFault};
 use std::alloc::AllocError;
+use thiserror::Error;
 
 /// What ends a script early.
-#[derive(Clone, Copy, Debug, PartialEq, Eq)]
-pub(crate) enum ScriptFault {
-    /// The reader failed.
+#[derive(Clone, Copy, Debug, PartialEq, Eq, Error)]
+pub enum ScriptFault {
+    #[error("the reader failed")]
     Read,
-    /// The writer failed.
+    #[error("the writer failed")]
     Write,
-    /// A line has more than 200 bytes.
+    #[error("a line is longer than 200 bytes")]
     LineTooLong,
-    /// There are more than 1,000,000 lines.
+    #[error("there are more than 1,000,000 lines")]
     TooManyLines,
+    #[error("out of memory")]
     Memory,
 }
 
@@ -32,6 +34,14 @@ impl From<LineFault> for ScriptFault {
             LineFault::Read => ScriptFault::Read,
             LineFault::LineTooLong => ScriptFault::LineTooLong,
         }
+    }
+}
+
+impl From<ReadFault> for ScriptFault {
+    ghost from_gives = { λ _ fault. fault ≡ Read };
+
+    fn from(_fault: ReadFault) -> ScriptFault {
+        ScriptFault::Read
     }
 }
 

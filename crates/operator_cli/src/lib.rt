@@ -8,6 +8,7 @@ mod commands;
 mod ending;
 mod exchanging;
 mod fault;
+pub mod laws;
 mod looking;
 mod making;
 mod opening;
@@ -25,8 +26,9 @@ mod words;
 
 pub use asking::ask_store;
 pub use exchanging::{export_store, import_store};
+pub use fault::ScriptFault;
 pub use looking::{find_store, list_store};
 pub use making::{init_store, refuse_site};
 pub use orders::{Order, WordsFault, read_words};
-pub use scripting::world_script;
+pub use scripting::{run_script, world_script};
 pub use status::Status;

@@ -1,12 +1,13 @@
 //! Looking requests up in the records of a site.
 
-ghost use Rattle.std.specs.Prelude.{◌≡◌, IfOk, IfSome, None};
+ghost use Rattle.std.specs.Prelude.{◌≡◌, ◌≢◌, IfOk, OnOk, IfSome, None};
+ghost use Rattle.operator_cli.specs.declared.status.Status.TheVariants.{Failed};
 ghost use Rattle.sqlite.specs.State.{HasCleanDisk};
 ghost use Rattle.sqlite.specs.Held.{state};
 ghost use Rattle.sql_records.specs.Held.{IsTrusted, kept_in, history_in};
 ghost use Rattle.operator_cli.specs.Told.{of_find_fault, FaultTold};
 ghost use Rattle.operator_cli.specs.Printed.{Printed, IsFoundText, IsFoundIn, IsListText, AreListed, IsListIn};
-ghost use Rattle.operator_cli.specs.declared.status.Status.TheVariants.{Failed};
+ghost use Rattle.operator_cli.specs.Opened.{IsLost};
 
 use crate::ending::{ended, write_line};
 use crate::opening::open_book;
@@ -40,6 +41,8 @@ fn write_found<S: Alter, W: Write>(
     ensures out { IfOk result (Printed IsFoundText (W.contents out.old) (W.contents out.new)) }
     ensures found { IsTrusted S.Store records.new
         → IfOk result (Printed (IsFoundIn (kept_in S.Store records.old) number) (W.contents out.old) (W.contents out.new)) }
+    ensures same { IsTrusted S.Store records.new → OnOk result
+        ((state S.Store records.new.conn).now ≡ (state S.Store records.old.conn).now) }
     ensures trusted { IsTrusted S.Store records.new → IsTrusted S.Store records.old }
 {
     match records.find(number) {
@@ -67,8 +70,10 @@ pub fn find_store<S: Alter + Drop, W: Write, E: Write>(
     ensures out { Printed IsFoundText (W.contents out.old) (W.contents out.new) result.0 }
     ensures found { IfSome result.1 (λ after. HasCleanDisk (state S.Store after)
         → Printed (IsFoundIn (history_in (state S.Store conn).now.trees) number) (W.contents out.old) (W.contents out.new) result.0) }
+    ensures same { IfSome result.1 (λ after. HasCleanDisk (state S.Store after) → result.0 ≢ Failed
+        → (state S.Store after).now ≡ (state S.Store conn).now) }
     ensures err { FaultTold (E.contents err.old) (E.contents err.new) result.0 }
-    ensures lost { result.1 ≡ None → result.0 ≡ Failed }
+    ensures lost { result.1 ≡ None → IsLost S.Store conn (E.contents err.old) (E.contents err.new) result.0 }
 {
     match open_book(alloc, conn) {
         Ok(book) => {
@@ -101,6 +106,8 @@ fn write_listed<S: Alter, W: Write>(
     ensures out { IfOk result (Printed IsListText (W.contents out.old) (W.contents out.new)) }
     ensures listed { IsTrusted S.Store records.new
         → IfOk result (Printed (IsListIn (kept_in S.Store records.old) event.now) (W.contents out.old) (W.contents out.new)) }
+    ensures same { IsTrusted S.Store records.new → OnOk result
+        ((state S.Store records.new.conn).now ≡ (state S.Store records.old.conn).now) }
     ensures trusted { IsTrusted S.Store records.new → IsTrusted S.Store records.old }
 {
     let Some(event) = Event::read(event.as_bytes()) else {
@@ -127,8 +134,10 @@ pub fn list_store<S: Alter + Drop, W: Write, E: Write>(
     ensures out { Printed IsListText (W.contents out.old) (W.contents out.new) result.0 }
     ensures listed { IfSome result.1 (λ after. HasCleanDisk (state S.Store after)
         → Printed (IsListIn (history_in (state S.Store conn).now.trees) event.now) (W.contents out.old) (W.contents out.new) result.0) }
+    ensures same { IfSome result.1 (λ after. HasCleanDisk (state S.Store after) → result.0 ≢ Failed
+        → (state S.Store after).now ≡ (state S.Store conn).now) }
     ensures err { FaultTold (E.contents err.old) (E.contents err.new) result.0 }
-    ensures lost { result.1 ≡ None → result.0 ≡ Failed }
+    ensures lost { result.1 ≡ None → IsLost S.Store conn (E.contents err.old) (E.contents err.new) result.0 }
 {
     match open_book(alloc, conn) {
         Ok(book) => {

@@ -1,11 +1,13 @@
 //! Making the records of a site.
 
-ghost use Rattle.std.specs.Prelude.{◌≡◌, IfOk};
+ghost use Rattle.std.specs.Prelude.{◌≡◌, ◌<◌, true, false, Err, IfOk};
 ghost use Rattle.sqlite.specs.State.{HasCleanDisk};
 ghost use Rattle.sqlite.specs.Held.{state};
 ghost use Rattle.sql_records.specs.Held.{IsNew};
 ghost use Rattle.operator_cli.specs.Told.{FaultTold, told_status};
-ghost use Rattle.operator_cli.specs.Printed.{Printed, IsTellingOf, IsMadeText, IsOfMaking};
+ghost use Rattle.operator_cli.specs.Printed.{Printed, IsTellingOf, IsMadeText, told_of_making};
+ghost use Rattle.sql_records.specs.Layout.{has_our_table};
+ghost use Rattle.operator_cli.specs.declared.store_fault.StoreFault.TheVariants.{Disk};
 ghost use Rattle.operator_cli.specs.declared.status.Status.TheVariants.{Done, Refused};
 ghost use Rattle.operator_cli.specs.declared.told.Told.TheVariants.{NoSite};
 
@@ -34,7 +36,9 @@ fn make<S: Alter>(
     sites: Sites,
     limit: Limit,
 ) -> Result<Told, StoreFault>
-    ensures told { IfOk result IsOfMaking }
+    ensures told { IfOk result (λ told. told ≡ told_of_making me sites (has_our_table conn.old.schema)) }
+    ensures busy { me < sites → has_our_table conn.old.schema ≡ false → conn.old.in_transaction ≡ true
+        → result ≡ Err Disk }
     ensures made { HasCleanDisk (state S.Store conn.new) → IfOk result (λ told. told_status told ≡ Done
         → IsNew (record { me = me; sites = sites; limit = limit }) (state S.Store conn.new).now) }
     ensures kept { IfOk result (λ told. told_status told ≡ Refused → conn.new ≡ conn.old) }
@@ -57,7 +61,7 @@ fn write_made<S: Alter, W: Write>(
     limit: Limit,
     out: &mut W,
 ) -> Result<Status, StoreFault>
-    ensures out { IfOk result (Printed IsMadeText (W.contents out.old) (W.contents out.new)) }
+    ensures out { IfOk result (Printed (IsMadeText me sites (has_our_table conn.old.schema)) (W.contents out.old) (W.contents out.new)) }
     ensures made { HasCleanDisk (state S.Store conn.new) → IfOk result (λ status. status ≡ Done
         → IsNew (record { me = me; sites = sites; limit = limit }) (state S.Store conn.new).now) }
     ensures kept { IfOk result (λ status. status ≡ Refused → conn.new ≡ conn.old) }
@@ -68,8 +72,8 @@ fn write_made<S: Alter, W: Write>(
     }
 }
 
-/// Makes the records of a site with no entries, and prints `done`; or `already-there` where the
-/// database is not empty, or `no-site` where `me` is not below `sites`, with status 1.
+/// Makes the records of a site with no entries, and prints `done`; or `already-there` where a table
+/// of ours is there, or `no-site` where `me` is not below `sites`, with status 1.
 ///
 /// `memory` and `disk` are told on `err`, with status 3. Only `done` changes the database, save
 /// that after a fault the records may be there.
@@ -81,7 +85,7 @@ pub fn init_store<S: Alter, W: Write, E: Write>(
     out: &mut W,
     err: &mut E,
 ) -> Status
-    ensures out { Printed IsMadeText (W.contents out.old) (W.contents out.new) result }
+    ensures out { Printed (IsMadeText me sites (has_our_table conn.old.schema)) (W.contents out.old) (W.contents out.new) result }
     ensures err { FaultTold (E.contents err.old) (E.contents err.new) result }
     ensures made { HasCleanDisk (state S.Store conn.new) → result ≡ Done
         → IsNew (record { me = me; sites = sites; limit = limit }) (state S.Store conn.new).now }

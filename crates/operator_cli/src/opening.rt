@@ -1,8 +1,11 @@
 //! Opening the records of a site.
 
-ghost use Rattle.std.specs.Prelude.{◌≡◌, IfOk};
+ghost use Rattle.std.specs.Prelude.{◌≡◌, IfOk, IfErr, MatchOption};
 ghost use Rattle.sqlite.specs.Held.{state};
+ghost use Rattle.sqlite.specs.State.{HasCleanDisk};
 ghost use Rattle.sql_records.specs.Held.{IsTrusted, kept_in, history_in};
+ghost use Rattle.operator_cli.specs.Exchanged.{IsBookOf};
+ghost use Rattle.operator_cli.specs.Opened.{IsRefused, IsIllegal};
 ghost use Rattle.operator_cli.specs.Told.{of_open_fault, of_replay_fault};
 
 use crate::store_fault::StoreFault;
@@ -44,6 +47,12 @@ pub(crate) fn open_book<S: Alter + Drop>(
 ) -> Result<SiteBook<Records<S>>, (StoreFault, Option<Connection<S>>)>
     ensures kept { IfOk result (λ book. IsTrusted S.Store book.keeper
         → kept_in S.Store book.keeper ≡ history_in (state S.Store conn).now.trees) }
+    ensures book { IfOk result (λ book. IsTrusted S.Store book.keeper → IsBookOf (state S.Store conn).now.trees book) }
+    ensures same { IfOk result (λ book. IsTrusted S.Store book.keeper
+        → (state S.Store book.keeper.conn).now ≡ (state S.Store conn).now) }
+    ensures clean { IfOk result (λ book. IsTrusted S.Store book.keeper → HasCleanDisk (state S.Store conn)) }
+    ensures fault { IfErr result (λ e. MatchOption e.1
+        (IsRefused S.Store conn e.0) (λ after. IsIllegal S.Store conn after e.0)) }
 {
     let (records, entries, meta) = match Records::open(alloc, conn) {
         Ok(opened) => opened,

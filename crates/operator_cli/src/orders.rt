@@ -1,9 +1,9 @@
 //! The words that the program is called with.
 
-ghost use Rattle.std.specs.Prelude.{◌≡◌, ◌≤◌, IfSome, IfOk, IfErr, MatchResult, Some, None, map, codes};
+ghost use Rattle.std.specs.Prelude.{◌≡◌, ◌≤◌, IfSome, IfOk, OnOk, IfErr, MatchResult, Some, None, map, codes};
 ghost use Rattle.std.specs.Option.{option_map};
 ghost use Rattle.clap.specs.Words.{subcommand_of, subcommand_rows_of, kind_of, first_of, found_of, rows_of};
-ghost use Rattle.operator_cli.specs.Orders.{boxoffice, order_in, said_by, number_in, init_in, ask_in, find_in, list_in, export_in, import_in, named_order, IsRefusal};
+ghost use Rattle.operator_cli.specs.Orders.{boxoffice, AreUnderstood, order_in, said_by, number_in, init_in, ask_in, find_in, list_in, export_in, import_in, named_order, IsRefusal};
 
 use crate::words::boxoffice;
 use book_core::Limit;
@@ -240,6 +240,7 @@ fn misfit_told(alloc: Global, misfit: Misfit) -> WordsFault {
 ///
 /// Numbers are decimal, without a sign and without leading zeros.
 pub fn read_words<'a>(alloc: Global, words: &'a [&'a str]) -> Result<Order<'a>, WordsFault>
+    ensures understood { OnOk result (AreUnderstood (map (λ w. w.now) words.now)) }
     ensures order { IfOk result (λ order. order_in (subcommand_of boxoffice (map (λ w. w.now) words.now)) ≡ Some (said_by order)) }
     ensures refusal { IfErr result (IsRefusal (map (λ w. w.now) words.now)) }
 {

@@ -1,12 +1,15 @@
 //! A script over a reader and writers.
 
-ghost use Rattle.std.specs.Prelude.{◌≡◌, ◌<◌, OnOk, IfErr};
+ghost use Rattle.std.specs.Prelude.{◌≡◌, ◌<◌, [], OnOk, IfOk, IfErr};
+ghost use Rattle.std.specs.Io.Buffered.{reader_remaining};
 ghost use Rattle.plain_words.specs.Writing.{Writes};
 ghost use Rattle.operator_cli.specs.Reading.{line_of};
 ghost use Rattle.operator_cli.specs.Replies.{reply_line};
 ghost use Rattle.operator_cli.specs.Answering.{answer_to};
 ghost use Rattle.operator_cli.specs.Faults.{IsOutFault};
-ghost use Rattle.operator_cli.specs.Ran.{NextRan, RestRan, OpenRan, SitesRan, StartRan, ScriptRan, StatusRan, CauseRan};
+ghost use Rattle.operator_cli.specs.declared.fault.ScriptFault.TheVariants.{Memory};
+ghost use Rattle.operator_cli.specs.Script.{run_at};
+ghost use Rattle.operator_cli.specs.Ran.{NextRan, RestRan, OpenRan, SecondRan, SitesRan, StartRan, ScriptRan, ScriptTold, WorldRan};
 
 use crate::answer::write_answer;
 use crate::answering::answer_line;
@@ -80,27 +83,47 @@ fn reply_all<R: BufRead, W: Write>(
     Ok(())
 }
 
-// The world that the second line opens, by its limit or as the first to be answered.
-fn open_world<R: BufRead, W: Write>(
+// The world that the second line opens: with its limit, or after its answer.
+fn open_world<W: Write>(
     alloc: Global,
-    reader: &mut R,
+    line: &[u8],
     out: &mut W,
     sites: Sites,
 ) -> Result<World, ScriptFault>
-    ensures { OpenRan sites (R.remaining reader.old) (R.remaining reader.new) (W.contents out.old) (W.contents out.new) result }
+    ensures { OpenRan sites line.now (W.contents out.old) (W.contents out.new) result }
 {
-    let mut line = LineBytes::new();
-    if !next_line(reader, &mut line)? {
-        let world = World::new(alloc, sites, Limit::greatest())?;
-        return Ok(world);
-    }
-    if let Some(limit) = read_limit(line.as_slice()) {
+    if let Some(limit) = read_limit(line) {
         let limited = World::new(alloc, sites, limit)?;
         return Ok(limited);
     }
     let mut world = World::new(alloc, sites, Limit::greatest())?;
-    reply(alloc, line.as_slice(), out, &mut world)?;
+    reply(alloc, line, out, &mut world)?;
     Ok(world)
+}
+
+// The second line, which is here, and all behind it.
+fn run_second<R: BufRead, W: Write>(
+    alloc: Global,
+    reader: &mut R,
+    out: &mut W,
+    line: &[u8],
+    sites: Sites,
+) -> Result<(), ScriptFault>
+    ensures { SecondRan 999998 sites line.now (R.remaining reader.old) (W.contents out.old) (W.contents out.new) result }
+{
+    let mut world = open_world(alloc, line, out, sites)?;
+    reply_all(alloc, reader, out, &mut world, MOST_LINES)?;
+    write_totals(alloc, &world, out)?;
+    Ok(())
+}
+
+// The end of a script that is its first line alone.
+fn run_none<W: Write>(alloc: Global, out: &mut W, sites: Sites) -> Result<(), ScriptFault>
+    ensures written { Writes (W.contents out.old) (W.contents out.new) result (run_at sites []) }
+    ensures fault { IfErr result IsOutFault }
+{
+    let world = World::new(alloc, sites, Limit::greatest())?;
+    write_totals(alloc, &world, out)
 }
 
 // The lines behind the first.
@@ -112,10 +135,12 @@ fn run_sites<R: BufRead, W: Write>(
 ) -> Result<(), ScriptFault>
     ensures { SitesRan 999999 sites (R.remaining reader.old) (W.contents out.old) (W.contents out.new) result }
 {
-    let mut world = open_world(alloc, reader, out, sites)?;
-    reply_all(alloc, reader, out, &mut world, MOST_LINES)?;
-    write_totals(alloc, &world, out)?;
-    Ok(())
+    let mut line = LineBytes::new();
+    if next_line(reader, &mut line)? {
+        run_second(alloc, reader, out, line.as_slice(), sites)
+    } else {
+        run_none(alloc, out, sites)
+    }
 }
 
 // The count of sites that the first line gives.
@@ -129,8 +154,11 @@ fn read_start<R: BufRead>(reader: &mut R) -> Result<Option<Sites>, ScriptFault>
     Ok(read_sites(line.as_slice()))
 }
 
-// Whether the script started well.
-fn run_script<R: BufRead, W: Write>(
+/// Runs a script: the reply line of each line and the lines of totals go to `out`. True where its
+/// first line gives the count of sites, and else `bad-line` is all that goes there.
+///
+/// A fault ends it early. What was answered before stays written, and no line of totals is.
+pub fn run_script<R: BufRead, W: Write>(
     alloc: Global,
     reader: &mut R,
     out: &mut W,
@@ -145,6 +173,16 @@ fn run_script<R: BufRead, W: Write>(
     Ok(true)
 }
 
+fn buffered<R: Read + Drop>(alloc: Global, reader: R) -> Result<BufReader<R>, ScriptFault>
+    ensures reader { IfOk result (λ buffer. reader_remaining R.remaining buffer ≡ R.remaining reader) }
+    ensures memory { IfErr result (λ fault. fault ≡ Memory) }
+{
+    match BufReader::new(alloc, reader) {
+        Ok(buffer) => Ok(buffer),
+        Err(_) => Err(ScriptFault::Memory),
+    }
+}
+
 // The same over a buffer, with all that went out at its writer's end.
 fn run_flushed<R: Read + Drop, W: Write>(
     alloc: Global,
@@ -153,9 +191,7 @@ fn run_flushed<R: Read + Drop, W: Write>(
 ) -> Result<bool, ScriptFault>
     ensures { ScriptRan (R.remaining reader) (W.contents out.old) (W.contents out.new) result }
 {
-    let Ok(mut reader) = BufReader::new(alloc, reader) else {
-        return Err(ScriptFault::Memory);
-    };
+    let mut reader = buffered(alloc, reader)?;
     match run_script(alloc, &mut reader, out) {
         Ok(is_started) => match out.flush() {
             Ok(()) => Ok(is_started),
@@ -168,8 +204,21 @@ fn run_flushed<R: Read + Drop, W: Write>(
     }
 }
 
-/// Runs a script: the reply line of each line and the lines of totals go to `out`, and where the
-/// script ends early the line that names the cause goes to `err`.
+fn tell<E: Write>(came: Result<bool, ScriptFault>, err: &mut E) -> Status
+    ensures { ScriptTold (E.contents err.old) (E.contents err.new) came result }
+{
+    match came {
+        Ok(true) => Status::Done,
+        Ok(false) => Status::Refused,
+        Err(fault) => {
+            let _ = write_bytes(fault_line(fault), err);
+            Status::Failed
+        }
+    }
+}
+
+/// Runs a script, and tells by its status how it ended; where it ended early the line that names the
+/// cause goes to `err`.
 ///
 /// `out` gets many short writes, and is flushed before the status is told.
 pub fn world_script<R: Read + Drop, W: Write, E: Write>(
@@ -178,15 +227,8 @@ pub fn world_script<R: Read + Drop, W: Write, E: Write>(
     out: &mut W,
     err: &mut E,
 ) -> Status
-    ensures out { StatusRan (R.remaining reader) (W.contents out.old) (W.contents out.new) result }
-    ensures err { CauseRan (R.remaining reader) (E.contents err.old) (E.contents err.new) result }
+    ensures { WorldRan (R.remaining reader) (W.contents out.old) (W.contents out.new) (E.contents err.old) (E.contents err.new) result }
 {
-    match run_flushed(alloc, reader, out) {
-        Ok(true) => Status::Done,
-        Ok(false) => Status::Refused,
-        Err(fault) => {
-            let _ = write_bytes(fault_line(fault), err);
-            Status::Failed
-        }
-    }
+    let came = run_flushed(alloc, reader, out);
+    tell(came, err)
 }

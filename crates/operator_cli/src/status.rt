@@ -8,7 +8,7 @@ ghost use Rattle.operator_cli.specs.Codes.{code_of};
 pub enum Status {
     /// 0: all was done.
     Done,
-    /// 1: the input is not of the command's form.
+    /// 1: what was asked is refused or is not there, and what was written says why.
     Refused,
     /// 2: the words of the program are no command.
     NotUnderstood,

@@ -14,6 +14,7 @@ use std::io::Write;
 use world_steps::World;
 
 fn total_line(event: Event, totals: Totals) -> Text
+    requires { totals.refunded ≤ totals.sold }
     ensures { result.items ≡ total_line event totals }
 {
     let mut text = Text::new();
@@ -25,7 +26,7 @@ fn total_line(event: Event, totals: Totals) -> Text
     put(&mut text, b" refunded ");
     put_number(&mut text, totals.refunded);
     put(&mut text, b" outstanding ");
-    put_number(&mut text, totals.sold.saturating_sub(totals.refunded));
+    put_number(&mut text, totals.sold - totals.refunded);
     put(&mut text, b"\n");
     text
 }

@@ -108,12 +108,6 @@ pub(crate) fn boxoffice<'a>(alloc: Global) -> Result<Command<'a>, AllocError>
     ensures { IfOk result (λ command. app_of command ≡ boxoffice) }
 {
     let world = named(alloc, "world", "Runs the script on standard input");
-    let init = init(alloc)?;
-    let ask = ask(alloc)?;
-    let find = find(alloc)?;
-    let list = list(alloc)?;
-    let export = export(alloc)?;
-    let import = import(alloc)?;
     let whole = named(
         alloc,
         "boxoffice",
@@ -121,11 +115,11 @@ pub(crate) fn boxoffice<'a>(alloc: Global) -> Result<Command<'a>, AllocError>
     )
     .subcommand_required(true)
     .subcommand(world)?
-    .subcommand(init)?
-    .subcommand(ask)?
-    .subcommand(find)?
-    .subcommand(list)?
-    .subcommand(export)?
-    .subcommand(import)?;
+    .subcommand(init(alloc)?)?
+    .subcommand(ask(alloc)?)?
+    .subcommand(find(alloc)?)?
+    .subcommand(list(alloc)?)?
+    .subcommand(export(alloc)?)?
+    .subcommand(import(alloc)?)?;
     Ok(whole)
 }

@@ -1,13 +1,13 @@
 -- The first line of an input.
-use Rattle.std.proofs.Common.{inl, inr, ◌≢◌, ◌≡◌, ℕ, ◌<◌, ◌≤◌, Bool, true, false, eqb, cond, List, [], ◌∷◌, ◌++◌, length, Option, Some, None, refl, sym, ap, subst, ◌∙◌, arith, take, get_or, length-append, All}
+use Rattle.std.proofs.Common.{inl, inr, ◌≢◌, ◌≡◌, ℕ, zero, suc, ◌+◌, ◌<◌, ◌≤◌, leb, zero-add, Bool, true, false, eqb, cond, List, [], ◌∷◌, ◌++◌, length, Option, Some, None, refl, sym, ap, subst, ◌∙◌, arith, take, get_or, length-append, All}
 use Rattle.std.specs.List.{slice_split, onto_first, AllByRecursion}
 use Rattle.std.specs.Io.KnownBytes.{Consumes, IsAtEnd}
 use Rattle.std.proofs.KnownBytes.{Consumes-trans}
-use Rattle.std.proofs.lemmas.Bool.{cond-false, ne_eqb, cases_Bool, eqb-true}
+use Rattle.std.proofs.lemmas.Bool.{cond-true, cond-false, ne_eqb, cases_Bool, eqb-true, le-leb, lt-leb}
 use Rattle.std.proofs.lemmas.List.{append-nil}
 use Rattle.std.proofs.lemmas.List.Splits.{slice_split_none, slice_split_at}
 use Rattle.std.proofs.lemmas.List.Elements.{All-from_recursion}
-use Rattle.plain_words.specs.Input.{is_line_break, without_empty_last, lines_of, Between, BeginsTooLong}
+use Rattle.plain_words.specs.Input.{is_line_break, without_empty_last, lines_of, Between, BeginsTooLong, GivesUp, taken, Taken, End, AtEnd, AtLongLine, AtTooMany, with_line, none_taken}
 
 abbrev pub HasNoBreak : List ℕ → Type 0
 HasNoBreak line = AllByRecursion (λ b. is_line_break b ≡ false) line
@@ -86,13 +86,21 @@ has_no_line (Some x) None c line p q e nothing = absurd p
 has_no_line (Some x) (Some y) None line p q e nothing = absurd q
 has_no_line (Some x) (Some y) (Some z) line p q e nothing = (ap lines_of (p ∙ ap (λ (t : List ℕ). t ++ y) nothing ∙ q ∙ e) ∙ lines_of-nil, ap lines_of e ∙ lines_of-nil)
 
-pub passes_limit : (a b c : Option (List ℕ)) (line : List ℕ) (byte : ℕ) → HasNoBreak line → Consumes a b line → Consumes b c (byte ∷ []) → is_line_break byte ≡ false → 200 ≤ length line → Between a c (λ before after. BeginsTooLong (lines_of before))
-passes_limit None b c line byte h p q e more = tt
-passes_limit (Some x) None c line byte h p q e more = absurd p
-passes_limit (Some x) (Some y) None line byte h p q e more = absurd q
-passes_limit (Some x) (Some y) (Some z) line byte h p q e more =
+begins_too_long : (a b c : Option (List ℕ)) (line : List ℕ) (byte : ℕ) → HasNoBreak line → Consumes a b line → Consumes b c (byte ∷ []) → is_line_break byte ≡ false → 200 ≤ length line → Between a c (λ before after. BeginsTooLong (lines_of before))
+begins_too_long None b c line byte h p q e more = tt
+begins_too_long (Some x) None c line byte h p q e more = absurd p
+begins_too_long (Some x) (Some y) None line byte h p q e more = absurd q
+begins_too_long (Some x) (Some y) (Some z) line byte h p q e more =
     let whole : x ≡ (line ++ byte ∷ []) ++ z = Consumes-trans (Some x) (Some y) (Some z) line (byte ∷ []) p q in
     subst (λ (t : List ℕ). BeginsTooLong (lines_of t)) (sym whole) (lines_of-long (line ++ byte ∷ []) z (HasNoBreak-push line byte h e) (omega (arith, length-append line (byte ∷ []))))
+
+no_break_is : (byte : ℕ) → is_line_break byte ≡ false → byte ≢ 10
+no_break_is byte e is = let t : is_line_break byte ≡ true = ap is_line_break is in cc
+
+pub passes_limit : (a b c : Option (List ℕ)) (line : List ℕ) (byte : ℕ) → HasNoBreak line → Consumes a b line → Consumes b c (byte ∷ []) → is_line_break byte ≡ false → length line ≡ 200
+    → GivesUp a c line × Between a c (λ before after. BeginsTooLong (lines_of before))
+passes_limit a b c line byte h p q e full =
+    ((byte, no_break_is byte e, full, Consumes-trans a b c line (byte ∷ []) p q), begins_too_long a b c line byte h p q e (omega (arith, full)))
 
 pub one_byte : (buf : List ℕ) (n : ℕ) → length buf ≡ 1 → n ≤ 1 → 0 < n → take n buf ≡ get_or buf 0 0 ∷ []
 one_byte [] n len le more = absurd (omega arith)
@@ -122,3 +130,52 @@ pub some_more : (a b : Option (List ℕ)) (byte : ℕ) → Consumes a b (byte �
 some_more None b byte q = tt
 some_more (Some x) None byte q = absurd q
 some_more (Some x) (Some y) byte q = λ e. lines_of-cons byte y (sym (ap lines_of q) ∙ e)
+
+-- ---- the lines that are taken
+
+abbrev pub AreShort : List (List ℕ) → Type 0
+AreShort lines = AllByRecursion (λ line. length line ≤ 200) lines
+
+-- these lines before those that are taken
+abbrev pub put_before : List (List ℕ) → Taken → Taken
+put_before lines t = record { lines = lines ++ t.lines; end = t.end }
+
+pub taken-nil : (most : ℕ) → taken most [] ≡ none_taken AtEnd
+unfolding taken
+taken-nil most = refl
+
+pub taken-line : (most : ℕ) (line : List ℕ) (lines : List (List ℕ)) → length line ≤ 200 → taken (suc most) (line ∷ lines) ≡ with_line line (taken most lines)
+unfolding taken
+taken-line most line lines short = cond-true (leb (length line) 200) _ _ (le-leb _ _ short)
+
+pub taken-long : (most : ℕ) (lines : List (List ℕ)) → BeginsTooLong lines → taken (suc most) lines ≡ none_taken AtLongLine
+unfolding taken
+taken-long most [] long = absurd long
+taken-long most (line ∷ lines) long = cond-false (leb (length line) 200) _ _ (lt-leb _ _ long)
+
+pub taken-too-many : (lines : List (List ℕ)) → lines ≢ [] → taken 0 lines ≡ none_taken AtTooMany
+unfolding taken
+taken-too-many [] more = absurd (more refl)
+taken-too-many (line ∷ lines) more = refl
+
+-- short lines are taken, and then those behind them
+pub taken-behind : (count : ℕ) (before lines : List (List ℕ)) → AreShort before → taken (length before + count) (before ++ lines) ≡ put_before before (taken count lines)
+taken-behind count [] lines short = ap (λ (n : ℕ). taken n lines) (zero-add count)
+taken-behind count (line ∷ before) lines short =
+    let more : suc (length before) + count ≡ suc (length before + count) = omega arith in
+    ap (λ (n : ℕ). taken n (line ∷ before ++ lines)) more
+    ∙ taken-line (length before + count) line (before ++ lines) short.0
+    ∙ ap (with_line line) (taken-behind count before lines short.1)
+
+end_with : (e : End) (b : Bool) (line : List ℕ) (t : Taken) → e ≡ (cond b (with_line line t) (none_taken AtLongLine)).end → e ≡ AtEnd → (b ≡ true) × (t.end ≡ AtEnd)
+end_with e true line t is h = (refl, sym is ∙ h)
+end_with e false line t is h = let bad : AtLongLine ≡ AtEnd = sym is ∙ h in cc
+
+-- where the input ends within its limits, all of its lines are taken
+pub taken-whole : (most : ℕ) (lines : List (List ℕ)) → (taken most lines).end ≡ AtEnd → (taken most lines).lines ≡ lines
+unfolding taken
+taken-whole most [] h = refl
+taken-whole zero (line ∷ lines) h = cc
+taken-whole (suc most) (line ∷ lines) h =
+    let w = end_with _ (leb (length line) 200) line (taken most lines) refl h in
+    ap (λ (t : Taken). t.lines) (cond-true (leb (length line) 200) _ _ w.0) ∙ ap (λ (t : List (List ℕ)). line ∷ t) (taken-whole most lines w.1)

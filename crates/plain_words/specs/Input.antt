@@ -1,9 +1,10 @@
 -- The lines of an input.
-use Rattle.std.specs.Prelude.{◌≡◌, ◌≢◌, ℕ, ◌≤◌, ◌<◌, Bool, true, false, ◌==◌, List, [], ◌∷◌, length, Option, Some, None, Result, Ok, Err, if◌then◌else◌}
+use Rattle.std.specs.Prelude.{◌≡◌, ◌≢◌, ℕ, zero, suc, ◌≤◌, ◌<◌, Bool, true, false, ◌==◌, nat_le, List, [], ◌∷◌, ◌++◌, length, Option, Some, None, Result, Ok, Err, if◌then◌else◌}
 use Rattle.std.specs.List.{slice_split}
 use Rattle.std.specs.Io.KnownBytes.{Consumes, IsAtEnd, Keeps}
 use Rattle.plain_words.specs.declared.lines.LineFault.{LineFault}
 use Rattle.plain_words.specs.declared.lines.LineFault.TheVariants.{Read, LineTooLong}
+use Rattle.plain_words.specs.declared.lines.ReadFault.{ReadFault}
 
 abbrev pub is_line_break : ℕ → Bool
 is_line_break b = b == 10
@@ -29,11 +30,39 @@ abbrev pub BeginsTooLong : List (List ℕ) → Type 0
 BeginsTooLong [] = ⊥
 BeginsTooLong (line ∷ more) = 200 < length line
 
+-- how the lines of an input end: behind the last, at one of more than 200 bytes, or at one more than may be there
+pub data End : Type 0 where
+  AtEnd : End
+  AtLongLine : End
+  AtTooMany : End
+
+-- the lines that are taken from an input, and how they end
+pub record Taken : Type 0 where
+  pub lines : List (List ℕ)
+  pub end : End
+
+abbrev pub none_taken : End → Taken
+none_taken end = record { lines = []; end = end }
+
+-- one line before these
+abbrev pub with_line : List ℕ → Taken → Taken
+with_line line t = record { lines = line ∷ t.lines; end = t.end }
+
+-- the lines of an input that are taken one by one, of which this many may be there
+unfoldable pub taken : ℕ → List (List ℕ) → Taken
+taken most [] = none_taken AtEnd
+taken zero (line ∷ lines) = none_taken AtTooMany
+taken (suc most) (line ∷ lines) = if nat_le (length line) 200 then with_line line (taken most lines) else none_taken AtLongLine
+
+-- A line is given up at the byte that makes it too long, which is the last that is read.
+abbrev pub GivesUp : Option (List ℕ) → Option (List ℕ) → List ℕ → Type 0
+GivesUp old new line = (byte : ℕ) × (byte ≢ 10) × (length line ≡ 200) × Consumes old new (line ++ byte ∷ [])
+
 -- what one call leaves
 abbrev pub LineGives : Option (List ℕ) → Option (List ℕ) → List ℕ → Result Bool LineFault → Type 0
 LineGives old new line (Ok true) = (length line ≤ 200) × Between old new (λ before after. lines_of before ≡ line ∷ lines_of after)
 LineGives old new line (Ok false) = Between old new (λ before after. (lines_of before ≡ []) × (lines_of after ≡ []))
-LineGives old new line (Err LineTooLong) = Between old new (λ before after. BeginsTooLong (lines_of before))
+LineGives old new line (Err LineTooLong) = GivesUp old new line × Between old new (λ before after. BeginsTooLong (lines_of before))
 LineGives old new line (Err Read) = Consumes old new line
 
 -- what reading one byte leaves
@@ -43,8 +72,7 @@ ByteGives old new (Ok None) = Consumes old new [] × IsAtEnd new
 ByteGives old new (Err fault) = Keeps old new
 
 -- what asking for another line leaves
-abbrev pub MoreGives : Option (List ℕ) → Option (List ℕ) → Result Bool LineFault → Type 0
-MoreGives old new (Ok true) = Between old new (λ before after. lines_of before ≢ [])
-MoreGives old new (Ok false) = Between old new (λ before after. lines_of before ≡ [])
-MoreGives old new (Err Read) = Keeps old new
-MoreGives old new (Err LineTooLong) = ⊥
+abbrev pub MoreGives : Option (List ℕ) → Option (List ℕ) → Result Bool ReadFault → Type 0
+MoreGives old new (Ok true) = ((byte : ℕ) × Consumes old new (byte ∷ [])) × Between old new (λ before after. lines_of before ≢ [])
+MoreGives old new (Ok false) = Consumes old new [] × Between old new (λ before after. lines_of before ≡ [])
+MoreGives old new (Err fault) = Keeps old new

@@ -10,7 +10,7 @@ mod text;
 mod words;
 mod writing;
 
-pub use lines::{LineBytes, LineFault, has_more, next_line};
+pub use lines::{LineBytes, LineFault, ReadFault, has_more, next_line};
 pub use number::{number_at, read_number};
 pub use text::{Text, put, put_number};
 pub use words::Words;

@@ -20,9 +20,10 @@ pub enum LineFault {
     LineTooLong,
 }
 
-// A read that failed.
-#[derive(Clone, Copy, Debug)]
-struct ReadFault;
+/// A read that failed.
+#[derive(Clone, Copy, Debug, PartialEq, Eq, Error)]
+#[error("the reader failed")]
+pub struct ReadFault;
 
 // One byte, or None at the end.
 fn read_byte<R: BufRead>(reader: &mut R) -> Result<Option<u8>, ReadFault>
@@ -39,8 +40,8 @@ fn read_byte<R: BufRead>(reader: &mut R) -> Result<Option<u8>, ReadFault>
 /// Reads the next line into `line`, without its line break: true where there is one, false at the
 /// end of the input.
 ///
-/// The bytes behind the last line break are a line unless there are none. After a fault the reader
-/// stands somewhere in the line; where it is the reader that failed, `line` holds what it gave.
+/// The bytes behind the last line break are a line unless there are none. After a fault `line` holds
+/// what was read of it, and where it is too long the byte behind that was read too.
 pub fn next_line<R: BufRead>(reader: &mut R, line: &mut LineBytes) -> Result<bool, LineFault>
     ensures { LineGives (R.remaining reader.old) (R.remaining reader.new) line.new.items result }
 {
@@ -66,12 +67,12 @@ pub fn next_line<R: BufRead>(reader: &mut R, line: &mut LineBytes) -> Result<boo
     }
 }
 
-/// Whether another line begins. It may take the first byte of that line.
-pub fn has_more<R: BufRead>(reader: &mut R) -> Result<bool, LineFault>
+/// Whether another line begins. It takes the first byte of that line.
+pub fn has_more<R: BufRead>(reader: &mut R) -> Result<bool, ReadFault>
     ensures { MoreGives (R.remaining reader.old) (R.remaining reader.new) result }
 {
     match read_byte(reader) {
-        Err(ReadFault) => Err(LineFault::Read),
+        Err(fault) => Err(fault),
         Ok(None) => Ok(false),
         Ok(Some(_)) => Ok(true),
     }

@@ -29,7 +29,7 @@ fn words_and_numbers(rt: HostRuntime) {
 }
 
 #[test]
-fn lines(rt: HostRuntime) -> Result<(), LineFault> {
+fn lines(rt: HostRuntime) -> Result<(), Fail> {
     let mut input = b"sites 1\n\nlast".as_slice();
     let mut line = LineBytes::new();
     for wanted in [b"sites 1".as_slice(), b"".as_slice(), b"last".as_slice()] {
@@ -42,10 +42,13 @@ fn lines(rt: HostRuntime) -> Result<(), LineFault> {
 
     let long = [b'a'; 201];
     assert!(rt; next_line(&mut &long[..200], &mut line)?);
+    // The byte that makes a line too long is the last that is read.
+    let mut given_up = [b'a'; 203].as_slice();
     assert_eq!(rt;
-        next_line(&mut long.as_slice(), &mut line),
+        next_line(&mut given_up, &mut line),
         Err(LineFault::LineTooLong)
     );
+    assert_eq!(rt; given_up.len(), 2);
     Ok(())
 }
 

@@ -1,5 +1,6 @@
 //! What was decided under each request number, and what was given back of each sale.
-ghost use Rattle.std.specs.Prelude.{◌≡◌, ℕ, ◌+◌, ◌≤◌, ◌==◌, if◌then◌else◌, [], ◌∷◌, ◌++◌, None, Some, IsSome, OnOk, IsOk};
+ghost use Rattle.std.specs.Prelude.{◌≡◌, ℕ, ◌+◌, ◌≤◌, ◌==◌, if◌then◌else◌, [], ◌∷◌, ◌++◌, map, length, nat_eq, None, Some, IsSome, OnOk, IsOk};
+ghost use Rattle.std.specs.List.{IsDistinct};
 ghost use Rattle.indexmap.specs.IndexMap.{spare};
 ghost use Rattle.request_ledger.specs.GivenBack.{refund_with, sale_with, seats_under, sum_under, AreSums, AreSumsWith};
 ghost use Rattle.request_ledger.specs.Ledger.{kept_under, sale_under, IsRefundable};
@@ -12,7 +13,7 @@ use std::alloc::{AllocError, Global};
 use std::marker::Model;
 
 /// What is kept under each request number of a site, and what was given back of each sale.
-/// A look-up takes as long in a million entries as in a thousand.
+/// A look-up is in a hash map: on average it takes as long in a million entries as in a thousand.
 #[derive(Drop)]
 pub struct Ledger {
     kept: IndexMap<RequestNumber, Kept>,
@@ -44,6 +45,14 @@ impl Ledger {
             kept: IndexMap::new(alloc),
             given_back: IndexMap::new(alloc),
         }
+    }
+
+    /// How many numbers are kept, each once.
+    pub fn len(&self) -> usize
+        ensures len { result ≡ length self.now.entries }
+        ensures distinct { IsDistinct nat_eq (map (λ e. e.0) self.now.entries) }
+    {
+        self.kept.len()
     }
 
     /// What is kept under the number.

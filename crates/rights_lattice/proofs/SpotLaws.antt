@@ -1,5 +1,5 @@
 -- Cells and names by plain tests, and a delta that passes the test of the order.
-use Rattle.std.proofs.Common.{◌≡◌, ℕ, ◌≤◌, Bool, true, false, cond, ◌&&◌, ◌||◌, List, [], ◌∷◌, refl, sym, ap, ◌∙◌, subst, arith, leb-true, eqb-true, eq-eqb}
+use Rattle.std.proofs.Common.{◌≡◌, ℕ, ◌≤◌, Bool, true, false, cond, ◌&&◌, ◌||◌, List, [], ◌∷◌, refl, sym, ap, ◌∙◌, subst, arith, leb-true, le-leb, eqb-true, eq-eqb}
 use Rattle.std.specs.Prelude.{nat_le, ◌==◌}
 use Rattle.std.specs.List.{list_all, list_any}
 use Rattle.std.specs.Ordering.{nat_cmp, eq_by_cmp}
@@ -12,7 +12,10 @@ use Rattle.rights_lattice.specs.Cells.{Key, Cells, Valued, value_at, marks_of, g
 use Rattle.rights_lattice.specs.State.{State, Names, knows, names_in_order, Name, At, AtOrBelow, is_within}
 use Rattle.rights_lattice.specs.declared.cell.Cell.{Cell}
 use Rattle.rights_lattice.specs.declared.cell.Cell.TheVariants.{Gave, Used, Back}
-use Rattle.rights_lattice.proofs.CellLaws.{equal, of_same, is_of-same, greatest-marks_of}
+use Rattle.rights_lattice.specs.JoinLaws.{TestIsTheOrder}
+use Rattle.rights_lattice.proofs.CellLaws.{equal, of_same, is_of-same, value_in-same, greatest-marks_of}
+use Rattle.std.specs.Cmp.{eq_by_cmp_equiv}
+use Rattle.std.proofs.lemmas.Cmp.{nat_list_cmp_total}
 
 both_ways : (a b : Bool) → (a ≡ true → b ≡ true) → (b ≡ true → a ≡ true) → a ≡ b
 both_ways true true f g = refl
@@ -108,3 +111,37 @@ within_at_or_below D X h (Name n) =
 within_at_or_below D X h (At e c) =
     let parts = and_parts (list_all (λ name. knows X.names name) (names_in_order D.names)) (list_all (λ m. nat_le m.value (value_at X.cells m.event m.cell)) (marks_of D.cells)) h in
     omega (arith, greatest_le X.cells (marks_of D.cells) e c parts.1, greatest-marks_of D.cells e c)
+
+-- marks of which each says at most what a state has
+marks_within : (X : Cells) (ms : List Valued) → ((e : List ℕ) (c : Cell) → greatest ms e c ≤ value_at X e c) → list_all (λ m. nat_le m.value (value_at X m.event m.cell)) ms ≡ true
+marks_within X [] h = refl
+marks_within X (m ∷ ms) h =
+    and_from (nat_le m.value (value_at X m.event m.cell)) (list_all (λ m. nat_le m.value (value_at X m.event m.cell)) ms)
+    (le-leb m.value (value_at X m.event m.cell) (omega (arith, h m.event m.cell, value_in-same m m.event m.cell refl refl)))
+    (marks_within X ms (λ e c. omega (arith, h e c)))
+
+names_within : (N : Names) (ns : List (List ℕ)) → ((n : List ℕ) → list_any (eq_by_cmp (slice_cmp nat_cmp) n) ns ≡ true → knows N n ≡ true) → list_all (λ name. knows N name) ns ≡ true
+names_within N [] h = refl
+names_within N (m ∷ ns) h =
+    and_from (knows N m) (list_all (λ name. knows N name) ns)
+    (h m (ap (λ b. b || list_any (eq_by_cmp (slice_cmp nat_cmp) m) ns) ((eq_by_cmp_equiv nat_list_cmp_total).refl m)))
+    (names_within N ns (λ n t. h n (later (eq_by_cmp (slice_cmp nat_cmp) n m) _ t)))
+  where
+    later : (a b : Bool) → b ≡ true → (a || b) ≡ true
+    later true b t = refl
+    later false b t = t
+
+le_one : (a b : Bool) → cond a 1 0 ≤ cond b 1 0 → a ≡ true → b ≡ true
+le_one true true h t = refl
+le_one true false h t = absurd (omega (arith, h))
+le_one false b h t = cc
+
+-- a delta at or below a state passes the test
+pub at_or_below_within : (D X : State) → AtOrBelow D X → is_within D X ≡ true
+at_or_below_within D X h =
+    and_from (list_all (λ name. knows X.names name) (names_in_order D.names)) (list_all (λ m. nat_le m.value (value_at X.cells m.event m.cell)) (marks_of D.cells))
+    (names_within X.names (names_in_order D.names) (λ n t. le_one (knows D.names n) (knows X.names n) (h (Name n)) (finite.contains_key-keys D.names n ∙ t)))
+    (marks_within X.cells (marks_of D.cells) (λ e c. omega (arith, h (At e c), greatest-marks_of D.cells e c)))
+
+pub test_is_the_order : TestIsTheOrder
+test_is_the_order D X = (within_at_or_below D X, at_or_below_within D X)

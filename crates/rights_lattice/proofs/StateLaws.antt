@@ -9,7 +9,7 @@ use Rattle.std.specs.Prelude.{is_some, Option, Some, None}
 use Rattle.std.proofs.lemmas.Cmp.{nat_list_cmp_total}
 use Rattle.std.proofs.lemmas.Map.Lookups.{exact_bytes}
 use Rattle.rights_lattice.specs.State.{State, Names, bottom, join, knows, no_names, with_name, with_names, names_in_order, join_names, Spot, Name, At, at}
-use Rattle.rights_lattice.specs.JoinLaws.{JoinIsUpperBound, JoinIsLeast, JoinIsCommutative, JoinIsAssociative, JoinIsIdempotent, OrderIsAntisymmetric}
+use Rattle.rights_lattice.specs.JoinLaws.{JoinIsGreater, JoinIsUpperBound, JoinIsLeast, JoinIsCommutative, JoinIsAssociative, JoinIsIdempotent, OrderIsAntisymmetric}
 use Rattle.rights_lattice.proofs.CellLaws.{value_at-join, value_at-all_zero, same_cells}
 
 or_comm : (a b : Bool) → (a || b) ≡ (b || a)
@@ -89,6 +89,9 @@ at-join X Y (At e c) = value_at-join X.cells Y.cells e c
 pub at-bottom : (s : Spot) → at bottom s ≡ 0
 at-bottom (Name n) = ap (λ b. cond b 1 0) (knows-no_names n)
 at-bottom (At e c) = value_at-all_zero e c
+
+pub greater : JoinIsGreater
+greater = at-join
 
 pub upper : JoinIsUpperBound
 upper X Y = (λ s. omega (arith, at-join X Y s), λ s. omega (arith, at-join X Y s))

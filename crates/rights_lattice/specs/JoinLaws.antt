@@ -1,6 +1,10 @@
 -- The laws of the join: a semilattice and its least upper bound (RR-7506).
-use Rattle.std.specs.Prelude.{◌≡◌}
-use Rattle.rights_lattice.specs.State.{State, join, AtOrBelow}
+use Rattle.std.specs.Prelude.{◌≡◌, ◌↔◌, max, IsTrue}
+use Rattle.rights_lattice.specs.State.{State, Spot, at, join, AtOrBelow, is_within}
+
+-- the join is the greater number at each spot: of each cell, and a name that either knows
+abbrev pub JoinIsGreater : Type 0
+JoinIsGreater = (X Y : State) (s : Spot) → at (join X Y) s ≡ max (at X s) (at Y s)
 
 -- the join is above both
 abbrev pub JoinIsUpperBound : Type 0
@@ -22,3 +26,7 @@ JoinIsIdempotent = (X : State) → join X X ≡ X
 -- and the order is antisymmetric
 abbrev pub OrderIsAntisymmetric : Type 0
 OrderIsAntisymmetric = (X Y : State) → AtOrBelow X Y → AtOrBelow Y X → X ≡ Y
+
+-- the test of a delta's own marks and names is the order, both ways
+abbrev pub TestIsTheOrder : Type 0
+TestIsTheOrder = (D X : State) → IsTrue (is_within D X) ↔ AtOrBelow D X

@@ -1,8 +1,9 @@
 //! The laws of the join of states (RR-7506), over the definitions alone.
-ghost use Rattle.rights_lattice.specs.JoinLaws.{JoinIsUpperBound, JoinIsLeast, JoinIsCommutative, JoinIsAssociative, JoinIsIdempotent, OrderIsAntisymmetric};
+ghost use Rattle.rights_lattice.specs.JoinLaws.{JoinIsGreater, JoinIsUpperBound, JoinIsLeast, JoinIsCommutative, JoinIsAssociative, JoinIsIdempotent, OrderIsAntisymmetric, TestIsTheOrder};
 
-/// The join is the least upper bound.
+/// The join is the greater of each entry, names included, and the least upper bound.
 pub fn join_is_least_upper_bound()
+    ensures greater { JoinIsGreater }
     ensures upper { JoinIsUpperBound }
     ensures least { JoinIsLeast }
 {}
@@ -13,4 +14,9 @@ pub fn join_is_a_semilattice()
     ensures associative { JoinIsAssociative }
     ensures idempotent { JoinIsIdempotent }
     ensures antisymmetric { OrderIsAntisymmetric }
+{}
+
+/// Whether a delta is at or below a state is told by its own marks and names alone.
+pub fn test_is_the_order()
+    ensures { TestIsTheOrder }
 {}

@@ -1,8 +1,7 @@
 -- What a site's book answers over its keeper, and why it does not. (Our own.)
-use Rattle.std.specs.Prelude.{◌≡◌, ℕ, Bool, true, false, not, ◌&&◌, ◌==◌, nat_lt, List, length, Option, Some, None}
+use Rattle.std.specs.Prelude.{◌≡◌, ℕ, Bool, true, false, not, ◌&&◌, ◌==◌, nat_lt, List, length, take, Option, Some, None}
 use Rattle.local_rights.specs.Rights.{released_in, sold_in, refunded_in}
 use Rattle.book_core.specs.declared.entry.Entry.{Entry}
-use Rattle.book_core.specs.BookView.{BookView}
 use Rattle.book_core.specs.Decision as decided
 use Rattle.book_core.specs.Decision.{Decision, Office, own_left}
 use Rattle.book_core.specs.History.{state_of}
@@ -50,7 +49,7 @@ IsTakeFault closed verdict before after take_fault.Store = (closed ≡ false) ×
 IsTakeFault closed verdict before after fault = (closed ≡ false) × (verdict ≡ exchange.Refuses fault)
 
 -- there is an entry to add, and a stop leaves the list with it at the end or without it
-abbrev pub LeavesEither : List Entry → Option Entry → (List Entry → Type 0) → Type 0
+abbrev pub LeavesEither : List Entry → Option Entry → (Option (List Entry) → Type 0) → Type 0
 LeavesEither list None may_leave = ⊥
 LeavesEither list (Some entry) may_leave = LeavesWithOrWithout list entry may_leave
 
@@ -58,11 +57,10 @@ LeavesEither list (Some entry) may_leave = LeavesWithOrWithout list entry may_le
 abbrev pub is_peer : Office → ℕ → Bool
 is_peer office to = nat_lt to office.sites && not (to == office.me)
 
--- what a look shows of an event
-pub record IsSeen (book : BookView) (asked : List ℕ) (seen : Seen) : Type 0 where
+-- what a look shows of an event, by the first entries of a history
+pub record IsSeenAt (office : Office) (history : List Entry) (asked : List ℕ) (seen : Seen) : Type 0 where
   pub event : seen.event ≡ asked
-  pub left : seen.left ≡ own_left book.office book.history asked
-  pub released : seen.totals.released ≡ released_in (state_of book.history).cells asked
-  pub sold : seen.totals.sold ≡ sold_in (state_of book.history).cells asked
-  pub refunded : seen.totals.refunded ≡ refunded_in (state_of book.history).cells asked
-  pub at : seen.at ≡ length book.history
+  pub left : seen.left ≡ own_left office (take seen.at history) asked
+  pub released : seen.totals.released ≡ released_in (state_of (take seen.at history)).cells asked
+  pub sold : seen.totals.sold ≡ sold_in (state_of (take seen.at history)).cells asked
+  pub refunded : seen.totals.refunded ≡ refunded_in (state_of (take seen.at history)).cells asked

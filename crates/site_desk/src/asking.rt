@@ -2,7 +2,7 @@
 ghost use Rattle.std.specs.Prelude.{◌≡◌, ◌≢◌, false, true, length, IfOk, IfErr, OnOk, OnErr, Err};
 ghost use Rattle.book_core.specs.OwnRow.{HasOwnRights};
 ghost use Rattle.site_exchange.specs.Taking.{HasReply, IsAsked, extended};
-ghost use Rattle.sql_records.specs.Keeping.{Keeps};
+ghost use Rattle.sql_records.specs.Keeping.{Keeps, LeavesOnly};
 ghost use Rattle.sql_records.specs.declared.meta.Meta.{Meta as Numbers};
 ghost use Rattle.site_desk.specs.Answers.{IsAnswer, IsAskFault, LeavesEither};
 ghost use Rattle.site_desk.specs.SiteView.{decision_in, entry_in};
@@ -25,6 +25,7 @@ pub(crate) fn answer<K: Keeper>(
 ) -> Result<Answer, AskFault>
     requires sound { K.failed keeper.old ≡ 0 }
     requires same { K.is_trusted keeper.old → book.old.history ≡ K.kept keeper.old }
+    requires rests { K.is_trusted keeper.old → LeavesOnly book.old.history (K.may_leave keeper.old) }
     requires rights { HasOwnRights book.old }
     ensures office { book.new.office ≡ book.old.office }
     ensures answer { IfOk result (IsAnswer (decision_in book.old number request.now) (length book.old.history)) }
@@ -35,6 +36,7 @@ pub(crate) fn answer<K: Keeper>(
     ensures again { IfOk result (λ a. a.fresh ≡ false → keeper.new ≡ keeper.old) }
     ensures sound { OnOk result (K.failed keeper.new ≡ 0) }
     ensures kept { IfOk result (λ a. a.fresh ≡ true → K.is_trusted keeper.new → Keeps book.new.history (K.kept keeper.new) (K.may_leave keeper.new)) }
+    ensures rests { OnOk result (K.is_trusted keeper.new → LeavesOnly book.new.history (K.may_leave keeper.new)) }
     ensures stopped { result ≡ Err AskFault.Store → K.is_trusted keeper.new → LeavesEither book.old.history (entry_in book.old number request.now) (K.may_leave keeper.new) }
     ensures site { K.is_trusted keeper.new → (meta : Numbers) → K.is_of keeper.old meta → K.is_of keeper.new meta }
     ensures trusted { K.is_trusted keeper.new → K.is_trusted keeper.old }

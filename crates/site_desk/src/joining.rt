@@ -6,7 +6,7 @@ ghost use Rattle.book_core.specs.Joining.{entry_of_join, join_decision};
 ghost use Rattle.book_core.specs.OwnRow.{HasOwnRights, cell_in};
 ghost use Rattle.site_exchange.specs.Exchange.{Joins, verdict_of};
 ghost use Rattle.site_exchange.specs.Taking.{extended};
-ghost use Rattle.sql_records.specs.Keeping.{Keeps};
+ghost use Rattle.sql_records.specs.Keeping.{Keeps, LeavesOnly};
 ghost use Rattle.sql_records.specs.declared.meta.Meta.{Meta as Numbers};
 ghost use Rattle.site_desk.specs.Answers.{IsTaken, IsTakeFault, LeavesEither};
 
@@ -28,6 +28,7 @@ pub(crate) fn join<K: Keeper>(
 ) -> Result<Taken, TakeFault>
     requires sound { K.failed keeper.old ≡ 0 }
     requires same { K.is_trusted keeper.old → book.old.history ≡ K.kept keeper.old }
+    requires rests { K.is_trusted keeper.old → LeavesOnly book.old.history (K.may_leave keeper.old) }
     requires rights { HasOwnRights book.old }
     ensures office { book.new.office ≡ book.old.office }
     ensures taken { IfOk result (IsTaken (verdict_of (join_decision book.old.office book.old.history peer delta)) (Some ack)) }
@@ -35,9 +36,11 @@ pub(crate) fn join<K: Keeper>(
     ensures fault { IfErr result (IsTakeFault false (verdict_of (join_decision book.old.office book.old.history peer delta)) (K.failed keeper.old) (K.failed keeper.new)) }
     ensures unchanged { OnErr result (book.new.history ≡ book.old.history) }
     ensures untouched { IfErr result (λ fault. fault ≢ TakeFault.Store → keeper.new ≡ keeper.old) }
+    ensures again { OnOk result (verdict_of (join_decision book.old.office book.old.history peer delta) ≢ Joins → keeper.new ≡ keeper.old) }
     ensures sound { OnOk result (K.failed keeper.new ≡ 0) }
     ensures same { OnOk result (K.is_trusted keeper.new → book.new.history ≡ K.kept keeper.new) }
     ensures kept { OnOk result (verdict_of (join_decision book.old.office book.old.history peer delta) ≡ Joins → K.is_trusted keeper.new → Keeps book.new.history (K.kept keeper.new) (K.may_leave keeper.new)) }
+    ensures rests { OnOk result (K.is_trusted keeper.new → LeavesOnly book.new.history (K.may_leave keeper.new)) }
     ensures stopped { result ≡ Err TakeFault.Store → K.is_trusted keeper.new → LeavesEither book.old.history (entry_of_join book.old.office book.old.history peer delta) (K.may_leave keeper.new) }
     ensures site { K.is_trusted keeper.new → (meta : Numbers) → K.is_of keeper.old meta → K.is_of keeper.new meta }
     ensures trusted { K.is_trusted keeper.new → K.is_trusted keeper.old }

@@ -8,9 +8,9 @@ ghost use Rattle.book_core.specs.OwnRow.{HasOwnRights, cell_in};
 ghost use Rattle.book_core.specs.Replay.{IsReplayFault};
 ghost use Rattle.site_exchange.specs.Exchange.{Joins, ack_for, entry_of_take, next, zeros};
 ghost use Rattle.site_exchange.specs.Taking.{site_after, with_entry};
-ghost use Rattle.sql_records.specs.Keeping.{Keeps};
+ghost use Rattle.sql_records.specs.Keeping.{Keeps, LeavesOnly};
 ghost use Rattle.sql_records.specs.declared.meta.Meta.{Meta as Numbers};
-ghost use Rattle.site_desk.specs.Answers.{IsAnswer, IsAskFault, IsSeen, IsTakeFault, IsTaken, LeavesEither, is_peer};
+ghost use Rattle.site_desk.specs.Answers.{IsAnswer, IsAskFault, IsSeenAt, IsTakeFault, IsTaken, LeavesEither, is_peer};
 ghost use Rattle.site_desk.specs.SiteView.{decision_in, entry_in, office_of, site_of, verdict_in};
 
 use crate::answer::{Answer, Seen, Taken};
@@ -45,7 +45,7 @@ impl<K: Keeper> Model for SiteBook<K> {
 
     ghost view = { λ s. record { book = s.book; acked = s.exchange; keeper = s.keeper; closed = s.is_closed } };
 
-    ghost invariant = { λ s. IsInStep s.is_closed (K.failed s.keeper) (K.is_trusted s.keeper) (K.kept s.keeper) s.exchange s.book };
+    ghost invariant = { λ s. IsInStep s.is_closed (K.failed s.keeper) (K.is_trusted s.keeper) (K.kept s.keeper) (K.may_leave s.keeper) s.exchange s.book };
 }
 
 impl<K: Keeper> SiteBook<K> {
@@ -70,6 +70,8 @@ impl<K: Keeper> SiteBook<K> {
         ensures has_rights { IfOk result (λ s. HasOwnRights s.book) }
         ensures fault { IfErr result (λ e. (e.0 ≡ keeper) × IsReplayFault (office_of meta) entries.items e.1) }
     {
+        // What the keeper says of a stop.
+        let _none = keeper.failures();
         let Meta { me, sites, limit } = meta;
         match Book::replay(alloc, me, sites, limit, entries) {
             Ok(book) => Ok(SiteBook {
@@ -95,6 +97,7 @@ impl<K: Keeper> SiteBook<K> {
         ensures closed { result ≡ self.now.closed }
         ensures sound { result ≡ false → K.failed self.now.keeper ≡ 0 }
         ensures kept { result ≡ false → K.is_trusted self.now.keeper → self.now.book.history ≡ K.kept self.now.keeper }
+        ensures rests { result ≡ false → K.is_trusted self.now.keeper → LeavesOnly self.now.book.history (K.may_leave self.now.keeper) }
     {
         self.is_closed
     }
@@ -134,6 +137,7 @@ impl<K: Keeper> SiteBook<K> {
         ensures kept { IfOk result (λ a. a.fresh ≡ true → K.is_trusted self.new.keeper → Keeps self.new.book.history (K.kept self.new.keeper) (K.may_leave self.new.keeper)) }
         ensures stopped { result ≡ Err AskFault.Store → K.is_trusted self.new.keeper → LeavesEither self.old.book.history (entry_in self.old.book number request.now) (K.may_leave self.new.keeper) }
         ensures in_step { self.new.closed ≡ false → K.is_trusted self.new.keeper → self.new.book.history ≡ K.kept self.new.keeper }
+        ensures rests { self.new.closed ≡ false → K.is_trusted self.new.keeper → LeavesOnly self.new.book.history (K.may_leave self.new.keeper) }
         ensures site { K.is_trusted self.new.keeper → (meta : Numbers) → K.is_of self.old.keeper meta → K.is_of self.new.keeper meta }
         ensures trusted { K.is_trusted self.new.keeper → K.is_trusted self.old.keeper }
 
@@ -164,9 +168,11 @@ impl<K: Keeper> SiteBook<K> {
         ensures closes { (self.new.closed ≡ true) ↔ ((self.old.closed ≡ true) ⊎ (result ≡ Err TakeFault.Store)) }
 
         // What the keeper holds, and what a stop may leave of it.
+        ensures again { OnOk result (verdict_in self.old.book message ≢ Joins → self.new.keeper ≡ self.old.keeper) }
         ensures kept { OnOk result (verdict_in self.old.book message ≡ Joins → K.is_trusted self.new.keeper → Keeps self.new.book.history (K.kept self.new.keeper) (K.may_leave self.new.keeper)) }
         ensures stopped { result ≡ Err TakeFault.Store → K.is_trusted self.new.keeper → LeavesEither self.old.book.history (entry_of_take self.old.book.office self.old.book.history message) (K.may_leave self.new.keeper) }
         ensures in_step { self.new.closed ≡ false → K.is_trusted self.new.keeper → self.new.book.history ≡ K.kept self.new.keeper }
+        ensures rests { self.new.closed ≡ false → K.is_trusted self.new.keeper → LeavesOnly self.new.book.history (K.may_leave self.new.keeper) }
         ensures site { K.is_trusted self.new.keeper → (meta : Numbers) → K.is_of self.old.keeper meta → K.is_of self.new.keeper meta }
         ensures trusted { K.is_trusted self.new.keeper → K.is_trusted self.old.keeper }
 
@@ -226,7 +232,8 @@ impl<K: Keeper> SiteBook<K> {
 
     /// What the history shows of an event that it knows.
     pub fn look(&self, event: Event) -> Result<Seen, LookFault>
-        ensures seen { IfOk result (IsSeen self.now.book event) }
+        ensures seen { IfOk result (IsSeenAt self.now.book.office self.now.book.history event) }
+        ensures at { IfOk result (λ seen. seen.at ≡ length self.now.book.history) }
         ensures closed { (result ≡ Err LookFault.Closed) ↔ (self.now.closed ≡ true) }
         ensures unknown { (result ≡ Err LookFault.Unknown) ↔ ((self.now.closed ≡ false) × (knows (state_of self.now.book.history).names event ≡ false)) }
     {

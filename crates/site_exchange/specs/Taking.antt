@@ -1,11 +1,11 @@
--- A site after it was asked, or took a message. (Our own.)
-use Rattle.std.specs.Prelude.{◌≡◌, max, List, [], ◌∷◌, ◌++◌, set, get_or, Option, Some, None}
+-- A site after it was asked, took a message, or started anew. (Our own.)
+use Rattle.std.specs.Prelude.{◌≡◌, max, Bool, if◌then◌else◌, List, [], ◌∷◌, ◌++◌, set, get_or, Option, Some, None}
 use Rattle.request_ledger.specs.declared.reply.Reply.{Reply}
 use Rattle.book_core.specs.declared.entry.Entry.{Entry}
 use Rattle.book_core.specs.declared.entry.Entry.TheVariants.{Asked, Joined}
 use Rattle.site_exchange.specs.declared.message.Message.{Message}
 use Rattle.site_exchange.specs.declared.message.Message.TheVariants.{Delta, Ack}
-use Rattle.site_exchange.specs.Exchange.{Site, Verdict, Joins, NothingNew, Acks, Refuses}
+use Rattle.site_exchange.specs.Exchange.{Site, zeros, Verdict, Joins, NothingNew, Acks, Refuses, ack_for}
 
 -- a history with this entry, if any, at its end
 abbrev pub extended : Option Entry → List Entry → List Entry
@@ -14,8 +14,7 @@ extended (Some entry) h = h ++ entry ∷ []
 
 -- a site with this entry, if any, at the end of its history
 abbrev pub with_entry : Option Entry → Site → Site
-with_entry None site = site
-with_entry (Some entry) site = record { history = site.history ++ entry ∷ []; acked = site.acked }
+with_entry entry site = record { history = extended entry site.history; acked = site.acked }
 
 -- the site with this acknowledgement taken
 abbrev pub with_ack : Message → Site → Site
@@ -29,6 +28,21 @@ site_after Joins (Ack by to upto) site = site
 site_after NothingNew message site = site
 site_after Acks message site = with_ack message site
 site_after (Refuses fault) message site = site
+
+-- what a site gives back for a message
+abbrev pub given_back : Verdict → Message → Option Message
+given_back Joins message = ack_for message
+given_back NothingNew message = ack_for message
+given_back Acks message = None
+given_back (Refuses fault) message = None
+
+-- the site started anew from its history: nothing counts as acknowledged
+abbrev pub restarted : Site → Site
+restarted site = record { history = site.history; acked = zeros }
+
+-- the site stopped in the midst of an input and started anew, with the entry that the input adds where it was stored
+abbrev pub stopped_with : Option Entry → Bool → Site → Site
+stopped_with entry stored site = restarted (if stored then with_entry entry site else site)
 
 -- the entry is of a request
 abbrev pub IsAsked : Entry → Type 0

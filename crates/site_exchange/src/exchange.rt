@@ -67,6 +67,7 @@ impl Exchange {
         if from == len {
             return Ok(None);
         }
+        // Bounds the length, which the prover wants to see here.
         let _limit = book.limit().entries();
         let Some(upto) = Upto::of(len as u64) else {
             unreachable!()

@@ -39,10 +39,13 @@ pub enum CheckFault {
 /// Why a message is not taken. A refused message changes nothing.
 #[derive(Clone, Copy, PartialEq, Eq, Debug, Error)]
 pub enum TakeFault {
+    /// It is to another site, or from this one.
     #[error("the message is to another site, or from this one")]
     NotForMe,
+    /// It is from no site of the book, or its delta names a site that is not one.
     #[error("the message is from no site of the book")]
     UnknownSite,
+    /// It acknowledges more than the `len` entries that there are.
     #[error("the message acknowledges more than the {len} entries that there are")]
     StrayAck { len: usize },
     /// This mark is of the site's own row and above its own value.
@@ -51,6 +54,7 @@ pub enum TakeFault {
     /// The history is as long as it may become.
     #[error("the history is full")]
     Full,
+    /// A growth was refused.
     #[error("out of memory")]
     Memory,
     /// The book takes nothing more until it is started again from its records.

@@ -1,5 +1,5 @@
 -- What one INSERT makes of the history, and what a stop may leave.
-use Rattle.std.proofs.Common.{◌≡◌, ◌⊎◌, inl, inr, ℕ, ◌+◌, pos, List, [], ◌∷◌, ◌++◌, map, length, None, Option, Ok, Err, Result, IsTrue, OnOk, refl, sym, ap, subst, subst₂, ◌∙◌, arith, append-nil}
+use Rattle.std.proofs.Common.{◌≡◌, ◌⊎◌, inl, inr, ℕ, ◌+◌, pos, List, [], ◌∷◌, ◌++◌, map, length, None, Some, Option, Ok, Err, Result, IsTrue, OnOk, refl, sym, ap, subst, subst₂, ◌∙◌, arith, append-nil}
 use Rattle.std.specs.List.{filter_map}
 use Rattle.std.proofs.lemmas.List.{length-append}
 use Rattle.sqlite.specs.declared.types.Value.TheVariants.{Null, Int}
@@ -11,7 +11,7 @@ use Rattle.sqlite.specs.Command.{Command}
 use Rattle.sqlite.specs.Command.TheVariants.{Commit, Release}
 use Rattle.sqlite.specs.Tree.{Trees}
 use Rattle.sqlite.specs.Does.{Tally, Does}
-use Rattle.sqlite.specs.Effect.{Database}
+use Rattle.sqlite.specs.Effect.{Database, IsDatabase}
 use Rattle.sqlite.specs.declared.run.Mode.{Mode}
 use Rattle.sqlite.specs.declared.error.Error.{Error}
 use Rattle.sqlite.specs.Listing.{understood}
@@ -24,12 +24,14 @@ use Rattle.request_ledger.specs.declared.reply.Reply.TheVariants.{Done, Known, U
 use Rattle.book_core.specs.declared.entry.Entry.{Entry}
 use Rattle.book_core.specs.declared.entry.Entry.TheVariants.{Asked, Joined}
 use Rattle.sql_records.specs.declared.meta.Meta.{Meta}
-use Rattle.sql_records.specs.Layout.{our_schema, HasMeta, meta_shown}
+use Rattle.sql_records.specs.Texts.{insert_text}
+use Rattle.sql_records.specs.Layout.{IsOurs, ours_and, HasMeta, meta_shown}
 use Rattle.sql_records.specs.Rows.{event_column, amount_column, target_column, rest_column, columns_of, stored, shown, IsStorable, entry_of, in_order, AreWhole}
-use Rattle.sql_records.specs.Held.{IsAtRest, LeavesWithOrWithout, LeavesMeta, LeavesNumbers, history_in, rows_in}
+use Rattle.sql_records.specs.Held.{IsAtRest, IsSiteIn, MayLeaveIn, LeavesSite, history_in, opened_in, rows_in}
+use Rattle.sql_records.specs.Keeping.{LeavesWithOrWithout}
 use Rattle.sql_records.proofs.EntryBack.{entry_back}
-use Rattle.sql_records.proofs.RowLemmas.{put_next, whole_next, entries_next}
-use Rattle.sql_records.proofs.InsertLemmas.{insert_text, insert_command, insert_is, insert_plain, cast_int, cast_null, Inserted, inserts}
+use Rattle.sql_records.proofs.RowLemmas.{put_next, whole_next, entries_next, read_from}
+use Rattle.sql_records.proofs.InsertLemmas.{insert_command, insert_is, insert_plain, cast_int, cast_null, Inserted, inserts}
 
 -- what a statement with no RETURNING commits
 pub commits_as : (sql : List ℕ) (params : Row) (s : State) (schema : Schema) → s.now.schema ≡ schema → (command : Command) → command_of (understood schema sql) ≡ command → IsPlain (understood schema sql)
@@ -74,9 +76,9 @@ rest_fits Refunded = cast_null
 rest_fits ToSelf = cast_null
 rest_fits NoSite = cast_null
 
-inserts_entry : (place : ℕ) (entry : Entry) (limit : Option ℕ) (mode : Mode) (schema : Schema) (old : Trees) (after : Database) (text : List ℕ) (tally : Tally) → schema ≡ our_schema
+inserts_entry : (place : ℕ) (entry : Entry) (limit : Option ℕ) (mode : Mode) (schema : Schema) (old : Trees) (after : Database) (text : List ℕ) (tally : Tally) (ours : IsOurs schema)
     → Does limit mode (columns_of place entry) (record { schema = schema; trees = old }) text None insert_command (Ok (tally, after))
-    → Inserted (stored (columns_of place entry)) (record { schema = schema; trees = old }) after
+    → Inserted (stored (columns_of place entry)) (ours_and ours.tables ours.indexes ours.views) (record { schema = schema; trees = old }) after
 inserts_entry place (Asked number request reply delta) limit mode schema old after text tally has h =
     inserts place Null (Int (pos number)) _ (event_column request) (amount_column request) (target_column request) _ (rest_column reply) _ cast_null (cast_int number) (amount_fits request) (target_fits request) (rest_fits reply)
     refl (event_fits request) refl refl limit mode schema old after text tally has h
@@ -93,13 +95,13 @@ shown_stored place (Joined peer delta) = refl
 
 -- the database after it has the entry at the end of its history
 record Appended (place : ℕ) (entry : Entry) (old : Trees) (after : Database) : Type 0 where
-  schema : after.schema ≡ our_schema
+  schema : IsOurs after.schema
   whole : AreWhole 0 (rows_in after.trees)
   counted : length (rows_in after.trees) ≡ place + 1
   history : history_in after.trees ≡ history_in old ++ entry ∷ []
   meta : after.trees 0 ≡ old 0
 
-appends : (place : ℕ) (entry : Entry) (limit : Option ℕ) (mode : Mode) (schema : Schema) (old : Trees) (after : Database) (text : List ℕ) (tally : Tally) → schema ≡ our_schema → IsStorable entry
+appends : (place : ℕ) (entry : Entry) (limit : Option ℕ) (mode : Mode) (schema : Schema) (old : Trees) (after : Database) (text : List ℕ) (tally : Tally) → IsOurs schema → IsStorable entry
     → AreWhole 0 (rows_in old) → length (rows_in old) ≡ place → Does limit mode (columns_of place entry) (record { schema = schema; trees = old }) text None insert_command (Ok (tally, after)) → Appended place entry old after
 appends place entry limit mode schema old after text tally has fits whole count h =
     let it = inserts_entry place entry limit mode schema old after text tally has h in
@@ -108,7 +110,7 @@ appends place entry limit mode schema old after text tally has fits whole count 
     let reads = ap entry_of (shown_stored place entry) ∙ entry_back place entry fits in
     let rows : rows_in after.trees ≡ rows_in old ++ shown new ∷ [] = ap (λ t. in_order (map shown t)) it.rows ∙ put_next new (old 1) place whole count is in
     record {
-      schema = it.schema;
+      schema = record { tables = has.tables; indexes = has.indexes; views = has.views; is = it.same; bare = has.bare };
       whole = rw rows (whole_next (rows_in old) (shown new) entry 0 place whole (omega arith) is reads);
       counted = ap length rows ∙ simp length-append (omega arith);
       history = ap (filter_map entry_of) rows ∙ entries_next (rows_in old) (shown new) entry reads;
@@ -118,13 +120,18 @@ appends place entry limit mode schema old after text tally has fits whole count 
 module _ (place : ℕ) (entry : Entry) (fits : IsStorable entry) (old new : State) (rest : IsAtRest old place) where
   insert_ok : (count : ℕ) → Executes insert_text (columns_of place entry) old new (Ok count) → IsAtRest new (place + 1) × (history_in new.now.trees ≡ history_in old.now.trees ++ entry ∷ []) × (new.now.trees 0 ≡ old.now.trees 0)
   insert_ok count h =
-      let w = runs_as insert_text (columns_of place entry) old new our_schema rest.schema insert_command insert_is insert_plain count h in
-      let it = appends place entry old.step_limit (mode_of old) old.now.schema old.now.trees new.now (statement_of insert_text (understood our_schema insert_text)) w.tally rest.schema fits rest.whole rest.counted w.changed in (
+      let ours = rest.schema in
+      let all = ours_and ours.tables ours.indexes ours.views in
+      let command = insert_is ours.tables ours.indexes ours.views in
+      let plain = insert_plain ours.tables ours.indexes ours.views in
+      let w = runs_as insert_text (columns_of place entry) old new all ours.is insert_command command plain count h in
+      let it = appends place entry old.step_limit (mode_of old) old.now.schema old.now.trees new.now (statement_of insert_text (understood all insert_text)) w.tally ours fits rest.whole rest.counted w.changed in (
         record {
           is_open = w.shown.is_open;
           autocommit = w.shown.mode ∙ rest.autocommit;
           settled = rw rest.autocommit at w.shown.committed_is;
           schema = it.schema;
+          sound = w.sound;
           whole = it.whole;
           counted = it.counted;
         },
@@ -136,12 +143,28 @@ module _ (place : ℕ) (entry : Entry) (fits : IsStorable entry) (old new : Stat
   never_ends (inl is) = cc
   never_ends (inr release) = let is = release.2 in cc
 
-  commit_adds : (db : Trees) → CommitsBy insert_text (columns_of place entry) old db → (history_in db ≡ history_in old.now.trees ++ entry ∷ []) × (db 0 ≡ old.now.trees 0)
-  commit_adds db h = elim (commits_as insert_text (columns_of place entry) old our_schema rest.schema insert_command insert_is insert_plain db h) [
-    | inl ends ↦ absurd (never_ends ends.0)
-    | inr writes ↦ (let it = appends place entry old.step_limit (mode_of old) old.now.schema old.now.trees writes.2 (statement_of insert_text (understood our_schema insert_text)) writes.1 rest.schema fits rest.whole rest.counted writes.3 in
-        (ap history_in writes.5 ∙ it.history, ap (λ (t : Trees). t 0) writes.5 ∙ it.meta))
-  ]
+  -- what the INSERT commits
+  record Committed (db : Trees) : Type 0 where
+    after : Database
+    trees : db ≡ after.trees
+    adds : Appended place entry old.now.trees after
+    sound : IsDatabase after
+
+  commit_adds : (db : Trees) → CommitsBy insert_text (columns_of place entry) old db → Committed db
+  commit_adds db h =
+      let ours = rest.schema in
+      let all = ours_and ours.tables ours.indexes ours.views in
+      let command = insert_is ours.tables ours.indexes ours.views in
+      let plain = insert_plain ours.tables ours.indexes ours.views in
+      elim (commits_as insert_text (columns_of place entry) old all ours.is insert_command command plain db h) [
+        | inl ends ↦ absurd (never_ends ends.0)
+        | inr writes ↦ record {
+          after = writes.2;
+          trees = writes.5;
+          adds = appends place entry old.step_limit (mode_of old) old.now.schema old.now.trees writes.2 (statement_of insert_text (understood all insert_text)) writes.1 ours fits rest.whole rest.counted writes.3;
+          sound = writes.4;
+        }
+      ]
 
 module _ (place : ℕ) (entry : Entry) (fits : IsStorable entry) (row : Row) (is : row ≡ columns_of place entry) (old new : State) (rest : HasCleanDisk old → IsAtRest old place) (Commits : Trees → Type 0)
     (survives : Survives old new Commits) (commits : (db : Trees) → Commits db → CommitsBy insert_text row old db) where
@@ -157,30 +180,33 @@ module _ (place : ℕ) (entry : Entry) (fits : IsStorable entry) (row : Row) (is
   insert_adds (Err e) runs clean = tt
 
   -- `only` is the law of the store: while it is open, a crash leaves the last commit
-  pub insert_leaves : ((db : Trees) → IsTrue old.is_open → old.may_leave db → db ≡ old.committed.trees) → HasCleanDisk new → LeavesWithOrWithout new (history_in old.now.trees) entry
-  insert_leaves only clean db left =
-      let at_rest = rest (was_clean clean) in
-      elim (survives.crash clean db left) [
-        | inl before ↦ inl (ap history_in (only db at_rest.is_open before) ∙ ap (λ (d : Database). history_in d.trees) at_rest.settled)
-        | inr commit ↦ inr (commit_adds place entry fits old new at_rest db (subst (λ p. CommitsBy insert_text p old db) is (commits db commit))).0
-      ]
+  module _ (only : (db : Trees) → IsTrue old.is_open → old.may_leave db → db ≡ old.committed.trees) where
+    pub insert_leaves : HasCleanDisk new → LeavesWithOrWithout (history_in old.now.trees) entry (MayLeaveIn new)
+    insert_leaves clean list left =
+        let at_rest = rest (was_clean clean) in
+        let db = left.0 in
+        elim (survives.crash clean db left.1) [
+          | inl before ↦ (
+              let same = only db at_rest.is_open before ∙ ap (λ (d : Database). d.trees) at_rest.settled in
+              inl (left.2 ∙ ap opened_in same ∙ read_from 0 (rows_in old.now.trees) at_rest.whole))
+          | inr commit ↦ (
+              let it = commit_adds place entry fits old new at_rest db (subst (λ p. CommitsBy insert_text p old db) is (commits db commit)) in
+              inr (left.2 ∙ ap opened_in it.trees ∙ read_from 0 (rows_in it.after.trees) it.adds.whole ∙ ap Some it.adds.history))
+        ]
+
+    -- `stays` is the other law: the last commit is one that a crash may leave
+    pub insert_site : (IsTrue old.is_open → old.may_leave old.committed.trees) → HasCleanDisk new → (meta : Meta) → LeavesSite old meta → LeavesSite new meta
+    insert_site stays clean meta had db left =
+        let at_rest = rest (was_clean clean) in
+        elim (survives.crash clean db left) [
+          | inl before ↦ had db before
+          | inr commit ↦ (
+              let it = commit_adds place entry fits old new at_rest db (subst (λ p. CommitsBy insert_text p old db) is (commits db commit)) in
+              let were = had old.committed.trees (stays at_rest.is_open) in
+              let now : HasMeta meta old.now.trees = subst (λ (d : Database). HasMeta meta d.trees) at_rest.settled were.numbers in
+              subst (IsSiteIn meta) (sym it.trees) (record { schema = it.after.schema; ours = it.adds.schema; sound = it.sound; numbers = ap (map meta_shown) it.adds.meta ∙ now; within = were.within }))
+        ]
 
   pub insert_meta : (r : Result ℕ Error) → (HasCleanDisk new → Executes insert_text row old new r) → HasCleanDisk new → OnOk r (new.now.trees 0 ≡ old.now.trees 0)
   insert_meta (Ok count) runs clean = (insert_ok place entry fits old new (rest (was_clean clean)) count (subst (λ p. Executes insert_text p old new (Ok count)) is (runs clean))).2
   insert_meta (Err e) runs clean = tt
-
-  pub insert_leaves_meta : ((db : Trees) → IsTrue old.is_open → old.may_leave db → db ≡ old.committed.trees) → HasCleanDisk new → LeavesMeta new (old.now.trees 0)
-  insert_leaves_meta only clean db left =
-      let at_rest = rest (was_clean clean) in
-      elim (survives.crash clean db left) [
-        | inl before ↦ ap (λ (t : Trees). t 0) (only db at_rest.is_open before) ∙ ap (λ (d : Database). d.trees 0) at_rest.settled
-        | inr commit ↦ (commit_adds place entry fits old new at_rest db (subst (λ p. CommitsBy insert_text p old db) is (commits db commit))).1
-      ]
-
-  -- `stays` is the other law: the last commit is one that a crash may leave
-  pub insert_site : ((db : Trees) → IsTrue old.is_open → old.may_leave db → db ≡ old.committed.trees) → (IsTrue old.is_open → old.may_leave old.committed.trees) → HasCleanDisk new
-      → (meta : Meta) → LeavesNumbers old meta → LeavesNumbers new meta
-  insert_site only stays clean meta had db left =
-      let at_rest = rest (was_clean clean) in
-      let now : HasMeta meta old.now.trees = subst (λ (d : Database). HasMeta meta d.trees) at_rest.settled (had old.committed.trees (stays at_rest.is_open)) in
-      ap (map meta_shown) (insert_leaves_meta only clean db left) ∙ now

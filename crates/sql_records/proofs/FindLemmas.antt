@@ -1,5 +1,5 @@
 -- What the queries for one number and for one event show.
-use Rattle.std.proofs.Common.{◌≡◌, ℕ, ◌+◌, ◌<◌, pos, negsuc, Bool, true, false, cond, ◌&&◌, None, refl, ap, subst, ◌∙◌, arith, List, [], ◌∷◌, ◌++◌, map, filter, flat_map, codes, IsPermutation, IsSorted, Ordering, Less}
+use Rattle.std.proofs.Common.{◌≡◌, inl, inr, ℕ, ◌+◌, ◌<◌, pos, negsuc, Bool, true, false, cond, ◌&&◌, None, refl, ap, subst, ◌∙◌, arith, List, [], ◌∷◌, ◌++◌, map, filter, flat_map, codes, IsPermutation, IsSorted, Ordering, Less}
 use Rattle.std.specs.Cmp.{IsTotalOrder}
 use Rattle.std.specs.List.{AllByRecursion}
 use Rattle.std.proofs.lemmas.Cmp.{on_total}
@@ -19,21 +19,21 @@ use Rattle.sqlite_sql.specs.declared.ops.BinaryOp.TheVariants.{Compare}
 use Rattle.sqlite_sql.specs.declared.ops.CompareOp.TheVariants.{Eq}
 use Rattle.sqlite_tied.specs.Compute.{everything}
 use Rattle.sqlite.specs.Tree.{Trees}
-use Rattle.sqlite.specs.State.{State, HasCleanDisk, Survives, CommitsShowing, Shown, IsUnchanged}
+use Rattle.sqlite.specs.State.{State, HasCleanDisk, Survives, CommitsShowing, Shown, FailsToQuery, IsUnchanged}
 use Rattle.sqlite.specs.Order.{Row, column, value_cmp}
 use Rattle.sqlite.specs.declared.types.Value.TheVariants.{Null, Int, Text as Words}
-use Rattle.sql_records.specs.Layout.{our_schema}
+use Rattle.sqlite.specs.Table.{Table}
+use Rattle.sqlite_schema.specs.declared.schema.Index.{Index}
+use Rattle.sqlite_schema.specs.declared.schema.View.{View}
+use Rattle.sql_records.specs.Texts.{find_text, list_text}
+use Rattle.sql_records.specs.Layout.{IsOurs, ours_and}
 use Rattle.sql_records.specs.Rows.{by_place, in_order, shown, AreWhole}
 use Rattle.sql_records.specs.Held.{LeavesNoMore, rows_in}
 use Rattle.sql_records.specs.Lookups.{found_columns, has_number, listed_columns, has_event}
+use Rattle.sqlite.specs.declared.error.Error.{Error}
+use Rattle.sql_records.proofs.FaultLemmas.{Caused, IsRun, never_folded, query_cause}
 use Rattle.sql_records.proofs.RowLemmas.{lower_id, by_place_total}
 use Rattle.sql_records.proofs.QueryLemmas.{unchanged_as, leaves_as, then_equal}
-
-abbrev pub find_text : List ℕ
-find_text = codes "SELECT pos, reply, rest FROM entries WHERE number = ?1 ORDER BY pos"
-
-abbrev pub list_text : List ℕ
-list_text = codes "SELECT pos, number, verb, event, amount, target, reply, rest FROM entries WHERE event = ?1 ORDER BY pos"
 
 abbrev keyed : (Row → Row) → Row → Output
 keyed show r = (column r 0 ∷ [], show r)
@@ -79,13 +79,13 @@ find_query = record {
   offset = lit (Int (pos 0));
 }
 
-find_is : (command_of (understood our_schema find_text) ≡ Select (record { lets = []; body = find_query }) (codes "pos" ∷ codes "reply" ∷ codes "rest" ∷ [])) × (reads_listing our_schema find_text ≡ false)
+find_is : (more : List Table) (indexes : List Index) (views : List View) → (command_of (understood (ours_and more indexes views) find_text) ≡ Select (record { lets = []; body = find_query }) (codes "pos" ∷ codes "reply" ∷ codes "rest" ∷ [])) × (reads_listing (ours_and more indexes views) find_text ≡ false)
 unfolding understood everything
-find_is = (refl, refl)
+find_is more indexes views = (refl, refl)
 
-find_plain : IsPlain (understood our_schema find_text)
+find_plain : (more : List Table) (indexes : List Index) (views : List View) → IsPlain (understood (ours_and more indexes views) find_text)
 unfolding understood everything
-find_plain = (refl, refl)
+find_plain more indexes views = (refl, refl)
 
 abbrev number_params : ℕ → Row
 number_params n = Int (pos n) ∷ []
@@ -110,15 +110,15 @@ find_answers db n rows whole a =
     let is = in_places (output_cmp find_query) find_total found_columns (λ x y. then_equal (value_cmp (column x 0) (column y 0))) (has_number n) table a.ordered whole same a.sorted in
     a.shown ∙ ap (map (λ (o : Output). o.1)) is ∙ shown_keyed found_columns (filter (has_number n) (in_order table))
 
-pub find_shows : (old new : State) (n : ℕ) (rows : List Row) → old.now.schema ≡ our_schema → AreWhole 0 (rows_in old.now.trees) → Shown find_text (number_params n) old new rows → rows ≡ map found_columns (filter (has_number n) (rows_in old.now.trees))
+pub find_shows : (old new : State) (n : ℕ) (rows : List Row) → IsOurs old.now.schema → AreWhole 0 (rows_in old.now.trees) → Shown find_text (number_params n) old new rows → rows ≡ map found_columns (filter (has_number n) (rows_in old.now.trees))
 find_shows old new n rows has whole h =
-    find_answers old.now.trees n rows whole ((reads_as find_text (number_params n) old new our_schema has _ find_is.0 find_plain find_is.1 rows h).answer Null)
+    find_answers old.now.trees n rows whole ((reads_as find_text (number_params n) old new (ours_and has.tables has.indexes has.views) has.is _ (find_is has.tables has.indexes has.views).0 (find_plain has.tables has.indexes has.views) (find_is has.tables has.indexes has.views).1 rows h).answer Null)
 
-pub find_same : (old new : State) (n : ℕ) (rows : List Row) → old.now.schema ≡ our_schema → Shown find_text (number_params n) old new rows → IsUnchanged old new
-find_same old new n rows has h = unchanged_as find_text (number_params n) old new our_schema has find_plain rows h
+pub find_same : (old new : State) (n : ℕ) (rows : List Row) → IsOurs old.now.schema → Shown find_text (number_params n) old new rows → IsUnchanged old new
+find_same old new n rows has h = unchanged_as find_text (number_params n) old new (ours_and has.tables has.indexes has.views) has.is (find_plain has.tables has.indexes has.views) rows h
 
-pub find_left : (old new : State) (params : Row) → old.now.schema ≡ our_schema → Survives old new (CommitsShowing find_text params old) → HasCleanDisk new → LeavesNoMore old new
-find_left old new params has survives clean = leaves_as find_text params old new our_schema has find_plain survives clean
+pub find_left : (old new : State) (params : Row) → IsOurs old.now.schema → Survives old new (CommitsShowing find_text params old) → HasCleanDisk new → LeavesNoMore old new
+find_left old new params has survives clean = leaves_as find_text params old new (ours_and has.tables has.indexes has.views) has.is (find_plain has.tables has.indexes has.views) survives clean
 
 -- ---- the query for an event
 
@@ -138,13 +138,13 @@ list_query = record {
 abbrev list_names : List (List ℕ)
 list_names = codes "pos" ∷ codes "number" ∷ codes "verb" ∷ codes "event" ∷ codes "amount" ∷ codes "target" ∷ codes "reply" ∷ codes "rest" ∷ []
 
-list_is : (command_of (understood our_schema list_text) ≡ Select (record { lets = []; body = list_query }) list_names) × (reads_listing our_schema list_text ≡ false)
+list_is : (more : List Table) (indexes : List Index) (views : List View) → (command_of (understood (ours_and more indexes views) list_text) ≡ Select (record { lets = []; body = list_query }) list_names) × (reads_listing (ours_and more indexes views) list_text ≡ false)
 unfolding understood everything
-list_is = (refl, refl)
+list_is more indexes views = (refl, refl)
 
-list_plain : IsPlain (understood our_schema list_text)
+list_plain : (more : List Table) (indexes : List Index) (views : List View) → IsPlain (understood (ours_and more indexes views) list_text)
 unfolding understood everything
-list_plain = (refl, refl)
+list_plain more indexes views = (refl, refl)
 
 abbrev event_params : List ℕ → Row
 event_params name = Words name ∷ []
@@ -169,12 +169,26 @@ list_answers db name rows whole a =
     let is = in_places (output_cmp list_query) list_total listed_columns (λ x y. then_equal (value_cmp (column x 0) (column y 0))) (has_event name) table a.ordered whole same a.sorted in
     a.shown ∙ ap (map (λ (o : Output). o.1)) is ∙ shown_keyed listed_columns (filter (has_event name) (in_order table))
 
-pub list_shows : (old new : State) (name : List ℕ) (rows : List Row) → old.now.schema ≡ our_schema → AreWhole 0 (rows_in old.now.trees) → Shown list_text (event_params name) old new rows → rows ≡ map listed_columns (filter (has_event name) (rows_in old.now.trees))
+pub list_shows : (old new : State) (name : List ℕ) (rows : List Row) → IsOurs old.now.schema → AreWhole 0 (rows_in old.now.trees) → Shown list_text (event_params name) old new rows → rows ≡ map listed_columns (filter (has_event name) (rows_in old.now.trees))
 list_shows old new name rows has whole h =
-    list_answers old.now.trees name rows whole ((reads_as list_text (event_params name) old new our_schema has _ list_is.0 list_plain list_is.1 rows h).answer Null)
+    list_answers old.now.trees name rows whole ((reads_as list_text (event_params name) old new (ours_and has.tables has.indexes has.views) has.is _ (list_is has.tables has.indexes has.views).0 (list_plain has.tables has.indexes has.views) (list_is has.tables has.indexes has.views).1 rows h).answer Null)
 
-pub list_same : (old new : State) (name : List ℕ) (rows : List Row) → old.now.schema ≡ our_schema → Shown list_text (event_params name) old new rows → IsUnchanged old new
-list_same old new name rows has h = unchanged_as list_text (event_params name) old new our_schema has list_plain rows h
+pub list_same : (old new : State) (name : List ℕ) (rows : List Row) → IsOurs old.now.schema → Shown list_text (event_params name) old new rows → IsUnchanged old new
+list_same old new name rows has h = unchanged_as list_text (event_params name) old new (ours_and has.tables has.indexes has.views) has.is (list_plain has.tables has.indexes has.views) rows h
 
-pub list_left : (old new : State) (params : Row) → old.now.schema ≡ our_schema → Survives old new (CommitsShowing list_text params old) → HasCleanDisk new → LeavesNoMore old new
-list_left old new params has survives clean = leaves_as list_text params old new our_schema has list_plain survives clean
+pub list_left : (old new : State) (params : Row) → IsOurs old.now.schema → Survives old new (CommitsShowing list_text params old) → HasCleanDisk new → LeavesNoMore old new
+list_left old new params has survives clean = leaves_as list_text params old new (ours_and has.tables has.indexes has.views) has.is (list_plain has.tables has.indexes has.views) survives clean
+
+find_runs : (more : List Table) (indexes : List Index) (views : List View) (n : ℕ) → IsRun (ours_and more indexes views) find_text (number_params n)
+unfolding understood everything
+find_runs more indexes views n = record { program = record { lets = []; body = find_query }; names = codes "pos" ∷ codes "reply" ∷ codes "rest" ∷ []; is = refl; plain = (refl, refl); whole = refl; given = refl; unlisted = refl; typed = refl; small = λ db over. elim over [ inl grouped ↦ grouped | inr folded ↦ never_folded (db 1) folded ] }
+
+pub find_fails : (old new : State) (n : ℕ) (e : Error) → IsOurs old.now.schema → FailsToQuery find_text (number_params n) old new e → Caused old new e
+find_fails old new n e ours h = query_cause find_text (number_params n) old new (ours_and ours.tables ours.indexes ours.views) ours.is (find_runs ours.tables ours.indexes ours.views n) e h
+
+list_runs : (more : List Table) (indexes : List Index) (views : List View) (name : List ℕ) → IsRun (ours_and more indexes views) list_text (event_params name)
+unfolding understood everything
+list_runs more indexes views name = record { program = record { lets = []; body = list_query }; names = list_names; is = refl; plain = (refl, refl); whole = refl; given = refl; unlisted = refl; typed = refl; small = λ db over. elim over [ inl grouped ↦ grouped | inr folded ↦ never_folded (db 1) folded ] }
+
+pub list_fails : (old new : State) (name : List ℕ) (e : Error) → IsOurs old.now.schema → FailsToQuery list_text (event_params name) old new e → Caused old new e
+list_fails old new name e ours h = query_cause list_text (event_params name) old new (ours_and ours.tables ours.indexes ours.views) ours.is (list_runs ours.tables ours.indexes ours.views name) e h

@@ -16,7 +16,7 @@ use Rattle.sqlite.specs.Rows.{Written}
 use Rattle.sqlite.specs.Tree.{Trees}
 use Rattle.sqlite_tied.specs.Compute.{everything}
 use Rattle.sqlite.specs.Listing.{understood}
-use Rattle.sqlite.specs.Effect.{Database}
+use Rattle.sqlite.specs.Effect.{Database, IsDatabase}
 use Rattle.sqlite.specs.State.{State, mode_of, Writes, Executes}
 use Rattle.sqlite.proofs.Callers.{IsPlain, command_of, statement_of, runs_as, one_step}
 use Rattle.sql_records.specs.declared.meta.Meta.{Meta}
@@ -104,7 +104,7 @@ one_zero : ◌≡◌ {A = ℕ} 1 0 → ⊥
 one_zero e = omega arith
 
 pub adds_meta : (meta : Meta) (old new : State) (count : ℕ) → old.now.schema ≡ our_schema → old.now.trees 0 ≡ [] → Executes meta_insert_text (meta_of meta) old new (Ok count)
-    → (new.now.schema ≡ our_schema) × HasMeta meta new.now.trees × (new.now.trees 1 ≡ old.now.trees 1)
+    → (new.now.schema ≡ our_schema) × HasMeta meta new.now.trees × (new.now.trees 1 ≡ old.now.trees 1) × IsDatabase new.now
 adds_meta meta old new count has none h =
     let params = meta_of meta in
     let db = old.now.trees in
@@ -123,4 +123,5 @@ adds_meta meta old new count has none h =
       ap (λ (d : Database). d.schema) now,
       ap (map meta_shown) (ap (λ (d : Database). d.trees 0) now ∙ ap (λ (t : Trees). t 0) trees ∙ step.rows ∙ edit),
       ap (λ (d : Database). d.trees 1) now ∙ ap (λ (t : Trees). t 1) trees ∙ step.tables.1.0 one_zero,
+      w.sound,
     )

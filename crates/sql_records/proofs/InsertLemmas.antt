@@ -1,5 +1,5 @@
 -- What the one INSERT makes of the database.
-use Rattle.std.proofs.Common.{◌≡◌, ◌⊎◌, inl, inr, ℕ, pos, List, [], ◌∷◌, codes, Bool, true, false, cond, None, Option, Ok, Err, Result, refl, ap, subst, ◌∙◌, arith}
+use Rattle.std.proofs.Common.{◌≡◌, ◌⊎◌, flat_map, inl, inr, ℕ, pos, List, [], ◌∷◌, codes, Bool, true, false, cond, None, Option, Ok, Err, Result, refl, ap, subst, ◌∙◌, arith}
 use Rattle.sqlite.specs.declared.types.Value.{Value}
 use Rattle.sqlite.specs.declared.types.Value.TheVariants.{Null, Int}
 use Rattle.sqlite.specs.Order.{Row}
@@ -21,10 +21,15 @@ use Rattle.sqlite.specs.declared.run.Mode.{Mode}
 use Rattle.sqlite_tied.specs.Compute.{everything}
 use Rattle.sqlite.specs.Listing.{understood}
 use Rattle.sqlite.proofs.Callers.{IsPlain, command_of, one_step}
-use Rattle.sql_records.specs.Layout.{our_schema, entries_at}
-
-abbrev pub insert_text : List ℕ
-insert_text = codes "INSERT INTO entries VALUES (?1, ?2, ?3, ?4, ?5, ?6, ?7, ?8, ?9, ?10)"
+use Rattle.sqlite.specs.Table.{Table}
+use Rattle.sqlite_rules.specs.Edit.{taken_by}
+use Rattle.sqlite_rules.specs.Action.{work_for}
+use Rattle.sqlite_schema.specs.declared.schema.Index.{Index}
+use Rattle.sqlite_schema.specs.declared.schema.View.{View}
+use Rattle.sqlite_schema.specs.declared.schema.Keys.{Keys}
+use Rattle.std.specs.List.{AllByRecursion, filter_map}
+use Rattle.sql_records.specs.Texts.{insert_text}
+use Rattle.sql_records.specs.Layout.{IsOurs, ours_and, meta_at, entries_at, RefersToNone}
 
 abbrev terms : List Term
 terms = col 0 0 ∷ lit Null ∷ col 0 1 ∷ col 0 2 ∷ col 0 3 ∷ col 0 4 ∷ col 0 5 ∷ col 0 6 ∷ col 0 7 ∷ col 0 8 ∷ col 0 9 ∷ []
@@ -32,13 +37,19 @@ terms = col 0 0 ∷ lit Null ∷ col 0 1 ∷ col 0 2 ∷ col 0 3 ∷ col 0 4 ∷
 abbrev pub insert_command : Command
 insert_command = Insert 1 (Values terms 11)
 
-pub insert_is : command_of (understood our_schema insert_text) ≡ insert_command
+pub insert_is : (more : List Table) (indexes : List Index) (views : List View) → command_of (understood (ours_and more indexes views) insert_text) ≡ insert_command
 unfolding understood everything
-insert_is = refl
+insert_is more indexes views = refl
 
-pub insert_plain : IsPlain (understood our_schema insert_text)
+pub insert_plain : (more : List Table) (indexes : List Index) (views : List View) → IsPlain (understood (ours_and more indexes views) insert_text)
 unfolding understood everything
-insert_plain = (refl, refl)
+insert_plain more indexes views = (refl, refl)
+
+-- where no table refers to another, no write sets off an action
+pub no_work : (s : Schema) (keys : Keys) (depth tree : ℕ) (olds news : List Row) (tables : List Table) → AllByRecursion RefersToNone tables
+    → flat_map (λ child. filter_map (work_for s keys depth tree olds news child) child.references) tables ≡ []
+no_work s keys depth tree olds news [] bare = refl
+no_work s keys depth tree olds news (t ∷ tables) bare = rw (bare.0) (no_work s keys depth tree olds news tables bare.1)
 
 either : (b : Bool) (x : Value) → cond b x x ≡ x
 either true x = refl
@@ -64,8 +75,8 @@ zero_one : ◌≡◌ {A = ℕ} 0 1 → ⊥
 zero_one e = omega arith
 
 -- what an INSERT of these columns leaves
-pub record Inserted (row : Row) (db after : Database) : Type 0 where
-  pub schema : after.schema ≡ our_schema
+pub record Inserted (row : Row) (schema : Schema) (db after : Database) : Type 0 where
+  pub same : after.schema ≡ schema
   pub rows : after.trees 1 ≡ put_row row (db.trees 1)
   pub meta : after.trees 0 ≡ db.trees 0
 
@@ -75,23 +86,26 @@ module _ (at : ℕ) (peer number verb event amount target reply rest delta : Val
   abbrev params : Row
   params = Int (pos at) ∷ peer ∷ number ∷ verb ∷ event ∷ amount ∷ target ∷ reply ∷ rest ∷ delta ∷ []
 
-  pub inserts : (limit : Option ℕ) (mode : Mode) (schema : Schema) (old : Trees) (after : Database) (text : List ℕ) (tally : Tally) → schema ≡ our_schema
+  pub inserts : (limit : Option ℕ) (mode : Mode) (schema : Schema) (old : Trees) (after : Database) (text : List ℕ) (tally : Tally) (ours : IsOurs schema)
       → Does limit mode params (record { schema = schema; trees = old }) text None insert_command (Ok (tally, after))
-      → Inserted (Int (pos at) ∷ Null ∷ peer ∷ number ∷ verb ∷ event ∷ amount ∷ target ∷ reply ∷ rest ∷ delta ∷ []) (record { schema = schema; trees = old }) after
-  inserts limit mode schema old after text tally has h =
-      let done = went (subst (λ s. Does limit mode params (record { schema = s; trees = old }) text None insert_command (Ok (tally, after))) has h) in
+      → Inserted (Int (pos at) ∷ Null ∷ peer ∷ number ∷ verb ∷ event ∷ amount ∷ target ∷ reply ∷ rest ∷ delta ∷ []) (ours_and ours.tables ours.indexes ours.views) (record { schema = schema; trees = old }) after
+  inserts limit mode schema old after text tally ours h =
+      let all = ours_and ours.tables ours.indexes ours.views in
+      let done = went (subst (λ s. Does limit mode params (record { schema = s; trees = old }) text None insert_command (Ok (tally, after))) ours.is h) in
       let now = ap (λ (p : Tally × Database). p.1) (same_value (went (went done.2).2).2) in
       let given = went done.1 in
       let written = went (went given.2).2 in
       let counted = went written.2 in
       let trees : done.0.trees ≡ written.0 = ap (λ (it : Written). it.trees) (same_value counted.2) ∙ same_value counted.1 in
-      let step = one_step our_schema _ old written.0 (edit_of old (entries_at 1) [] Chosen 0 given.0) refl written.1 in
+      let put = edit_of old (entries_at 1) [] Chosen 0 given.0 in
+      let step = one_step all mode.keys old written.0 put (no_work all mode.keys 0 1 (taken_by old put) put.news (meta_at 0 ∷ entries_at 1 ∷ ours.tables) (refl, (refl, ours.bare))) written.1 in
+      let tree = λ (t : ℕ). ap (λ (d : Database). d.trees t) now ∙ ap (λ (x : Trees). x t) trees in
       let edit : edited old (edit_of old (entries_at 1) [] Chosen 0 given.0)
       ≡ put_row (Int (pos at) ∷ Null ∷ peer ∷ number ∷ verb ∷ event ∷ amount ∷ target ∷ reply ∷ rest ∷ delta ∷ []) (old 1) =
       ap (λ all. edited old (edit_of old (entries_at 1) [] Chosen 0 all)) given.1.1
       ∙ rw (cast_int at, cast_null, peer_fits, number_fits, amount_fits, target_fits, rest_fits, verb_fits, event_fits, reply_fits, delta_fits) in
       record {
-        schema = ap (λ (d : Database). d.schema) now;
-        rows = ap (λ (d : Database). d.trees 1) now ∙ ap (λ (t : Trees). t 1) trees ∙ step.rows ∙ edit;
-        meta = ap (λ (d : Database). d.trees 0) now ∙ ap (λ (t : Trees). t 0) trees ∙ step.tables.0 zero_one;
+        same = ap (λ (d : Database). d.schema) now;
+        rows = tree 1 ∙ step.rows ∙ edit;
+        meta = tree 0 ∙ step.tables.0 zero_one;
       }

@@ -5,7 +5,11 @@ pub mod AppendLemmas
 pub mod FindLemmas
 pub mod LookupLemmas
 pub mod CheckLemmas
+pub mod ShapeLemmas
 pub mod InitLemmas
+pub mod FaultLemmas
 pub mod QueryLemmas
 pub mod MetaLemmas
 pub mod OpeningLemmas
+pub mod KeepLemmas
+pub mod StopLemmas

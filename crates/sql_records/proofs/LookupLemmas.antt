@@ -1,5 +1,5 @@
 -- What the rows say of a number and of an event is what the entries say.
-use Rattle.std.proofs.Common.{◌≡◌, ◌⊎◌, inl, inr, ℕ, zero, suc, ◌+◌, ◌<◌, pos, negsuc, ◌&&◌, Bool, true, false, cond, eqb, Option, Some, None, refl, ap, sym, subst, ◌∙◌, arith, List, [], ◌∷◌, map, filter, IsSome, length, take, get_or, Result, Ok, Err, IfOk, IfErr, OnErr, ◌++◌}
+use Rattle.std.proofs.Common.{◌≡◌, ◌⊎◌, inl, inr, ℕ, slice_get, zero, suc, ◌+◌, ◌<◌, pos, negsuc, ◌&&◌, Bool, true, false, cond, eqb, Option, Some, None, refl, ap, sym, subst, ◌∙◌, arith, List, [], ◌∷◌, map, filter, IsSome, length, take, get_or, Result, Ok, Err, IfOk, IfErr, OnErr, ◌++◌}
 use Rattle.std.specs.Option.{option_map}
 use Rattle.std.specs.Ordering.{is_eq, int_cmp}
 use Rattle.std.specs.List.{filter_map}
@@ -37,7 +37,7 @@ use Rattle.sql_records.specs.declared.lookup.Listed.{Listed}
 use Rattle.sql_records.specs.declared.verb.Verb.{Verb}
 use Rattle.sql_records.specs.declared.verb.Verb.TheVariants as verb
 use Rattle.sql_records.specs.Rows.{is_null, text_in, number_within, value_in, site_in, event_in, verb_in, event_column, announce_of, release_of, sell_of, refund_of, cede_of, request_of, request_in, reply_in, delta_in, asks_nothing, asked_of, joined_of, entry_with, entry_of, AreWhole}
-use Rattle.sql_records.specs.Lookups.{found_in, listed_in, names_event, listing, has_number, has_event, found_columns, listed_columns, found_of, listed_of, first_found}
+use Rattle.sql_records.specs.Lookups.{IsFirstUnread, found_in, listed_in, names_event, listing, has_number, has_event, found_columns, listed_columns, found_of, listed_of, first_found}
 
 -- ---- what was read from a value
 
@@ -255,6 +255,19 @@ listed_out (x ∷ xs) (y ∷ ys) e =
     let first = some_is x y head in
     rw first (ap (λ l. y ∷ l) (listed_out xs ys tail))
 
+-- a row that is not read is among the rows
+unread : (rows : List Row) (i : ℕ) (values : Row) → slice_get rows i ≡ Some values → listed_of values ≡ None → (all : List Listed) → map Some all ≡ map listed_of rows → ⊥
+unread [] i values at none all e = cc
+unread (r ∷ rows) i values at none [] e = cc
+unread (r ∷ rows) zero values at none (x ∷ all) e =
+    let head : Some x ≡ listed_of r = cc in
+    let same : r ≡ values = cc in
+    let is : Some x ≡ None = head ∙ ap listed_of same ∙ none in
+    cc
+unread (r ∷ rows) (suc i) values at none (x ∷ all) e =
+    let tail : map Some all ≡ map listed_of rows = cc in
+    unread rows i values at none all tail
+
 -- ---- what the calls answer
 
 module _ (rows whole : List Row) (h : List Entry) (number : ℕ) (are : AreWhole 0 whole) (history : h ≡ filter_map entry_of whole) (shows : rows ≡ map found_columns (filter (has_number number) whole)) where
@@ -265,9 +278,10 @@ module _ (rows whole : List Row) (h : List Entry) (number : ℕ) (are : AreWhole
   first_kept (Ok found) e = found_out found (found_in h number) (e ∙ first_is)
   first_kept (Err f) e = tt
 
-  pub first_undamaged : (r : Result (Option Found) FindFault) → OnErr r (first_found rows ≡ Some None) → (f : FindFault) → r ≡ Err f → ⊥
-  first_undamaged (Ok found) e f is = cc
-  first_undamaged (Err g) e f is = reads_all (found_in h number) (sym first_is ∙ e)
+  -- each row reads, so that nothing is at fault here
+  pub first_fault : (Is : FindFault → Type 0) (r : Result (Option Found) FindFault) → OnErr r (first_found rows ≡ Some None) → IfErr r Is
+  first_fault Is (Ok found) e = tt
+  first_fault Is (Err g) e = absurd (reads_all (found_in h number) (sym first_is ∙ e))
 
 module _ (rows whole : List Row) (h : List Entry) (name : List ℕ) (are : AreWhole 0 whole) (history : h ≡ filter_map entry_of whole) (shows : rows ≡ map listed_columns (filter (has_event name) whole)) where
   all_are : map listed_of rows ≡ map Some (listed_in h name)
@@ -277,28 +291,13 @@ module _ (rows whole : List Row) (h : List Entry) (name : List ℕ) (are : AreWh
   all_listed (Ok all) items e = listed_out (items all) (listed_in h name) (e ∙ all_are)
   all_listed (Err f) items e = tt
 
-  all_undamaged : (place : ℕ) (f : FindFault) → (f ≡ fault.Memory) ⊎ ((all : List Listed) → map Some all ≡ map listed_of rows → ⊥) → f ≡ fault.Damaged place → ⊥
-  all_undamaged place f (inl memory) is = let e : fault.Memory ≡ fault.Damaged place = sym memory ∙ is in cc
-  all_undamaged place f (inr unread) is = unread (listed_in h name) (sym all_are)
-
-  pub none_damaged : {X : Type 0} (r : Result X FindFault) → IfErr r (λ f. (f ≡ fault.Memory) ⊎ ((all : List Listed) → map Some all ≡ map listed_of rows → ⊥)) → (place : ℕ) → r ≡ Err (fault.Damaged place) → ⊥
-  none_damaged (Ok all) e place is = cc
-  none_damaged (Err f) e place is = let same : f ≡ fault.Damaged place = cc in all_undamaged place f e same
+  pub all_fault : {X : Type 0} (Is : FindFault → Type 0) (r : Result X FindFault) → Is fault.Memory → IfErr r (λ f. (f ≡ fault.Memory) ⊎ IsFirstUnread rows f) → IfErr r Is
+  all_fault Is (Ok all) m e = tt
+  all_fault Is (Err f) m (inl memory) = subst Is (sym memory) m
+  all_fault Is (Err f) m (inr first) = absurd (unread rows first.at first.values first.here first.unread (listed_in h name) (sym all_are))
 
 -- one row more is read
 pub read_more : (rows : List Row) (i : ℕ) (values : Row) (items : List Listed) (new : Listed) → i < length rows → values ≡ get_or rows i values → listed_of values ≡ Some new → map Some items ≡ map listed_of (take i rows)
     → map Some (items ++ new ∷ []) ≡ map listed_of (take (i + 1) rows)
 read_more rows i values items new low at reads so_far =
     rw (take_more rows i values low, ← at, map-append listed_of (take i rows) (values ∷ []), map-append Some items (new ∷ []), so_far, reads) refl
-
--- a row that is not read is among the rows
-pub unread : (rows : List Row) (i : ℕ) (values : Row) → i < length rows → values ≡ get_or rows i values → listed_of values ≡ None → (all : List Listed) → map Some all ≡ map listed_of rows → ⊥
-unread [] i values low at none all e = omega arith
-unread (r ∷ rows) i values low at none [] e = cc
-unread (r ∷ rows) zero values low at none (x ∷ all) e =
-    let head : Some x ≡ listed_of r = cc in
-    let is : Some x ≡ None = head ∙ ap listed_of (sym at) ∙ none in
-    cc
-unread (r ∷ rows) (suc i) values low at none (x ∷ all) e =
-    let tail : map Some all ≡ map listed_of rows = cc in
-    unread rows i values (omega arith) at none all tail

@@ -8,6 +8,7 @@ use Rattle.sqlite.specs.declared.types.Value.{Value}
 use Rattle.sqlite.specs.declared.types.Value.TheVariants.{Null, Int, Real, Text, Blob}
 use Rattle.sqlite.specs.Order.{Row, column}
 use Rattle.sqlite.specs.Tree.{Trees}
+use Rattle.sqlite.specs.State.{State}
 use Rattle.plain_words.specs.Words.{◌>>=◌}
 use Rattle.plain_words.proofs.WordLaws.{bind_some}
 use Rattle.sql_records.specs.declared.meta.Meta.{Meta}
@@ -114,12 +115,12 @@ no_version db values alone foreign version has =
     ]
 
 -- a fault of the one row is one of the database
-row_fault : (db : Trees) (values : Row) → meta_rows db ≡ values ∷ [] → (fault : OpenFault) → IsRowFault values fault → IsMetaFault db fault
-row_fault db values alone NotOurs h = record { no_numbers = no_numbers db values alone h; no_version = no_version db values alone h }
-row_fault db values alone (OtherSchema version) h = record { values = values; alone = alone; kind = h.0; version_is = h.1; differs = h.2 }
-row_fault db values alone (Damaged place) h = h
-row_fault db values alone Memory h = absurd h
-row_fault db values alone Disk h = absurd h
+row_fault : (old new : State) (values : Row) → meta_rows old.now.trees ≡ values ∷ [] → (fault : OpenFault) → IsRowFault values fault → IsMetaFault old new fault
+row_fault old new values alone NotOurs h = record { no_numbers = no_numbers old.now.trees values alone h; no_version = no_version old.now.trees values alone h }
+row_fault old new values alone (OtherSchema version) h = record { values = values; alone = alone; kind = h.0; version_is = h.1; differs = h.2 }
+row_fault old new values alone (Damaged place) h = h
+row_fault old new values alone Memory h = absurd h
+row_fault old new values alone Disk h = absurd h
 
 -- not one row is no site's
 pub no_row : (db : Trees) (rows : List Row) → IsPermutation (meta_rows db) rows → length rows ≢ 1 → HasNoMeta db
@@ -142,6 +143,6 @@ pub numbers_are : (values : Row) (r : Result Meta OpenFault) → IfOk r (λ meta
 numbers_are values (Ok meta) h = (numbers_found meta values h.numbers).1
 numbers_are values (Err fault) h = tt
 
-pub meta_fault : (db : Trees) (values : Row) (r : Result Meta OpenFault) → meta_rows db ≡ values ∷ [] → IfErr r (IsRowFault values) → IfErr r (IsMetaFault db)
-meta_fault db values (Ok meta) one h = tt
-meta_fault db values (Err fault) one h = row_fault db values one fault h
+pub meta_fault : (old new : State) (values : Row) (r : Result Meta OpenFault) → meta_rows old.now.trees ≡ values ∷ [] → IfErr r (IsRowFault values) → IfErr r (IsMetaFault old new)
+meta_fault old new values (Ok meta) one h = tt
+meta_fault old new values (Err fault) one h = row_fault old new values one fault h

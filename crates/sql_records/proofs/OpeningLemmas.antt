@@ -1,23 +1,24 @@
 -- What an open finds.
-use Rattle.std.proofs.Common.{◌≡◌, ◌⊎◌, inl, inr, ℕ, suc, ◌+◌, ◌<◌, pos, false, List, [], ◌∷◌, ◌++◌, length, take, get_or, IsTrue, IsSome, Option, Some, None, refl, sym, ap, subst, ◌∙◌, arith, Result, Ok, Err, OnOk, IfErr, IsErrAnd, Bool, true, not}
+use Rattle.std.proofs.Common.{◌≡◌, ◌⊎◌, inl, inr, ℕ, suc, ◌+◌, ◌<◌, ◌≤◌, pos, false, List, [], ◌∷◌, ◌++◌, length, take, get_or, IsTrue, IsSome, Option, Some, None, refl, sym, ap, subst, ◌∙◌, arith, Result, Ok, Err, OnOk, IfErr, IsErrAnd, Bool, true, not}
 use Rattle.std.specs.List.{filter_map, cons_option}
 use Rattle.std.proofs.lemmas.List.{take_more, length-take-le}
 use Rattle.std.proofs.lemmas.Option.{slice_get_read}
 use Rattle.sqlite.specs.Order.{Row, column}
 use Rattle.sqlite.specs.declared.types.Value.TheVariants.{Int}
 use Rattle.sqlite.specs.Tree.{Trees}
-use Rattle.sqlite.specs.Effect.{Database}
-use Rattle.sqlite.specs.State.{State, IsUnchanged}
+use Rattle.sqlite.specs.Effect.{Database, IsDatabase}
+use Rattle.sqlite.specs.State.{State, IsLive, IsUnchanged}
 use Rattle.book_core.specs.declared.entry.Entry.{Entry}
 use Rattle.sql_records.specs.declared.fault.OpenFault.{OpenFault}
-use Rattle.sql_records.specs.declared.fault.OpenFault.TheVariants.{Damaged, Memory}
-use Rattle.sql_records.specs.Keeping.{LeavesOnly}
+use Rattle.sql_records.specs.declared.fault.OpenFault.TheVariants.{NotOurs, OtherSchema, Damaged, Memory, Disk}
+use Rattle.sql_records.specs.Keeping.{LeavesOnly, LeavesWithOrWithout, Keeps}
 use Rattle.sql_records.specs.declared.meta.Meta.{Meta}
-use Rattle.sql_records.specs.Layout.{our_schema, HasMeta}
+use Rattle.sql_records.specs.Layout.{IsOurs, HasMeta, AreNumbers}
 use Rattle.sql_records.specs.Rows.{entry_of, AreInOrder, AreWhole, IsEntryAt}
-use Rattle.sql_records.specs.Held.{IsAtRest, LeavesNumbers, history_in, rows_in}
-use Rattle.sql_records.specs.Opening.{AreRowsFault}
-use Rattle.sql_records.proofs.RowLemmas.{whole_next, entries_next}
+use Rattle.sql_records.specs.Held.{IsAtRest, IsSiteIn, MayLeaveIn, LeavesSite, history_in, opened_in, rows_in}
+use Rattle.sql_records.specs.Opening.{AreRowsFault, IsStoreFault, IsOurFault}
+use Rattle.sql_records.specs.Faults.{HasDiskCause}
+use Rattle.sql_records.proofs.RowLemmas.{whole_next, entries_next, read_from}
 use Rattle.sql_records.proofs.QueryLemmas.{whole_order}
 
 -- ---- rows that are read in turn
@@ -81,31 +82,65 @@ module _ (first mid last : State) (rows : List Row) (one : IsUnchanged first mid
   )
 
 -- records that were read are at rest
-pub opened : (first last : State) (count : ℕ) → IsUnchanged first last → first.in_transaction ≡ false → (IsTrue first.is_open → first.now ≡ first.committed) → first.now.schema ≡ our_schema → AreWhole 0 (rows_in first.now.trees)
-    → count ≡ length (history_in first.now.trees) → IsAtRest last count
-opened first last count same autocommit settled schema whole is = record {
-  is_open = same.0.is_open;
-  autocommit = same.0.mode ∙ autocommit;
-  settled = same.0.committed_is ∙ sym (settled same.0.was_open) ∙ sym same.0.now_is;
-  schema = ap (λ (d : Database). d.schema) same.0.now_is ∙ schema;
-  whole = subst (λ (d : Database). AreWhole 0 (rows_in d.trees)) (sym same.0.now_is) whole;
-  counted = ap (λ (d : Database). length (rows_in d.trees)) same.0.now_is ∙ sym (is ∙ length_whole (rows_in first.now.trees) 0 whole);
-}
-
--- at rest a stop leaves the history and nothing else, by the two laws of the store
-pub leaves_only : (s : State) (count : ℕ) → IsAtRest s count → ((db : Trees) → IsTrue s.is_open → s.may_leave db → db ≡ s.committed.trees) → (IsTrue s.is_open → s.may_leave s.committed.trees)
-    → LeavesOnly (history_in s.now.trees) (λ list. (db : Trees) × s.may_leave db × (list ≡ history_in db))
-leaves_only s count rest only stays =
-    let same : history_in s.committed.trees ≡ history_in s.now.trees = ap (λ (d : Database). history_in d.trees) rest.settled in
+pub opened : (first last : State) (count : ℕ) → IsUnchanged first last → first.in_transaction ≡ false → (IsTrue first.is_open → first.now ≡ first.committed) → IsLive first → IsOurs first.now.schema
+    → AreWhole 0 (rows_in first.now.trees) → count ≡ length (history_in first.now.trees) → IsAtRest last count
+opened first last count same autocommit settled live ours whole is =
+    let now = sym same.0.now_is in
     record {
-      left = (s.committed.trees, stays rest.is_open, sym same);
-      alone = λ other left. left.2 ∙ ap history_in (only left.0 rest.is_open left.1) ∙ same;
+      is_open = same.0.is_open;
+      autocommit = same.0.mode ∙ autocommit;
+      settled = same.0.committed_is ∙ sym (settled same.0.was_open) ∙ now;
+      schema = subst (λ (d : Database). IsOurs d.schema) now ours;
+      sound = subst IsDatabase now (live same.0.was_open).0;
+      whole = subst (λ (d : Database). AreWhole 0 (rows_in d.trees)) now whole;
+      counted = ap (λ (d : Database). length (rows_in d.trees)) same.0.now_is ∙ sym (is ∙ length_whole (rows_in first.now.trees) 0 whole);
     }
 
--- at rest a stop leaves the numbers that are there
-pub leaves_numbers : (s : State) (count : ℕ) (meta : Meta) → IsAtRest s count → HasMeta meta s.now.trees → ((db : Trees) → IsTrue s.is_open → s.may_leave db → db ≡ s.committed.trees) → LeavesNumbers s meta
-leaves_numbers s count meta rest now only db left =
-    subst (HasMeta meta) (sym (only db rest.is_open left)) (subst (λ (d : Database). HasMeta meta d.trees) (sym rest.settled) now)
+-- what a stop leaves of records at rest, by the two laws of the store
+module _ (s : State) (count : ℕ) (rest : IsAtRest s count) (only : (db : Trees) → IsTrue s.is_open → s.may_leave db → db ≡ s.committed.trees) where
+  left_now : (db : Trees) → s.may_leave db → db ≡ s.now.trees
+  left_now db left = only db rest.is_open left ∙ ap (λ (d : Database). d.trees) rest.settled
+
+  reads_now : opened_in s.now.trees ≡ Some (history_in s.now.trees)
+  reads_now = read_from 0 (rows_in s.now.trees) rest.whole
+
+  -- the history and nothing else
+  pub leaves_only : (IsTrue s.is_open → s.may_leave s.committed.trees) → LeavesOnly (history_in s.now.trees) (MayLeaveIn s)
+  leaves_only stays =
+      let last : opened_in s.committed.trees ≡ Some (history_in s.now.trees) = ap (λ (d : Database). opened_in d.trees) rest.settled ∙ reads_now in
+      record {
+        left = (s.committed.trees, stays rest.is_open, sym last);
+        alone = λ other left. left.2 ∙ ap opened_in (left_now left.0 left.1) ∙ reads_now;
+      }
+
+  -- so what fails before anything is written leaves the list without the entry
+  pub leaves_still : (entry : Entry) → LeavesWithOrWithout (history_in s.now.trees) entry (MayLeaveIn s)
+  leaves_still entry left h = inl (h.2 ∙ ap opened_in (left_now h.0 h.1) ∙ reads_now)
+
+  -- and the numbers that are there
+  pub leaves_site : (meta : Meta) → AreNumbers meta → HasMeta meta s.now.trees → LeavesSite s meta
+  leaves_site meta within now db left = subst (IsSiteIn meta) (sym (left_now db left)) (record { schema = s.now.schema; ours = rest.schema; sound = rest.sound; numbers = now; within = within })
+
+-- ---- what is at fault in a later query is at fault from the first on
+
+cause_before : (first mid last : State) → IsUnchanged first mid → first.faults ≤ mid.faults → mid.step_limit ≡ first.step_limit → HasDiskCause mid last → HasDiskCause first last
+cause_before first mid last same low limit (inl more) = inl (omega (arith, more, low))
+cause_before first mid last same low limit (inr (inl closed)) = absurd (let e = sym same.0.is_open ∙ closed in cc)
+cause_before first mid last same low limit (inr (inr steps)) = inr (inr (subst IsSome limit steps))
+
+pub rows_fault : (first mid last : State) → IsUnchanged first mid → first.faults ≤ mid.faults → mid.step_limit ≡ first.step_limit → (fault : OpenFault) → IsStoreFault mid last fault → IsOurFault first last fault
+rows_fault first mid last same low limit NotOurs h = absurd h
+rows_fault first mid last same low limit (OtherSchema version) h = absurd h
+rows_fault first mid last same low limit (Damaged place) h = absurd h
+rows_fault first mid last same low limit Memory h = h
+rows_fault first mid last same low limit Disk h = cause_before first mid last same low limit h
+
+-- at rest the count is that of the entries
+pub rest_count : (s : State) (count : ℕ) → IsAtRest s count → length (history_in s.now.trees) ≡ count
+rest_count s count rest = length_whole (rows_in s.now.trees) 0 rest.whole ∙ rest.counted
+
+pub keeps : (list kept : List Entry) (may_leave : Option (List Entry) → Type 0) → kept ≡ list → LeavesOnly kept may_leave → Keeps list kept may_leave
+keeps list kept may_leave is only = record { is = is; leaves = subst (λ l. LeavesOnly l may_leave) is only }
 
 abbrev numbers : ℕ → ℕ → ℕ → Meta
 numbers me sites limit = record { me = me; sites = sites; limit = limit }

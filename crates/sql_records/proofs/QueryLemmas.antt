@@ -8,11 +8,11 @@ use Rattle.std.proofs.Math.ListN.{get_or-map}
 use Rattle.std.proofs.lemmas.List.Elements.{recursion_from_All, All-from_recursion}
 use Rattle.std.proofs.lemmas.List.Sorted.{All-permutation, IsPermutation-refl, IsPermutation-cons, IsPermutation-trans, IsPermutation-middle, IsPermutation-sym, IsPermutation-map}
 use Rattle.sqlite_keyed.proofs.ListLemmas.{along_permutation}
-use Rattle.sqlite_keyed.proofs.SortLemmas.{HasNoTies, sorted_is-sort_by}
+use Rattle.sqlite_keyed.proofs.SortLemmas.{HasNoTies, sorted_is-sort_by, IsPermutation-sort_by}
 use Rattle.sqlite.specs.Collation.TheVariants.{Binary}
 use Rattle.sqlite.specs.Listing.{understood, reads_listing}
 use Rattle.sqlite.specs.Schema.{Schema}
-use Rattle.sqlite.specs.State.{State, HasCleanDisk, Survives, CommitsShowing, Shown, IsUnchanged}
+use Rattle.sqlite.specs.State.{State, HasCleanDisk, Survives, CommitsShowing, Shown, FailsToQuery, IsUnchanged}
 use Rattle.sqlite.specs.Command.TheVariants.{Select}
 use Rattle.sqlite.proofs.Callers.{IsPlain, command_of, reads_as}
 use Rattle.sqlite.specs.Query.{Query, inner, end, IsAnswer, output, output_cmp, Output}
@@ -22,16 +22,16 @@ use Rattle.sqlite_tied.specs.Compute.{everything}
 use Rattle.sqlite.specs.Tree.{Trees}
 use Rattle.sqlite.specs.Order.{Row, column}
 use Rattle.sqlite.specs.declared.types.Value.TheVariants.{Null, Int}
-use Rattle.sql_records.specs.Layout.{our_schema, meta_shown, meta_rows}
+use Rattle.sqlite.specs.Table.{Table}
+use Rattle.sqlite_schema.specs.declared.schema.Index.{Index}
+use Rattle.sqlite_schema.specs.declared.schema.View.{View}
+use Rattle.sql_records.specs.Texts.{select_text, meta_select_text}
+use Rattle.sql_records.specs.Layout.{IsOurs, ours_and, meta_shown, meta_rows}
 use Rattle.sql_records.specs.Rows.{shown, by_place, in_order, AreInOrder, AreWhole}
 use Rattle.sql_records.specs.Held.{LeavesNoMore}
+use Rattle.sqlite.specs.declared.error.Error.{Error}
+use Rattle.sql_records.proofs.FaultLemmas.{Caused, IsRun, never_folded, query_cause}
 use Rattle.sql_records.proofs.RowLemmas.{lower_id, by_place_total}
-
-abbrev pub select_text : List ℕ
-select_text = codes "SELECT pos, peer, number, verb, event, amount, target, reply, rest, delta FROM entries ORDER BY pos"
-
-abbrev pub meta_select_text : List ℕ
-meta_select_text = codes "SELECT kind, version, me, sites, bound FROM meta"
 
 -- ---- the entries
 
@@ -51,13 +51,13 @@ query = record {
 abbrev names : List (List ℕ)
 names = codes "pos" ∷ codes "peer" ∷ codes "number" ∷ codes "verb" ∷ codes "event" ∷ codes "amount" ∷ codes "target" ∷ codes "reply" ∷ codes "rest" ∷ codes "delta" ∷ []
 
-select_is : (command_of (understood our_schema select_text) ≡ Select (record { lets = []; body = query }) names) × (reads_listing our_schema select_text ≡ false)
+select_is : (more : List Table) (indexes : List Index) (views : List View) → (command_of (understood (ours_and more indexes views) select_text) ≡ Select (record { lets = []; body = query }) names) × (reads_listing (ours_and more indexes views) select_text ≡ false)
 unfolding understood everything
-select_is = (refl, refl)
+select_is more indexes views = (refl, refl)
 
-select_plain : IsPlain (understood our_schema select_text)
+select_plain : (more : List Table) (indexes : List Index) (views : List View) → IsPlain (understood (ours_and more indexes views) select_text)
 unfolding understood everything
-select_plain = (refl, refl)
+select_plain more indexes views = (refl, refl)
 
 -- the key and the columns of a row
 abbrev out : Row → Output
@@ -155,6 +155,13 @@ whole_order table rows order whole =
     let apart = (moves by_place by_place_total rows (map shown table) (IsPermutation-sym (map shown table) rows order.same)).1 (apart_whole 0 rows whole) in
     sorted_is-sort_by by_place by_place_total (map shown table) rows apart order.same order.sorted
 
+-- and no other order of them is sorted
+pub order_whole : (table rows : List Row) → AreInOrder table rows → AreWhole 0 (in_order (map shown table)) → rows ≡ in_order (map shown table)
+order_whole table rows order whole =
+    let sorted = IsPermutation-sort_by by_place by_place_total (map shown table) in
+    let apart = (moves by_place by_place_total (in_order (map shown table)) (map shown table) sorted).1 (apart_whole 0 (in_order (map shown table)) whole) in
+    sorted_is-sort_by by_place by_place_total (map shown table) rows apart order.same order.sorted
+
 -- a query with no RETURNING leaves the connection as it was
 pub unchanged_as : (sql : List ℕ) (params : Row) (old new : State) (schema : Schema) → old.now.schema ≡ schema → IsPlain (understood schema sql) → (rows : List Row) → Shown sql params old new rows → IsUnchanged old new
 unfolding Shown
@@ -174,14 +181,14 @@ leaves_as sql params old new schema has plain survives clean db left = elim (sur
       absurd (let some = rw (bare.0) at commit.2 in cc))
 ]
 
-pub entries_left : (old new : State) → old.now.schema ≡ our_schema → Survives old new (CommitsShowing select_text [] old) → HasCleanDisk new → LeavesNoMore old new
-entries_left old new has survives clean = leaves_as select_text [] old new our_schema has select_plain survives clean
+pub entries_left : (old new : State) → IsOurs old.now.schema → Survives old new (CommitsShowing select_text [] old) → HasCleanDisk new → LeavesNoMore old new
+entries_left old new has survives clean = leaves_as select_text [] old new (ours_and has.tables has.indexes has.views) has.is (select_plain has.tables has.indexes has.views) survives clean
 
-pub shown_rows : (old new : State) (rows : List Row) → old.now.schema ≡ our_schema → Shown select_text [] old new rows → AreInOrder (old.now.trees 1) rows
-shown_rows old new rows has h = answers old.now.trees [] rows ((reads_as select_text [] old new our_schema has _ select_is.0 select_plain select_is.1 rows h).answer Null)
+pub shown_rows : (old new : State) (rows : List Row) → IsOurs old.now.schema → Shown select_text [] old new rows → AreInOrder (old.now.trees 1) rows
+shown_rows old new rows has h = answers old.now.trees [] rows ((reads_as select_text [] old new (ours_and has.tables has.indexes has.views) has.is _ (select_is has.tables has.indexes has.views).0 (select_plain has.tables has.indexes has.views) (select_is has.tables has.indexes has.views).1 rows h).answer Null)
 
-pub shown_same : (old new : State) (rows : List Row) → old.now.schema ≡ our_schema → Shown select_text [] old new rows → IsUnchanged old new
-shown_same old new rows has h = unchanged_as select_text [] old new our_schema has select_plain rows h
+pub shown_same : (old new : State) (rows : List Row) → IsOurs old.now.schema → Shown select_text [] old new rows → IsUnchanged old new
+shown_same old new rows has h = unchanged_as select_text [] old new (ours_and has.tables has.indexes has.views) has.is (select_plain has.tables has.indexes has.views) rows h
 
 -- ---- the numbers
 
@@ -201,13 +208,13 @@ meta_query = record {
 abbrev meta_names : List (List ℕ)
 meta_names = codes "kind" ∷ codes "version" ∷ codes "me" ∷ codes "sites" ∷ codes "bound" ∷ []
 
-meta_select_is : (command_of (understood our_schema meta_select_text) ≡ Select (record { lets = []; body = meta_query }) meta_names) × (reads_listing our_schema meta_select_text ≡ false)
+meta_select_is : (more : List Table) (indexes : List Index) (views : List View) → (command_of (understood (ours_and more indexes views) meta_select_text) ≡ Select (record { lets = []; body = meta_query }) meta_names) × (reads_listing (ours_and more indexes views) meta_select_text ≡ false)
 unfolding understood everything
-meta_select_is = (refl, refl)
+meta_select_is more indexes views = (refl, refl)
 
-meta_select_plain : IsPlain (understood our_schema meta_select_text)
+meta_select_plain : (more : List Table) (indexes : List Index) (views : List View) → IsPlain (understood (ours_and more indexes views) meta_select_text)
 unfolding understood everything
-meta_select_plain = (refl, refl)
+meta_select_plain more indexes views = (refl, refl)
 
 abbrev meta_out : Row → Output
 meta_out r = ([], meta_shown r)
@@ -228,11 +235,28 @@ meta_answers db params rows a =
     let moved = IsPermutation-map (λ (o : Output). o.1) (map meta_out (db 0)) a.ordered same in
     subst (IsPermutation (meta_rows db)) (sym is) (subst (λ l. IsPermutation l (map (λ (o : Output). o.1) a.ordered)) (shown_meta_out (db 0)) moved)
 
-pub shown_meta : (old new : State) (rows : List Row) → old.now.schema ≡ our_schema → Shown meta_select_text [] old new rows → IsPermutation (meta_rows old.now.trees) rows
-shown_meta old new rows has h = meta_answers old.now.trees [] rows ((reads_as meta_select_text [] old new our_schema has _ meta_select_is.0 meta_select_plain meta_select_is.1 rows h).answer Null)
+pub shown_meta : (old new : State) (rows : List Row) → IsOurs old.now.schema → Shown meta_select_text [] old new rows → IsPermutation (meta_rows old.now.trees) rows
+shown_meta old new rows has h = meta_answers old.now.trees [] rows ((reads_as meta_select_text [] old new (ours_and has.tables has.indexes has.views) has.is _ (meta_select_is has.tables has.indexes has.views).0 (meta_select_plain has.tables has.indexes has.views) (meta_select_is has.tables has.indexes has.views).1 rows h).answer Null)
 
-pub meta_same : (old new : State) (rows : List Row) → old.now.schema ≡ our_schema → Shown meta_select_text [] old new rows → IsUnchanged old new
-meta_same old new rows has h = unchanged_as meta_select_text [] old new our_schema has meta_select_plain rows h
+pub meta_same : (old new : State) (rows : List Row) → IsOurs old.now.schema → Shown meta_select_text [] old new rows → IsUnchanged old new
+meta_same old new rows has h = unchanged_as meta_select_text [] old new (ours_and has.tables has.indexes has.views) has.is (meta_select_plain has.tables has.indexes has.views) rows h
 
-pub meta_left : (old new : State) → old.now.schema ≡ our_schema → Survives old new (CommitsShowing meta_select_text [] old) → HasCleanDisk new → LeavesNoMore old new
-meta_left old new has survives clean = leaves_as meta_select_text [] old new our_schema has meta_select_plain survives clean
+pub meta_left : (old new : State) → IsOurs old.now.schema → Survives old new (CommitsShowing meta_select_text [] old) → HasCleanDisk new → LeavesNoMore old new
+meta_left old new has survives clean = leaves_as meta_select_text [] old new (ours_and has.tables has.indexes has.views) has.is (meta_select_plain has.tables has.indexes has.views) survives clean
+
+-- ---- what the queries fail for
+
+module _ (more : List Table) (indexes : List Index) (views : List View) where
+  select_runs : IsRun (ours_and more indexes views) select_text []
+  unfolding understood everything
+  select_runs = record { program = record { lets = []; body = query }; names = names; is = refl; plain = (refl, refl); whole = refl; given = refl; unlisted = refl; typed = refl; small = λ db over. elim over [ inl grouped ↦ grouped | inr folded ↦ never_folded (db 1) folded ] }
+
+  meta_runs : IsRun (ours_and more indexes views) meta_select_text []
+  unfolding understood everything
+  meta_runs = record { program = record { lets = []; body = meta_query }; names = meta_names; is = refl; plain = (refl, refl); whole = refl; given = refl; unlisted = refl; typed = refl; small = λ db over. elim over [ inl grouped ↦ grouped | inr folded ↦ never_folded (db 0) folded ] }
+
+pub select_fails : (old new : State) (e : Error) → IsOurs old.now.schema → FailsToQuery select_text [] old new e → Caused old new e
+select_fails old new e ours h = query_cause select_text [] old new (ours_and ours.tables ours.indexes ours.views) ours.is (select_runs ours.tables ours.indexes ours.views) e h
+
+pub meta_select_fails : (old new : State) (e : Error) → IsOurs old.now.schema → FailsToQuery meta_select_text [] old new e → Caused old new e
+meta_select_fails old new e ours h = query_cause meta_select_text [] old new (ours_and ours.tables ours.indexes ours.views) ours.is (meta_runs ours.tables ours.indexes ours.views) e h

@@ -1,23 +1,25 @@
 -- Rows in the order of their places, and one more at their end.
-use Rattle.std.proofs.Common.{◌≡◌, ℕ, ◌+◌, ◌<◌, pos, true, false, Some, None, Option, cond, refl, ap, ◌∙◌, List, [], ◌∷◌, ◌++◌, map, length, IsSome, arith}
+use Rattle.std.proofs.Common.{◌≡◌, ℕ, ◌+◌, ◌<◌, pos, negsuc, Bool, true, false, eqb, IsTrue, Some, None, Option, cond, refl, sym, ap, ◌∙◌, List, [], ◌∷◌, ◌++◌, map, length, IsSome, arith}
 use Rattle.std.specs.declared.cmp.Ordering.TheVariants.{Less}
 use Rattle.std.specs.Ordering.{is_gt}
 use Rattle.std.specs.Cmp.{IsTotalOrder}
 use Rattle.std.proofs.lemmas.Cmp.{on_total}
-use Rattle.std.specs.List.{AllByRecursion, filter_map}
+use Rattle.std.specs.List.{AllByRecursion, filter_map, cons_option}
 use Rattle.std.proofs.lemmas.List.{map-append}
 use Rattle.std.proofs.lemmas.List.Elements.{recursion_from_All, All-from_recursion, filter_map-append}
 use Rattle.std.proofs.lemmas.List.Sorted.{All-permutation}
+use Rattle.std.proofs.lemmas.Bool.{eqb-true, eq-eqb}
 use Rattle.std.proofs.lemmas.Int.{ints}
 use Rattle.std.proofs.lemmas.Bool.Decides.{nat_tests}
 use Rattle.sqlite_keyed.specs.Lists.{insert_sorted}
 use Rattle.sqlite_keyed.proofs.SortLemmas.{IsPermutation-sort_by}
-use Rattle.sqlite.specs.declared.types.Value.TheVariants.{Int}
+use Rattle.sqlite.specs.declared.types.Value.{Value}
+use Rattle.sqlite.specs.declared.types.Value.TheVariants.{Null, Int, Real, Text, Blob}
 use Rattle.sqlite.specs.Order.{Row, column, value_cmp}
 use Rattle.sqlite_value.proofs.OrderLemmas.{value_cmp-Int, value_cmp_total}
 use Rattle.sqlite.specs.Tree.{put_row}
 use Rattle.book_core.specs.declared.entry.Entry.{Entry}
-use Rattle.sql_records.specs.Rows.{entry_of, shown, by_place, in_order, AreWhole}
+use Rattle.sql_records.specs.Rows.{entry_of, shown, by_place, in_order, is_place, entry_at, in_front, entries_from, IsEntryAt, AreWhole}
 
 pub lower_id : (m n : ℕ) → m < n → value_cmp (Int (pos m)) (Int (pos n)) ≡ Less
 lower_id m n h = value_cmp-Int (pos m) (pos n) ∙ grind (arith, ints, nat_tests)
@@ -79,3 +81,46 @@ whole_next (r ∷ rows) values entry from place h n is reads = (h.0, whole_next 
 -- one more row is one more entry
 pub entries_next : (rows : List Row) (values : Row) (entry : Entry) → entry_of values ≡ Some entry → filter_map entry_of (rows ++ values ∷ []) ≡ filter_map entry_of rows ++ entry ∷ []
 entries_next rows values entry reads = filter_map-append entry_of rows (values ∷ []) ∙ rw reads refl
+
+place_of : (place : ℕ) (v : Value) → IsTrue (is_place place v) → v ≡ Int (pos place)
+place_of place (Int (pos n)) h = let same = eqb-true n place h in ap (λ (k : ℕ). Int (pos k)) same
+place_of place (Int (negsuc n)) h = absurd cc
+place_of place Null h = absurd cc
+place_of place (Real x) h = absurd cc
+place_of place (Text t) h = absurd cc
+place_of place (Blob b) h = absurd cc
+
+-- the row of a place is read there
+here : (place : ℕ) (values : Row) → IsEntryAt place values → entry_at place values ≡ entry_of values
+here place values h = rw (h.placed, eq-eqb place place refl) refl
+
+in_front_of : (o : Option Entry) (entries : List Entry) → IsSome o → in_front o (Some entries) ≡ Some (cons_option o entries)
+in_front_of None entries some = absurd (let e = some in cc)
+in_front_of (Some e) entries some = refl
+
+-- whole rows are read
+pub read_from : (from : ℕ) (rows : List Row) → AreWhole from rows → entries_from from rows ≡ Some (filter_map entry_of rows)
+read_from from [] h = refl
+read_from from (r ∷ rows) h = rw (here from r h.0, read_from (from + 1) rows h.1) (in_front_of (entry_of r) (filter_map entry_of rows) h.0.reads)
+
+abbrev Parts : Option Entry → Option (List Entry) → List Entry → Type 0
+Parts o more list = (e : Entry) × (es : List Entry) × (o ≡ Some e) × (more ≡ Some es) × (list ≡ e ∷ es)
+
+parts : (o : Option Entry) (more : Option (List Entry)) (list : List Entry) → in_front o more ≡ Some list → Parts o more list
+parts None more list h = absurd cc
+parts (Some e) None list h = absurd cc
+parts (Some e) (Some es) list h = (e, es, refl, refl, (let same : e ∷ es ≡ list = cc in sym same))
+
+entry_here : (place : ℕ) (values : Row) (e : Entry) → entry_at place values ≡ Some e → IsEntryAt place values
+entry_here place values e h =
+    let t = cond_some_of (is_place place (column values 0)) (entry_of values) e h in
+    record { placed = place_of place (column values 0) t.0; reads = some_of (entry_of values) e t.1 }
+  where
+    cond_some_of : (b : Bool) (o : Option Entry) (e : Entry) → cond b o None ≡ Some e → IsTrue b × (o ≡ Some e)
+    cond_some_of true o e h = (refl, h)
+    cond_some_of false o e h = absurd cc
+
+-- what is read was whole
+pub whole_from : (from : ℕ) (rows : List Row) (list : List Entry) → entries_from from rows ≡ Some list → AreWhole from rows
+whole_from from [] list h = tt
+whole_from from (r ∷ rows) list h = let p = parts (entry_at from r) (entries_from (from + 1) rows) list h in (entry_here from r p.0 p.2, whole_from (from + 1) rows p.1 p.3)

@@ -1,65 +1,92 @@
 -- What the records hold, and what a stop may leave of them. (Our own.)
-use Rattle.std.specs.Prelude.{◌≡◌, ◌⊎◌, ℕ, false, List, [], ◌∷◌, ◌++◌, length, map, IsTrue, refl}
+use Rattle.std.specs.Prelude.{◌≡◌, ◌≢◌, ◌⊎◌, ◌≤◌, ◌^◌, ℕ, Err, false, List, [], ◌∷◌, ◌++◌, length, map, Option, Some, IsTrue, refl}
 use Rattle.std.specs.Coded.{Coded, code_by, coded×, coded_ℕ}
 use Rattle.book_core.specs.declared.entry.Entry.{Entry}
 use Rattle.sqlite.specs.Store.{Ghosts}
 use Rattle.sqlite.specs.Order.{Row}
 use Rattle.sqlite.specs.Tree.{Trees}
-use Rattle.sqlite.specs.Effect.{Database}
-use Rattle.sqlite.specs.State.{State, HasCleanDisk}
+use Rattle.sqlite.specs.Schema.{Schema}
+use Rattle.sqlite.specs.Effect.{Database, IsDatabase}
+use Rattle.sqlite_catalog.specs.Listing.{IsSound}
+use Rattle.sqlite.specs.State.{State, HasCleanDisk, Executes}
 use Rattle.sqlite.specs.Held.{Held, held_code, state}
+use Rattle.sqlite.specs.declared.error.Error.{Error}
+use Rattle.sqlite.specs.declared.error.Error.TheVariants.{SqliteFailure}
+use Rattle.sqlite.specs.declared.error.ErrorCode.TheVariants.{OutOfMemory}
+use Rattle.book_core.specs.History.{delta_of}
+use Rattle.delta_wire.specs.Grammar.{delta_text}
+use Rattle.sql_records.specs.declared.keeper.KeepFault.{KeepFault}
+use Rattle.sql_records.specs.declared.keeper.KeepFault.TheVariants.{Memory, Disk, Shut}
+use Rattle.sql_records.specs.Texts.{insert_text}
 use Rattle.sql_records.specs.declared.meta.Meta.{Meta}
-use Rattle.sql_records.specs.Layout.{our_schema, HasMeta, meta_tree}
-use Rattle.sql_records.specs.Rows.{shown, in_order, history_of, AreWhole}
+use Rattle.sql_records.specs.Layout.{our_schema, IsOurs, HasMeta, AreNumbers}
+use Rattle.sql_records.specs.Rows.{shown, columns_of, HasRoom, in_order, history_of, entries_from, AreWhole}
 
 abbrev pub entries_tree : ℕ
 entries_tree = 1
 
-abbrev pub history_in : Trees → List Entry
-history_in db = history_of (db entries_tree)
-
 -- the rows of the entries as a query shows them, in the order of their places
 abbrev pub rows_in : Trees → List Row
 rows_in db = in_order (map shown (db entries_tree))
+
+abbrev pub history_in : Trees → List Entry
+history_in db = history_of (db entries_tree)
+
+-- the entries that an open reads, and none where some row is not the entry of its place
+abbrev pub opened_in : Trees → Option (List Entry)
+opened_in db = entries_from 0 (rows_in db)
 
 -- the connection is open with no transaction, over records with so many entries
 pub record IsAtRest (s : State) (count : ℕ) : Type 0 where
   pub is_open : IsTrue s.is_open
   pub autocommit : s.in_transaction ≡ false
   pub settled : s.committed ≡ s.now
-  pub schema : s.now.schema ≡ our_schema
+  pub schema : IsOurs s.now.schema
+  pub sound : IsDatabase s.now
   pub whole : AreWhole 0 (rows_in s.now.trees)
   pub counted : length (rows_in s.now.trees) ≡ count
+
+-- the trees are those of our schema alone, of a site with these numbers and no entry
+pub record IsNewIn (meta : Meta) (db : Trees) : Type 0 where
+  pub sound : IsSound our_schema db
+  pub meta_is : HasMeta meta db
+  pub entries : db entries_tree ≡ []
 
 -- the database of a site with these numbers and no entry
 pub record IsNew (meta : Meta) (db : Database) : Type 0 where
   pub schema : db.schema ≡ our_schema
-  pub meta_is : HasMeta meta db.trees
-  pub entries : db.trees entries_tree ≡ []
+  pub trees : IsNewIn meta db.trees
 
--- the history of a database that a stop may leave
-abbrev pub MayLeaveIn : State → List Entry → Type 0
-MayLeaveIn s list = (db : Trees) × s.may_leave db × (list ≡ history_in db)
+-- the trees are those of the records of a site with these numbers, whatever its entries are
+pub record IsSiteIn (meta : Meta) (db : Trees) : Type 0 where
+  pub schema : Schema
+  pub ours : IsOurs schema
+  pub sound : IsSound schema db
+  pub numbers : HasMeta meta db
+  pub within : AreNumbers meta
+
+-- what an open reads of a database that a stop may leave
+abbrev pub MayLeaveIn : State → Option (List Entry) → Type 0
+MayLeaveIn s left = (db : Trees) × s.may_leave db × (left ≡ opened_in db)
+
+-- a database that a stop may leave is that of a site with these numbers, and an open reads these entries
+pub record Finds (s : State) (meta : Meta) (entries : List Entry) : Type 0 where
+  pub db : Trees
+  pub left : s.may_leave db
+  pub site : IsSiteIn meta db
+  pub reads : opened_in db ≡ Some entries
 
 -- a stop leaves nothing that it could not leave before
 abbrev pub LeavesNoMore : State → State → Type 0
 LeavesNoMore old new = (db : Trees) → new.may_leave db → old.may_leave db
 
--- each database that a stop may leave has this history, or the same with the entry at its end
-abbrev pub LeavesWithOrWithout : State → List Entry → Entry → Type 0
-LeavesWithOrWithout s list entry = (db : Trees) → s.may_leave db → (history_in db ≡ list) ⊎ (history_in db ≡ list ++ entry ∷ [])
-
--- each database that a stop may leave has these rows in `meta`
-abbrev pub LeavesMeta : State → List Row → Type 0
-LeavesMeta s meta = (db : Trees) → s.may_leave db → db meta_tree ≡ meta
-
--- each database that a stop may leave has these numbers
-abbrev pub LeavesNumbers : State → Meta → Type 0
-LeavesNumbers s meta = (db : Trees) → s.may_leave db → HasMeta meta db
+-- each database that a stop may leave is that of a site with these numbers
+abbrev pub LeavesSite : State → Meta → Type 0
+LeavesSite s meta = (db : Trees) → s.may_leave db → IsSiteIn meta db
 
 -- each database that a stop may leave is one that it could leave before, or the new one
 abbrev pub LeavesAsBeforeOrNew : Meta → State → State → Type 0
-LeavesAsBeforeOrNew meta old new = (db : Trees) → new.may_leave db → old.may_leave db ⊎ ((it : Database) × IsNew meta it × (db ≡ it.trees))
+LeavesAsBeforeOrNew meta old new = (db : Trees) → new.may_leave db → old.may_leave db ⊎ IsNewIn meta db
 
 -- what contracts see of the records
 pub record Kept (S : Type 0) : Type 0 where
@@ -73,11 +100,11 @@ module _ {S : Type 0} (g : Ghosts S) where
   abbrev pub kept_in : Kept S → List Entry
   kept_in k = history_in (state g k.conn).now.trees
 
-  abbrev pub MayLeave : Kept S → List Entry → Type 0
+  abbrev pub MayLeave : Kept S → Option (List Entry) → Type 0
   MayLeave k = MayLeaveIn (state g k.conn)
 
   abbrev pub IsOf : Kept S → Meta → Type 0
-  IsOf k = LeavesNumbers (state g k.conn)
+  IsOf k = LeavesSite (state g k.conn)
 
   abbrev pub IsTrusted : Kept S → Type 0
   IsTrusted k = HasCleanDisk (state g k.conn)
@@ -85,3 +112,19 @@ module _ {S : Type 0} (g : Ghosts S) where
   -- unless it has failed, the connection is at rest
   abbrev pub IsUnbroken : Held S → ℕ → ℕ → Type 0
   IsUnbroken conn failures count = failures ≡ 0 → HasCleanDisk (state g conn) → IsAtRest (state g conn) count
+
+-- more entries than any history has
+abbrev pub most : ℕ
+most = 2 ^ 61
+
+-- why an entry is not known to be kept
+module _ {S : Type 0} (g : Ghosts S) (old new : Kept S) (entry : Entry) where
+  -- the INSERT of the entry at the end was answered with this error
+  abbrev pub FailsToInsert : Error → Type 0
+  FailsToInsert e = Executes insert_text (columns_of (length (kept_in g old)) entry) (state g old.conn) (state g new.conn) (Err e)
+
+  -- want of memory before the INSERT or in it; no room for the entry, or the INSERT failed for another cause
+  abbrev pub IsKeepFault : KeepFault → Type 0
+  IsKeepFault Memory = (new.conn ≡ old.conn) ⊎ FailsToInsert (SqliteFailure OutOfMemory)
+  IsKeepFault Disk = ((¬ HasRoom entry (length (delta_text (delta_of entry)))) ⊎ (most ≤ length (kept_in g old))) ⊎ ((e : Error) × (e ≢ SqliteFailure OutOfMemory) × FailsToInsert e)
+  IsKeepFault Shut = old.failures ≢ 0

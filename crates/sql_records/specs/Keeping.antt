@@ -1,17 +1,23 @@
 -- What a keeper holds, and what a stop may leave of it. (Our own.)
-use Rattle.std.specs.Prelude.{◌≡◌, ◌⊎◌, List, [], ◌∷◌, ◌++◌}
+use Rattle.std.specs.Prelude.{◌≡◌, ◌⊎◌, List, [], ◌∷◌, ◌++◌, Option, Some, IsSome}
 use Rattle.book_core.specs.declared.entry.Entry.{Entry}
 
--- a stop leaves this list and no other
-pub record LeavesOnly (list : List Entry) (may_leave : List Entry → Type 0) : Type 0 where
-  pub left : may_leave list
-  pub alone : (other : List Entry) → may_leave other → other ≡ list
+-- What a stop leaves is the list that the next open reads, and none where an open would not read it.
 
--- the list is kept, and a stop leaves it and no other
-pub record Keeps (list kept : List Entry) (may_leave : List Entry → Type 0) : Type 0 where
+-- a stop leaves this list and nothing else
+pub record LeavesOnly (list : List Entry) (may_leave : Option (List Entry) → Type 0) : Type 0 where
+  pub left : may_leave (Some list)
+  pub alone : (other : Option (List Entry)) → may_leave other → other ≡ Some list
+
+-- the list is kept, and a stop leaves it and nothing else
+pub record Keeps (list kept : List Entry) (may_leave : Option (List Entry) → Type 0) : Type 0 where
   pub is : kept ≡ list
   pub leaves : LeavesOnly list may_leave
 
 -- a stop leaves the list, with the entry at its end or without
-abbrev pub LeavesWithOrWithout : List Entry → Entry → (List Entry → Type 0) → Type 0
-LeavesWithOrWithout list entry may_leave = (left : List Entry) → may_leave left → (left ≡ list) ⊎ (left ≡ list ++ entry ∷ [])
+abbrev pub LeavesWithOrWithout : List Entry → Entry → (Option (List Entry) → Type 0) → Type 0
+LeavesWithOrWithout list entry may_leave = (left : Option (List Entry)) → may_leave left → (left ≡ Some list) ⊎ (left ≡ Some (list ++ entry ∷ []))
+
+-- whatever a stop leaves, an open reads it
+abbrev pub Opens : (Option (List Entry) → Type 0) → Type 0
+Opens may_leave = (left : Option (List Entry)) → may_leave left → IsSome left

@@ -1,5 +1,6 @@
 -- The two tables of the records, and what the one row of `meta` says. (Our own.)
-use Rattle.std.specs.Prelude.{◌≡◌, ◌≢◌, ◌<◌, ◌≤◌, ℕ, ℤ, List, [], ◌∷◌, codes, Option, Some, None, pos, true, false, map, slice_get}
+use Rattle.std.specs.Prelude.{◌≡◌, ◌≢◌, ◌<◌, ◌≤◌, ℕ, ℤ, List, [], ◌∷◌, codes, Option, Some, None, pos, Bool, true, false, ◌||◌, map, slice_get}
+use Rattle.std.specs.List.{AllByRecursion, list_any}
 use Rattle.sqlite.specs.Collation.TheVariants.{Binary}
 use Rattle.sqlite.specs.declared.types.Value.TheVariants.{Null, Int, Text as Words}
 use Rattle.sqlite.specs.Table.{Table}
@@ -15,6 +16,8 @@ use Rattle.sqlite_schema.specs.declared.code.Op.{Op}
 use Rattle.sqlite_schema.specs.declared.code.Op.TheVariants.{Literal, Column as ColumnAt, Binary as Equals}
 use Rattle.sqlite_schema.specs.declared.schema.Column.{Column}
 use Rattle.sqlite_schema.specs.declared.schema.Index.{Index}
+use Rattle.sqlite_schema.specs.declared.schema.View.{View}
+use Rattle.sqlite_schema.specs.Names.{same_name}
 use Rattle.sql_records.specs.declared.meta.Meta.{Meta}
 
 abbrev pub plain : List ℕ → Kind → Column
@@ -83,8 +86,42 @@ number_index = record { name = codes "sqlite_autoindex_entries_1"; tree = 2; tab
 abbrev pub no_schema : Schema
 no_schema = record { tables = []; indexes = []; views = [] }
 
+-- our two tables and the index first, as a new database has them, and what others have added since
+abbrev pub ours_and : List Table → List Index → List View → Schema
+ours_and tables indexes views = record { tables = meta_at 0 ∷ entries_at 1 ∷ tables; indexes = number_index ∷ indexes; views = views }
+
+-- ours alone
 abbrev pub our_schema : Schema
-our_schema = record { tables = meta_at 0 ∷ entries_at 1 ∷ []; indexes = number_index ∷ []; views = [] }
+our_schema = ours_and [] [] []
+
+abbrev pub RefersToNone : Table → Type 0
+RefersToNone t = t.references ≡ []
+
+-- our tables and index come first, and no further table refers to a table
+pub record IsOurs (s : Schema) : Type 0 where
+  pub tables : List Table
+  pub indexes : List Index
+  pub views : List View
+  pub is : s ≡ ours_and tables indexes views
+  pub bare : AllByRecursion RefersToNone tables
+
+-- the same, as a test of the lists finds it
+abbrev pub AreOursFirst : List Table → Type 0
+AreOursFirst [] = ⊥
+AreOursFirst (meta ∷ []) = ⊥
+AreOursFirst (meta ∷ entries ∷ more) = (meta ≡ meta_at 0) × (entries ≡ entries_at 1) × AllByRecursion RefersToNone more
+
+abbrev pub IsOursFirst : List Index → Type 0
+IsOursFirst [] = ⊥
+IsOursFirst (index ∷ more) = index ≡ number_index
+
+-- the name of one of our tables, in either case
+abbrev pub is_our_name : List ℕ → Bool
+is_our_name name = same_name name (codes "meta") || same_name name (codes "entries")
+
+-- a table has the name of one of ours; a table that SQL here only keeps, as one with a trigger, stands among the views
+abbrev pub has_our_table : Schema → Bool
+has_our_table s = list_any (λ t. is_our_name t.name) s.tables || list_any (λ v. is_our_name v.name) s.views
 
 -- its key is the first column, and nothing refers to another table or is computed
 pub record IsBare (t : Table) : Type 0 where
@@ -132,6 +169,10 @@ pub record AreNumbers (meta : Meta) : Type 0 where
   pub few_sites : meta.sites ≤ 16
   pub limit_is_positive : 1 ≤ meta.limit
   pub limit_is_low : meta.limit ≤ 1000000
+
+-- the one row has the numbers of a site, under the version that is read here
+abbrev pub HasGoodMeta : Trees → Type 0
+HasGoodMeta db = (meta : Meta) × AreNumbers meta × HasMeta meta db
 
 -- the rows of `meta` are those of no site, in this version or another
 pub record HasNoMeta (db : Trees) : Type 0 where

@@ -2,6 +2,8 @@ pub mod Keeping
 pub mod Listed
 pub mod Rows
 pub mod Layout
+pub mod Texts
 pub mod Held
+pub mod Faults
 pub mod Lookups
 pub mod Opening

@@ -1,5 +1,5 @@
 -- What the records are asked: what is kept under a number, and which requests name an event. (Our own.)
-use Rattle.std.specs.Prelude.{ℕ, Bool, false, List, [], ◌∷◌, Option, Some, None, pos, map, filter}
+use Rattle.std.specs.Prelude.{ℕ, Bool, false, List, [], ◌∷◌, Option, Some, None, pos, map, filter, take, slice_get, unwrap_or, ◌≡◌}
 use Rattle.std.specs.Option.{option_map}
 use Rattle.sqlite.specs.declared.types.Value.{Value}
 use Rattle.sqlite.specs.declared.types.Value.TheVariants.{Int, Text}
@@ -15,6 +15,10 @@ use Rattle.request_ledger.specs.declared.reply.Kept.{Kept}
 use Rattle.book_core.specs.declared.entry.Entry.{Entry}
 use Rattle.book_core.specs.History.{asked, kept}
 use Rattle.plain_words.specs.Words.{◌>>=◌}
+use Rattle.sqlite.specs.State.{State}
+use Rattle.sql_records.specs.Faults.{HasDiskCause}
+use Rattle.sql_records.specs.declared.lookup.FindFault.{FindFault}
+use Rattle.sql_records.specs.declared.lookup.FindFault.TheVariants.{Shut, Damaged, Memory, Disk}
 use Rattle.sql_records.specs.declared.lookup.Found.{Found}
 use Rattle.sql_records.specs.declared.lookup.Listed.{Listed}
 use Rattle.sql_records.specs.Rows.{value_in, request_in, reply_in}
@@ -84,3 +88,25 @@ listed_of values = do
 abbrev pub first_found : List Row → Option (Option Found)
 first_found [] = None
 first_found (values ∷ rows) = Some (found_of values)
+
+-- ---- why there is no answer
+
+-- the row does not read: its place, or 0 where it has none
+abbrev pub damage_of : Row → FindFault
+damage_of values = Damaged (unwrap_or (place_in values) 0)
+
+-- the first row that does not read, and it is named
+pub record IsFirstUnread (rows : List Row) (fault : FindFault) : Type 0 where
+  pub at : ℕ
+  pub values : Row
+  pub here : slice_get rows at ≡ Some values
+  pub unread : listed_of values ≡ None
+  pub before : (listed : List Listed) × (map Some listed ≡ map listed_of (take at rows))
+  pub named : fault ≡ damage_of values
+
+-- want of memory, or the disk is at fault
+abbrev pub IsQueryFault : State → State → FindFault → Type 0
+IsQueryFault old new Shut = ⊥
+IsQueryFault old new (Damaged place) = ⊥
+IsQueryFault old new Memory = Unit {0}
+IsQueryFault old new Disk = HasDiskCause old new

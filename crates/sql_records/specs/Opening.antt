@@ -3,14 +3,14 @@ use Rattle.std.specs.Prelude.{◌≡◌, ◌≢◌, ◌⊎◌, ℤ, pos, nat_lt,
 use Rattle.sqlite.specs.declared.types.Value.{Value}
 use Rattle.sqlite.specs.declared.types.Value.TheVariants.{Int, Text}
 use Rattle.sqlite.specs.Order.{Row, column}
-use Rattle.sqlite.specs.Tree.{Trees}
-use Rattle.sqlite.specs.Effect.{Database}
+use Rattle.sqlite.specs.State.{State}
 use Rattle.plain_words.specs.Words.{◌>>=◌}
 use Rattle.sql_records.specs.declared.meta.Meta.{Meta}
 use Rattle.sql_records.specs.declared.fault.OpenFault.{OpenFault}
 use Rattle.sql_records.specs.declared.fault.OpenFault.TheVariants.{NotOurs, OtherSchema, Damaged, Memory, Disk}
 use Rattle.sql_records.specs.Rows.{number_within, site_in, AreInOrder, IsDamagedAt}
-use Rattle.sql_records.specs.Layout.{our_schema, our_kind, HasOtherSchema, HasNoMeta}
+use Rattle.sql_records.specs.Layout.{IsOurs, our_kind, HasOtherSchema, HasGoodMeta, HasNoMeta}
+use Rattle.sql_records.specs.Faults.{HasDiskCause}
 use Rattle.sql_records.specs.Held.{entries_tree}
 
 abbrev pub int_in : Value → Option ℤ
@@ -46,13 +46,21 @@ IsRowFault values (Damaged place) = ⊥
 IsRowFault values Memory = ⊥
 IsRowFault values Disk = ⊥
 
+-- a query failed: for want of memory, or the disk is at fault
+abbrev pub IsStoreFault : State → State → OpenFault → Type 0
+IsStoreFault old new NotOurs = ⊥
+IsStoreFault old new (OtherSchema version) = ⊥
+IsStoreFault old new (Damaged place) = ⊥
+IsStoreFault old new Memory = Unit {0}
+IsStoreFault old new Disk = HasDiskCause old new
+
 -- what is at fault in the numbers of a database of ours
-abbrev pub IsMetaFault : Trees → OpenFault → Type 0
-IsMetaFault db NotOurs = HasNoMeta db
-IsMetaFault db (OtherSchema version) = HasOtherSchema version db
-IsMetaFault db (Damaged place) = ⊥
-IsMetaFault db Memory = Unit {0}
-IsMetaFault db Disk = Unit {0}
+abbrev pub IsMetaFault : State → State → OpenFault → Type 0
+IsMetaFault old new NotOurs = HasNoMeta old.now.trees
+IsMetaFault old new (OtherSchema version) = HasOtherSchema version old.now.trees
+IsMetaFault old new (Damaged place) = ⊥
+IsMetaFault old new Memory = Unit {0}
+IsMetaFault old new Disk = HasDiskCause old new
 
 -- what is at fault in rows of entries
 abbrev pub AreRowsFault : List Row → OpenFault → Type 0
@@ -60,20 +68,27 @@ AreRowsFault rows NotOurs = ⊥
 AreRowsFault rows (OtherSchema version) = ⊥
 AreRowsFault rows (Damaged place) = IsDamagedAt place rows
 AreRowsFault rows Memory = Unit {0}
-AreRowsFault rows Disk = Unit {0}
+AreRowsFault rows Disk = ⊥
 
--- the disk failed or refused, or memory ran out
-abbrev pub IsStoreFault : OpenFault → Type 0
-IsStoreFault NotOurs = ⊥
-IsStoreFault (OtherSchema version) = ⊥
-IsStoreFault (Damaged place) = ⊥
-IsStoreFault Memory = Unit {0}
-IsStoreFault Disk = Unit {0}
+-- what a database answers whose tables are not ours; tests show when it answers which
+abbrev pub IsForeignFault : OpenFault → Type 0
+IsForeignFault (OtherSchema version) = version ≢ pos 1
+IsForeignFault (Damaged place) = ⊥
+IsForeignFault _ = Unit {0}
 
--- what is at fault in a database; the damaged row is the first in an order of the places
-abbrev pub IsOpenFault : Database → OpenFault → Type 0
-IsOpenFault db NotOurs = (db.schema ≢ our_schema) ⊎ HasNoMeta db.trees
-IsOpenFault db (OtherSchema version) = HasOtherSchema version db.trees
-IsOpenFault db (Damaged place) = (rows : List Row) × AreInOrder (db.trees entries_tree) rows × IsDamagedAt place rows
-IsOpenFault db Memory = Unit {0}
-IsOpenFault db Disk = Unit {0}
+-- what is at fault in a database of ours, in this order: the numbers, and then the rows;
+-- the damaged row is the first in an order of the places
+abbrev pub IsOurFault : State → State → OpenFault → Type 0
+IsOurFault old new (Damaged place) = HasGoodMeta old.now.trees × ((rows : List Row) × AreInOrder (old.now.trees entries_tree) rows × IsDamagedAt place rows)
+IsOurFault old new fault = IsMetaFault old new fault
+
+-- what is at fault in a database
+abbrev pub IsOpenFault : State → State → OpenFault → Type 0
+IsOpenFault old new fault = ((¬ IsOurs old.now.schema) × IsForeignFault fault) ⊎ (IsOurs old.now.schema × IsOurFault old new fault)
+
+-- what may be at fault in the next open after a stop: memory or the disk
+abbrev pub IsAfterStop : Option OpenFault → Type 0
+IsAfterStop None = Unit {0}
+IsAfterStop (Some Memory) = Unit {0}
+IsAfterStop (Some Disk) = Unit {0}
+IsAfterStop (Some fault) = ⊥

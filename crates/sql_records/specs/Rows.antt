@@ -1,5 +1,5 @@
 -- The rows of the entries: the ten columns of each, and the entry that a row stands for. (Our own.)
-use Rattle.std.specs.Prelude.{ℕ, ◌+◌, ◌≤◌, ◌<◌, ◌^◌, ◌≡◌, nat_le, ◌&&◌, if◌then◌else◌, Bool, true, false, List, [], ◌∷◌, ◌++◌, codes, Option, Some, None, pos, map, length, take, slice_get, IsSome, IsSorted, IsPermutation}
+use Rattle.std.specs.Prelude.{ℕ, ◌+◌, ◌≤◌, ◌<◌, ◌^◌, ◌≡◌, nat_le, ◌&&◌, ◌==◌, if◌then◌else◌, Bool, true, false, List, [], ◌∷◌, ◌++◌, codes, Option, Some, None, pos, map, length, take, slice_get, IsSome, IsSorted, IsPermutation}
 use Rattle.std.specs.List.{filter_map}
 use Rattle.std.specs.Str.{bytes_eq}
 use Rattle.std.specs.Result.{result_ok}
@@ -282,6 +282,24 @@ pub record AreInOrder (table rows : List Row) : Type 0 where
 -- the entries that the rows of the table stand for, in the order of their places
 abbrev pub history_of : List Row → List Entry
 history_of table = filter_map entry_of (in_order (map shown table))
+
+abbrev pub is_place : ℕ → Value → Bool
+is_place place (Int (pos n)) = n == place
+is_place place _ = false
+
+-- the entry of the row, where the row has this place and stands for one
+abbrev pub entry_at : ℕ → Row → Option Entry
+entry_at place values = if is_place place (column values 0) then entry_of values else None
+
+-- one more in front
+abbrev pub in_front : Option Entry → Option (List Entry) → Option (List Entry)
+in_front (Some entry) (Some entries) = Some (entry ∷ entries)
+in_front _ _ = None
+
+-- the entries of rows that have the places from one on, and none where some row is not the entry of its place
+abbrev pub entries_from : ℕ → List Row → Option (List Entry)
+entries_from place [] = Some []
+entries_from place (values ∷ rows) = in_front (entry_at place values) (entries_from (place + 1) rows)
 
 -- the row has this place and stands for an entry
 pub record IsEntryAt (place : ℕ) (values : Row) : Type 0 where

@@ -3,17 +3,18 @@ ghost use Rattle.std.specs.Prelude.{◌≡◌, ◌≢◌, [], ◌<◌, ◌↔◌
 ghost use Rattle.sqlite.specs.State.{HasCleanDisk, Survives};
 ghost use Rattle.sqlite.specs.Held.{state};
 ghost use Rattle.sqlite.specs.Values.{bound};
-ghost use Rattle.sql_records.specs.Layout.{no_schema, meta_of, HasMeta};
-ghost use Rattle.sql_records.specs.Held.{IsNew, IsAtRest, LeavesAsBeforeOrNew, LeavesNumbers, MayLeaveIn};
+ghost use Rattle.sql_records.specs.Layout.{no_schema, has_our_table, meta_of, HasMeta};
+ghost use Rattle.sql_records.specs.Held.{IsNew, IsAtRest, LeavesAsBeforeOrNew, LeavesSite, MayLeaveIn};
 ghost use Rattle.sql_records.specs.Keeping.{LeavesOnly};
 
-use crate::fault::InitFault;
+use crate::fault::{InitFault, told};
 use crate::meta::Meta;
 use crate::records::Records;
+use crate::shape::has_our_table;
 use book_core::Limit;
 use rights_lattice::{SiteId, Sites};
 use sqlite::types::ValueRef;
-use sqlite::{Alter, Connection, Error, ErrorCode, Transaction};
+use sqlite::{Alter, Connection, Error, Transaction};
 use sqlite_schema::schema::Schema;
 
 const META: &str =
@@ -28,16 +29,6 @@ fn is_empty(schema: &Schema) -> bool
     ensures { IsTrue result ↔ (schema.now ≡ no_schema) }
 {
     schema.tables.is_empty() && schema.indexes.is_empty() && schema.views.is_empty()
-}
-
-// The fault that an error of the database stands for.
-fn fault_of(error: Error) -> InitFault
-    ensures { result ≢ InitFault.AlreadyThere }
-{
-    match error {
-        Error::SqliteFailure(ErrorCode::OutOfMemory) => InitFault::Memory,
-        _ => InitFault::Disk,
-    }
 }
 
 // The columns of the row of `meta`.
@@ -74,8 +65,9 @@ fn fill<S: Alter>(tx: &mut Transaction<'_, S>, meta: Meta) -> Result<(), Error>
 impl<S: Alter> Records<S> {
     /// Makes the records of a site that has no entry yet, in an empty database, in one transaction.
     ///
-    /// A stop leaves the database as it was or the new records, and so does an error; `AlreadyThere` leaves it.
-    /// `Disk` too where a transaction is open, which leaves it.
+    /// A stop leaves the database as it was or the new records, and so does an error; `AlreadyThere`, where a table
+    /// has the name of one of ours, leaves it. `Disk` too where the database holds anything else, or a transaction
+    /// is open, which leaves both.
     pub fn init(
         conn: &mut Connection<S>,
         me: SiteId,
@@ -83,15 +75,16 @@ impl<S: Alter> Records<S> {
         limit: Limit,
     ) -> Result<(), InitFault>
         requires me { me < sites }
-        ensures there { (result ≡ Err InitFault.AlreadyThere) ↔ (conn.old.schema ≢ no_schema) }
-        ensures busy { conn.old.schema ≡ no_schema → conn.old.in_transaction ≡ true → (result ≡ Err InitFault.Disk) × (conn.new ≡ conn.old) }
+        ensures there { (result ≡ Err InitFault.AlreadyThere) ↔ IsTrue (has_our_table conn.old.schema) }
+        ensures other { has_our_table conn.old.schema ≡ false → conn.old.schema ≢ no_schema → (result ≡ Err InitFault.Disk) × (conn.new ≡ conn.old) }
+        ensures busy { has_our_table conn.old.schema ≡ false → conn.old.in_transaction ≡ true → (result ≡ Err InitFault.Disk) × (conn.new ≡ conn.old) }
         ensures as_it_was { result ≡ Err InitFault.AlreadyThere → conn.new ≡ conn.old }
         ensures rest { HasCleanDisk (state S.Store conn.new) → OnOk result (IsAtRest (state S.Store conn.new) 0) }
         ensures made { HasCleanDisk (state S.Store conn.new) → OnOk result
             (IsNew (record { me = me; sites = sites; limit = limit }) (state S.Store conn.new).now) }
         ensures leaves { HasCleanDisk (state S.Store conn.new) → OnOk result (LeavesOnly [] (MayLeaveIn (state S.Store conn.new))) }
         ensures site { HasCleanDisk (state S.Store conn.new) → OnOk result
-            (LeavesNumbers (state S.Store conn.new) (record { me = me; sites = sites; limit = limit })) }
+            (LeavesSite (state S.Store conn.new) (record { me = me; sites = sites; limit = limit })) }
         ensures crash { HasCleanDisk (state S.Store conn.new)
             → LeavesAsBeforeOrNew (record { me = me; sites = sites; limit = limit }) (state S.Store conn.old) (state S.Store conn.new) }
         ensures as_before { HasCleanDisk (state S.Store conn.new) → IsTrue (state S.Store conn.new).is_open → OnErr result
@@ -99,21 +92,21 @@ impl<S: Alter> Records<S> {
         ensures ended { conn.old.in_transaction ≡ false → conn.new.in_transaction ≡ false }
         ensures clean { HasCleanDisk (state S.Store conn.new) → HasCleanDisk (state S.Store conn.old) }
     {
-        if !is_empty(conn.schema()) {
+        if has_our_table(conn.schema()) {
             return Err(InitFault::AlreadyThere);
         }
-        if !conn.is_autocommit() {
+        if !is_empty(conn.schema()) || !conn.is_autocommit() {
             return Err(InitFault::Disk);
         }
         let mut tx = conn.transaction();
         match fill(&mut tx, Meta { me, sites, limit }) {
             Ok(()) => match tx.commit() {
                 Ok(()) => Ok(()),
-                Err(error) => Err(fault_of(error)),
+                Err(error) => Err(told(InitFault::Memory, InitFault::Disk, error)),
             },
             Err(error) => {
                 tx.rollback();
-                Err(fault_of(error))
+                Err(told(InitFault::Memory, InitFault::Disk, error))
             }
         }
     }

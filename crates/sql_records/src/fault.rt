@@ -1,15 +1,19 @@
 //! Why a site's records are not made or not opened.
+ghost use Rattle.std.specs.Prelude.{◌≡◌};
+ghost use Rattle.sql_records.specs.Faults.{told};
+
+use sqlite::{Error as StoreError, ErrorCode};
 use thiserror::Error;
 
 /// Why no new records were made.
 #[derive(Clone, Copy, Debug, PartialEq, Eq, Error)]
 pub enum InitFault {
-    /// The database has a table, an index or a view.
-    #[error("the database is not empty")]
+    /// The database has a table with the name of one of ours.
+    #[error("the database has a table of records")]
     AlreadyThere,
     #[error("out of memory")]
     Memory,
-    /// The database could not be written. It is as it was, or has the new records.
+    /// The database could not be written, or holds something else. It is as it was, or has the new records.
     #[error("the database could not be written")]
     Disk,
 }
@@ -31,4 +35,14 @@ pub enum OpenFault {
     /// The database could not be read.
     #[error("the database could not be read")]
     Disk,
+}
+
+/// The fault for an error of the store: the first for want of memory, the second for each other error.
+pub(crate) fn told<F: Copy>(memory: F, disk: F, error: StoreError) -> F
+    ensures { result ≡ told memory disk error }
+{
+    match error {
+        StoreError::SqliteFailure(ErrorCode::OutOfMemory) => memory,
+        _ => disk,
+    }
 }

@@ -1,12 +1,13 @@
 //! One entry more in the table.
-ghost use Rattle.std.specs.Prelude.{◌≡◌, ◌<◌, ◌+◌, ◌^◌, ◌≤◌, OnOk, [], ◌∷◌, ◌++◌, length};
-ghost use Rattle.sqlite.specs.State.{HasCleanDisk};
+ghost use Rattle.std.specs.Prelude.{◌≡◌, ◌<◌, ◌+◌, ◌^◌, ◌≤◌, OnOk, IfErr, Err, [], ◌∷◌, ◌++◌, length};
+ghost use Rattle.sqlite.specs.State.{HasCleanDisk, Executes};
 ghost use Rattle.sqlite.specs.Held.{state};
 ghost use Rattle.book_core.specs.History.{delta_of};
 ghost use Rattle.sql_records.specs.declared.meta.Meta.{Meta};
 ghost use Rattle.delta_wire.specs.Grammar.{IsDelta, delta_text};
-ghost use Rattle.sql_records.specs.Rows.{HasRoom};
-ghost use Rattle.sql_records.specs.Held.{IsAtRest, LeavesWithOrWithout, LeavesMeta, LeavesNumbers, history_in};
+ghost use Rattle.sql_records.specs.Rows.{HasRoom, columns_of};
+ghost use Rattle.sql_records.specs.Held.{IsAtRest, LeavesSite, MayLeaveIn, history_in};
+ghost use Rattle.sql_records.specs.Keeping.{LeavesWithOrWithout};
 ghost use Rattle.sql_records.specs.Layout.{meta_tree};
 
 use crate::columns::columns;
@@ -31,13 +32,12 @@ pub fn insert<S: Alter>(
     ensures added { HasCleanDisk (state S.Store conn.new) → OnOk result
         (history_in (state S.Store conn.new).now.trees ≡ history_in (state S.Store conn.old).now.trees ++ entry.now ∷ []) }
     ensures crash { HasCleanDisk (state S.Store conn.new)
-        → LeavesWithOrWithout (state S.Store conn.new) (history_in (state S.Store conn.old).now.trees) entry.now }
+        → LeavesWithOrWithout (history_in (state S.Store conn.old).now.trees) entry.now (MayLeaveIn (state S.Store conn.new)) }
     ensures meta { HasCleanDisk (state S.Store conn.new) → OnOk result
         ((state S.Store conn.new).now.trees meta_tree ≡ (state S.Store conn.old).now.trees meta_tree) }
-    ensures crash_meta { HasCleanDisk (state S.Store conn.new)
-        → LeavesMeta (state S.Store conn.new) ((state S.Store conn.old).now.trees meta_tree) }
     ensures site { HasCleanDisk (state S.Store conn.new) → (meta : Meta)
-        → LeavesNumbers (state S.Store conn.old) meta → LeavesNumbers (state S.Store conn.new) meta }
+        → LeavesSite (state S.Store conn.old) meta → LeavesSite (state S.Store conn.new) meta }
+    ensures fails { HasCleanDisk (state S.Store conn.new) → IfErr result (λ e. Executes INSERT.now (columns_of place entry.now) (state S.Store conn.old) (state S.Store conn.new) (Err e)) }
     ensures clean { HasCleanDisk (state S.Store conn.new) → HasCleanDisk (state S.Store conn.old) }
 {
     let row = columns(place, entry, text);

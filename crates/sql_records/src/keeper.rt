@@ -1,8 +1,8 @@
 //! What every keeper promises.
-ghost use Rattle.std.specs.Prelude.{◌≡◌, ◌≢◌, ℕ, List, [], ◌∷◌, ◌++◌, OnOk, OnErr, IsErrOf};
+ghost use Rattle.std.specs.Prelude.{◌≡◌, ◌≢◌, ℕ, List, Option, [], ◌∷◌, ◌++◌, OnOk, OnErr, IsErrOf};
 ghost use Rattle.book_core.specs.declared.entry.Entry.{Entry as Entered};
 ghost use Rattle.sql_records.specs.declared.meta.Meta.{Meta};
-ghost use Rattle.sql_records.specs.Keeping.{Keeps, LeavesWithOrWithout};
+ghost use Rattle.sql_records.specs.Keeping.{Keeps, LeavesOnly, LeavesWithOrWithout};
 
 use book_core::Entry;
 use thiserror::Error;
@@ -25,13 +25,13 @@ pub trait Keeper {
     /// The entries that are kept, the oldest first.
     ghost kept: { Self → List Entered };
 
-    /// The lists that a stop at this moment may leave.
-    ghost may_leave: { Self → List Entered → Type 0 };
+    /// The lists that an open reads after a stop at this moment, and `None` where it would not read one.
+    ghost may_leave: { Self → Option (List Entered) → Type 0 };
 
     /// A stop at this moment leaves the records of a site with these numbers, as far as they tell them.
     ghost is_of: { Self → Meta → Type 0 };
 
-    /// How many appends have failed: 0, or 1 once it is shut.
+    /// 0, or 1 once a call has failed: the keeper is shut.
     ghost failed: { Self → ℕ };
 
     /// Nothing else has written the store, and it has returned what was written.
@@ -49,7 +49,8 @@ pub trait Keeper {
         ensures site { is_trusted self.new → (meta : Meta) → is_of self.old meta → is_of self.new meta }
         ensures trusted { is_trusted self.new → is_trusted self.old };
 
-    /// How many appends have failed: 0, or 1 once it is shut.
+    /// 0, or 1 once a call has failed: the keeper is shut. As long as none has, a stop leaves what is kept.
     fn failures(&self) -> u64
-        ensures { result ≡ failed self.now };
+        ensures counted { result ≡ failed self.now }
+        ensures rest { result ≡ 0 → is_trusted self.now → LeavesOnly (kept self.now) (may_leave self.now) };
 }

@@ -116,7 +116,7 @@ fn push_copy(alloc: Global, entries: &mut Vec<Entry>, entry: &Entry) -> Result<(
 impl Keeper for ListKeeper {
     ghost kept = { λ k. k.kept };
 
-    ghost may_leave = { λ k list. list ≡ k.kept };
+    ghost may_leave = { λ k left. left ≡ Some k.kept };
 
     ghost is_of = { λ k meta. Unit {0} };
 

@@ -1,17 +1,17 @@
 //! Reading the records of a database.
-ghost use Rattle.std.specs.Prelude.{◌≡◌, ◌≢◌, ◌↔◌, ℕ, length, IsTrue, IfOk, IfErr, OnOk, IfSome, IfNone, OnErr, [], ◌∷◌, ◌⊎◌, Some, None, pos};
+ghost use Rattle.std.specs.Prelude.{◌≡◌, ◌≢◌, ◌↔◌, ◌≤◌, ℕ, length, IsTrue, IfOk, IfErr, OnOk, IfSome, IfNone, OnErr, [], ◌∷◌, ◌⊎◌, Some, None, pos};
 ghost use Rattle.std.specs.List.{filter_map};
 ghost use Rattle.sqlite.specs.declared.types.Value.TheVariants.{Int, Text};
-ghost use Rattle.sqlite.specs.State.{HasCleanDisk, IsUnchanged};
+ghost use Rattle.sqlite.specs.State.{HasCleanDisk, IsLive, IsUnchanged};
 ghost use Rattle.sqlite.specs.Held.{state};
 ghost use Rattle.sqlite.specs.Order.{column};
 ghost use Rattle.sqlite_value.specs.Value.{owned};
-ghost use Rattle.sql_records.specs.Layout.{our_schema, our_kind, HasMeta, AreNumbers};
+ghost use Rattle.sql_records.specs.Layout.{IsOurs, our_kind, HasMeta, AreNumbers};
 ghost use Rattle.sql_records.specs.Rows.{entry_of, number_within, IsEntryAt, AreInOrder, AreWhole};
 ghost use Rattle.sql_records.specs.Held.{entries_tree, rows_in, history_in, LeavesNoMore};
-ghost use Rattle.sql_records.specs.Opening.{int_in, numbers_in, IsRowOf, IsRowFault, IsMetaFault, AreRowsFault, IsStoreFault, IsOpenFault};
+ghost use Rattle.sql_records.specs.Opening.{int_in, numbers_in, IsRowOf, IsRowFault, IsMetaFault, AreRowsFault, IsStoreFault, IsForeignFault, IsOpenFault};
 
-use crate::fault::OpenFault;
+use crate::fault::{OpenFault, told};
 use crate::meta::Meta;
 use crate::reading::{number_within, read_entry, site_in, value_at};
 use crate::shape::is_ours;
@@ -26,29 +26,19 @@ const META_SELECT: &str = "SELECT kind, version, me, sites, bound FROM meta";
 const SELECT: &str =
     "SELECT pos, peer, number, verb, event, amount, target, reply, rest, delta FROM entries ORDER BY pos";
 
-// The fault that an error of the database stands for.
-fn fault_of(error: Error) -> OpenFault
-    ensures { IsStoreFault result }
-{
-    match error {
-        Error::SqliteFailure(ErrorCode::OutOfMemory) => OpenFault::Memory,
-        _ => OpenFault::Disk,
-    }
-}
-
 // The rows of all entries, in an order of their places.
 fn read_rows<S: Alter>(conn: &mut Connection<S>) -> Result<Vec<Row>, OpenFault>
-    requires { HasCleanDisk (state S.Store conn.old) → (state S.Store conn.old).now.schema ≡ our_schema }
+    requires { HasCleanDisk (state S.Store conn.old) → IsOurs (state S.Store conn.old).now.schema }
     ensures shown { HasCleanDisk (state S.Store conn.new) → IfOk result
         (λ rows. AreInOrder ((state S.Store conn.old).now.trees entries_tree) rows.items) }
     ensures same { HasCleanDisk (state S.Store conn.new) → OnOk result (IsUnchanged (state S.Store conn.old) (state S.Store conn.new)) }
-    ensures fault { IfErr result IsStoreFault }
+    ensures fault { HasCleanDisk (state S.Store conn.new) → IfErr result (IsStoreFault (state S.Store conn.old) (state S.Store conn.new)) }
     ensures left { HasCleanDisk (state S.Store conn.new) → LeavesNoMore (state S.Store conn.old) (state S.Store conn.new) }
     ensures clean { HasCleanDisk (state S.Store conn.new) → HasCleanDisk (state S.Store conn.old) }
 {
     match conn.query_all(SELECT, &[]) {
         Ok(rows) => Ok(rows),
-        Err(error) => Err(fault_of(error)),
+        Err(error) => Err(told(OpenFault::Memory, OpenFault::Disk, error)),
     }
 }
 
@@ -176,21 +166,70 @@ fn only(mut rows: Vec<Row>) -> Option<Row>
 
 // The numbers in `meta`.
 fn read_meta<S: Alter>(conn: &mut Connection<S>) -> Result<Meta, OpenFault>
-    requires { HasCleanDisk (state S.Store conn.old) → (state S.Store conn.old).now.schema ≡ our_schema }
+    requires { HasCleanDisk (state S.Store conn.old) → IsOurs (state S.Store conn.old).now.schema }
     ensures meta { HasCleanDisk (state S.Store conn.new) → IfOk result (λ meta. HasMeta meta (state S.Store conn.old).now.trees) }
     ensures numbers { IfOk result AreNumbers }
     ensures same { HasCleanDisk (state S.Store conn.new) → OnOk result (IsUnchanged (state S.Store conn.old) (state S.Store conn.new)) }
-    ensures fault { HasCleanDisk (state S.Store conn.new) → IfErr result (IsMetaFault (state S.Store conn.old).now.trees) }
+    ensures fault { HasCleanDisk (state S.Store conn.new) → IfErr result (IsMetaFault (state S.Store conn.old) (state S.Store conn.new)) }
+    ensures counts { (state S.Store conn.old).faults ≤ (state S.Store conn.new).faults }
+    ensures limit { (state S.Store conn.new).step_limit ≡ (state S.Store conn.old).step_limit }
     ensures left { HasCleanDisk (state S.Store conn.new) → LeavesNoMore (state S.Store conn.old) (state S.Store conn.new) }
     ensures clean { HasCleanDisk (state S.Store conn.new) → HasCleanDisk (state S.Store conn.old) }
 {
     let rows = match conn.query_all(META_SELECT, &[]) {
         Ok(rows) => rows,
-        Err(error) => return Err(fault_of(error)),
+        Err(error) => return Err(told(OpenFault::Memory, OpenFault::Disk, error)),
     };
     match only(rows) {
         Some(row) => read_numbers(&row),
         None => Err(OpenFault::NotOurs),
+    }
+}
+
+// Whether the rows are one, of our kind, and of another version.
+fn other_version(rows: Vec<Row>) -> Option<i64>
+    ensures { IfSome result (λ version. version ≢ pos 1) }
+{
+    match read_numbers(&only(rows)?) {
+        Err(OpenFault::OtherSchema { version }) => Some(version),
+        _ => None,
+    }
+}
+
+// The select on `meta` failed for another cause than what it says.
+fn is_disk_error(error: Error) -> bool {
+    matches!(
+        error,
+        Error::SqliteFailure(
+            ErrorCode::SystemIoFailure
+                | ErrorCode::DatabaseCorrupt
+                | ErrorCode::DiskFull
+                | ErrorCode::Closed
+        )
+    )
+}
+
+// What a database answers whose tables are not ours: a file of another version may have other columns. The
+// transaction says that nothing is written, whatever the database makes of the query.
+fn foreign_fault<S: Alter>(conn: &mut Connection<S>) -> OpenFault
+    ensures named { IsForeignFault result }
+    ensures left { HasCleanDisk (state S.Store conn.new) → LeavesNoMore (state S.Store conn.old) (state S.Store conn.new) }
+    ensures clean { HasCleanDisk (state S.Store conn.new) → HasCleanDisk (state S.Store conn.old) }
+{
+    if !conn.is_autocommit() {
+        return OpenFault::NotOurs;
+    }
+    let mut tx = conn.transaction();
+    let answer = tx.query_all(META_SELECT, &[]);
+    tx.rollback();
+    match answer {
+        Ok(rows) => match other_version(rows) {
+            Some(version) => OpenFault::OtherSchema { version },
+            None => OpenFault::NotOurs,
+        },
+        Err(Error::SqliteFailure(ErrorCode::OutOfMemory)) => OpenFault::Memory,
+        Err(error) if is_disk_error(error) => OpenFault::Disk,
+        Err(_) => OpenFault::NotOurs,
     }
 }
 
@@ -205,15 +244,15 @@ pub fn read_records<S: Alter>(
     ensures whole { HasCleanDisk (state S.Store conn.new) → OnOk result (AreWhole 0 (rows_in (state S.Store conn.old).now.trees)) }
     ensures meta { HasCleanDisk (state S.Store conn.new) → IfOk result (λ it. HasMeta it.1 (state S.Store conn.old).now.trees) }
     ensures numbers { IfOk result (λ it. AreNumbers it.1) }
-    ensures schema { OnOk result (conn.old.schema ≡ our_schema) }
-    ensures foreign { conn.old.schema ≢ our_schema → result ≡ Err OpenFault.NotOurs }
+    ensures schema { OnOk result (IsOurs conn.old.schema) }
+    ensures live { IsLive (state S.Store conn.old) }
     ensures same { HasCleanDisk (state S.Store conn.new) → OnOk result (IsUnchanged (state S.Store conn.old) (state S.Store conn.new)) }
-    ensures fault { HasCleanDisk (state S.Store conn.new) → IfErr result (IsOpenFault (state S.Store conn.old).now) }
+    ensures fault { HasCleanDisk (state S.Store conn.new) → IfErr result (IsOpenFault (state S.Store conn.old) (state S.Store conn.new)) }
     ensures left { HasCleanDisk (state S.Store conn.new) → LeavesNoMore (state S.Store conn.old) (state S.Store conn.new) }
     ensures clean { HasCleanDisk (state S.Store conn.new) → HasCleanDisk (state S.Store conn.old) }
 {
     if !is_ours(conn.schema()) {
-        return Err(OpenFault::NotOurs);
+        return Err(foreign_fault(conn));
     }
     let meta = read_meta(conn)?;
     let rows = read_rows(conn)?;

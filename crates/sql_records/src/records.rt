@@ -2,18 +2,19 @@
 ghost use Rattle.std.specs.Prelude.{◌≡◌};
 
 use crate::columns::fits;
-use crate::fault::OpenFault;
+use crate::fault::{OpenFault, told};
 use crate::inserting::insert;
 use crate::keeper::{KeepFault, Keeper};
 use crate::meta::Meta;
 use crate::opening::read_records;
 use book_core::Entry;
 use delta_wire::delta_text;
-use sqlite::{Alter, Connection, Error, ErrorCode};
+use sqlite::{Alter, Connection};
 use std::alloc::Global;
 use std::marker::Model;
 
 mod finding;
+mod stopping;
 
 // More entries than any history has.
 const MOST: u64 = 1 << 61;
@@ -50,7 +51,10 @@ impl<S: Alter + Drop> Drop for Records<S> {
 }
 
 impl<S: Alter> Keeper for Records<S> {
-    ghost use Rattle.sql_records.specs.Held.{kept_in, MayLeave, IsOf, IsTrusted};
+    ghost use Rattle.std.specs.Prelude.{◌≡◌, ◌≢◌, ◌++◌, ◌∷◌, [], OnOk, OnErr, IfErr, IsErrOf};
+    ghost use Rattle.sql_records.specs.declared.meta.Meta.{Meta as Numbers};
+    ghost use Rattle.sql_records.specs.Keeping.{Keeps, LeavesWithOrWithout};
+    ghost use Rattle.sql_records.specs.Held.{kept_in, MayLeave, IsOf, IsTrusted, IsKeepFault};
 
     ghost kept = { kept_in S.Store };
 
@@ -62,7 +66,19 @@ impl<S: Alter> Keeper for Records<S> {
 
     ghost is_trusted = { IsTrusted S.Store };
 
-    fn append(&mut self, entry: &Entry) -> Result<(), KeepFault> {
+    /// As of every keeper; `Memory` only where it was refused, and `Disk` only where there is no room for the
+    /// entry or its INSERT failed.
+    fn append(&mut self, entry: &Entry) -> Result<(), KeepFault>
+        ensures kept { OnOk result (IsTrusted S.Store self.new → Keeps (kept_in S.Store self.old ++ entry.now ∷ []) (kept_in S.Store self.new) (MayLeave S.Store self.new)) }
+        ensures stopped { self.old.failures ≡ 0 → OnErr result (IsTrusted S.Store self.new → LeavesWithOrWithout (kept_in S.Store self.old) entry.now (MayLeave S.Store self.new)) }
+        ensures open { OnOk result ((self.old.failures ≡ 0) × (self.new.failures ≡ 0)) }
+        ensures counted { self.old.failures ≡ 0 → OnErr result (self.new.failures ≡ 1) }
+        ensures named { self.old.failures ≡ 0 → IsErrOf result KeepFault.Shut → ⊥ }
+        ensures shut { self.old.failures ≢ 0 → (result ≡ Err KeepFault.Shut) × (self.new ≡ self.old) }
+        ensures cause { IfErr result (λ fault. IsTrusted S.Store self.new → IsKeepFault S.Store self.old self.new entry.now fault) }
+        ensures site { IsTrusted S.Store self.new → (meta : Numbers) → IsOf S.Store self.old meta → IsOf S.Store self.new meta }
+        ensures trusted { IsTrusted S.Store self.new → IsTrusted S.Store self.old }
+    {
         if self.failures != 0 {
             return Err(KeepFault::Shut);
         }
@@ -82,13 +98,9 @@ impl<S: Alter> Keeper for Records<S> {
                 self.count += 1;
                 Ok(())
             }
-            Err(Error::SqliteFailure(ErrorCode::OutOfMemory)) => {
+            Err(error) => {
                 self.failures = 1;
-                Err(KeepFault::Memory)
-            }
-            Err(_) => {
-                self.failures = 1;
-                Err(KeepFault::Disk)
+                Err(told(KeepFault::Memory, KeepFault::Disk, error))
             }
         }
     }
@@ -99,28 +111,31 @@ impl<S: Alter> Keeper for Records<S> {
 }
 
 impl<S: Alter + Drop> Records<S> {
-    ghost use Rattle.std.specs.Prelude.{◌≡◌, ◌≢◌, true, IfOk, IsErr};
+    ghost use Rattle.std.specs.Prelude.{◌≡◌, ◌≢◌, true, false, Some, IfOk, IfErr, IsErr};
     ghost use Rattle.sqlite.specs.State.{HasCleanDisk};
-    ghost use Rattle.sqlite.specs.Held.{state};
+    ghost use Rattle.sqlite.specs.Held.{Held, state};
+    ghost use Rattle.sql_records.specs.Opening.{IsOpenFault};
     ghost use Rattle.sql_records.specs.Keeping.{LeavesOnly};
-    ghost use Rattle.sql_records.specs.Layout.{our_schema, HasMeta, AreNumbers};
+    ghost use Rattle.sql_records.specs.Layout.{IsOurs, HasMeta, AreNumbers};
     ghost use Rattle.sql_records.specs.declared.meta.Meta.{Meta as Numbers};
-    ghost use Rattle.sql_records.specs.Held.{kept_in, MayLeave, IsOf, IsTrusted};
+    ghost use Rattle.sql_records.specs.Held.{kept_in, opened_in, IsSiteIn, MayLeave, IsOf, IsTrusted};
 
     /// The records of a database, the entries that they hold, the oldest first, and the site's numbers.
     ///
-    /// `read_records` has the same errors, and says what each means; here `Disk` too where a transaction is open.
-    /// After an error the connection is gone.
+    /// `Disk` where a transaction is open; each other error is as of `read_records`, of the connection as the
+    /// call left it, which is gone then.
     pub fn open(
         alloc: Global,
         mut conn: Connection<S>,
     ) -> Result<(Records<S>, Vec<Entry>, Meta), OpenFault>
-        ensures foreign { conn.schema ≢ our_schema → result ≡ Err OpenFault.NotOurs }
-        ensures busy { conn.in_transaction ≡ true → IsErr result }
+        ensures foreign { ¬ IsOurs conn.schema → IsErr result }
+        ensures busy { conn.in_transaction ≡ true → result ≡ Err OpenFault.Disk }
+        ensures fault { conn.in_transaction ≡ false → IfErr result (λ fault. (after : Held S) × (HasCleanDisk (state S.Store after) → HasCleanDisk (state S.Store conn) × IsOpenFault (state S.Store conn) (state S.Store after) fault)) }
         ensures entries { IfOk result (λ it. IsTrusted S.Store it.0 → it.1.items ≡ kept_in S.Store it.0) }
         ensures meta { IfOk result (λ it. IsTrusted S.Store it.0 → HasMeta it.2 (state S.Store it.0.conn).now.trees) }
         ensures given { IfOk result (λ it. IsTrusted S.Store it.0 → (meta : Numbers) → HasMeta meta (state S.Store conn).now.trees → it.2 ≡ meta) }
         ensures numbers { IfOk result (λ it. AreNumbers it.2) }
+        ensures holds { IfOk result (λ it. IsTrusted S.Store it.0 → IsSiteIn it.2 (state S.Store conn).now.trees × (opened_in (state S.Store conn).now.trees ≡ Some it.1.items)) }
         ensures site { IfOk result (λ it. IsTrusted S.Store it.0 → IsOf S.Store it.0 it.2) }
         ensures same { IfOk result (λ it. IsTrusted S.Store it.0 → (state S.Store it.0.conn).now ≡ (state S.Store conn).now) }
         ensures leaves { IfOk result (λ it. IsTrusted S.Store it.0 → LeavesOnly (kept_in S.Store it.0) (MayLeave S.Store it.0)) }
@@ -128,10 +143,10 @@ impl<S: Alter + Drop> Records<S> {
         ensures clean { IfOk result (λ it. IsTrusted S.Store it.0 → HasCleanDisk (state S.Store conn)) }
     {
         let is_settled = conn.is_autocommit();
-        let (entries, meta) = read_records(alloc, &mut conn)?;
         if !is_settled {
             return Err(OpenFault::Disk);
         }
+        let (entries, meta) = read_records(alloc, &mut conn)?;
         let records = Records {
             conn,
             count: entries.len() as u64,

@@ -1,6 +1,7 @@
-//! Whether a database has the tables of the records and no others.
+//! Whether a database has the tables of the records.
 ghost use Rattle.std.specs.Prelude.{◌≡◌, ◌≤◌, ◌↔◌, length, [], ◌∷◌, true, None, Some, pos, IsTrue};
-ghost use Rattle.sql_records.specs.Layout.{our_schema, plain, required, one_is_1, AreOneAnd1, sides_of, meta_at, entries_at, number_index, last_columns, IsBare};
+ghost use Rattle.sql_records.specs.Layout.{IsOurs, AreOursFirst, IsOursFirst, RefersToNone, is_our_name, has_our_table, plain, required, one_is_1, AreOneAnd1, sides_of, meta_at, entries_at, number_index, last_columns, IsBare};
+ghost use Rattle.std.specs.List.{AllByRecursion, list_any};
 ghost use Rattle.std.specs.Option.{option_copied};
 ghost use Rattle.sqlite.specs.declared.types.Value.TheVariants.{Int};
 ghost use Rattle.sqlite_schema.specs.Code.{term_in};
@@ -10,7 +11,8 @@ ghost use Rattle.sqlite.specs.Kind.TheVariants.{Integer as IntegerKind, Text as 
 use sqlite::types::{Bytes, Value};
 use sqlite_items::Items;
 use sqlite_schema::code::{Op, Terms};
-use sqlite_schema::schema::{Column, Index, Kind, Schema, Stamps, Table};
+use sqlite_schema::names::same_name;
+use sqlite_schema::schema::{Column, Index, Kind, Schema, Stamps, Table, View};
 use sqlite_sql::ops::{BinaryOp, CompareOp};
 use sqlite_value::keys::{Collation, Order};
 
@@ -261,17 +263,59 @@ fn is_number_index(i: &Index) -> bool
         && i.is_unique
 }
 
-/// Whether the schema is that of the records.
-pub fn is_ours(schema: &Schema) -> bool
-    ensures { IsTrue result ↔ (schema.now ≡ our_schema) }
+fn refers_to_none(tables: &[Table]) -> bool
+    ensures { IsTrue result ↔ AllByRecursion RefersToNone tables.now }
 {
-    let tables = match schema.tables.as_slice() {
-        [meta, entries] => is_meta(meta) && is_entries(entries),
+    tables.iter().all(|t| t.references.is_empty())
+}
+
+fn are_ours_first(tables: &[Table]) -> bool
+    ensures { IsTrue result ↔ AreOursFirst tables.now }
+{
+    match tables {
+        [meta, entries, more @ ..] => is_meta(meta) && is_entries(entries) && refers_to_none(more),
         _ => false,
-    };
-    let indexes = match schema.indexes.as_slice() {
-        [index] => is_number_index(index),
+    }
+}
+
+fn is_ours_first(indexes: &[Index]) -> bool
+    ensures { IsTrue result ↔ IsOursFirst indexes.now }
+{
+    match indexes {
+        [index, ..] => is_number_index(index),
         _ => false,
-    };
-    tables && indexes && schema.views.is_empty()
+    }
+}
+
+/// Whether the schema begins with that of the records, and no further table refers to a table.
+#[tactic(auto, using(crate::proofs::ShapeLemmas::ours_of, crate::proofs::ShapeLemmas::first_of))]
+pub fn is_ours(schema: &Schema) -> bool
+    ensures { IsTrue result ↔ IsOurs schema.now }
+{
+    are_ours_first(schema.tables.as_slice()) && is_ours_first(schema.indexes.as_slice())
+}
+
+fn is_our_name(name: &Bytes) -> bool
+    ensures { result ≡ is_our_name name.now }
+{
+    same_name(name.as_slice(), b"meta") || same_name(name.as_slice(), b"entries")
+}
+
+fn has_our_name(tables: &[Table]) -> bool
+    ensures { result ≡ list_any (λ t. is_our_name t.name) tables.now }
+{
+    tables.iter().any(|t| is_our_name(&t.name))
+}
+
+fn keeps_our_name(views: &[View]) -> bool
+    ensures { result ≡ list_any (λ v. is_our_name v.name) views.now }
+{
+    views.iter().any(|v| is_our_name(&v.name))
+}
+
+/// Whether a table has the name of one of ours, in either case.
+pub fn has_our_table(schema: &Schema) -> bool
+    ensures { result ≡ has_our_table schema.now }
+{
+    has_our_name(schema.tables.as_slice()) || keeps_our_name(schema.views.as_slice())
 }

@@ -2,11 +2,14 @@ pub mod Balance
 pub mod Delivering
 pub mod Making
 pub mod Positions
+pub mod Promised
 pub mod Reached
+pub mod Seats
 pub mod Sites
 pub mod Steps
 pub mod Taking
 pub mod Worlds
+mod FlatList
 mod Names
 mod Runs
 mod Totals

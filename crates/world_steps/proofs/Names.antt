@@ -109,13 +109,13 @@ known_more items i node now new l is before adds =
     ∙ ap (λ (h : List Entry). names_in_order (join_names (known_in i items) (state_of h).names)) (sym (history_in items i node l is))
     ∙ ap (λ n. names_in_order (known_in n items)) (let e : suc i ≡ i + 1 = omega arith in e)
 
-known_below-in : (limit : ℕ) (nodes : List Node) (sent : List Message) (n : ℕ) → known_in n nodes ≡ known_below n (world_of limit nodes sent)
-known_below-in limit nodes sent zero = refl
-known_below-in limit nodes sent (suc n) = ap (λ (N : Names). join_names N (state_of (history_at (world_of limit nodes sent) n)).names) (known_below-in limit nodes sent n)
+known_below-in : (nodes : List Node) (sent : List Message) (n : ℕ) → known_in n nodes ≡ known_below n (world_of nodes sent)
+known_below-in nodes sent zero = refl
+known_below-in nodes sent (suc n) = ap (λ (N : Names). join_names N (state_of (history_at (world_of nodes sent) n)).names) (known_below-in nodes sent n)
 
 -- the names of all nodes are those of the world
-pub known_whole : (limit : ℕ) (nodes : List Node) (sent : List Message) (items : List Node) (i : ℕ) → items ≡ nodes → i ≤ length items → length items ≤ i → names_in_order (known_in i items) ≡ events_of (world_of limit nodes sent)
-known_whole limit nodes sent items i same le ge =
+pub known_whole : (nodes : List Node) (sent : List Message) (items : List Node) (i : ℕ) → items ≡ nodes → i ≤ length items → length items ≤ i → names_in_order (known_in i items) ≡ events_of (world_of nodes sent)
+known_whole nodes sent items i same le ge =
     ap (λ (ns : List Node). names_in_order (known_in i ns)) same
-    ∙ ap (λ (N : Names). names_in_order N) (known_below-in limit nodes sent i)
-    ∙ ap (λ n. names_in_order (known_below n (world_of limit nodes sent))) (let e : i ≡ count (world_of limit nodes sent) = omega (arith, ap length same, length-sites nodes) in e)
+    ∙ ap (λ (N : Names). names_in_order N) (known_below-in nodes sent i)
+    ∙ ap (λ n. names_in_order (known_below n (world_of nodes sent))) (let e : i ≡ count (world_of nodes sent) = omega (arith, ap length same, length-sites nodes) in e)

@@ -42,10 +42,10 @@ pub history_in : (nodes : List Node) (i : ℕ) (n : Node) → i < length nodes �
 history_in nodes i n l e = ap (λ (s : Site). s.history) (site_found nodes i n (found_at nodes i n l e))
 
 -- one more site's own cell
-pub own_more : (limit : ℕ) (nodes : List Node) (sent : List Message) (event : List ℕ) (cell : ℕ → Cell) (i me : ℕ) (node : Node) (sum value : ℕ) → IsKept limit nodes sent
+pub own_more : (nodes : List Node) (sent : List Message) (event : List ℕ) (cell : ℕ → Cell) (i me : ℕ) (node : Node) (sum value : ℕ) → IsKept nodes sent
     → i < length nodes → node ≡ get_or nodes i node → me ≡ node.book.office.me → value ≡ value_at (state_of node.book.history).cells event (cell me)
     → sum ≡ own_sum i nodes event cell → sum + value ≡ own_sum (i + 1) nodes event cell
-own_more limit nodes sent event cell i me node sum value kept l is me_is value_is so_far =
+own_more nodes sent event cell i me node sum value kept l is me_is value_is so_far =
     let here : me ≡ i = me_is ∙ ap (λ (o : Office). o.me) (kept.offices i node (found_at nodes i node l is)) in
     let at : value ≡ own_cell nodes event cell i =
     value_is ∙ ap (λ j. value_at (state_of node.book.history).cells event (cell j)) here
@@ -53,25 +53,25 @@ own_more limit nodes sent event cell i me node sum value kept l is me_is value_i
     omega (arith, at, so_far, sum_more i (own_cell nodes event cell))
 
 -- sums of own cells stay small
-pub own_fits : (limit : ℕ) (nodes : List Node) (sent : List Message) (i sum value : ℕ) → IsKept limit nodes sent → i < length nodes → sum ≤ max_value * i → value ≤ max_value → sum + value < 2 ^ 64
+pub own_fits : (nodes : List Node) (sent : List Message) (i sum value : ℕ) → IsKept nodes sent → i < length nodes → sum ≤ max_value * i → value ≤ max_value → sum + value < 2 ^ 64
 unfolding max_sites
-own_fits limit nodes sent i sum value kept l le most =
-    let few : count (world_of limit nodes sent) ≤ 64 = count_in (world_of limit nodes sent) kept.reached in
+own_fits nodes sent i sum value kept l le most =
+    let few : count (world_of nodes sent) ≤ 64 = count_in (world_of nodes sent) kept.reached in
     omega (arith, few, length-sites nodes)
 
-own_whole : (limit : ℕ) (nodes : List Node) (sent : List Message) (items : List Node) (i : ℕ) (event : List ℕ) (cell : ℕ → Cell) → items ≡ nodes → i ≤ length items → length items ≤ i
-    → own_sum i items event cell ≡ sum_below (count (world_of limit nodes sent)) (λ j. value_at (state_of (history_at (world_of limit nodes sent) j)).cells event (cell j))
-own_whole limit nodes sent items i event cell same l ge =
+own_whole : (nodes : List Node) (sent : List Message) (items : List Node) (i : ℕ) (event : List ℕ) (cell : ℕ → Cell) → items ≡ nodes → i ≤ length items → length items ≤ i
+    → own_sum i items event cell ≡ sum_below (count (world_of nodes sent)) (λ j. value_at (state_of (history_at (world_of nodes sent) j)).cells event (cell j))
+own_whole nodes sent items i event cell same l ge =
     ap (λ (ns : List Node). own_sum i ns event cell) same
-    ∙ ap (λ n. own_sum n nodes event cell) (let e : i ≡ count (world_of limit nodes sent) = omega (arith, ap length same, length-sites nodes) in e)
+    ∙ ap (λ n. own_sum n nodes event cell) (let e : i ≡ count (world_of nodes sent) = omega (arith, ap length same, length-sites nodes) in e)
 
 -- the sums of all own cells are the totals
-pub own_totals : (limit : ℕ) (nodes : List Node) (sent : List Message) (items : List Node) (i : ℕ) (event : List ℕ) (t : Totals) → IsKept limit nodes sent → items ≡ nodes → i ≤ length items → length items ≤ i
-    → t.released ≡ own_sum i items event (λ j. Gave j j) → t.sold ≡ own_sum i items event Used → t.refunded ≡ own_sum i items event Back → t ≡ totals_of (world_of limit nodes sent) event
-own_totals limit nodes sent items i event t kept same l ge released_is sold_is refunded_is =
-    let w : World = world_of limit nodes sent in
+pub own_totals : (nodes : List Node) (sent : List Message) (items : List Node) (i : ℕ) (event : List ℕ) (t : Totals) → IsKept nodes sent → items ≡ nodes → i ≤ length items → length items ≤ i
+    → t.released ≡ own_sum i items event (λ j. Gave j j) → t.sold ≡ own_sum i items event Used → t.refunded ≡ own_sum i items event Back → t ≡ totals_of (world_of nodes sent) event
+own_totals nodes sent items i event t kept same l ge released_is sold_is refunded_is =
+    let w : World = world_of nodes sent in
     let sound = sound_in w kept.reached in
-    let r = released_is ∙ own_whole limit nodes sent items i event (λ j. Gave j j) same l ge ∙ own_total w Releasing event sound (λ _. tt) in
-    let s = sold_is ∙ own_whole limit nodes sent items i event Used same l ge ∙ own_total w Selling event sound (λ _. tt) in
-    let f = refunded_is ∙ own_whole limit nodes sent items i event Back same l ge ∙ own_total w Refunding event sound (λ _. tt) in
+    let r = released_is ∙ own_whole nodes sent items i event (λ j. Gave j j) same l ge ∙ own_total w Releasing event sound (λ _. tt) in
+    let s = sold_is ∙ own_whole nodes sent items i event Used same l ge ∙ own_total w Selling event sound (λ _. tt) in
+    let f = refunded_is ∙ own_whole nodes sent items i event Back same l ge ∙ own_total w Refunding event sound (λ _. tt) in
     λ k. record { released = r k; sold = s k; refunded = f k }

@@ -1,5 +1,5 @@
 -- What each step is answered. (Our own.)
-use Rattle.std.specs.Prelude.{◌≡◌, ℕ, not, ◌&&◌, ◌==◌, if◌then◌else◌, nat_lt, List, [], ◌∷◌, length, slice_get, Option, Some, None, Result, Ok, Err}
+use Rattle.std.specs.Prelude.{◌≡◌, ℕ, not, ◌&&◌, ◌==◌, if◌then◌else◌, nat_lt, List, [], ◌∷◌, length, slice_get, Option, Some, None, Result, Ok, Err, IsOk}
 use Rattle.book_core.specs.declared.plan.PlanFault.TheVariants as fault
 use Rattle.book_core.specs.Decision as decided
 use Rattle.book_core.specs.Decision.{decision}
@@ -43,15 +43,15 @@ outcome w (Send i j) =
     if nat_lt i (count w) && nat_lt j (count w) && not (i == j) then Ok (sent_as (next i (site_at w i) j) (length w.sent)) else Err NoSite
 outcome w (Deliver index) = delivered_as w (slice_get w.sent index)
 outcome w (Restart i) = if nat_lt i (count w) then Ok Restarted else Err NoSite
-outcome w (Stop i in_hand stored) = if nat_lt i (count w) then (if is_there w in_hand then Ok Stopped else Err NoMessage) else Err NoSite
+outcome w (Stop i in_hand stored) = if nat_lt i (count w) then (if is_there w.sent in_hand then Ok Stopped else Err NoMessage) else Err NoSite
 
 -- what each step of a list is answered
 abbrev pub outcomes : List Step → World → List (Result Outcome WorldFault)
 outcomes [] w = []
 outcomes (step ∷ steps) w = outcome w step ∷ outcomes steps (after w step)
 
--- a step that gets this fault is due it, or a growth was refused
+-- a step that gets this fault is due it; want of memory is told of a step alone that is not refused
 abbrev pub IsDue : World → Step → WorldFault → Type 0
-IsDue w step Memory = Unit {0}
+IsDue w step Memory = IsOk (outcome w step)
 IsDue w step NoSite = outcome w step ≡ Err NoSite
 IsDue w step NoMessage = outcome w step ≡ Err NoMessage

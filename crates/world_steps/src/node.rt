@@ -1,11 +1,12 @@
 //! One site of a world: its book, and what its peers have acknowledged.
-ghost use Rattle.std.specs.Prelude.{◌≡◌, IfOk, IfErr, OnOk, OnErr};
+ghost use Rattle.std.specs.Prelude.{◌≡◌, IfOk, IfErr, OnOk, OnErr, IsTrue};
 ghost use Rattle.book_core.specs.Decision.{decision, entry_of_ask};
 ghost use Rattle.book_core.specs.Joining.{entry_of_join, join_decision};
-ghost use Rattle.site_exchange.specs.Exchange.{entry_of_take, verdict};
-ghost use Rattle.site_exchange.specs.Taking.{HasReply, IsAsked, extended, site_after, with_entry};
+ghost use Rattle.site_exchange.specs.Exchange.{entry_of_take, verdict, verdict_of};
+ghost use Rattle.site_exchange.specs.Taking.{HasReply, IsAsked, extended, site_after, stopped_with, with_entry};
+ghost use Rattle.world_steps.specs.World.{entry_of_input, is_there};
 ghost use Rattle.world_steps.specs.Outcomes.{answered};
-ghost use Rattle.world_steps.specs.Nodes.{IsSent, entry_of_input, joined_by, site_of, stopped_with, taken_by};
+ghost use Rattle.world_steps.specs.Nodes.{site_of, verdict_told};
 
 use crate::step::{Input, Outcome, WorldFault};
 use book_core::{Book, Entry, JoinFault, JoinPlan, Plan, PlanFault};
@@ -25,9 +26,13 @@ pub struct Node {
 /// What a site did with a message.
 #[derive(Clone, Copy, PartialEq, Eq, Debug)]
 pub enum Taken {
+    /// The delta was joined.
     Joined,
+    /// The site had all of the delta.
     NothingNew,
+    /// The acknowledgement was taken.
     Acked,
+    /// Nothing changed.
     Refused(TakeFault),
 }
 
@@ -70,7 +75,7 @@ fn reply_of(entry: &Entry) -> Reply
 /// Takes a message at a site: checks it, and joins its delta or takes its acknowledgement.
 pub fn take(node: &mut Node, alloc: Global, message: &Message) -> Result<Taken, AllocError>
     ensures office { node.new.book.office ≡ node.old.book.office }
-    ensures taken { IfOk result (λ t. t ≡ taken_by (verdict node.old.book.office node.old.book.history message.now)) }
+    ensures taken { IfOk result (λ t. verdict_told t ≡ verdict node.old.book.office node.old.book.history message.now) }
     ensures changed { OnOk result (site_of node.new ≡ site_after (verdict node.old.book.office node.old.book.history message.now) message.now (site_of node.old)) }
     ensures unchanged { OnErr result (site_of node.new ≡ site_of node.old) }
 {
@@ -95,7 +100,7 @@ pub fn take(node: &mut Node, alloc: Global, message: &Message) -> Result<Taken, 
 // Joins a peer's delta, where it holds something new.
 fn join(book: &mut Book, peer: SiteId, delta: Delta) -> Result<Taken, AllocError>
     ensures office { book.new.office ≡ book.old.office }
-    ensures taken { IfOk result (λ t. t ≡ joined_by (join_decision book.old.office book.old.history peer delta)) }
+    ensures taken { IfOk result (λ t. verdict_told t ≡ verdict_of (join_decision book.old.office book.old.history peer delta)) }
     ensures changed { OnOk result (book.new.history ≡ extended (entry_of_join book.old.office book.old.history peer delta) book.old.history) }
     ensures unchanged { OnErr result (book.new.history ≡ book.old.history) }
 {
@@ -128,7 +133,7 @@ pub fn stop(
     input: &Input,
     stored: bool,
 ) -> Result<Outcome, WorldFault>
-    requires { IsSent sent.now input.now }
+    requires { IsTrue (is_there sent.now input.now) }
     ensures office { node.new.book.office ≡ node.old.book.office }
     ensures outcome { IfOk result (λ o. o ≡ Outcome.Stopped) }
     ensures memory { IfErr result (λ fault. fault ≡ WorldFault.Memory) }
@@ -144,7 +149,7 @@ pub fn stop(
 
 // Enters what the input adds.
 fn store(book: &mut Book, alloc: Global, sent: &[Message], input: &Input) -> Result<(), AllocError>
-    requires { IsSent sent.now input.now }
+    requires { IsTrue (is_there sent.now input.now) }
     ensures office { book.new.office ≡ book.old.office }
     ensures stored { OnOk result (book.new.history ≡ extended (entry_of_input book.old.office book.old.history sent.now input.now) book.old.history) }
     ensures unchanged { OnErr result (book.new.history ≡ book.old.history) }

@@ -68,7 +68,9 @@ pub enum Outcome {
     Acked,
     /// The message was not taken, and nothing changed.
     NotTaken(TakeFault),
+    /// The site started anew.
     Restarted,
+    /// The site stopped and started anew.
     Stopped,
 }
 
@@ -81,6 +83,7 @@ pub enum WorldFault {
     /// No message with this index was ever sent.
     #[error("no such message")]
     NoMessage,
+    /// A growth was refused; only a step that is not refused otherwise gets this.
     #[error("out of memory")]
     Memory,
 }

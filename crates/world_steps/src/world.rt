@@ -1,13 +1,15 @@
 //! All sites of one world, and all messages that they ever sent.
-ghost use Rattle.std.specs.Prelude.{IfOk, IfErr, IfSome, OnOk, OnErr, IsSome, option_copied, ◌↔◌, ◌≡◌, ◌+◌, ◌<◌, ◌≤◌, ◌&&◌, ◌==◌, not, nat_lt, List, ℕ, length, map, take, Some, Ok, IsSomeAnd, slice_get, vec_len, vec_capacity};
+ghost use Rattle.std.specs.Prelude.{IfOk, IfErr, IfSome, OnOk, OnErr, IsSome, option_copied, ◌↔◌, ◌≡◌, ◌+◌, ◌<◌, ◌≤◌, ◌&&◌, ◌==◌, not, nat_lt, List, length, map, take, Ok, IsSomeAnd, slice_get, vec_len, vec_capacity};
 ghost use Rattle.book_core.specs.History.{state_of};
 ghost use Rattle.book_core.specs.Operations.{outstanding, released, sold, refunded};
 ghost use Rattle.site_exchange.specs.Exchange.{receiver};
-ghost use Rattle.world_steps.specs.World.{after, all_operations, count, events_of, history_at, is_there, office_at, opening, run, totals_of};
+ghost use Rattle.site_exchange.specs.Taking.{given_back};
+ghost use Rattle.world_steps.specs.World.{IsReached, after, all_operations, count, events_of, history_at, is_there, office_at, opening, run, totals_of, with_sent};
 ghost use Rattle.world_steps.specs.Promises.{HoldsPromises};
 ghost use Rattle.world_steps.specs.Reaching.{AddsNames};
-ghost use Rattle.world_steps.specs.Outcomes.{outcome, outcomes, sent_as, IsDue};
-ghost use Rattle.world_steps.specs.Nodes.{given_as, given_back, with_sent};
+ghost use Rattle.world_steps.specs.declared.step.Outcome.{Outcome};
+ghost use Rattle.world_steps.specs.Outcomes.{outcome, outcomes, sent_as, taken_as, IsDue};
+ghost use Rattle.world_steps.specs.Nodes.{verdict_told};
 
 use crate::node::{Node, Taken, ask, stop, take};
 use crate::step::{Input, Outcome, Step, WorldFault};
@@ -23,7 +25,6 @@ use std::marker::Model;
 /// The sites, and all messages ever sent, which are numbered from 0.
 #[derive(Drop)]
 pub struct World {
-    limit: Limit,
     sites: Vec<Node>,
     sent: Vec<Message>,
 }
@@ -38,15 +39,16 @@ impl Model for World {
 
     ghost use Rattle.world_steps.specs.Reaching.{world_of, IsKept};
 
-    ghost view = { λ w. world_of w.limit w.sites.items w.sent.items };
+    ghost view = { λ w. world_of w.sites.items w.sent.items };
 
-    ghost invariant = { λ w. IsKept w.limit w.sites.items w.sent.items };
+    ghost invariant = { λ w. IsKept w.sites.items w.sent.items };
 }
 
 impl World {
-    /// The sites, each with an empty history; no message was sent.
+    /// The sites, each with an empty history and this limit; no message was sent.
     pub fn new(alloc: Global, sites: Sites, limit: Limit) -> Result<World, AllocError>
-        ensures { IfOk result (λ world. world ≡ opening sites limit) }
+        ensures opening { IfOk result (λ world. world ≡ opening sites limit) }
+        ensures promises { IfOk result HoldsPromises }
     {
         let mut nodes = Vec::new(alloc);
         for number in 0..sites.count() {
@@ -56,14 +58,23 @@ impl World {
             })?;
         }
         Ok(World {
-            limit,
             sites: nodes,
             sent: Vec::new(alloc),
         })
     }
 
+    /// Some list of steps leads to this world, so all that holds over every list of steps holds of it.
+    pub fn promises(&self)
+        ensures reached { IsReached self.now }
+        ensures promises { HoldsPromises self.now }
+    {
+        // Names what a world keeps, which the prover wants to see.
+        let _ = &self.sites;
+    }
+
     /// Makes one step. An error changes nothing: `NoSite` where a site that the step names is not there or would
-    /// send to itself, `NoMessage` where a message that it names was never sent, in that order.
+    /// send to itself, `NoMessage` where a message that it names was never sent, and `Memory` where neither is so
+    /// and a growth was refused, in that order.
     pub fn step(&mut self, alloc: Global, step: Step) -> Result<Outcome, WorldFault>
         ensures outcome { IfOk result (λ o. outcome self.old step ≡ Ok o) }
         ensures fault { IfErr result (IsDue self.old step) }
@@ -148,8 +159,47 @@ impl World {
         stop(node, alloc, &self.sent, &input, stored)
     }
 
+    // What a step is refused as where no memory is left.
+    fn due_without_memory(&self, step: &Step) -> WorldFault
+        ensures { IsDue self.now step.now result }
+    {
+        let there = self.sites.len() as u64;
+        match step {
+            Step::Ask { site, .. } | Step::Restart { site } => {
+                if site.number() < there {
+                    WorldFault::Memory
+                } else {
+                    WorldFault::NoSite
+                }
+            }
+            Step::Send { by, to } => {
+                if self.are_peers(*by, *to) {
+                    WorldFault::Memory
+                } else {
+                    WorldFault::NoSite
+                }
+            }
+            Step::Deliver { index } => {
+                if *index < self.sent.len() {
+                    WorldFault::Memory
+                } else {
+                    WorldFault::NoMessage
+                }
+            }
+            Step::Stop { site, input, .. } => {
+                if site.number() >= there {
+                    WorldFault::NoSite
+                } else if self.has_message_of(input) {
+                    WorldFault::Memory
+                } else {
+                    WorldFault::NoMessage
+                }
+            }
+        }
+    }
+
     fn has_message_of(&self, input: &Input) -> bool
-        ensures { result ≡ is_there self.now input.now }
+        ensures { result ≡ is_there self.now.sent input.now }
     {
         match input {
             Input::Request { .. } => true,
@@ -206,15 +256,15 @@ impl World {
             Err(_) => return Err(WorldFault::Memory),
         };
         let ack = given_back(&taken, message);
-        let outcome = given_as(&taken, self.sent.len());
+        let outcome = taken_as(&taken, self.sent.len());
         put(&mut self.sent, ack);
         Ok(outcome)
     }
 }
 
 impl World {
-    /// Makes steps in turn, and tells what each was answered. At the first that is not made it stops: the steps
-    /// before it were made, and it is named by its place in the list, from 0.
+    /// Makes steps in turn, and tells what each was answered. At the first that is not made it stops: each step
+    /// before it was made, and it is named by its place in the list, from 0, with its own fault.
     pub fn run(
         &mut self,
         alloc: Global,
@@ -223,14 +273,18 @@ impl World {
         ensures outcomes { IfOk result (λ os. map Ok os.items ≡ outcomes steps.items self.old) }
         ensures made { OnOk result (self.new ≡ run steps.items self.old) }
         ensures stopped { IfErr result (λ e. self.new ≡ run (take e.0 steps.items) self.old) }
+        ensures before { IfErr result (λ e. (answers : List Outcome) × (map Ok answers ≡ outcomes (take e.0 steps.items) self.old)) }
         ensures fault { IfErr result (λ e. IsSomeAnd (slice_get steps.items e.0) (λ step. IsDue self.new step e.1)) }
+        ensures promises { HoldsPromises self.new }
     {
+        // Names what a world keeps, which the prover wants to see before the steps.
+        let _ = &self.sites;
         let mut answers = Vec::new(alloc);
         // Names a type inside of the outcomes, which the prover wants to see in this function.
         let _: Option<TakeFault> = None;
         for (place, step) in steps.iter().enumerate() {
             if answers.reserve(1).is_err() {
-                return Err((place, WorldFault::Memory));
+                return Err((place, self.due_without_memory(step)));
             }
             match self.step(alloc, *step) {
                 Ok(answer) => answers.push_reserved(answer),
@@ -335,8 +389,8 @@ fn sent_as(due: &Option<Message>, index: usize) -> Outcome
 }
 
 // What a delivery is answered, where the acknowledgement gets this index.
-fn given_as(taken: &Taken, index: usize) -> Outcome
-    ensures { result ≡ given_as taken.now index }
+fn taken_as(taken: &Taken, index: usize) -> Outcome
+    ensures { result ≡ taken_as (verdict_told taken.now) index }
 {
     match taken {
         Taken::Joined => Outcome::Joined { ack: index },
@@ -348,7 +402,7 @@ fn given_as(taken: &Taken, index: usize) -> Outcome
 
 // The acknowledgement that is given back, if any.
 fn given_back(taken: &Taken, message: &Message) -> Option<Message>
-    ensures { result ≡ given_back taken.now message.now }
+    ensures { result ≡ given_back (verdict_told taken.now) message.now }
 {
     match (taken, message) {
         (Taken::Joined | Taken::NothingNew, Message::Delta { .. }) => Some(ack_for(message)),

@@ -1,8 +1,9 @@
 //! The decision on a request.
-ghost use Rattle.std.specs.Prelude.{IfOk, IfErr, ◌≡◌, ◌≤◌};
+ghost use Rattle.std.specs.Prelude.{IfOk, IfErr, IsOk, ◌≡◌, ◌≤◌, false, None};
+ghost use Rattle.request_ledger.specs.Requests.{is_done};
 ghost use Rattle.request_ledger.specs.Requests.{same_request};
-ghost use Rattle.book_core.specs.Decision.{reply_to, delta_for, state_of_item};
-ghost use Rattle.book_core.specs.Plans.{IsPlan, IsFault};
+ghost use Rattle.book_core.specs.Decision.{decision, reply_to, delta_for, state_of_item};
+ghost use Rattle.book_core.specs.Plans.{IsPlan, IsFault, IsFreshRefusal, LeavesRoom};
 ghost use Rattle.request_ledger.specs.declared.request.Request.TheVariants.{Announce, Release, Sell, Refund, Cede};
 
 use crate::book::Book;
@@ -17,7 +18,7 @@ impl Book {
     /// What a request under its number leads to: the reply that is kept under it, or a new entry.
     ///
     /// The book shows what it showed in every case, and has all the room that a new entry takes.
-    /// Neither a kept number nor a full history takes memory.
+    /// Under a kept number and on a full history it makes no room.
     pub fn plan(
         &mut self,
         alloc: Global,
@@ -27,6 +28,13 @@ impl Book {
         ensures unchanged { self.new ≡ record self.old { room = self.new.room } }
         ensures plan { IfOk result (IsPlan self.new number request.now) }
         ensures fault { IfErr result (IsFault self.new number request.now) }
+        ensures still { LeavesRoom
+            (decision self.old.office self.old.history number request.now) self.old self.new }
+
+        // A refusal is an entry without a delta: it takes no memory where the book has room for one entry.
+        ensures memory { result ≡ Err PlanFault.Memory
+            → IsFreshRefusal (decision self.old.office self.old.history number request.now)
+            → 1 ≤ self.old.room.entries → 1 ≤ self.old.room.numbers → ⊥ }
     {
         if let Some(kept) = self.kept(number) {
             if is_same(request, &kept.request) {
@@ -59,6 +67,7 @@ impl Book {
     pub(super) fn decide(&self, request: &Request) -> (Reply, Option<Item>)
         ensures reply { result.0 ≡ reply_to self.now.office self.now.history request.now }
         ensures item { state_of_item result.1 ≡ delta_for self.now.office self.now.history request.now result.0 }
+        ensures idle { is_done result.0 ≡ false → result.1 ≡ None }
     {
         match request {
             Request::Announce { event } => self.announce(*event),
@@ -72,6 +81,7 @@ impl Book {
     fn announce(&self, event: Event) -> (Reply, Option<Item>)
         ensures reply { result.0 ≡ reply_to self.now.office self.now.history (Announce event) }
         ensures item { state_of_item result.1 ≡ delta_for self.now.office self.now.history (Announce event) result.0 }
+        ensures idle { is_done result.0 ≡ false → result.1 ≡ None }
     {
         if self.knows(event) {
             (Reply::Known, None)
@@ -83,6 +93,7 @@ impl Book {
     fn release(&self, event: Event, amount: Amount) -> (Reply, Option<Item>)
         ensures reply { result.0 ≡ reply_to self.now.office self.now.history (Release event amount) }
         ensures item { state_of_item result.1 ≡ delta_for self.now.office self.now.history (Release event amount) result.0 }
+        ensures idle { is_done result.0 ≡ false → result.1 ≡ None }
     {
         if !self.knows(event) {
             return (Reply::Unknown, None);
@@ -96,6 +107,7 @@ impl Book {
     fn sell(&self, event: Event, amount: Amount) -> (Reply, Option<Item>)
         ensures reply { result.0 ≡ reply_to self.now.office self.now.history (Sell event amount) }
         ensures item { state_of_item result.1 ≡ delta_for self.now.office self.now.history (Sell event amount) result.0 }
+        ensures idle { is_done result.0 ≡ false → result.1 ≡ None }
     {
         if !self.knows(event) {
             return (Reply::Unknown, None);
@@ -113,6 +125,7 @@ impl Book {
     fn refund(&self, number: RequestNumber) -> (Reply, Option<Item>)
         ensures reply { result.0 ≡ reply_to self.now.office self.now.history (Refund number) }
         ensures item { state_of_item result.1 ≡ delta_for self.now.office self.now.history (Refund number) result.0 }
+        ensures idle { is_done result.0 ≡ false → result.1 ≡ None }
     {
         let Some(sale) = self.sale(number) else {
             return (Reply::NoSale, None);
@@ -132,6 +145,7 @@ impl Book {
     fn cede(&self, event: Event, amount: Amount, to: SiteId) -> (Reply, Option<Item>)
         ensures reply { result.0 ≡ reply_to self.now.office self.now.history (Cede event amount to) }
         ensures item { state_of_item result.1 ≡ delta_for self.now.office self.now.history (Cede event amount to) result.0 }
+        ensures idle { is_done result.0 ≡ false → result.1 ≡ None }
     {
         if !self.knows(event) {
             return (Reply::Unknown, None);
@@ -154,7 +168,8 @@ impl Book {
 }
 
 fn delta_of_item(alloc: Global, item: Option<Item>) -> Result<Delta, AllocError>
-    ensures { IfOk result (λ delta. delta ≡ state_of_item item) }
+    ensures delta { IfOk result (λ delta. delta ≡ state_of_item item) }
+    ensures nothing { item ≡ None → IsOk result }
 {
     match item {
         None => Ok(Delta::empty(alloc)),

@@ -5,9 +5,11 @@ ghost use Rattle.rights_lattice.specs.Cells.{value_at};
 ghost use Rattle.rights_lattice.specs.State.{is_within, knows};
 ghost use Rattle.rights_lattice.specs.RightsView.{are_within, is_cell_of};
 ghost use Rattle.book_core.specs.History.{state_of, delta_of};
-ghost use Rattle.book_core.specs.Joining.{foreign, is_foreign, is_of_sites};
+ghost use Rattle.book_core.specs.Joining.{foreign, is_foreign, is_of_sites, join_decision};
 ghost use Rattle.book_core.specs.OwnRow.{KeepsOwnRow};
-ghost use Rattle.book_core.specs.Plans.{IsJoinPlan, IsJoinFault};
+ghost use Rattle.book_core.specs.Plans.{IsJoinPlan, IsJoinFault, LeavesJoinRoom};
+ghost use Rattle.book_core.specs.BookView.{HasRoomFor};
+ghost use Rattle.book_core.specs.declared.entry.Entry.TheVariants.{Joined};
 
 use crate::book::Book;
 use crate::entry::Entry;
@@ -19,12 +21,16 @@ impl Book {
     /// What a peer's delta leads to: nothing, where the state has all of it, or a new entry.
     ///
     /// The book shows what it showed in every case, and has all the room that a new entry takes.
-    /// No memory is taken up to and including a delta that holds nothing new. A refusal gives the delta back.
+    /// It makes no room but for a delta that is joined. A refusal gives the delta back.
     pub fn plan_join(&mut self, peer: SiteId, delta: Delta) -> Result<JoinPlan, (Delta, JoinFault)>
         ensures unchanged { self.new ≡ record self.old { room = self.new.room } }
         ensures plan { IfOk result (IsJoinPlan self.new peer delta) }
         ensures own_row { IfOk result (KeepsOwnRow self.new) }
         ensures fault { IfErr result (λ e. (e.0 ≡ delta) × IsJoinFault self.new peer delta e.1) }
+        ensures still { LeavesJoinRoom
+            (join_decision self.old.office self.old.history peer delta) self.old self.new }
+        ensures memory { IfErr result (λ e. e.1 ≡ JoinFault.Memory
+            → HasRoomFor self.old.room (Joined peer delta) → ⊥) }
     {
         if !self.is_of_sites(peer, &delta) {
             return Err((delta, JoinFault::UnknownSite));

@@ -1,37 +1,29 @@
 //! Looking up requests, by one query each.
-ghost use Rattle.std.specs.Prelude.{◌≡◌, ◌≢◌, ◌<◌, ◌≤◌, ◌^◌, ◌⊎◌, ℕ, List, Option, map, filter, pos, [], ◌∷◌, Some, None, IfOk, IfErr, OnOk, OnErr};
+ghost use Rattle.std.specs.Prelude.{◌≡◌, ◌≢◌, ◌<◌, ◌≤◌, ◌^◌, ◌⊎◌, ℕ, List, Option, map, filter, slice_get, pos, [], ◌∷◌, Some, None, IfOk, IfErr, OnOk, OnErr};
 ghost use Rattle.std.specs.Option.{option_map};
 ghost use Rattle.sql_records.specs.declared.lookup.Listed.{Listed};
 ghost use Rattle.sqlite.specs.State.{HasCleanDisk, IsUnchanged};
 ghost use Rattle.sqlite.specs.Held.{state};
+ghost use Rattle.sqlite.specs.Order.{Row as Rowed};
 ghost use Rattle.sqlite.specs.Values.{bound};
 ghost use Rattle.sqlite.specs.declared.types.Value.TheVariants.{Int, Text};
 ghost use Rattle.sql_records.specs.Held.{IsAtRest, IsTrusted, LeavesNoMore, history_in, kept_in, rows_in};
-ghost use Rattle.sql_records.specs.Lookups.{found_columns, found_in, found_of, first_found, has_event, has_number, listed_columns, listed_in, listed_of, place_in};
+ghost use Rattle.sql_records.specs.Lookups.{IsFirstUnread, IsQueryFault, damage_of, found_columns, found_in, found_of, first_found, has_event, has_number, listed_columns, listed_in, listed_of, place_in};
 
 use super::Records;
+use crate::fault::told;
 use crate::lookup::{FindFault, Found, Listed};
 use crate::reading::{reply_in, request_in, request_number_in, value_at};
 use request_ledger::{Request, RequestNumber};
 use rights_lattice::Event;
 use sqlite::types::ValueRef;
-use sqlite::{Alter, Connection, Error, ErrorCode, Row};
+use sqlite::{Alter, Connection, Row};
 use std::alloc::Global;
 
 const FIND: &str = "SELECT pos, reply, rest FROM entries WHERE number = ?1 ORDER BY pos";
 
 const LIST: &str =
     "SELECT pos, number, verb, event, amount, target, reply, rest FROM entries WHERE event = ?1 ORDER BY pos";
-
-fn fault(error: Error) -> FindFault
-    ensures shut { result ≢ FindFault.Shut }
-    ensures damaged { (place : ℕ) → result ≢ FindFault.Damaged place }
-{
-    match error {
-        Error::SqliteFailure(ErrorCode::OutOfMemory) => FindFault::Memory,
-        _ => FindFault::Disk,
-    }
-}
 
 fn number_param(number: RequestNumber) -> [ValueRef<'static>; 1]
     ensures { bound result ≡ Int (pos number) ∷ [] }
@@ -55,13 +47,13 @@ fn find_rows<S: Alter>(
     ensures same { HasCleanDisk (state S.Store conn.new) → OnOk result (IsUnchanged (state S.Store conn.old) (state S.Store conn.new)) }
     ensures left { HasCleanDisk (state S.Store conn.new) → LeavesNoMore (state S.Store conn.old) (state S.Store conn.new) }
     ensures clean { HasCleanDisk (state S.Store conn.new) → HasCleanDisk (state S.Store conn.old) }
+    ensures fault { HasCleanDisk (state S.Store conn.new) → IfErr result (IsQueryFault (state S.Store conn.old) (state S.Store conn.new)) }
     ensures shut { result ≢ Err FindFault.Shut }
-    ensures damaged { (place : ℕ) → result ≢ Err (FindFault.Damaged place) }
 {
     let params = number_param(number);
     match conn.query_all(FIND, &params) {
         Ok(rows) => Ok(rows),
-        Err(error) => Err(fault(error)),
+        Err(error) => Err(told(FindFault::Memory, FindFault::Disk, error)),
     }
 }
 
@@ -72,13 +64,13 @@ fn list_rows<S: Alter>(conn: &mut Connection<S>, event: &Event) -> Result<Vec<Ro
     ensures same { HasCleanDisk (state S.Store conn.new) → OnOk result (IsUnchanged (state S.Store conn.old) (state S.Store conn.new)) }
     ensures left { HasCleanDisk (state S.Store conn.new) → LeavesNoMore (state S.Store conn.old) (state S.Store conn.new) }
     ensures clean { HasCleanDisk (state S.Store conn.new) → HasCleanDisk (state S.Store conn.old) }
+    ensures fault { HasCleanDisk (state S.Store conn.new) → IfErr result (IsQueryFault (state S.Store conn.old) (state S.Store conn.new)) }
     ensures shut { result ≢ Err FindFault.Shut }
-    ensures damaged { (place : ℕ) → result ≢ Err (FindFault.Damaged place) }
 {
     let params = event_param(event);
     match conn.query_all(LIST, &params) {
         Ok(rows) => Ok(rows),
-        Err(error) => Err(fault(error)),
+        Err(error) => Err(told(FindFault::Memory, FindFault::Disk, error)),
     }
 }
 
@@ -121,9 +113,9 @@ fn listed_of(row: &Row) -> Option<Listed>
     })
 }
 
-// A row that does not read.
+// A row that does not read: its place, or 0 where it has none.
 fn damaged(row: &Row) -> FindFault
-    ensures { (place : ℕ) × (result ≡ FindFault.Damaged place) }
+    ensures { result ≡ damage_of row.now }
 {
     FindFault::Damaged {
         place: place_in(row).unwrap_or(0),
@@ -134,6 +126,7 @@ fn damaged(row: &Row) -> FindFault
 fn first_of(rows: &[Row]) -> Result<Option<Found>, FindFault>
     ensures ok { IfOk result (λ found. option_map Some found ≡ first_found rows.now) }
     ensures err { OnErr result (first_found rows.now ≡ Some None) }
+    ensures damaged { IfErr result (λ fault. (values : Rowed) × (slice_get rows.now 0 ≡ Some values) × (fault ≡ damage_of values)) }
     ensures shut { result ≢ Err FindFault.Shut }
 {
     match rows.first() {
@@ -148,7 +141,7 @@ fn first_of(rows: &[Row]) -> Result<Option<Found>, FindFault>
 // What each row says.
 fn all_of(alloc: Global, rows: &[Row]) -> Result<Vec<Listed>, FindFault>
     ensures ok { IfOk result (λ listed. map Some listed.items ≡ map listed_of rows.now) }
-    ensures damaged { IfErr result (λ fault. (fault ≡ FindFault.Memory) ⊎ ((all : List Listed) → map Some all ≡ map listed_of rows.now → ⊥)) }
+    ensures damaged { IfErr result (λ fault. (fault ≡ FindFault.Memory) ⊎ IsFirstUnread rows.now fault) }
     ensures shut { result ≢ Err FindFault.Shut }
 {
     // The prover has to meet the type of what a `Listed` holds.
@@ -168,12 +161,13 @@ fn all_of(alloc: Global, rows: &[Row]) -> Result<Vec<Listed>, FindFault>
 impl<S: Alter> Records<S> {
     /// The place and the reply of the request that is kept under this number.
     ///
-    /// After an error but `Shut` the records are shut; `Shut` changes nothing.
+    /// After an error but `Shut` the records are shut; `Shut` changes nothing. `Damaged` comes only where something
+    /// else has written the store, and names the first row that does not read.
     pub fn find(&mut self, number: RequestNumber) -> Result<Option<Found>, FindFault>
         ensures found { IfOk result (λ found. IsTrusted S.Store self.new → found ≡ found_in (kept_in S.Store self.old) number) }
         ensures same { OnOk result (IsTrusted S.Store self.new → IsUnchanged (state S.Store self.old.conn) (state S.Store self.new.conn)) }
         ensures failures { OnOk result ((self.old.failures ≡ 0) × (self.new.failures ≡ 0)) }
-        ensures undamaged { IsTrusted S.Store self.new → (place : ℕ) → result ≢ Err (FindFault.Damaged place) }
+        ensures fault { self.old.failures ≡ 0 → IfErr result (λ fault. IsTrusted S.Store self.new → IsQueryFault (state S.Store self.old.conn) (state S.Store self.new.conn) fault) }
         ensures shut { self.old.failures ≢ 0 → (result ≡ Err FindFault.Shut) × (self.new ≡ self.old) }
         ensures named { self.old.failures ≡ 0 → result ≢ Err FindFault.Shut }
         ensures shuts { self.old.failures ≡ 0 → OnErr result (self.new.failures ≡ 1) }
@@ -192,12 +186,13 @@ impl<S: Alter> Records<S> {
 
     /// The requests that name the event, by place.
     ///
-    /// After an error but `Shut` the records are shut; `Shut` changes nothing.
+    /// After an error but `Shut` the records are shut; `Shut` changes nothing. `Damaged` comes only where something
+    /// else has written the store, and names the first row that does not read.
     pub fn list(&mut self, event: Event) -> Result<Vec<Listed>, FindFault>
         ensures listed { IfOk result (λ listed. IsTrusted S.Store self.new → listed.items ≡ listed_in (kept_in S.Store self.old) event) }
         ensures same { OnOk result (IsTrusted S.Store self.new → IsUnchanged (state S.Store self.old.conn) (state S.Store self.new.conn)) }
         ensures failures { OnOk result ((self.old.failures ≡ 0) × (self.new.failures ≡ 0)) }
-        ensures undamaged { IsTrusted S.Store self.new → (place : ℕ) → result ≢ Err (FindFault.Damaged place) }
+        ensures fault { self.old.failures ≡ 0 → IfErr result (λ fault. IsTrusted S.Store self.new → IsQueryFault (state S.Store self.old.conn) (state S.Store self.new.conn) fault) }
         ensures shut { self.old.failures ≢ 0 → (result ≡ Err FindFault.Shut) × (self.new ≡ self.old) }
         ensures named { self.old.failures ≡ 0 → result ≢ Err FindFault.Shut }
         ensures shuts { self.old.failures ≡ 0 → OnErr result (self.new.failures ≡ 1) }
@@ -222,7 +217,7 @@ fn find_first<S: Alter>(
 ) -> Result<Option<Found>, FindFault>
     requires rest { HasCleanDisk (state S.Store conn.old) → (count : ℕ) × IsAtRest (state S.Store conn.old) count }
     ensures found { HasCleanDisk (state S.Store conn.new) → IfOk result (λ found. found ≡ found_in (history_in (state S.Store conn.old).now.trees) number) }
-    ensures undamaged { HasCleanDisk (state S.Store conn.new) → (place : ℕ) → result ≢ Err (FindFault.Damaged place) }
+    ensures fault { HasCleanDisk (state S.Store conn.new) → IfErr result (IsQueryFault (state S.Store conn.old) (state S.Store conn.new)) }
     ensures same { HasCleanDisk (state S.Store conn.new) → OnOk result (IsUnchanged (state S.Store conn.old) (state S.Store conn.new)) }
     ensures left { HasCleanDisk (state S.Store conn.new) → LeavesNoMore (state S.Store conn.old) (state S.Store conn.new) }
     ensures clean { HasCleanDisk (state S.Store conn.new) → HasCleanDisk (state S.Store conn.old) }
@@ -242,7 +237,7 @@ fn list_all<S: Alter>(
 ) -> Result<Vec<Listed>, FindFault>
     requires rest { HasCleanDisk (state S.Store conn.old) → (count : ℕ) × IsAtRest (state S.Store conn.old) count }
     ensures listed { HasCleanDisk (state S.Store conn.new) → IfOk result (λ listed. listed.items ≡ listed_in (history_in (state S.Store conn.old).now.trees) event.now) }
-    ensures undamaged { HasCleanDisk (state S.Store conn.new) → (place : ℕ) → result ≢ Err (FindFault.Damaged place) }
+    ensures fault { HasCleanDisk (state S.Store conn.new) → IfErr result (IsQueryFault (state S.Store conn.old) (state S.Store conn.new)) }
     ensures same { HasCleanDisk (state S.Store conn.new) → OnOk result (IsUnchanged (state S.Store conn.old) (state S.Store conn.new)) }
     ensures left { HasCleanDisk (state S.Store conn.new) → LeavesNoMore (state S.Store conn.old) (state S.Store conn.new) }
     ensures clean { HasCleanDisk (state S.Store conn.new) → HasCleanDisk (state S.Store conn.old) }

@@ -7,3 +7,8 @@ pub returns-clause-told : goal.returns-clause-told
 returns-clause-told g c =
     let line : c.as_slice.result.now ≡ store_fault_line c.args.fault = c.as_slice.ensures.value ∙ c.store_fault_line-line.ensures in
     (c.args.fault, front_written _ _ c.write_bytes.result (store_fault_line c.args.fault) (rw line at c.write_bytes.ensures))
+
+pub returns-clause-line : goal.returns-clause-line
+returns-clause-line g c =
+    let line : c.as_slice.result.now ≡ store_fault_line c.args.fault = c.as_slice.ensures.value ∙ c.store_fault_line-line.ensures in
+    front_written _ _ c.write_bytes.result (store_fault_line c.args.fault) (rw line at c.write_bytes.ensures)

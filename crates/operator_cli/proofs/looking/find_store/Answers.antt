@@ -3,9 +3,9 @@ use Rattle.std.specs.Prelude.{List, IfOk}
 use Rattle.sqlite.specs.State.{HasCleanDisk}
 use Rattle.sqlite.specs.Held.{Held, state}
 use Rattle.book_core.specs.declared.entry.Entry.{Entry}
-use Rattle.sql_records.specs.Held.{IsTrusted, kept_in, history_in}
+use Rattle.sql_records.specs.Held.{IsTrusted, Kept, kept_in, history_in}
 use Rattle.operator_cli.specs.Printed.{Printed, IsFoundText, IsFoundIn}
-use Rattle.operator_cli.proofs.PrintLaws.{ends_printed}
+use Rattle.operator_cli.proofs.PrintLaws.{ends_printed, ok_unless_failed, refused_if_none}
 use Rattle.operator_cli.proofs.looking.find_store.Goals as goal
 
 pub returns-in-Ok-clause-out : goal.returns-in-Ok-clause-out
@@ -21,3 +21,20 @@ returns-in-Ok-clause-found g c clean =
     let entries = ap (kept_in g.S.Store) c.into_keeper-records.ensures ∙ c.in-Ok.ensures.kept before in
     let came = subst (λ (h : List Entry). IfOk c.write_found-came.result (Printed (IsFoundIn h c.args.number) a b)) entries (c.write_found-came.ensures.found trusted) in
     ends_printed (IsFoundIn (history_in (state g.S.Store c.args.conn).now.trees) c.args.number) a b (g.W.Write.contents c.ended.new.out) c.write_found-came.result c.ended.result came c.ended.ensures.kept c.ended.ensures.status
+
+pub returns-in-Ok-clause-same : goal.returns-in-Ok-clause-same
+returns-in-Ok-clause-same g c clean alive =
+    let trusted : IsTrusted g.S.Store c.write_found-came.new.records = subst (λ (conn : Held g.row.S.Denot). HasCleanDisk (state g.S.Store conn)) c.close.ensures clean in
+    let before = subst (IsTrusted g.S.Store) c.into_keeper-records.ensures (c.write_found-came.ensures.trusted trusted) in
+    ap (λ (conn : Held g.row.S.Denot). (state g.S.Store conn).now) c.close.ensures
+    ∙ ok_unless_failed _ c.write_found-came.result c.ended.result (c.write_found-came.ensures.same trusted) c.ended.ensures.status alive
+    ∙ ap (λ (k : Kept g.row.S.Denot). (state g.S.Store k.conn).now) c.into_keeper-records.ensures
+    ∙ c.in-Ok.ensures.same before
+
+pub returns-in-Err-clause-lost : goal.returns-in-Err-clause-lost
+returns-in-Err-clause-lost g c none = record {
+  fault = c.in-Err.fault;
+  refused = refused_if_none _ _ _ c.in-Err.ensures.fault none;
+  told = c.ended-in-Err.ensures.line;
+  failed = c.ended-in-Err.ensures.status;
+}

@@ -4,13 +4,14 @@ use Rattle.sql_records.specs.declared.meta.Meta.{Meta}
 use Rattle.sql_records.specs.Held.{IsNew}
 use Rattle.operator_cli.specs.declared.status.Status.{Status}
 use Rattle.operator_cli.specs.declared.status.Status.TheVariants.{Done, Refused}
+use Rattle.sql_records.specs.Layout.{has_our_table}
 use Rattle.operator_cli.specs.Printed.{IsMadeText}
 use Rattle.operator_cli.proofs.PrintLaws.{ends_printed, ends_as}
 use Rattle.operator_cli.proofs.making.init_store.Goals as goal
 
 pub returns-clause-out : goal.returns-clause-out
 returns-clause-out g c =
-    ends_printed IsMadeText (g.W.Write.contents c.args.out.now) (g.W.Write.contents c.write_made-came.new.out) (g.W.Write.contents c.ended.new.out) c.write_made-came.result c.ended.result c.write_made-came.ensures.out c.ended.ensures.kept c.ended.ensures.status
+    ends_printed (IsMadeText c.args.me c.args.sites (has_our_table c.args.conn.now.schema)) (g.W.Write.contents c.args.out.now) (g.W.Write.contents c.write_made-came.new.out) (g.W.Write.contents c.ended.new.out) c.write_made-came.result c.ended.result c.write_made-came.ensures.out c.ended.ensures.kept c.ended.ensures.status
 
 pub returns-clause-made : goal.returns-clause-made
 returns-clause-made g c clean =

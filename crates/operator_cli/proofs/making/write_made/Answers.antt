@@ -4,13 +4,14 @@ use Rattle.sql_records.specs.declared.meta.Meta.{Meta}
 use Rattle.sql_records.specs.Held.{IsNew}
 use Rattle.operator_cli.specs.declared.status.Status.{Status}
 use Rattle.operator_cli.specs.declared.status.Status.TheVariants.{Done, Refused}
+use Rattle.sql_records.specs.Layout.{has_our_table}
 use Rattle.operator_cli.specs.Printed.{IsMadeText}
 use Rattle.operator_cli.proofs.PrintLaws.{told_printed, told_ends}
 use Rattle.operator_cli.proofs.making.write_made.Goals as goal
 
 pub returns-in-Ok-clause-out : goal.returns-in-Ok-clause-out
 returns-in-Ok-clause-out g c =
-    told_printed IsMadeText (g.W.Write.contents c.args.out.now) (g.W.Write.contents c.tell.new.out) c.tell.result c.in-Ok.told (c.in-Ok.told, c.in-Ok.ensures.told, refl, refl) c.tell.ensures.written c.tell.ensures.status
+    told_printed (IsMadeText c.args.me c.args.sites (has_our_table c.args.conn.now.schema)) (g.W.Write.contents c.args.out.now) (g.W.Write.contents c.tell.new.out) c.tell.result c.in-Ok.told (c.in-Ok.told, c.in-Ok.ensures.told, refl, refl) c.tell.ensures.written c.tell.ensures.status
 
 pub returns-in-Ok-clause-made : goal.returns-in-Ok-clause-made
 returns-in-Ok-clause-made g c clean =

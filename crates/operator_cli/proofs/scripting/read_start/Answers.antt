@@ -1,5 +1,7 @@
-use Rattle.operator_cli.specs.Ran.{StartRan}
-use Rattle.operator_cli.proofs.ScriptLaws.{at_err, start_fault, start_none, start_ran}
+use Rattle.std.proofs.Common.{refl}
+use Rattle.operator_cli.specs.Script.{replies, script_of_lines}
+use Rattle.operator_cli.specs.Ran.{StartRan, MayGoOn}
+use Rattle.operator_cli.proofs.ScriptLaws.{at_err, line_broken, start_none, start_ran}
 use Rattle.operator_cli.proofs.scripting.read_start.Goals as goal
 
 pub returns-in_err-next_line : goal.returns-in_err-next_line
@@ -7,7 +9,7 @@ returns-in_err-next_line g c =
     let input = g.R.Read.remaining c.args.reader.now in
     let rest = g.R.Read.remaining c.next_line.new.reader in
     at_err c.from_residual.result (StartRan input rest) _ c.from_residual.ensures.1
-    (λ f e. rw e (start_fault input rest c.next_line.new.line.items _ c.in_err-next_line.ensures))
+    (λ f e. rw e (line_broken MayGoOn replies script_of_lines input rest c.next_line.new.line.items _ tt refl c.in_err-next_line.ensures))
 
 pub returns-then-not-branch : goal.returns-then-not-branch
 returns-then-not-branch g c =

@@ -1,13 +1,22 @@
-use Rattle.operator_cli.specs.Ran.{SitesRan}
-use Rattle.operator_cli.proofs.ScriptLaws.{at_err, sites_broken, sites_without_totals}
+use Rattle.std.proofs.Common.{◌≡◌, Err, rules, subst}
+use Rattle.std.specs.Prelude.{IfErr}
+use Rattle.operator_cli.specs.Faults.{IsOutFault}
+use Rattle.operator_cli.specs.Ran.{SitesRan, SecondRan}
+use Rattle.operator_cli.proofs.ScriptLaws.{at_err, sites_unread, sites_second, sites_alone}
 use Rattle.operator_cli.proofs.scripting.run_sites.Goals as goal
 
-pub returns-in_err-reply_all : goal.returns-in_err-reply_all
-returns-in_err-reply_all g c =
-    at_err c.from_residual-in_err-reply_all.result (SitesRan 999999 c.args.sites (g.R.Read.remaining c.args.reader.now) (g.W.Write.contents c.args.out.now) (g.W.Write.contents c.reply_all.new.out)) _ c.from_residual-in_err-reply_all.ensures.1
-    (λ f e. rw e (sites_broken 999998 c.args.sites _ _ _ _ _ c.in_ok-world.world c.reply_all.new.world _ c.in_ok-world.ensures c.in_err-reply_all.ensures))
+pub returns-in_err-next_line : goal.returns-in_err-next_line
+returns-in_err-next_line g c =
+    at_err c.from_residual.result (SitesRan 999999 c.args.sites (g.R.Read.remaining c.args.reader.now) (g.W.Write.contents c.args.out.now) (g.W.Write.contents c.args.out.now)) _ c.from_residual.ensures.1
+    (λ f e. rw e (sites_unread 999998 c.args.sites _ _ _ c.next_line.new.line.items _ c.in_err-next_line.ensures))
 
-pub returns-in_err-write_totals : goal.returns-in_err-write_totals
-returns-in_err-write_totals g c =
-    at_err c.from_residual-in_err-write_totals.result (SitesRan 999999 c.args.sites (g.R.Read.remaining c.args.reader.now) (g.W.Write.contents c.args.out.now) (g.W.Write.contents c.write_totals.new.out)) _ c.from_residual-in_err-write_totals.ensures.1
-    (λ f e. rw e (sites_without_totals 999998 c.args.sites _ _ _ _ _ _ c.in_ok-world.world c.reply_all.new.world _ c.in_ok-world.ensures c.in_ok-reply_all.ensures c.in_err-write_totals.ensures.lines c.in_err-write_totals.ensures.fault))
+pub returns-then-branch : goal.returns-then-branch
+returns-then-branch g c =
+    let given = rw c.if-branch.true at c.in_ok-next_line.ensures in
+    let ran = rw c.as_slice.ensures.value at c.run_second.ensures in
+    sites_second 999998 c.args.sites c.next_line.new.line.items _ _ _ _ c.run_second.result given.0 given.1 ran
+
+pub returns-else-branch : goal.returns-else-branch
+returns-else-branch g c =
+    let given = rw c.if-branch.false at c.in_ok-next_line.ensures in
+    sites_alone 999999 c.args.sites _ _ _ _ c.run_none.result given c.run_none.ensures.written (λ f e. subst (λ r. IfErr r IsOutFault) e c.run_none.ensures.fault)

@@ -23,4 +23,4 @@ returns-in-Ok-None g c =
 pub returns-then-is_full : goal.returns-then-is_full
 returns-then-is_full g c =
     let full : 200 ≤ length c.bytes.line.items = search rules in
-    passes_limit _ _ _ _ c.in-Ok-Some.byte c.bytes.invariant.0 c.bytes.invariant.2 (search rules) (ne_eqb _ 10 (λ e. omega arith)) full
+    passes_limit _ _ _ _ c.in-Ok-Some.byte c.bytes.invariant.0 c.bytes.invariant.2 (search rules) (ne_eqb _ 10 (λ e. omega arith)) (omega (arith, full, c.bytes.invariant.1))

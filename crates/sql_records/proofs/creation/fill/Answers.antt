@@ -2,6 +2,7 @@ use Rattle.std.proofs.Common.{Ok, subst, arith, ◌∙◌}
 use Rattle.sqlite.specs.State.{Executes}
 use Rattle.sqlite.specs.Held.{state}
 use Rattle.sql_records.proofs.InitLemmas.{meta_insert_text, creates_meta, creates_entries, adds_meta}
+use Rattle.sqlite_catalog.specs.Listing.{IsSound}
 use Rattle.sql_records.proofs.creation.fill.Goals as goal
 
 pub returns-clause-made : goal.returns-clause-made
@@ -17,4 +18,4 @@ returns-clause-made g c clean =
     let meta = creates_meta old first c.in_ok-execute.field-0 c.requires.empty one.0 in
     let entries = creates_entries first second c.in_ok-execute-2.field-0 meta.0 two.0 in
     let row = adds_meta c.args.meta second last c.in_ok-execute-3.field-0 entries.0 (entries.2 ∙ meta.1) given in
-    record { schema = row.0; meta_is = row.1; entries = row.2 ∙ entries.1 }
+    record { schema = row.0; trees = record { sound = subst (λ s. IsSound s last.now.trees) row.0 row.3; meta_is = row.1; entries = row.2 ∙ entries.1 } }

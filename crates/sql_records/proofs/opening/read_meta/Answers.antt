@@ -1,6 +1,9 @@
-use Rattle.std.proofs.Common.{arith}
+use Rattle.std.proofs.Common.{arith, subst, sym}
 use Rattle.sqlite.specs.Held.{state}
-use Rattle.sql_records.proofs.QueryLemmas.{shown_meta, meta_same, meta_left}
+use Rattle.sql_records.proofs.QueryLemmas.{shown_meta, meta_same, meta_left, meta_select_fails}
+use Rattle.sql_records.proofs.FaultLemmas.{told_fault}
+use Rattle.sql_records.specs.Opening.{IsMetaFault}
+use Rattle.sql_records.specs.declared.fault.OpenFault.TheVariants.{Memory, Disk}
 use Rattle.sql_records.proofs.MetaLemmas.{alone, no_row, meta_found, numbers_are, meta_fault}
 use Rattle.sql_records.proofs.OpeningLemmas.{on_ok}
 use Rattle.sql_records.proofs.opening.read_meta.Goals as goal
@@ -29,7 +32,7 @@ returns-in-Some-clause-fault g c clean =
     let new = state g.S.Store c.query_all.new.self in
     let schema = c.requires (omega (arith, c.query_all.ensures.survives.clean)) in
     let one = alone old.now.trees _ c.in-Some.row (shown_meta old new _ schema (c.in-Ok.ensures.ok clean)) c.in-Some.ensures.one in
-    meta_fault old.now.trees c.in-Some.row c.read_numbers.result one c.read_numbers.ensures.fault
+    meta_fault old new c.in-Some.row c.read_numbers.result one c.read_numbers.ensures.fault
 
 pub returns-in-None-clause-fault : goal.returns-in-None-clause-fault
 returns-in-None-clause-fault g c clean =
@@ -49,3 +52,10 @@ returns-in-None-clause-left g c clean =
 pub returns-in-Err-clause-left : goal.returns-in-Err-clause-left
 returns-in-Err-clause-left g c clean =
     meta_left (state g.S.Store c.args.conn.now) (state g.S.Store c.query_all.new.self) (c.requires (omega (arith, c.query_all.ensures.survives.clean))) c.query_all.ensures.survives clean
+
+pub returns-in-Err-clause-fault : goal.returns-in-Err-clause-fault
+returns-in-Err-clause-fault g c clean =
+    let old = state g.S.Store c.args.conn.now in
+    let new = state g.S.Store c.query_all.new.self in
+    let schema = c.requires (omega (arith, c.query_all.ensures.survives.clean)) in
+    subst (IsMetaFault old new) (sym c.told.ensures) (told_fault (IsMetaFault old new) Memory Disk old new c.in-Err.error tt (λ h. h) (meta_select_fails old new c.in-Err.error schema (c.in-Err.ensures.err clean)))

@@ -1,8 +1,9 @@
-use Rattle.std.proofs.Common.{ap, subst, ◌∙◌}
+use Rattle.std.proofs.Common.{inr, ap, subst, ◌∙◌}
 use Rattle.std.specs.List.{filter_map}
 use Rattle.sqlite.specs.Held.{state}
+use Rattle.sql_records.specs.Layout.{IsOurs}
 use Rattle.sql_records.specs.Rows.{entry_of, AreWhole}
-use Rattle.sql_records.proofs.OpeningLemmas.{read_whole, read_history}
+use Rattle.sql_records.proofs.OpeningLemmas.{read_whole, read_history, rows_fault, if_err}
 use Rattle.sql_records.proofs.opening.read_records.Goals as goal
 
 pub returns-clause-entries : goal.returns-clause-entries
@@ -21,3 +22,13 @@ returns-clause-whole g c clean =
     let last = state g.S.Store c.read_rows.new.conn in
     let whole = subst (AreWhole 0) c.as_slice.ensures.value c.in_ok-entries.ensures.whole in
     read_whole first mid last _ (c.in_ok-meta.ensures.same (c.read_rows.ensures.clean clean)) (c.in_ok-rows.ensures.same clean) (c.in_ok-rows.ensures.shown clean) whole
+
+pub returns-in_err-rows-clause-fault : goal.returns-in_err-rows-clause-fault
+returns-in_err-rows-clause-fault g c clean =
+    let first = state g.S.Store c.args.conn.now in
+    let mid = state g.S.Store c.read_meta.new.conn in
+    let last = state g.S.Store c.read_rows.new.conn in
+    let ours = c.is_ours.ensures.0 c.if-not-is_ours.false in
+    let same = c.in_ok-meta.ensures.same (c.read_rows.ensures.clean clean) in
+    if_err c.from_residual-in_err-rows.result _ _ c.from_residual-in_err-rows.ensures.1
+    (λ f e. rw e (inr (subst IsOurs c.schema.ensures.value ours, rows_fault first mid last same c.read_meta.ensures.counts c.read_meta.ensures.limit _ (c.in_err-rows.ensures.fault clean))))

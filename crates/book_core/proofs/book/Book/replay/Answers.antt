@@ -24,7 +24,7 @@ returns-then-not-is_next-clause-fault c =
     (YieldsList-turn road c.loop-entry.yielded _ c.loop-entry.yielded_by _ c.next.new.self c.in-Some.entry c.in-Some.is c.next.ensures.steps) in
     let refused : IsNext c.loop-entry.book.office c.loop-entry.book.history c.in-Some.entry → ⊥ =
     λ next. let yes : c.is_next.result ≡ true = c.is_next.ensures.1 next in cc in
-    replay_stops _ c.args.entries.items c.in-Some.entry c.loop-entry.book c.len.result at c.loop-entry.invariant.office c.loop-entry.invariant.legal refused c.len.ensures
+    replay_stops _ c.args.entries.items c.in-Some.entry c.loop-entry.book c.len.result at c.loop-entry.invariant.office c.loop-entry.invariant.legal refused c.len.ensures.len
 
 pub returns-then-is_err-clause-fault : goal.returns-then-is_err-clause-fault
 returns-then-is_err-clause-fault c =

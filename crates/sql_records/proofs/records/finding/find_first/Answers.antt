@@ -1,7 +1,7 @@
 use Rattle.std.proofs.Common.{refl, ◌∙◌}
 use Rattle.sqlite.specs.Held.{state}
 use Rattle.sql_records.specs.Held.{rows_in, history_in}
-use Rattle.sql_records.proofs.LookupLemmas.{first_kept, first_undamaged}
+use Rattle.sql_records.proofs.LookupLemmas.{first_kept, first_fault}
 use Rattle.sql_records.proofs.records.finding.find_first.Goals as goal
 
 pub returns-in-Ok-clause-found : goal.returns-in-Ok-clause-found
@@ -10,8 +10,8 @@ returns-in-Ok-clause-found g c clean =
     let rest = c.requires.rest (c.find_rows.ensures.clean clean) in
     first_kept c.as_slice.result.now (rows_in db) (history_in db) c.args.number rest.1.whole refl (c.as_slice.ensures.value ∙ c.in-Ok.ensures.rows clean) c.first_of.result c.first_of.ensures.ok
 
-pub returns-in-Ok-clause-undamaged : goal.returns-in-Ok-clause-undamaged
-returns-in-Ok-clause-undamaged g c clean place is =
+pub returns-in-Ok-clause-fault : goal.returns-in-Ok-clause-fault
+returns-in-Ok-clause-fault g c clean =
     let db = (state g.S.Store c.args.conn.now).now.trees in
     let rest = c.requires.rest (c.find_rows.ensures.clean clean) in
-    first_undamaged c.as_slice.result.now (rows_in db) (history_in db) c.args.number rest.1.whole refl (c.as_slice.ensures.value ∙ c.in-Ok.ensures.rows clean) c.first_of.result c.first_of.ensures.err _ is
+    first_fault c.as_slice.result.now (rows_in db) (history_in db) c.args.number rest.1.whole refl (c.as_slice.ensures.value ∙ c.in-Ok.ensures.rows clean) _ c.first_of.result c.first_of.ensures.err

@@ -1,7 +1,11 @@
-use Rattle.std.proofs.Common.{arith, subst}
+use Rattle.std.proofs.Common.{arith, subst, sym}
 use Rattle.sqlite.specs.Held.{state}
-use Rattle.sqlite.specs.State.{Shown}
-use Rattle.sql_records.proofs.FindLemmas.{find_text, find_shows, find_same, find_left}
+use Rattle.sqlite.specs.State.{Shown, FailsToQuery}
+use Rattle.sql_records.specs.Texts.{find_text}
+use Rattle.sql_records.proofs.FindLemmas.{find_shows, find_same, find_left, find_fails}
+use Rattle.sql_records.proofs.FaultLemmas.{told_fault}
+use Rattle.sql_records.specs.Lookups.{IsQueryFault}
+use Rattle.sql_records.specs.declared.lookup.FindFault.TheVariants.{Memory, Disk}
 use Rattle.sql_records.proofs.records.finding.find_rows.Goals as goal
 
 pub returns-in-Ok-clause-rows : goal.returns-in-Ok-clause-rows
@@ -27,3 +31,11 @@ pub returns-in-Err-clause-left : goal.returns-in-Err-clause-left
 returns-in-Err-clause-left g c clean =
     let rest = c.requires.rest (omega (arith, c.query_all.ensures.survives.clean)) in
     find_left (state g.S.Store c.args.conn.now) (state g.S.Store c.query_all.new.self) _ rest.1.schema c.query_all.ensures.survives clean
+
+pub returns-in-Err-clause-fault : goal.returns-in-Err-clause-fault
+returns-in-Err-clause-fault g c clean =
+    let old = state g.S.Store c.args.conn.now in
+    let new = state g.S.Store c.query_all.new.self in
+    let rest = c.requires.rest (omega (arith, c.query_all.ensures.survives.clean)) in
+    let fails = subst (λ p. FailsToQuery find_text p old new c.in-Err.error) c.number_param-params.ensures (c.in-Err.ensures.err clean) in
+    subst (IsQueryFault old new) (sym c.told.ensures) (told_fault (IsQueryFault old new) Memory Disk old new c.in-Err.error tt (λ h. h) (find_fails old new c.args.number c.in-Err.error rest.1.schema fails))

@@ -16,6 +16,6 @@ pub returns : goal.returns
 returns c =
     let all : c.loop-node.names.keys ≡ events_of c.args.self.now =
     c.loop-node.invariant
-    ∙ known_whole c.self.inside.limit c.self.inside.sites.items c.self.inside.sent.items c.deref-node-items.result.now c.loop-node.node-index c.deref-node-items.ensures.value (omega (arith, c.loop-node.auto.node-index-end)) c.loop-node-test.false
+    ∙ known_whole c.self.inside.sites.items c.self.inside.sent.items c.deref-node-items.result.now c.loop-node.node-index c.deref-node-items.ensures.value (omega (arith, c.loop-node.auto.node-index-end)) c.loop-node-test.false
     ∙ ap (λ (w : World). events_of w) c.self.view_is in
     subst (λ (xs : List (List ℕ)). IfOk c.listed.result (λ list. list.items ≡ xs)) all c.listed.ensures

@@ -3,6 +3,9 @@ use Rattle.std.specs.Prelude.{slice_get}
 use Rattle.rights_lattice.specs.Sums.{max_sites}
 use Rattle.world_steps.specs.declared.node.Node.{Node}
 use Rattle.book_core.specs.Decision.{Office}
+use Rattle.world_steps.specs.World.{opening}
+use Rattle.world_steps.specs.Reaching.{IsKept, world_of}
+use Rattle.world_steps.proofs.Promised.{promises_hold}
 use Rattle.world_steps.proofs.Sites.{IsOpened, opened_push, kept_opening}
 use Rattle.world_steps.proofs.world.World.new.Goals as goal
 
@@ -25,12 +28,16 @@ loop-number-preserved c =
       opened = λ i b found. opened_push c.args.sites c.args.limit before node c.loop-number.invariant.opened opened i b (subst (λ (l : List Node). slice_get l i ≡ Some b) items found);
     }
 
-pub invariant_of-result : goal.invariant_of-result
-invariant_of-result c =
-    (kept_opening c.args.sites c.args.limit c.loop-number.nodes.items c.new-2.result.items (few c.args.sites (omega (arith, c.count-number-end.ensures.count, c.count-number-end.ensures.at_most_16)))
-    (omega (arith, c.count-number-end.ensures.count, c.loop-number.invariant.len)) c.new-2.ensures.items c.loop-number.invariant.opened).0
+kept : (c : goal.After-new-2) → IsKept c.loop-number.nodes.items c.new-2.result.items × (world_of c.loop-number.nodes.items c.new-2.result.items ≡ opening c.args.sites c.args.limit)
+kept c =
+    kept_opening c.args.sites c.args.limit c.loop-number.nodes.items c.new-2.result.items (few c.args.sites (omega (arith, c.count-number-end.ensures.count, c.count-number-end.ensures.at_most_16)))
+    (omega (arith, c.count-number-end.ensures.count, c.loop-number.invariant.len)) c.new-2.ensures.items c.loop-number.invariant.opened
 
-pub returns : goal.returns
-returns c =
-    (kept_opening c.args.sites c.args.limit c.loop-number.nodes.items c.new-2.result.items (few c.args.sites (omega (arith, c.count-number-end.ensures.count, c.count-number-end.ensures.at_most_16)))
-    (omega (arith, c.count-number-end.ensures.count, c.loop-number.invariant.len)) c.new-2.ensures.items c.loop-number.invariant.opened).1
+pub invariant_of-result : goal.invariant_of-result
+invariant_of-result c = (kept c).0
+
+pub returns-clause-opening : goal.returns-clause-opening
+returns-clause-opening c = (kept c).1
+
+pub returns-clause-promises : goal.returns-clause-promises
+returns-clause-promises c = promises_hold (world_of c.loop-number.nodes.items c.new-2.result.items) (kept c).0.reached

@@ -1,7 +1,7 @@
-use Rattle.std.proofs.Common.{[], ◌∷◌, ◌++◌, ap, ◌∙◌, sym, subst}
-use Rattle.world_steps.specs.declared.step.WorldFault.TheVariants.{Memory}
-use Rattle.world_steps.specs.World.{World}
+use Rattle.std.proofs.Common.{[], ◌∷◌, ◌++◌, ap, ◌∙◌, sym, subst, take}
+use Rattle.world_steps.specs.World.{World, IsReached}
 use Rattle.world_steps.specs.Outcomes.{IsDue}
+use Rattle.world_steps.proofs.Promised.{promises_run}
 use Rattle.world_steps.proofs.Runs.{run_more, outcomes_more, due_at}
 use Rattle.world_steps.proofs.world.World.run.Goals as goal
 
@@ -22,4 +22,13 @@ returns-in-Err-clause-fault c =
 
 pub returns-then-is_err-clause-fault : goal.returns-then-is_err-clause-fault
 returns-then-is_err-clause-fault c =
-    due_at c.args.steps.items c.deref-step-items.result.now c.loop-place.place c.step-item.result c.loop-place.self Memory c.deref-step-items.ensures.value c.loop-place-test.true c.step-item.is tt
+    due_at c.args.steps.items c.deref-step-items.result.now c.loop-place.place c.step-item.result c.loop-place.self c.due_without_memory.result c.deref-step-items.ensures.value c.loop-place-test.true c.step-item.is
+    c.due_without_memory.ensures
+
+pub returns-then-is_err-clause-promises : goal.returns-then-is_err-clause-promises
+returns-then-is_err-clause-promises c =
+    promises_run c.args.self.now c.loop-place.self (take c.loop-place.place c.deref-step-items.result.now) (subst IsReached c.self.view_is c.self.invariant.reached) c.loop-place.invariant.world
+
+pub returns-clause-promises : goal.returns-clause-promises
+returns-clause-promises c =
+    promises_run c.args.self.now c.loop-place.self (take c.loop-place.place c.deref-step-items.result.now) (subst IsReached c.self.view_is c.self.invariant.reached) c.loop-place.invariant.world

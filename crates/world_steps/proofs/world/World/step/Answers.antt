@@ -1,7 +1,7 @@
 use Rattle.std.proofs.Common.{subst}
 use Rattle.world_steps.specs.World.{IsReached}
 use Rattle.world_steps.specs.declared.step.Step.TheVariants.{Ask, Send, Deliver, Restart, Stop}
-use Rattle.world_steps.proofs.Reached.{promises_after}
+use Rattle.world_steps.proofs.Promised.{promises_after}
 use Rattle.world_steps.proofs.world.World.step.Goals as goal
 
 pub returns-in-Ask-clause-promises : goal.returns-in-Ask-clause-promises

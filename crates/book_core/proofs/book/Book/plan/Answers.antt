@@ -1,0 +1,19 @@
+use Rattle.std.proofs.Common.{rules, ◌≡◌, false, None, IsOk, arith, ap, ◌∙◌}
+use Rattle.std.specs.Prelude.{nat_le, length}
+use Rattle.request_ledger.specs.Requests.{is_done}
+use Rattle.rights_lattice.specs.State.{bottom}
+use Rattle.book_core.specs.Decision.{state_of_item, reply_to}
+use Rattle.book_core.specs.History.{kept}
+use Rattle.book_core.proofs.Rooms.{room_for_refusal, fresh_refusal}
+use Rattle.book_core.proofs.book.Book.plan.Goals as goal
+
+pub returns-then-is_err-clause-memory : goal.returns-then-is_err-clause-memory
+returns-then-is_err-clause-memory c is refusal entries numbers =
+    let book = c.args.self.now in
+    let new : kept book.history c.args.number ≡ None = search rules in
+    let room : nat_le book.office.limit (length book.history) ≡ false = search rules in
+    let idle = fresh_refusal book.office book.history c.args.number c.args.request.now new room refusal in
+    let nothing = c.decide-reply.ensures.idle (ap is_done c.decide-reply.ensures.reply ∙ idle) in
+    let empty : c.in-Ok.delta ≡ bottom = c.in-Ok.ensures.delta ∙ ap state_of_item nothing in
+    let kept_room = c.reserve.ensures.succeeds (room_for_refusal book.room c.args.number c.args.request.now c.decide-reply.result.0 c.in-Ok.delta empty entries numbers) in
+    grind (arith, kept_room, c.is_err.ensures.value, c.is_err.ensures.negation, c.if-is_err.true)

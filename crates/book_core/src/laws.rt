@@ -1,0 +1,22 @@
+//! What holds of every legal history, and of the tests by which a peer's delta is judged, over the definitions alone.
+ghost use Rattle.book_core.specs.Laws.{RightsNeverNegative, EachReplyIsKept, NumbersAreKeptOnce, RefundsAreWithinSales, HistoryIsWithinLimit, RowTestIsTheOrder, SitesTestIsTheRange};
+
+/// A site whose history is legal never sold a seat that it had no right to sell (SRDS 2015), whatever deltas it
+/// joined, and never took more back than it sold.
+pub fn legal_histories_never_oversell()
+    ensures rights { RightsNeverNegative }
+    ensures refunds { RefundsAreWithinSales }
+{}
+
+/// Each request number of a legal history has one entry, which is what is kept under it.
+pub fn legal_histories_keep_numbers_once()
+    ensures kept { EachReplyIsKept }
+    ensures once { NumbersAreKeptOnce }
+    ensures within_limit { HistoryIsWithinLimit }
+{}
+
+/// The tests of a peer's delta are the order on the own row and the range of the sites, both ways.
+pub fn tests_are_the_order()
+    ensures own_row { RowTestIsTheOrder }
+    ensures sites { SitesTestIsTheRange }
+{}

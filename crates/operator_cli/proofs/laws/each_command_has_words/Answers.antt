@@ -1,0 +1,41 @@
+use Rattle.std.proofs.Common.{refl}
+use Rattle.clap.proofs.OnLiterals.{clap_on_literals}
+use Rattle.plain_words.specs.Number.{number_of}
+use Rattle.operator_cli.specs.Orders.{named_order, number_in, init_in, ask_in, find_in, list_in, export_in, import_in}
+use Rattle.operator_cli.proofs.laws.each_command_has_words.Goals as goal
+
+pub returns-clause-world : goal.returns-clause-world
+unfolding clap_on_literals named_order
+returns-clause-world c = (refl, refl)
+
+pub returns-clause-init : goal.returns-clause-init
+unfolding clap_on_literals named_order init_in number_in number_of
+returns-clause-init c = (refl, refl)
+
+pub returns-clause-ask : goal.returns-clause-ask
+unfolding clap_on_literals named_order ask_in
+returns-clause-ask c = (refl, refl)
+
+pub returns-clause-find : goal.returns-clause-find
+unfolding clap_on_literals named_order find_in number_in number_of
+returns-clause-find c = (refl, refl)
+
+pub returns-clause-list : goal.returns-clause-list
+unfolding clap_on_literals named_order list_in
+returns-clause-list c = (refl, refl)
+
+pub returns-clause-export : goal.returns-clause-export
+unfolding clap_on_literals named_order export_in number_in number_of
+returns-clause-export c = (refl, refl)
+
+pub returns-clause-import : goal.returns-clause-import
+unfolding clap_on_literals named_order import_in
+returns-clause-import c = (refl, refl)
+
+pub returns-clause-word_too_many : goal.returns-clause-word_too_many
+unfolding clap_on_literals
+returns-clause-word_too_many c = λ e. cc
+
+pub returns-clause-help : goal.returns-clause-help
+unfolding clap_on_literals
+returns-clause-help c = λ e. cc

@@ -1,0 +1,61 @@
+-- What exporting and importing come to, by the records that were opened. (Our own.)
+use Rattle.std.specs.Prelude.{◌≡◌, ℕ, ◌<◌, ◌≤◌, IsTrue, if◌then◌else◌, nat_lt, List, length, Option, Some, None, Result, Ok, Err}
+use Rattle.sqlite.specs.Tree.{Trees}
+use Rattle.book_core.specs.declared.entry.Entry.{Entry}
+use Rattle.book_core.specs.Decision.{Office}
+use Rattle.site_exchange.specs.declared.message.Message.{Message}
+use Rattle.site_exchange.specs.Exchange as exchange
+use Rattle.site_exchange.specs.Exchange.{Site, Verdict, next, verdict, zeros}
+use Rattle.delta_wire.specs.declared.fault.WireFault.{WireFault}
+use Rattle.delta_wire.specs.Grammar.{IsMessage, message_text}
+use Rattle.delta_wire.specs.Wire.{message_of}
+use Rattle.sql_records.specs.declared.meta.Meta.{Meta}
+use Rattle.sql_records.specs.Held.{history_in}
+use Rattle.sql_records.specs.Layout.{HasMeta}
+use Rattle.site_desk.specs.Answers.{is_peer}
+use Rattle.site_desk.specs.SiteView.{SiteView, office_of}
+use Rattle.operator_cli.specs.declared.status.Status.{Status}
+use Rattle.operator_cli.specs.declared.status.Status.TheVariants.{Done}
+use Rattle.operator_cli.specs.declared.told.Told.{Told}
+use Rattle.operator_cli.specs.declared.told.Told.TheVariants.{Joined, NothingNew, Acked, NoSite, Nothing, TooLong, Unread, NotTaken}
+use Rattle.operator_cli.specs.Printed.{IsTellingOf}
+
+-- the book is that of the records in this database, as they are opened: with their history and nothing acknowledged
+pub record IsBookOf {K : Type 0} (db : Trees) (book : SiteView K) : Type 0 where
+  pub office : (meta : Meta) → HasMeta meta db → book.book.office ≡ office_of meta
+  pub history : book.book.history ≡ history_in db
+  pub fresh : book.acked ≡ zeros
+
+-- what is told of what a site does with a message
+abbrev pub told_of_verdict : Verdict → Told
+told_of_verdict exchange.Joins = Joined
+told_of_verdict exchange.NothingNew = NothingNew
+told_of_verdict exchange.Acks = Acked
+told_of_verdict (exchange.Refuses fault) = NotTaken fault
+
+abbrev pub told_of_read : Office → List Entry → Result Message WireFault → Told
+told_of_read office h (Ok message) = told_of_verdict (verdict office h message)
+told_of_read office h (Err fault) = Unread fault
+
+-- the most bytes that a message may have
+abbrev pub most_bytes : ℕ
+most_bytes = 4294967296
+
+-- what is told of the bytes of an input
+abbrev pub told_of_bytes : Office → List Entry → List ℕ → Told
+told_of_bytes office h bytes = if nat_lt most_bytes (length bytes) then TooLong else told_of_read office h (message_of bytes)
+
+-- the message that is due to a peer, or why there is none
+abbrev pub IsDueText : Office → Site → ℕ → Status → List ℕ → Type 0
+IsDueText office site to Done text = (message : Message) × (IsTrue (is_peer office to) × (next office.me site to ≡ Some message) × (text ≡ message_text message))
+IsDueText office site to status text =
+    IsTellingOf (λ told. (told ≡ (if is_peer office to then Nothing else NoSite)) × (IsTrue (is_peer office to) → next office.me site to ≡ None)) status text
+
+-- the site that records tell, with these numbers
+abbrev pub site_in : Trees → Site
+site_in db = record { history = history_in db; acked = zeros }
+
+-- the input is so long, or all of it was read
+abbrev pub IsInput : List ℕ → Option (List ℕ) → Type 0
+IsInput input None = most_bytes < length input
+IsInput input (Some bytes) = (bytes ≡ input) × (length input ≤ most_bytes)

@@ -1,0 +1,45 @@
+-- Why the records of a database are not opened, and what is told of it. (Our own.)
+use Rattle.std.specs.Prelude.{◌≡◌, ◌⊎◌, ℕ, List, Option, true, false}
+use Rattle.plain_words.specs.Writing.{AppendsFront}
+use Rattle.operator_cli.specs.declared.status.Status.{Status}
+use Rattle.operator_cli.specs.declared.status.Status.TheVariants.{Failed}
+use Rattle.sqlite.specs.Store.{Ghosts}
+use Rattle.sqlite.specs.State.{HasCleanDisk}
+use Rattle.sqlite.specs.Held.{Held, state}
+use Rattle.book_core.specs.declared.plan.ReplayFault.{ReplayFault}
+use Rattle.book_core.specs.Replay.{IsReplayFault}
+use Rattle.sql_records.specs.declared.fault.OpenFault.{OpenFault}
+use Rattle.sql_records.specs.declared.fault.OpenFault.TheVariants as opening
+use Rattle.sql_records.specs.declared.meta.Meta.{Meta}
+use Rattle.sql_records.specs.Held.{history_in}
+use Rattle.sql_records.specs.Layout.{HasMeta}
+use Rattle.sql_records.specs.Opening.{IsOpenFault}
+use Rattle.site_desk.specs.SiteView.{office_of}
+use Rattle.operator_cli.specs.declared.store_fault.StoreFault.{StoreFault}
+use Rattle.operator_cli.specs.Told.{of_open_fault, of_replay_fault, store_fault_line}
+
+module _ {S : Type 0} (g : Ghosts S) (conn : Held S) where
+  -- the records are not opened for this cause: a transaction is open, or what they are found to be at fault in
+  abbrev pub IsCause : OpenFault → Type 0
+  IsCause cause = ((conn.in_transaction ≡ true) × (cause ≡ opening.Disk))
+      ⊎ ((conn.in_transaction ≡ false) × ((after : Held S) × (HasCleanDisk (state g after) → HasCleanDisk (state g conn) × IsOpenFault (state g conn) (state g after) cause)))
+
+  -- the opening was refused, and the fault tells its cause
+  pub record IsRefused (fault : StoreFault) : Type 0 where
+    pub cause : OpenFault
+    pub told : fault ≡ of_open_fault cause
+    pub found : IsCause cause
+
+  -- the records were opened and are as they were, but their history is not legal, or memory was wanted for it
+  pub record IsIllegal (after : Held S) (fault : StoreFault) : Type 0 where
+    pub cause : ReplayFault
+    pub told : fault ≡ of_replay_fault cause
+    pub same : HasCleanDisk (state g after) → (state g after).now ≡ (state g conn).now
+    pub found : HasCleanDisk (state g after) → (meta : Meta) → HasMeta meta (state g conn).now.trees → IsReplayFault (office_of meta) (history_in (state g conn).now.trees) cause
+
+  -- a command has no connection to give back: its records were refused, and that is what it told
+  pub record IsLost (old_err new_err : Option (List ℕ)) (status : Status) : Type 0 where
+    pub fault : StoreFault
+    pub refused : IsRefused fault
+    pub told : AppendsFront old_err new_err (store_fault_line fault)
+    pub failed : status ≡ Failed

@@ -1,0 +1,37 @@
+//! What holds of each script and of the program's words, over the definitions alone.
+
+ghost use Rattle.std.specs.Prelude.{◌≡◌, ◌∷◌, [], codes};
+ghost use Rattle.clap.specs.Words.{fault_of};
+ghost use Rattle.operator_cli.specs.Laws.{LinesAreRead, OnlyLinesAreRead, SitesAreRead, OnlySitesAreRead, LimitsAreRead, OnlyLimitsAreRead, ScriptsMakeSteps, TotalsAreThose, TotalsAreNotOversold};
+ghost use Rattle.operator_cli.specs.Orders.{boxoffice, AreUnderstood, Give, SaysWorld, SaysInit, SaysAsk, SaysFind, SaysList, SaysExport, SaysImport};
+
+/// Each line of a script is read from its text, and from no other.
+pub fn lines_are_read_exactly()
+    ensures lines { LinesAreRead }
+    ensures only_lines { OnlyLinesAreRead }
+    ensures sites { SitesAreRead }
+    ensures only_sites { OnlySitesAreRead }
+    ensures limits { LimitsAreRead }
+    ensures only_limits { OnlyLimitsAreRead }
+{}
+
+/// The totals of a script are those of a world that its steps lead to, and none is oversold.
+pub fn totals_are_not_oversold()
+    ensures steps { ScriptsMakeSteps }
+    ensures totals { TotalsAreThose }
+    ensures bounded { TotalsAreNotOversold }
+{}
+
+/// Each command is given by words that the grammar takes; a word too many and a call for help are
+/// not understood.
+pub fn each_command_has_words()
+    ensures world { Give (codes "world" ∷ []) SaysWorld }
+    ensures init { Give (codes "init" ∷ codes "a.db" ∷ codes "1" ∷ codes "2" ∷ codes "9" ∷ []) (SaysInit (codes "a.db") 1 2 9) }
+    ensures ask { Give (codes "ask" ∷ codes "a.db" ∷ []) (SaysAsk (codes "a.db")) }
+    ensures find { Give (codes "find" ∷ codes "a.db" ∷ codes "7" ∷ []) (SaysFind (codes "a.db") 7) }
+    ensures list { Give (codes "list" ∷ codes "a.db" ∷ codes "gala" ∷ []) (SaysList (codes "a.db") (codes "gala")) }
+    ensures export { Give (codes "export" ∷ codes "a.db" ∷ codes "1" ∷ []) (SaysExport (codes "a.db") 1) }
+    ensures import { Give (codes "import" ∷ codes "a.db" ∷ []) (SaysImport (codes "a.db")) }
+    ensures word_too_many { AreUnderstood (codes "boxoffice" ∷ codes "world" ∷ codes "extra" ∷ []) → ⊥ }
+    ensures help { AreUnderstood (codes "boxoffice" ∷ codes "world" ∷ codes "--help" ∷ []) → ⊥ }
+{}

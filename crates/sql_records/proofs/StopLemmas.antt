@@ -1,0 +1,65 @@
+-- What an open finds of a database that a stop left.
+use Rattle.std.proofs.Common.{◌≡◌, ◌≢◌, inl, inr, ℕ, zero, suc, ◌+◌, ℤ, pos, List, [], ◌∷◌, map, Option, Some, None, IsSome, slice_get, refl, sym, ap, subst, ◌∙◌, arith}
+use Rattle.sqlite_catalog.specs.Listing.{IsSound}
+use Rattle.sqlite_catalog.proofs.ReadLemmas.{lists_once}
+use Rattle.sqlite.specs.Schema.{Schema}
+use Rattle.sqlite.specs.Order.{Row, column}
+use Rattle.sqlite.specs.declared.types.Value.{Value}
+use Rattle.sqlite.specs.declared.types.Value.TheVariants.{Int}
+use Rattle.sqlite.specs.Tree.{Trees}
+use Rattle.sqlite.specs.State.{State}
+use Rattle.book_core.specs.declared.entry.Entry.{Entry}
+use Rattle.sql_records.specs.declared.meta.Meta.{Meta}
+use Rattle.sql_records.specs.declared.fault.OpenFault.{OpenFault}
+use Rattle.sql_records.specs.declared.fault.OpenFault.TheVariants.{NotOurs, OtherSchema, Damaged, Memory, Disk}
+use Rattle.sql_records.specs.Layout.{IsOurs, HasMeta, HasOtherSchema}
+use Rattle.sql_records.specs.Rows.{shown, in_order, AreInOrder, AreWhole, IsEntryAt, IsDamagedAt}
+use Rattle.sql_records.specs.Held.{IsSiteIn, opened_in, rows_in}
+use Rattle.sql_records.specs.Opening.{IsOpenFault, IsOurFault, IsAfterStop}
+use Rattle.sql_records.proofs.RowLemmas.{whole_from}
+use Rattle.sql_records.proofs.QueryLemmas.{order_whole}
+
+same_int : (v w : ℤ) (x : Value) → x ≡ Int v → x ≡ Int w → v ≡ w
+same_int v w x p q = cc
+
+same_row : (rows : List Row) (x y : Row) → rows ≡ x ∷ [] → rows ≡ y ∷ [] → x ≡ y
+same_row rows x y p q = cc
+
+no_other : (meta : Meta) (version : ℤ) (db : Trees) → HasMeta meta db → HasOtherSchema version db → ⊥
+no_other meta version db has other =
+    let same = same_row _ _ _ other.alone has in
+    other.differs (same_int version (pos 1) (column other.values 1) other.version_is (ap (λ (x : Row). column x 1) same))
+
+whole_at : (from i : ℕ) (rows : List Row) (values : Row) → AreWhole from rows → slice_get rows i ≡ Some values → IsEntryAt (from + i) values
+whole_at from i [] values whole at = absurd cc
+whole_at from zero (r ∷ rows) values whole at = let same : r ≡ values = cc in let here : from ≡ from + 0 = omega arith in subst (λ k. IsEntryAt k values) here (subst (IsEntryAt from) same whole.0)
+whole_at from (suc i) (r ∷ rows) values whole at =
+    let here : (from + 1) + i ≡ from + suc i = omega arith in
+    subst (λ k. IsEntryAt k values) here (whole_at (from + 1) i rows values whole.1 at)
+
+no_damage : (place : ℕ) (table rows : List Row) → AreInOrder table rows → AreWhole 0 (in_order (map shown table)) → IsDamagedAt place rows → ⊥
+no_damage place table rows order whole damaged =
+    let all = subst (AreWhole 0) (sym (order_whole table rows order whole)) whole in
+    let at : 0 + place ≡ place = omega arith in
+    damaged.1.2 (subst (λ k. IsEntryAt k damaged.1.0) at (whole_at 0 place rows damaged.1.0 all damaged.1.1))
+
+some : {A : Type 0} (o : Option A) → IsSome o → (x : A) × (o ≡ Some x)
+some None h = absurd (let e = h in cc)
+some (Some x) h = (x, refl)
+
+module _ (old new : State) (meta : Meta) (site : IsSiteIn meta old.now.trees) (sound : IsSound old.now.schema old.now.trees) (opens : IsSome (opened_in old.now.trees)) where
+  not_at_fault : (fault : OpenFault) → IsOurFault old new fault → IsAfterStop (Some fault)
+  not_at_fault NotOurs h = absurd (h.no_numbers meta site.within site.numbers)
+  not_at_fault (OtherSchema version) h = absurd (no_other meta version old.now.trees site.numbers h)
+  not_at_fault (Damaged place) h =
+      let list = some (opened_in old.now.trees) opens in
+      let whole = whole_from 0 (rows_in old.now.trees) list.0 list.1 in
+      absurd (no_damage place (old.now.trees 1) h.1.0 h.1.1 whole h.1.2)
+  not_at_fault Memory h = tt
+  not_at_fault Disk h = tt
+
+  pub after_stop : (fault : OpenFault) → IsOpenFault old new fault → IsAfterStop (Some fault)
+  after_stop fault (inl foreign) =
+      let same = lists_once _ site.schema old.now.schema site.sound.lists sound.lists in
+      absurd (foreign.0 (subst IsOurs same site.ours))
+  after_stop fault (inr ours) = not_at_fault fault ours.1

@@ -1,0 +1,31 @@
+use Rattle.std.proofs.Common.{Some, refl, sym, ap, subst, ◌∙◌}
+use Rattle.sqlite.specs.Held.{state}
+use Rattle.sql_records.proofs.OpeningLemmas.{one_meta}
+use Rattle.sql_records.proofs.StopLemmas.{after_stop}
+use Rattle.sql_records.proofs.records.Records.open_after_stop.Goals as goal
+
+pub returns-in_default-clause-opens : goal.returns-in_default-clause-opens
+returns-in_default-clause-opens g c = (c.args.conn, λ clean meta site opens. tt)
+
+pub returns-in-Ok-clause-found : goal.returns-in-Ok-clause-found
+returns-in-Ok-clause-found g c clean =
+    let was = c.in-Ok.ensures.clean clean in
+    let holds = c.in-Ok.ensures.holds clean in
+    record { db = (state g.S.Store c.in-Some.again).now.trees; left = c.in-Some.ensures.left was; site = holds.0; reads = holds.1 }
+
+pub returns-in-Ok-clause-numbers : goal.returns-in-Ok-clause-numbers
+returns-in-Ok-clause-numbers g c clean meta site =
+    let was = c.in-Ok.ensures.clean clean in
+    let db = (state g.S.Store c.in-Some.again).now.trees in
+    one_meta _ meta db (c.in-Ok.ensures.holds clean).0.numbers (site db (c.in-Some.ensures.left was)).numbers
+
+pub returns-in-Err-clause-opens : goal.returns-in-Err-clause-opens
+returns-in-Err-clause-opens g c =
+    let h = c.in-Err.ensures.fault c.in-Some.ensures.outside in (
+      h.0,
+      λ clean meta site opens.
+          let both = h.1 clean in
+          let first = state g.S.Store c.in-Some.again in
+          let left = c.in-Some.ensures.left both.0 in
+          after_stop first (state g.S.Store h.0) meta (site first.now.trees left) (c.in-Some.ensures.sound both.0) (opens _ (first.now.trees, left, refl)) c.in-Err.fault both.1,
+    )

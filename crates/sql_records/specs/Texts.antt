@@ -1,0 +1,17 @@
+-- The statements over the records. (Our own.)
+use Rattle.std.specs.Prelude.{ℕ, List, codes}
+
+abbrev pub meta_select_text : List ℕ
+meta_select_text = codes "SELECT kind, version, me, sites, bound FROM meta"
+
+abbrev pub select_text : List ℕ
+select_text = codes "SELECT pos, peer, number, verb, event, amount, target, reply, rest, delta FROM entries ORDER BY pos"
+
+abbrev pub insert_text : List ℕ
+insert_text = codes "INSERT INTO entries VALUES (?1, ?2, ?3, ?4, ?5, ?6, ?7, ?8, ?9, ?10)"
+
+abbrev pub find_text : List ℕ
+find_text = codes "SELECT pos, reply, rest FROM entries WHERE number = ?1 ORDER BY pos"
+
+abbrev pub list_text : List ℕ
+list_text = codes "SELECT pos, number, verb, event, amount, target, reply, rest FROM entries WHERE event = ?1 ORDER BY pos"

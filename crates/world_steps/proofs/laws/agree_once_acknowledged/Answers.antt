@@ -1,0 +1,7 @@
+use Rattle.world_steps.specs.World.{reached}
+use Rattle.world_steps.proofs.Promised as promised
+use Rattle.world_steps.proofs.Reached.{sound_reached}
+use Rattle.world_steps.proofs.laws.agree_once_acknowledged.Goals as goal
+
+pub returns : goal.returns
+returns c = λ limits steps. promised.agree_once_acknowledged (reached limits steps) (sound_reached limits steps)
