@@ -8,8 +8,8 @@ use Rattle.std.proofs.lemmas.Bool.{cases_lt}
 short_of : (limit most : ℕ) (bytes buf : List ℕ) → limit ≡ most + 1 → buf ≡ take limit bytes → length buf ≤ most → length bytes ≤ most
 short_of limit most bytes buf is read short =
     elim (cases_lt most (length bytes)) [
-      inl q ↦ omega (arith, is, short, ap length read, length-take-le limit bytes (omega (arith, is, q))) |
-      inr p ↦ p
+      | inl q ↦ omega (arith, is, short, ap length read, length-take-le limit bytes (omega (arith, is, q)))
+      | inr p ↦ p
     ]
 
 whole : (limit most : ℕ) (bytes buf : List ℕ) → limit ≡ most + 1 → buf ≡ take limit bytes → length buf ≤ most → (buf ≡ bytes) × (length bytes ≤ most)
