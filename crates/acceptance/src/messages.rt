@@ -62,6 +62,38 @@ fn early_refusal_is_kept(rt: HostRuntime) {
 }
 
 #[test]
+fn row_handed_on_by_another_site(rt: HostRuntime) {
+    prints(
+        &rt,
+        b"sites 3\n\
+          0 announce 1 gala\n\
+          0 release 2 gala 10\n\
+          0 cede 3 gala 4 2\n\
+          send 0 1\n\
+          deliver 0\n\
+          send 1 2\n\
+          deliver 2\n\
+          2 sell 1 gala 4\n\
+          2 sell 2 gala 1\n\
+          1 left gala\n\
+          1 totals gala\n",
+        b"done\n\
+          done\n\
+          done\n\
+          message 0\n\
+          joined message 1\n\
+          message 2\n\
+          joined message 3\n\
+          done\n\
+          short 0\n\
+          left 0\n\
+          totals released 10 sold 0 refunded 0\n\
+          gala released 10 sold 4 refunded 0 outstanding 4\n",
+        Status::Done,
+    );
+}
+
+#[test]
 fn delta_delivered_twice(rt: HostRuntime) {
     prints(
         &rt,

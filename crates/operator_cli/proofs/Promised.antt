@@ -1,5 +1,5 @@
 -- What a script prints is of a world that its steps lead to.
-use Rattle.std.proofs.Common.{◌≡◌, ℕ, ◌≤◌, List, [], ◌∷◌, ◌++◌, Option, Some, None, refl, sym, ap, ◌∙◌, subst, arith}
+use Rattle.std.proofs.Common.{◌≡◌, ℕ, ◌≤◌, List, [], ◌∷◌, ◌++◌, Option, Some, None, refl, sym, ◌∙◌, subst, arith}
 use Rattle.world_steps.specs.declared.step.Step.{Step}
 use Rattle.world_steps.specs.World.{World, opening, run, reached, totals_of, count}
 use Rattle.rights_lattice.specs.Sums.{max_sites}
@@ -11,8 +11,8 @@ use Rattle.operator_cli.specs.Grammar.{IsSites}
 use Rattle.operator_cli.specs.Reading.{line_of, limit_of}
 use Rattle.operator_cli.specs.Answering.{answer_to}
 use Rattle.operator_cli.specs.Script.{world_behind, opened, opened_by, greatest_limit}
-use Rattle.operator_cli.specs.Laws.{step_of, steps_of, world_at, ScriptsMakeSteps, IsNotOversold, TotalsAreNotOversold}
-use Rattle.std.specs.Prelude.{◌+◌, replicate, length}
+use Rattle.operator_cli.specs.Laws.{step_of, steps_of, ScriptsMakeSteps, IsNotOversold, TotalsAreNotOversold}
+use Rattle.std.specs.Prelude.{replicate}
 use Rattle.std.proofs.lemmas.List.{length-replicate}
 
 one_step : (o : Option ScriptLine) (w : World) (more : List Step) → run (step_of o ++ more) w ≡ run more (answer_to w o).1

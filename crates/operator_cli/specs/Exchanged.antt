@@ -7,7 +7,7 @@ use Rattle.site_exchange.specs.declared.message.Message.{Message}
 use Rattle.site_exchange.specs.Exchange as exchange
 use Rattle.site_exchange.specs.Exchange.{Site, Verdict, next, verdict, zeros}
 use Rattle.delta_wire.specs.declared.fault.WireFault.{WireFault}
-use Rattle.delta_wire.specs.Grammar.{IsMessage, message_text}
+use Rattle.delta_wire.specs.Grammar.{message_text}
 use Rattle.delta_wire.specs.Wire.{message_of}
 use Rattle.sql_records.specs.declared.meta.Meta.{Meta}
 use Rattle.sql_records.specs.Held.{history_in}

@@ -1,11 +1,15 @@
 -- The commands of the program with their values, and which command words give. (Our own.)
-use Rattle.std.specs.Prelude.{◌≡◌, ℕ, List, [], ◌∷◌, true, Option, Some, None, codes, if◌then◌else◌}
+use Rattle.std.specs.Prelude.{◌≡◌, ℕ, Bool, List, [], ◌∷◌, true, false, Option, Some, None, is_some, codes, if◌then◌else◌}
+use Rattle.std.specs.Option.{option_map}
+use Rattle.std.specs.String.{string_bytes}
 use Rattle.std.specs.Str.{bytes_eq}
 use Rattle.clap.specs.Words.{App, Row, Rule, Text, first_of, new_app, new_rule, with_rule, with_subcommand, subcommand_of, fault_of}
 use Rattle.plain_words.specs.Words.{◌>>=◌}
 use Rattle.plain_words.specs.Number.{number_of}
 use Rattle.operator_cli.specs.declared.orders.Order.{Order}
 use Rattle.operator_cli.specs.declared.orders.Order.TheVariants as order
+use Rattle.operator_cli.specs.declared.orders.Misfit.{Misfit}
+use Rattle.operator_cli.specs.declared.orders.Misfit.TheVariants.{Command, File, Event, Me, Sites, Limit, Number, To}
 use Rattle.operator_cli.specs.declared.orders.WordsFault.{WordsFault}
 use Rattle.operator_cli.specs.declared.orders.WordsFault.TheVariants.{NotUnderstood, Memory}
 
@@ -138,7 +142,57 @@ Ordered words said = AreUnderstood words × (order_in (subcommand_of boxoffice w
 abbrev pub Give : List Text → Said → Type 0
 Give words said = Ordered (codes "boxoffice" ∷ words) said
 
--- Words that are understood are refused only where they meet no order, want of memory aside.
+-- the values that a command takes, in order
+unfoldable pub values_of : Text → List Misfit
+values_of name =
+    if bytes_eq name (codes "world") then [] else (
+    if bytes_eq name (codes "init") then File ∷ Me ∷ Sites ∷ Limit ∷ [] else (
+    if bytes_eq name (codes "ask") then File ∷ [] else (
+    if bytes_eq name (codes "find") then File ∷ Number ∷ [] else (
+    if bytes_eq name (codes "list") then File ∷ Event ∷ [] else (
+    if bytes_eq name (codes "export") then File ∷ To ∷ [] else (
+    if bytes_eq name (codes "import") then File ∷ [] else Command ∷ []))))))
+
+-- whether a value is given and in its range
+abbrev pub fits : List Row → Misfit → Bool
+fits rows Command = false
+fits rows File = is_some (first_of (codes "FILE") rows)
+fits rows Event = is_some (first_of (codes "EVENT") rows)
+fits rows Me = is_some (number_in (codes "ME") 0 63 rows)
+fits rows Sites = is_some (number_in (codes "SITES") 1 16 rows)
+fits rows Limit = is_some (number_in (codes "LIMIT") 1 1000000 rows)
+fits rows Number = is_some (number_in (codes "NUMBER") 1 1000000000000 rows)
+fits rows To = is_some (number_in (codes "TO") 0 63 rows)
+
+-- the first of the values that does not fit
+abbrev pub first_misfit : List Misfit → List Row → Option Misfit
+first_misfit [] rows = None
+first_misfit (value ∷ values) rows = if fits rows value then first_misfit values rows else Some value
+
+-- what is wrong with the subcommand that was met
+abbrev pub misfit_in : Option (Text × List Row) → Option Misfit
+misfit_in None = Some Command
+misfit_in (Some met) = first_misfit (values_of met.0) met.1
+
+-- the line that tells it
+abbrev pub misfit_line : Misfit → Text
+misfit_line Command = codes "error: no such command\n"
+misfit_line File = codes "error: FILE is missing\n"
+misfit_line Event = codes "error: EVENT is missing\n"
+misfit_line Me = codes "error: ME is the number of a site, 0 to 63\n"
+misfit_line Sites = codes "error: SITES is a count of sites, 1 to 16\n"
+misfit_line Limit = codes "error: LIMIT is a count of entries, 1 to 1000000\n"
+misfit_line Number = codes "error: NUMBER is the number of a request, 1 to 1000000000000\n"
+misfit_line To = codes "error: TO is the number of a site, 0 to 63\n"
+
+-- it is told, or memory was wanted for its line
+abbrev pub TellsMisfit : Misfit → WordsFault → Type 0
+TellsMisfit misfit Memory = Unit {0}
+TellsMisfit misfit (NotUnderstood text) = string_bytes text ≡ misfit_line misfit
+
+-- Words that are understood are refused only where they meet no order, want of memory aside, and
+-- the first value that does not fit is told.
 abbrev pub IsRefusal : List Text → WordsFault → Type 0
 IsRefusal words Memory = Unit {0}
-IsRefusal words (NotUnderstood text) = AreUnderstood words → order_in (subcommand_of boxoffice words) ≡ None
+IsRefusal words (NotUnderstood text) = AreUnderstood words →
+    (order_in (subcommand_of boxoffice words) ≡ None) × (option_map misfit_line (misfit_in (subcommand_of boxoffice words)) ≡ Some (string_bytes text))

@@ -1,11 +1,10 @@
 -- What a line of a session asks, and what it is answered. (Our own.)
-use Rattle.std.specs.Prelude.{◌≡◌, ◌⊎◌, ℕ, Bool, true, false, if◌then◌else◌, List, ◌++◌, Option, Some, None, codes}
+use Rattle.std.specs.Prelude.{◌≡◌, ◌⊎◌, ℕ, Bool, true, false, if◌then◌else◌, List, ◌++◌, Option, Some, codes}
 use Rattle.std.specs.Fmt.{decimal}
 use Rattle.std.specs.Str.{bytes_eq}
 use Rattle.std.specs.List.{slice_split}
 use Rattle.plain_words.specs.Words.{is_space, ended, ◌>>=◌}
 use Rattle.rights_lattice.specs.State.{knows}
-use Rattle.local_rights.specs.declared.report.Totals.{Totals}
 use Rattle.local_rights.specs.Rights.{released_in, sold_in, refunded_in}
 use Rattle.book_core.specs.BookView.{BookView}
 use Rattle.book_core.specs.Decision.{Decision, Again, Reused, Full, Fresh, own_left}

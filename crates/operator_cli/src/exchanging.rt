@@ -1,6 +1,6 @@
 //! Messages to and from the records of a site.
 
-ghost use Rattle.std.specs.Prelude.{◌≡◌, ◌≤◌, None, Some, IfOk, IfSome, length};
+ghost use Rattle.std.specs.Prelude.{◌≡◌, ◌≤◌, None, Some, IfOk, IfSome, vec_len};
 ghost use Rattle.sqlite.specs.State.{HasCleanDisk};
 ghost use Rattle.sqlite.specs.Held.{state};
 ghost use Rattle.sql_records.specs.Layout.{HasMeta};
@@ -86,7 +86,8 @@ pub fn export_store<S: Alter + Drop, W: Write, E: Write>(
 
 // All of the input, or None where it is longer than a message may be.
 fn read_input<R: Read + Drop>(alloc: Global, input: R) -> Result<Option<Vec<u8>>, StoreFault>
-    ensures { IfOk result (λ read. IfSome (R.remaining input)
+    ensures few { IfOk result (λ read. IfSome read (λ bytes. vec_len bytes ≤ 4294967296)) }
+    ensures read { IfOk result (λ read. IfSome (R.remaining input)
         (λ bytes. IsInput bytes (option_map (λ v. v.items) read))) }
 {
     let mut bytes = Vec::new(alloc);

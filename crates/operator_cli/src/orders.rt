@@ -1,9 +1,9 @@
 //! The words that the program is called with.
 
-ghost use Rattle.std.specs.Prelude.{◌≡◌, ◌≤◌, IfSome, IfOk, OnOk, IfErr, MatchResult, Some, None, map, codes};
+ghost use Rattle.std.specs.Prelude.{◌≡◌, ◌≤◌, [], ◌∷◌, IfSome, IfOk, OnOk, IfErr, MatchResult, Some, None, map, codes};
 ghost use Rattle.std.specs.Option.{option_map};
 ghost use Rattle.clap.specs.Words.{subcommand_of, subcommand_rows_of, kind_of, first_of, found_of, rows_of};
-ghost use Rattle.operator_cli.specs.Orders.{boxoffice, AreUnderstood, order_in, said_by, number_in, init_in, ask_in, find_in, list_in, export_in, import_in, named_order, IsRefusal};
+ghost use Rattle.operator_cli.specs.Orders.{boxoffice, AreUnderstood, order_in, said_by, number_in, init_in, ask_in, find_in, list_in, export_in, import_in, named_order, values_of, first_misfit, misfit_in, misfit_line, TellsMisfit, IsRefusal};
 
 use crate::words::boxoffice;
 use book_core::Limit;
@@ -61,25 +61,33 @@ pub enum WordsFault {
     Memory,
 }
 
-// What is wrong with the values of a command.
-#[derive(Clone, Copy, Debug, thiserror::Error)]
+// What is wrong with the words of a command: its name, or the value that is named.
+#[derive(Clone, Copy, Debug)]
 enum Misfit {
-    #[error("no such command")]
     Command,
-    #[error("FILE is missing")]
     File,
-    #[error("EVENT is missing")]
     Event,
-    #[error("ME is the number of a site, 0 to 63")]
     Me,
-    #[error("SITES is a count of sites, 1 to 16")]
     Sites,
-    #[error("LIMIT is a count of entries, 1 to 1000000")]
     Limit,
-    #[error("NUMBER is the number of a request, 1 to 1000000000000")]
     Number,
-    #[error("TO is the number of a site, 0 to 63")]
     To,
+}
+
+// The line that tells it.
+fn misfit_line(misfit: Misfit) -> &'static str
+    ensures { result.now ≡ misfit_line misfit }
+{
+    match misfit {
+        Misfit::Command => "error: no such command\n",
+        Misfit::File => "error: FILE is missing\n",
+        Misfit::Event => "error: EVENT is missing\n",
+        Misfit::Me => "error: ME is the number of a site, 0 to 63\n",
+        Misfit::Sites => "error: SITES is a count of sites, 1 to 16\n",
+        Misfit::Limit => "error: LIMIT is a count of entries, 1 to 1000000\n",
+        Misfit::Number => "error: NUMBER is the number of a request, 1 to 1000000000000\n",
+        Misfit::To => "error: TO is the number of a site, 0 to 63\n",
+    }
 }
 
 fn value_of<'a>(values: &ArgMatches<'a>, id: &str) -> Option<&'a str>
@@ -127,7 +135,8 @@ fn request_number_of(values: &ArgMatches<'_>) -> Option<RequestNumber>
 
 #[tactic(auto, unfolding(crate::specs::Orders::init_in))]
 fn init_of<'a>(values: &ArgMatches<'a>) -> Result<Order<'a>, Misfit>
-    ensures { MatchResult result (λ order. init_in (rows_of (found_of values.now)) ≡ Some (said_by order)) (λ _. init_in (rows_of (found_of values.now)) ≡ None) }
+    ensures order { MatchResult result (λ order. init_in (rows_of (found_of values.now)) ≡ Some (said_by order)) (λ _. init_in (rows_of (found_of values.now)) ≡ None) }
+    ensures misfit { IfErr result (λ misfit. first_misfit (Misfit.File ∷ Misfit.Me ∷ Misfit.Sites ∷ Misfit.Limit ∷ []) (rows_of (found_of values.now)) ≡ Some misfit) }
 {
     let file = value_of(values, "FILE").ok_or(Misfit::File)?;
     let me = site_of(values, "ME").ok_or(Misfit::Me)?;
@@ -143,7 +152,8 @@ fn init_of<'a>(values: &ArgMatches<'a>) -> Result<Order<'a>, Misfit>
 
 #[tactic(auto, unfolding(crate::specs::Orders::ask_in))]
 fn ask_of<'a>(values: &ArgMatches<'a>) -> Result<Order<'a>, Misfit>
-    ensures { MatchResult result (λ order. ask_in (rows_of (found_of values.now)) ≡ Some (said_by order)) (λ _. ask_in (rows_of (found_of values.now)) ≡ None) }
+    ensures order { MatchResult result (λ order. ask_in (rows_of (found_of values.now)) ≡ Some (said_by order)) (λ _. ask_in (rows_of (found_of values.now)) ≡ None) }
+    ensures misfit { IfErr result (λ misfit. first_misfit (Misfit.File ∷ []) (rows_of (found_of values.now)) ≡ Some misfit) }
 {
     let file = value_of(values, "FILE").ok_or(Misfit::File)?;
     Ok(Order::Ask { file })
@@ -151,7 +161,8 @@ fn ask_of<'a>(values: &ArgMatches<'a>) -> Result<Order<'a>, Misfit>
 
 #[tactic(auto, unfolding(crate::specs::Orders::find_in))]
 fn find_of<'a>(values: &ArgMatches<'a>) -> Result<Order<'a>, Misfit>
-    ensures { MatchResult result (λ order. find_in (rows_of (found_of values.now)) ≡ Some (said_by order)) (λ _. find_in (rows_of (found_of values.now)) ≡ None) }
+    ensures order { MatchResult result (λ order. find_in (rows_of (found_of values.now)) ≡ Some (said_by order)) (λ _. find_in (rows_of (found_of values.now)) ≡ None) }
+    ensures misfit { IfErr result (λ misfit. first_misfit (Misfit.File ∷ Misfit.Number ∷ []) (rows_of (found_of values.now)) ≡ Some misfit) }
 {
     let file = value_of(values, "FILE").ok_or(Misfit::File)?;
     let number = request_number_of(values).ok_or(Misfit::Number)?;
@@ -160,7 +171,8 @@ fn find_of<'a>(values: &ArgMatches<'a>) -> Result<Order<'a>, Misfit>
 
 #[tactic(auto, unfolding(crate::specs::Orders::list_in))]
 fn list_of<'a>(values: &ArgMatches<'a>) -> Result<Order<'a>, Misfit>
-    ensures { MatchResult result (λ order. list_in (rows_of (found_of values.now)) ≡ Some (said_by order)) (λ _. list_in (rows_of (found_of values.now)) ≡ None) }
+    ensures order { MatchResult result (λ order. list_in (rows_of (found_of values.now)) ≡ Some (said_by order)) (λ _. list_in (rows_of (found_of values.now)) ≡ None) }
+    ensures misfit { IfErr result (λ misfit. first_misfit (Misfit.File ∷ Misfit.Event ∷ []) (rows_of (found_of values.now)) ≡ Some misfit) }
 {
     let file = value_of(values, "FILE").ok_or(Misfit::File)?;
     let event = value_of(values, "EVENT").ok_or(Misfit::Event)?;
@@ -169,7 +181,8 @@ fn list_of<'a>(values: &ArgMatches<'a>) -> Result<Order<'a>, Misfit>
 
 #[tactic(auto, unfolding(crate::specs::Orders::export_in))]
 fn export_of<'a>(values: &ArgMatches<'a>) -> Result<Order<'a>, Misfit>
-    ensures { MatchResult result (λ order. export_in (rows_of (found_of values.now)) ≡ Some (said_by order)) (λ _. export_in (rows_of (found_of values.now)) ≡ None) }
+    ensures order { MatchResult result (λ order. export_in (rows_of (found_of values.now)) ≡ Some (said_by order)) (λ _. export_in (rows_of (found_of values.now)) ≡ None) }
+    ensures misfit { IfErr result (λ misfit. first_misfit (Misfit.File ∷ Misfit.To ∷ []) (rows_of (found_of values.now)) ≡ Some misfit) }
 {
     let file = value_of(values, "FILE").ok_or(Misfit::File)?;
     let to = site_of(values, "TO").ok_or(Misfit::To)?;
@@ -178,15 +191,17 @@ fn export_of<'a>(values: &ArgMatches<'a>) -> Result<Order<'a>, Misfit>
 
 #[tactic(auto, unfolding(crate::specs::Orders::import_in))]
 fn import_of<'a>(values: &ArgMatches<'a>) -> Result<Order<'a>, Misfit>
-    ensures { MatchResult result (λ order. import_in (rows_of (found_of values.now)) ≡ Some (said_by order)) (λ _. import_in (rows_of (found_of values.now)) ≡ None) }
+    ensures order { MatchResult result (λ order. import_in (rows_of (found_of values.now)) ≡ Some (said_by order)) (λ _. import_in (rows_of (found_of values.now)) ≡ None) }
+    ensures misfit { IfErr result (λ misfit. first_misfit (Misfit.File ∷ []) (rows_of (found_of values.now)) ≡ Some misfit) }
 {
     let file = value_of(values, "FILE").ok_or(Misfit::File)?;
     Ok(Order::Import { file })
 }
 
-#[tactic(auto, unfolding(crate::specs::Orders::named_order))]
+#[tactic(auto, unfolding(crate::specs::Orders::named_order, crate::specs::Orders::values_of))]
 fn named_order<'a>(name: &str, values: &ArgMatches<'a>) -> Result<Order<'a>, Misfit>
-    ensures { MatchResult result (λ order. named_order name.now (rows_of (found_of values.now)) ≡ Some (said_by order)) (λ _. named_order name.now (rows_of (found_of values.now)) ≡ None) }
+    ensures order { MatchResult result (λ order. named_order name.now (rows_of (found_of values.now)) ≡ Some (said_by order)) (λ _. named_order name.now (rows_of (found_of values.now)) ≡ None) }
+    ensures misfit { IfErr result (λ misfit. first_misfit (values_of name.now) (rows_of (found_of values.now)) ≡ Some misfit) }
 {
     if name == "world" {
         Ok(Order::World)
@@ -209,7 +224,8 @@ fn named_order<'a>(name: &str, values: &ArgMatches<'a>) -> Result<Order<'a>, Mis
 
 // The command that was met, with its values.
 fn order_of<'a>(matches: &ArgMatches<'a>) -> Result<Order<'a>, Misfit>
-    ensures { MatchResult result (λ order. order_in (subcommand_rows_of matches.now) ≡ Some (said_by order)) (λ _. order_in (subcommand_rows_of matches.now) ≡ None) }
+    ensures order { MatchResult result (λ order. order_in (subcommand_rows_of matches.now) ≡ Some (said_by order)) (λ _. order_in (subcommand_rows_of matches.now) ≡ None) }
+    ensures misfit { IfErr result (λ misfit. misfit_in (subcommand_rows_of matches.now) ≡ Some misfit) }
 {
     let Some((name, values)) = matches.subcommand() else {
         return Err(Misfit::Command);
@@ -229,8 +245,10 @@ fn not_understood(alloc: Global, error: &Error) -> WordsFault
     }
 }
 
-fn misfit_told(alloc: Global, misfit: Misfit) -> WordsFault {
-    match format!(in alloc; "error: {misfit}\n") {
+fn misfit_told(alloc: Global, misfit: Misfit) -> WordsFault
+    ensures { TellsMisfit misfit result }
+{
+    match String::from_str(alloc, misfit_line(misfit)) {
         Ok(text) => WordsFault::NotUnderstood { text },
         Err(_) => WordsFault::Memory,
     }

@@ -1,7 +1,7 @@
-use Rattle.std.proofs.Common.{◌≡◌, Err, rules, subst}
+use Rattle.std.proofs.Common.{subst}
 use Rattle.std.specs.Prelude.{IfErr}
 use Rattle.operator_cli.specs.Faults.{IsOutFault}
-use Rattle.operator_cli.specs.Ran.{SitesRan, SecondRan}
+use Rattle.operator_cli.specs.Ran.{SitesRan}
 use Rattle.operator_cli.proofs.ScriptLaws.{at_err, sites_unread, sites_second, sites_alone}
 use Rattle.operator_cli.proofs.scripting.run_sites.Goals as goal
 
