@@ -49,6 +49,7 @@ fn find_rows<S: Alter>(
     ensures clean { HasCleanDisk (state S.Store conn.new) → HasCleanDisk (state S.Store conn.old) }
     ensures fault { HasCleanDisk (state S.Store conn.new) → IfErr result (IsQueryFault (state S.Store conn.old) (state S.Store conn.new)) }
     ensures shut { result ≢ Err FindFault.Shut }
+    ensures damaged { (place : ℕ) → result ≢ Err (FindFault.Damaged place) }
 {
     let params = number_param(number);
     match conn.query_all(FIND, &params) {
@@ -66,6 +67,7 @@ fn list_rows<S: Alter>(conn: &mut Connection<S>, event: &Event) -> Result<Vec<Ro
     ensures clean { HasCleanDisk (state S.Store conn.new) → HasCleanDisk (state S.Store conn.old) }
     ensures fault { HasCleanDisk (state S.Store conn.new) → IfErr result (IsQueryFault (state S.Store conn.old) (state S.Store conn.new)) }
     ensures shut { result ≢ Err FindFault.Shut }
+    ensures damaged { (place : ℕ) → result ≢ Err (FindFault.Damaged place) }
 {
     let params = event_param(event);
     match conn.query_all(LIST, &params) {
