@@ -1,5 +1,5 @@
 -- What an entry that is next leaves as it was: the own row, where it is a delta of a peer, and rights that are not negative.
-use Rattle.std.proofs.Common.{◌≡◌, List, [], ◌∷◌, ◌++◌, ap, ◌∙◌}
+use Rattle.std.proofs.Common.{◌≡◌, List, [], ◌∷◌, ◌++◌, ap, ◌∙◌, subst, sym}
 use Rattle.rights_lattice.specs.declared.cell.Cell.{Cell}
 use Rattle.rights_lattice.specs.Cell.{owner_of}
 use Rattle.rights_lattice.specs.Cells.{value_at}
@@ -20,3 +20,10 @@ entered_own old new (Joined peer delta) next is = λ event cell own.
 -- a book whose history is legal has rights
 pub own_rights : (book : BookView) → IsLegal book.office book.history → HasOwnRights book
 own_rights book legal event = legal_rights book.office book.history legal event
+
+-- so has a book that is opened, and one that shows the same with other room
+pub opened_rights : (inside book : BookView) → inside ≡ book → IsLegal inside.office inside.history → HasOwnRights book
+opened_rights inside book is legal = subst HasOwnRights is (own_rights inside legal)
+
+pub same_rights : (inside old new : BookView) → inside ≡ old → new ≡ record old { room = new.room } → IsLegal inside.office inside.history → HasOwnRights new
+same_rights inside old new is unchanged legal = subst HasOwnRights (sym unchanged) (opened_rights inside old is legal)

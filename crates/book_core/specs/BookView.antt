@@ -35,6 +35,10 @@ pub record HasRoomFor (room : Room) (entry : Entry) : Type 0 where
   pub for_names : length (names_in_order (delta_of entry).names) ≤ room.names
   pub for_number : numbers_in entry ≤ room.numbers
 
+-- no room is made for entries and for cells (what a map of names or of numbers makes for itself no contract of it bounds)
+abbrev pub MakesNoRoom : Room → Room → Type 0
+MakesNoRoom old new = (new.entries ≤ old.entries) × (new.cells ≤ old.cells)
+
 -- the number of the entry, if it has one, is not kept yet
 abbrev pub IsUnkept : Keeping → Entry → Type 0
 IsUnkept es (Asked number request reply delta) = kept_under es number ≡ None

@@ -8,7 +8,7 @@ ghost use Rattle.request_ledger.specs.Ledger.{kept_under, IsRefundable};
 ghost use Rattle.book_core.specs.History.{state_of, kept, sale_of, names_of, asked_from};
 ghost use Rattle.book_core.specs.Decision.{own_left};
 ghost use Rattle.book_core.specs.Legal.{IsLegal};
-ghost use Rattle.book_core.specs.BookView.{HasRoomFor, IsUnkept, KeepsRefunds, MarksAreWithin, numbers_in};
+ghost use Rattle.book_core.specs.BookView.{HasRoomFor, IsUnkept, KeepsRefunds, MakesNoRoom, MarksAreWithin, numbers_in};
 ghost use Rattle.book_core.specs.OwnRow.{HasOwnRights, LeavesOwnRow};
 ghost use Rattle.book_core.specs.Plans.{IsReady};
 ghost use Rattle.book_core.specs.declared.entry.Entry.TheVariants.{Asked};
@@ -67,6 +67,7 @@ impl Book {
         requires { me < sites }
         ensures office { result.office ≡ record { me = me; sites = sites; limit = limit } }
         ensures history { result.history ≡ [] }
+        ensures room { (result.room.entries ≡ 0) × (result.room.cells ≡ 0) }
     {
         Book {
             me,
@@ -186,6 +187,7 @@ impl Book {
         ensures history { self.new.history ≡ self.old.history ++ planned ∷ [] }
         ensures own_row { LeavesOwnRow planned self.old self.new }
         ensures has_rights { HasOwnRights self.new }
+        ensures no_more_room { MakesNoRoom self.old.room self.new.room }
     {
         let Planned { entry } = planned;
         raise_marks(&mut self.rights, entry.delta().marks());
@@ -222,6 +224,7 @@ fn raise_marks(rights: &mut Rights, marks: &[Mark])
     requires in_range { MarksAreWithin rights.old.sites marks.now }
     ensures cells { rights.new.cells ≡ raise_all rights.old.cells marks.now }
     ensures sites { rights.new.sites ≡ rights.old.sites }
+    ensures no_more_room { rights.new.room ≤ rights.old.room }
 {
     for mark in marks {
         mark.bounds();

@@ -42,7 +42,7 @@ impl Model for Delta {
 impl Delta {
     ghost use Rattle.delta_mutators.specs.Items.{state_of};
 
-    /// The delta of nothing. It allocates nothing.
+    /// The delta of nothing.
     pub fn empty(alloc: Global) -> Delta
         ensures { result ≡ bottom }
     {

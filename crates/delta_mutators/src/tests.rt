@@ -1,7 +1,91 @@
-// What allocates, with ample memory; the expected values are worked out by hand.
-use crate::{Delta, Item, announce};
-use rights_lattice::{Cell, Event, Mark, SiteId};
+// Each public call with ample memory; the expected values are worked out by hand.
+use crate::{CellFull, Delta, Item, announce, cession, refund, release, sale};
+use rights_lattice::{Cell, Event, MAX_VALUE, Mark, Rights, SiteId, Sites};
 use std::test::Fail;
+
+// The marks of 100 seats released, 40 of them ceded and then 10 more, of a sale of 5 and its refund.
+#[test]
+fn marks_of_operations(rt: HostRuntime) -> Result<(), Fail> {
+    let sites = Sites::of(2).ok_or("two sites")?;
+    let (me, peer) = (sites.site(0), sites.site(1));
+    let gala = Event::read(b"gala").ok_or("a name")?;
+    let mut rights = Rights::new(rt.alloc(), sites);
+    rights.reserve(1)?;
+    let released = Mark {
+        event: gala,
+        cell: Cell::Gave { by: me, to: me },
+        value: 100,
+    };
+    assert_eq!(rt; release(&rights, me, gala, 100), Ok(released));
+    let ceded_at_first = Mark {
+        event: gala,
+        cell: Cell::Gave { by: me, to: peer },
+        value: 40,
+    };
+    let ceded_in_all = Mark {
+        event: gala,
+        cell: Cell::Gave { by: me, to: peer },
+        value: 50,
+    };
+    assert_eq!(rt; cession(&rights, me, gala, 40, peer), Ok(ceded_at_first));
+    rights.raise(ceded_at_first);
+    assert_eq!(rt; cession(&rights, me, gala, 10, peer), Ok(ceded_in_all));
+    let sold = Mark {
+        event: gala,
+        cell: Cell::Used { by: me },
+        value: 5,
+    };
+    let back = Mark {
+        event: gala,
+        cell: Cell::Back { by: me },
+        value: 5,
+    };
+    assert_eq!(rt; sale(&rights, me, gala, 5), Ok(sold));
+    assert_eq!(rt; refund(&rights, me, gala, 5), Ok(back));
+    Ok(())
+}
+
+#[test]
+fn cell_at_its_greatest_value(rt: HostRuntime) -> Result<(), Fail> {
+    let sites = Sites::of(1).ok_or("a site")?;
+    let me = sites.site(0);
+    let gala = Event::read(b"gala").ok_or("a name")?;
+    let mut rights = Rights::new(rt.alloc(), sites);
+    rights.reserve(1)?;
+    let all = Mark {
+        event: gala,
+        cell: Cell::Gave { by: me, to: me },
+        value: MAX_VALUE,
+    };
+    assert_eq!(rt; release(&rights, me, gala, MAX_VALUE), Ok(all));
+    rights.raise(all);
+    assert_eq!(rt; release(&rights, me, gala, 1), Err(CellFull));
+    Ok(())
+}
+
+#[test]
+fn names_and_marks_are_put_at_the_end(rt: HostRuntime) -> Result<(), Fail> {
+    let site = SiteId::of(0).ok_or("a site")?;
+    let ballet = Event::read(b"ballet").ok_or("a name")?;
+    let opera = Event::read(b"opera").ok_or("a name")?;
+    let sold = Mark {
+        event: ballet,
+        cell: Cell::Used { by: site },
+        value: 4,
+    };
+    let mut delta = Delta::empty(rt.alloc());
+    assert!(rt; delta.names().is_empty() && delta.marks().is_empty());
+    if delta.rises(&Item::Cell(sold)) {
+        delta.push(Item::Cell(sold))?;
+    }
+    if delta.rises(&announce(opera)) {
+        delta.push(announce(opera))?;
+    }
+    assert!(rt; !delta.rises(&announce(ballet)) && !delta.rises(&announce(opera)));
+    assert_eq!(rt; delta.names(), [opera].as_slice());
+    assert_eq!(rt; delta.marks(), [sold].as_slice());
+    Ok(())
+}
 
 #[test]
 fn makes_joins_and_copies(rt: HostRuntime) -> Result<(), Fail> {

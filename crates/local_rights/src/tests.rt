@@ -2,6 +2,7 @@ use crate::{Totals, left, paper_value, totals};
 use rights_lattice::{Cell, Event, Mark, Rights, Sites};
 use std::test::Fail;
 
+// The first site released 100 seats and ceded 30 of them; the second sold 25 and took 2 back.
 #[test]
 fn cession_reaches_the_other_site(rt: HostRuntime) -> Result<(), Fail> {
     let event = Event::read(b"gala").expect(&rt, "a name");

@@ -26,6 +26,7 @@ fn refund_once_at_the_seller(rt: HostRuntime) -> Result<(), Fail> {
     let refund = RequestNumber::of(8).expect(&rt, "a number");
     let mut ledger = Ledger::new(rt.alloc());
     assert_eq!(rt; ledger.sale(sale), None);
+    assert_eq!(rt; ledger.len(), 0);
 
     ledger.reserve()?;
     assert_eq!(rt; ledger.kept(sale), None);
@@ -57,5 +58,6 @@ fn refund_once_at_the_seller(rt: HostRuntime) -> Result<(), Fail> {
         reply: Reply::Done,
     };
     assert_eq!(rt; ledger.kept(refund), Some(kept));
+    assert_eq!(rt; ledger.len(), 2);
     Ok(())
 }

@@ -345,6 +345,12 @@ room_after a b w pos h =
     let e : b / w ≡ (b - w) / w + 1 = ap (λ (x : ℕ). x / w) (sym whole) ∙ add-mul-div_right (b - w) 1 pos in
     omega (arith, e)
 
+pub room_before : (a b w : ℕ) → 0 < w → w ≤ b → min (a - 1) ((b - w) / w) ≤ min a (b / w)
+room_before a b w pos h =
+    let whole : b - w + 1 * w ≡ b = omega arith in
+    let e : b / w ≡ (b - w) / w + 1 = ap (λ (x : ℕ). x / w) (sym whole) ∙ add-mul-div_right (b - w) 1 pos in
+    omega (arith, e)
+
 -- the numbers of so many blocks fit where there is room for the blocks
 pub numbers_fit : (more a b w : ℕ) → more ≤ min a (b / w) → more * w ≤ b
 numbers_fit more a b w h =

@@ -19,6 +19,6 @@ mod tests;
 pub use cell::{Cell, owner};
 pub use event::Event;
 pub use mark::{MAX_VALUE, Mark};
-pub use merge::{Next, NextName, key_order, merge_marks, merge_names, next_name_of, next_of};
+pub use merge::{key_order, merge_marks, merge_names};
 pub use rights::Rights;
 pub use site::{SiteId, Sites};

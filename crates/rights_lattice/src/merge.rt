@@ -16,16 +16,16 @@ pub fn key_order(a: &Mark, b: &Mark) -> Ordering
     a.event.cmp(&b.event).then(a.cell.cmp(&b.cell))
 }
 
-/// The next mark of a merge, and the places after it.
+// The next mark of a merge, and the places after it.
 #[derive(Clone, Copy, Debug)]
-pub struct Next {
-    pub mark: Mark,
-    pub left: usize,
-    pub right: usize,
+struct Next {
+    mark: Mark,
+    left: usize,
+    right: usize,
 }
 
-/// The next mark of the merge of `a` from `left` on and `b` from `right` on.
-pub fn next_of(a: &[Mark], left: usize, b: &[Mark], right: usize) -> Next
+// The next mark of the merge of `a` from `left` on and `b` from `right` on.
+fn next_of(a: &[Mark], left: usize, b: &[Mark], right: usize) -> Next
     requires left_within { left ≤ length a.now }
     requires right_within { right ≤ length b.now }
     requires more { left + right < length a.now + length b.now }
@@ -97,16 +97,16 @@ pub fn merge_marks(alloc: Global, a: &[Mark], b: &[Mark]) -> Result<Vec<Mark>, A
     Ok(merged)
 }
 
-/// The next name of a merge, and the places after it.
+// The next name of a merge, and the places after it.
 #[derive(Clone, Copy, Debug)]
-pub struct NextName {
-    pub name: Event,
-    pub left: usize,
-    pub right: usize,
+struct NextName {
+    name: Event,
+    left: usize,
+    right: usize,
 }
 
-/// The next name of the merge of `a` from `left` on and `b` from `right` on.
-pub fn next_name_of(a: &[Event], left: usize, b: &[Event], right: usize) -> NextName
+// The next name of the merge of `a` from `left` on and `b` from `right` on.
+fn next_name_of(a: &[Event], left: usize, b: &[Event], right: usize) -> NextName
     requires left_within { left ≤ length a.now }
     requires right_within { right ≤ length b.now }
     requires more { left + right < length a.now + length b.now }

@@ -44,7 +44,9 @@ impl Rights {
     pub fn new(alloc: Global, sites: Sites) -> Rights
         ensures sites { result.sites ≡ sites }
         ensures cells { result.cells ≡ all_zero }
+        ensures room { result.room ≡ 0 }
     {
+        // The prover has to have seen that there is a site.
         let _count = sites.count();
         Rights {
             sites,
@@ -99,6 +101,7 @@ impl Rights {
         ensures room { self.old.room
             ≤ self.new.room
             + (if value_at self.old.cells mark.event mark.cell == 0 then 1 else 0) }
+        ensures no_more_room { self.new.room ≤ self.old.room }
     {
         let width = width(self.sites);
         let offset = offset(self.sites, &mark.cell);
@@ -119,6 +122,7 @@ impl Rights {
         ensures cells { self.new.cells ≡ join self.old.cells other.now.cells }
         ensures sites { self.new.sites ≡ self.old.sites }
         ensures room { self.old.room ≤ self.new.room + missing self.old.cells other.now.cells }
+        ensures no_more_room { self.new.room ≤ self.old.room }
     {
         for i in 0..other.values.len() {
             if let Some(mark) = mark_at(other.sites, &other.events, &other.values, i) {

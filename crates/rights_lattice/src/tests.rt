@@ -1,6 +1,98 @@
-// What allocates, with ample memory; the expected values are worked out by hand.
-use crate::{Cell, Event, Mark, Rights, SiteId, Sites, merge_marks, merge_names};
+// Each public call with ample memory; the expected values are worked out by hand.
+use crate::{Cell, Event, Mark, Rights, SiteId, Sites, key_order, merge_marks, merge_names, owner};
+use std::cmp::Ordering;
 use std::test::Fail;
+
+#[test]
+fn sites_have_limits(rt: HostRuntime) {
+    for (number, is_site, is_count) in [
+        (0, true, false),
+        (1, true, true),
+        (16, true, true),
+        (17, true, false),
+        (63, true, false),
+        (64, false, false),
+    ] {
+        let site = SiteId::of(number).map(|site| site.number());
+        let count = Sites::of(number).map(|sites| sites.count());
+        let want_site = if is_site { Some(number) } else { None };
+        let want_count = if is_count { Some(number) } else { None };
+        assert_eq!(rt; site, want_site, "site {number}");
+        assert_eq!(rt; count, want_count, "{number} sites");
+    }
+}
+
+#[test]
+fn names_of_events(rt: HostRuntime) -> Result<(), Fail> {
+    let name = Event::read(b"gala-2026").ok_or("a name")?;
+    assert_eq!(rt; name.bytes(), b"gala-2026".as_slice());
+    assert!(rt; Event::read(b"").is_none());
+    assert!(rt; Event::read(b"Gala").is_none());
+    assert!(rt; Event::read(b"a-name-of-exactly-32-bytes-here-").is_some());
+    assert!(rt; Event::read(b"a-name-of-more-than-32-bytes-here").is_none());
+    Ok(())
+}
+
+#[test]
+fn owners_and_the_order_of_marks(rt: HostRuntime) -> Result<(), Fail> {
+    let (by, to) = (
+        SiteId::of(1).ok_or("a site")?,
+        SiteId::of(0).ok_or("a site")?,
+    );
+    let event = Event::read(b"gala").ok_or("a name")?;
+    for cell in [Cell::Gave { by, to }, Cell::Used { by }, Cell::Back { by }] {
+        assert!(rt; owner(cell) == by);
+    }
+    let given = Mark {
+        event,
+        cell: Cell::Gave { by, to },
+        value: 9,
+    };
+    let sold = Mark {
+        event,
+        cell: Cell::Used { by: to },
+        value: 2,
+    };
+    given.bounds();
+    assert!(rt; key_order(&given, &sold) == Ordering::Less);
+    assert!(rt; key_order(&sold, &given) == Ordering::Greater);
+    assert!(rt; key_order(&sold, &sold) == Ordering::Equal);
+    Ok(())
+}
+
+// The state of two sites once the first released 100 seats and ceded 40 and then 10 of them to the second.
+#[test]
+fn copy_of_ceded_rights(rt: HostRuntime) -> Result<(), Fail> {
+    let sites = Sites::of(2).ok_or("two sites")?;
+    let (first, second) = (sites.site(0), sites.site(1));
+    let event = Event::read(b"gala").ok_or("a name")?;
+    let released = Cell::Gave {
+        by: first,
+        to: first,
+    };
+    let ceded = Cell::Gave {
+        by: first,
+        to: second,
+    };
+    let mut rights = Rights::new(rt.alloc(), sites);
+    rights.reserve(2)?;
+    rights.raise(Mark {
+        event,
+        cell: released,
+        value: 100,
+    });
+    rights.raise(Mark {
+        event,
+        cell: ceded,
+        value: 50,
+    });
+    let copy = rights.copy(rt.alloc())?;
+    assert_eq!(rt; copy.sites().count(), 2);
+    assert_eq!(rt; copy.get(event, released), 100);
+    assert_eq!(rt; copy.get(event, ceded), 50);
+    assert!(rt; copy.at_or_below(&rights) && rights.at_or_below(&copy));
+    Ok(())
+}
 
 #[test]
 fn raises_joins_and_copies(rt: HostRuntime) -> Result<(), Fail> {

@@ -3,6 +3,7 @@ ghost use Rattle.std.specs.Prelude.{IfOk, IfErr, IsOk, ◌≡◌, ◌≤◌, fal
 ghost use Rattle.request_ledger.specs.Requests.{is_done};
 ghost use Rattle.request_ledger.specs.Requests.{same_request};
 ghost use Rattle.book_core.specs.Decision.{decision, reply_to, delta_for, state_of_item};
+ghost use Rattle.book_core.specs.OwnRow.{HasOwnRights};
 ghost use Rattle.book_core.specs.Plans.{IsPlan, IsFault, IsFreshRefusal, LeavesRoom};
 ghost use Rattle.request_ledger.specs.declared.request.Request.TheVariants.{Announce, Release, Sell, Refund, Cede};
 
@@ -35,7 +36,10 @@ impl Book {
         ensures memory { result ≡ Err PlanFault.Memory
             → IsFreshRefusal (decision self.old.office self.old.history number request.now)
             → 1 ≤ self.old.room.entries → 1 ≤ self.old.room.numbers → ⊥ }
+        ensures has_rights { HasOwnRights self.new }
     {
+        // The prover opens the book, whose type says that its history is legal.
+        let _ = &self.me;
         if let Some(kept) = self.kept(number) {
             if is_same(request, &kept.request) {
                 return Ok(Plan::Again {

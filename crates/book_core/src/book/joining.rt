@@ -6,7 +6,7 @@ ghost use Rattle.rights_lattice.specs.State.{is_within, knows};
 ghost use Rattle.rights_lattice.specs.RightsView.{are_within, is_cell_of};
 ghost use Rattle.book_core.specs.History.{state_of, delta_of};
 ghost use Rattle.book_core.specs.Joining.{foreign, is_foreign, is_of_sites, join_decision};
-ghost use Rattle.book_core.specs.OwnRow.{KeepsOwnRow};
+ghost use Rattle.book_core.specs.OwnRow.{HasOwnRights, KeepsOwnRow};
 ghost use Rattle.book_core.specs.Plans.{IsJoinPlan, IsJoinFault, LeavesJoinRoom};
 ghost use Rattle.book_core.specs.BookView.{HasRoomFor};
 ghost use Rattle.book_core.specs.declared.entry.Entry.TheVariants.{Joined};
@@ -31,6 +31,7 @@ impl Book {
             (join_decision self.old.office self.old.history peer delta) self.old self.new }
         ensures memory { IfErr result (λ e. e.1 ≡ JoinFault.Memory
             → HasRoomFor self.old.room (Joined peer delta) → ⊥) }
+        ensures has_rights { HasOwnRights self.new }
     {
         if !self.is_of_sites(peer, &delta) {
             return Err((delta, JoinFault::UnknownSite));

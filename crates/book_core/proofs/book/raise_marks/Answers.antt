@@ -18,5 +18,6 @@ loop-mark-preserved c =
     record {
       raised = c.raise.ensures.cells ∙ ap (λ X. raise X m) c.loop-mark.invariant.raised ∙ sym (raise_all-take_more c.args.rights.now.cells c.args.marks.now c.loop-mark.mark-index m c.loop-mark-test.true c.mark-item.is);
       same_sites = c.raise.ensures.sites ∙ c.loop-mark.invariant.same_sites;
+      no_more_room = omega (arith, c.raise.ensures.no_more_room, c.loop-mark.invariant.no_more_room);
       enough = room_left (value_at c.loop-mark.rights.cells m.event m.cell == 0) _ _ _ _ c.raise.ensures.room c.loop-mark.invariant.enough;
     }

@@ -10,6 +10,7 @@ use Rattle.book_core.specs.History.{state_of}
 use Rattle.book_core.specs.Joining.{foreign, is_of_sites, join_decision, Joins}
 use Rattle.book_core.specs.OwnRow.{cell_in}
 use Rattle.book_core.proofs.OrderTests.{row_test, passes, decides}
+use Rattle.book_core.proofs.OwnRows.{opened_rights, same_rights}
 use Rattle.book_core.proofs.book.Book.plan_join.Goals as goal
 
 pub returns-clause-own_row : goal.returns-clause-own_row
@@ -35,3 +36,21 @@ returns-clause-plan c =
         room = search rules;
       },
     )
+
+pub returns-then-not-is_of_sites-clause-has_rights : goal.returns-then-not-is_of_sites-clause-has_rights
+returns-then-not-is_of_sites-clause-has_rights c = opened_rights _ _ c.self.view_is c.self.invariant.legal
+
+pub returns-in-Some-clause-has_rights : goal.returns-in-Some-clause-has_rights
+returns-in-Some-clause-has_rights c = opened_rights _ _ c.self.view_is c.self.invariant.legal
+
+pub returns-then-has_all_of-clause-has_rights : goal.returns-then-has_all_of-clause-has_rights
+returns-then-has_all_of-clause-has_rights c = opened_rights _ _ c.self.view_is c.self.invariant.legal
+
+pub returns-then-is_full-clause-has_rights : goal.returns-then-is_full-clause-has_rights
+returns-then-is_full-clause-has_rights c = opened_rights _ _ c.self.view_is c.self.invariant.legal
+
+pub returns-then-is_err-clause-has_rights : goal.returns-then-is_err-clause-has_rights
+returns-then-is_err-clause-has_rights c = same_rights _ _ _ c.self.view_is c.reserve.ensures.unchanged c.self.invariant.legal
+
+pub returns-clause-has_rights : goal.returns-clause-has_rights
+returns-clause-has_rights c = same_rights _ _ _ c.self.view_is c.reserve.ensures.unchanged c.self.invariant.legal

@@ -10,7 +10,7 @@ use Rattle.rights_lattice.proofs.rights.Rights.join.Goals as goal
 use Rattle.rights_lattice.proofs.rights.Rights.join.Goals.{in-Some, in_default}
 
 pub loop-i-init : goal.loop-i-init
-loop-i-init c = record { same_sites = refl; has_room = c.requires.room; room_left = omega arith; so_far = λ e d. omega arith }
+loop-i-init c = record { same_sites = refl; has_room = c.requires.room; room_left = omega arith; no_more_room = omega arith; so_far = λ e d. omega arith }
 
 pub raise-requires-clause-room : goal.raise-requires-clause-room
 raise-requires-clause-room c = λ none.
@@ -47,6 +47,7 @@ loop-i-preserved c =
             same_sites = w.raise.ensures.sites ∙ c.loop-i.invariant.same_sites;
             has_room = rw w.raise.ensures.cells (omega (arith, room, w.raise.ensures.room, c.loop-i.invariant.has_room));
             room_left = rw w.raise.ensures.cells (omega (arith, room, w.raise.ensures.room, c.loop-i.invariant.room_left));
+            no_more_room = omega (arith, w.raise.ensures.no_more_room, c.loop-i.invariant.no_more_room);
             so_far = λ e d. rw w.raise.ensures.cells (omega (arith, value_at-raise c.loop-i.self.cells m e d, greatest-take_more ms c.loop-i.i m e d at.0 at.1, c.loop-i.invariant.so_far e d));
           })
       | in_default w ↦
@@ -54,6 +55,7 @@ loop-i-preserved c =
             same_sites = c.loop-i.invariant.same_sites;
             has_room = c.loop-i.invariant.has_room;
             room_left = c.loop-i.invariant.room_left;
+            no_more_room = c.loop-i.invariant.no_more_room;
             so_far = λ e d. omega (arith, at_zero o.sites o.events.items o.values.items c.deref-in-loop-i.result.now c.loop-i.i e d c.deref-in-loop-i.ensures.value lt w.in_default.ensures.none, c.loop-i.invariant.so_far e d);
           })
     ]
@@ -71,3 +73,6 @@ returns-clause-sites c = c.loop-i.invariant.same_sites
 
 pub returns-clause-room : goal.returns-clause-room
 returns-clause-room c = omega (arith, c.loop-i.invariant.room_left)
+
+pub returns-clause-no_more_room : goal.returns-clause-no_more_room
+returns-clause-no_more_room c = c.loop-i.invariant.no_more_room

@@ -10,5 +10,6 @@ invariant-loop-i l = record {
   same_sites : l.self.sites ≡ l.fn.self.sites;
   has_room : missing l.self.cells l.other.cells ≤ l.self.room;
   room_left : l.fn.self.room + missing l.self.cells l.other.cells ≤ l.self.room + missing l.fn.self.cells l.other.cells;
+  no_more_room : l.self.room ≤ l.fn.self.room;
   so_far : (e : List ℕ) (c : Cell) → value_at l.self.cells e c ≡ max (value_at l.fn.self.cells e c) (greatest (take l.i (slots l.other-inside.sites l.other-inside.events.items 0 l.other-inside.values.items)) e c);
 }

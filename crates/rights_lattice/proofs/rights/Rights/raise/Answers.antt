@@ -3,7 +3,7 @@ use Rattle.std.specs.Prelude.{vec_len, vec_capacity}
 use Rattle.rights_lattice.specs.Dense.{width_of}
 use Rattle.std.proofs.lemmas.List.{length-replicate}
 use Rattle.std.proofs.Math.ListN.{length-set}
-use Rattle.rights_lattice.proofs.DenseLaws.{of_sites, new_cell, located, raised_found, grown, room_for, room_after, width_positive}
+use Rattle.rights_lattice.proofs.DenseLaws.{of_sites, new_cell, located, raised_found, grown, room_for, room_after, room_before, width_positive}
 use Rattle.rights_lattice.proofs.rights.Rights.raise.Goals as goal
 
 pub raise_at-requires : goal.raise_at-requires
@@ -90,3 +90,17 @@ returns-in-None-clause-room c =
     let events_left : vec_capacity c.add_block.new.events - vec_len c.add_block.new.events ≡ vec_capacity s.events - vec_len s.events - 1 = omega (arith, events_len, c.add_block.ensures.event_capacity) in
     let values_left : vec_capacity c.raise_at-in-None.new.values - vec_len c.raise_at-in-None.new.values ≡ vec_capacity s.values - vec_len s.values - width_of s.sites = omega (arith, values_len, c.add_block.ensures.value_capacity, c.raise_at-in-None.ensures.capacity) in
     rw (zero, events_left, values_left, ← c.self.view_is) (room_after (vec_capacity s.events - vec_len s.events) (vec_capacity s.values - vec_len s.values) (width_of s.sites) (width_positive s.sites c.self.invariant.some_site) room.1)
+
+pub returns-in-None-clause-no_more_room : goal.returns-in-None-clause-no_more_room
+returns-in-None-clause-no_more_room c =
+    let s = c.self.inside in
+    let zero = new_cell s.sites s.events.items c.deref.result.now s.values.items _ _ c.args.mark c.self.invariant c.deref.ensures.value c.in-None.ensures.none (ap (λ v. v.cells) c.self.view_is) c.mark.view_is in
+    let room = room_for (vec_capacity s.events - vec_len s.events) (vec_capacity s.values - vec_len s.values) (width_of s.sites) (subst (λ r. 0 < r) (sym (ap (λ v. v.room) c.self.view_is)) (c.requires.room zero)) in
+    let width = c.width-width.ensures.width in
+    let events_len : vec_len c.add_block.new.events ≡ vec_len s.events + 1 = omega (arith, s.events.ok.0, c.add_block.new.events.ok.0, ap (λ (l : List (List ℕ)). length l) c.add_block.ensures.events ∙ length-append s.events.items (c.mark.inside.event ∷ [])) in
+    let old_values : length c.add_block.new.values.items ≡ length s.values.items + c.width-width.result = ap (λ (l : List ℕ). length l) c.add_block.ensures.values ∙ length-append s.values.items (replicate c.width-width.result 0) ∙ ap (λ (n : ℕ). length s.values.items + n) (length-replicate c.width-width.result 0) in
+    let new_values : length c.raise_at-in-None.new.values.items ≡ length c.add_block.new.values.items = ap (λ (l : List ℕ). length l) c.raise_at-in-None.ensures.items ∙ length-set c.add_block.new.values.items _ _ in
+    let values_len : vec_len c.raise_at-in-None.new.values ≡ vec_len s.values + width_of s.sites = omega (arith, s.values.ok.0, c.raise_at-in-None.new.values.ok.0, old_values, new_values, width) in
+    let events_left : vec_capacity c.add_block.new.events - vec_len c.add_block.new.events ≡ vec_capacity s.events - vec_len s.events - 1 = omega (arith, events_len, c.add_block.ensures.event_capacity) in
+    let values_left : vec_capacity c.raise_at-in-None.new.values - vec_len c.raise_at-in-None.new.values ≡ vec_capacity s.values - vec_len s.values - width_of s.sites = omega (arith, values_len, c.add_block.ensures.value_capacity, c.raise_at-in-None.ensures.capacity) in
+    rw (events_left, values_left, ← c.self.view_is) (room_before (vec_capacity s.events - vec_len s.events) (vec_capacity s.values - vec_len s.values) (width_of s.sites) (width_positive s.sites c.self.invariant.some_site) room.1)
