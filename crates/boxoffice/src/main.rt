@@ -11,9 +11,10 @@ use operator_cli::{
 };
 use request_ledger::RequestNumber;
 use rights_lattice::{SiteId, Sites};
+use sqlite_std_file::{Start, Unknown};
 use std::alloc::{AllocError, Global};
 use std::env;
-use std::io::{BufWriter, ErrorKind};
+use std::io::{BufWriter, ErrorKind, Stdout};
 use std::process::ExitCode;
 
 fn out_of_memory(rt: &HostRuntime) -> Status {
@@ -21,103 +22,102 @@ fn out_of_memory(rt: &HostRuntime) -> Status {
     Status::Failed
 }
 
-fn run_world(rt: &HostRuntime) -> Status {
+fn not_unicode(rt: &HostRuntime) -> Status {
+    let _ = eprintln!(rt; "error: invalid UTF-8 was detected in one or more arguments");
+    Status::NotUnderstood
+}
+
+fn buffered(rt: &HostRuntime) -> Result<BufWriter<Stdout>, Status> {
     match BufWriter::new(rt.alloc(), rt.stdout()) {
-        Ok(mut out) => world_script(rt.alloc(), rt.stdin(), &mut out, &mut rt.stderr()),
-        Err(_) => out_of_memory(rt),
+        Ok(out) => Ok(out),
+        Err(_) => Err(out_of_memory(rt)),
     }
 }
 
-fn run_init(rt: &HostRuntime, file: &str, me: SiteId, sites: Sites, limit: Limit) -> Status {
+fn run_world(rt: &HostRuntime) -> Result<Status, Status> {
+    let mut out = buffered(rt)?;
+    Ok(world_script(rt.alloc(), rt.stdin(), &mut out, &mut rt.stderr()))
+}
+
+fn run_init<S: Start>(
+    rt: &HostRuntime,
+    file: &str,
+    me: SiteId,
+    sites: Sites,
+    limit: Limit,
+    start: S,
+) -> Result<Status, Status> {
     let mut out = rt.stdout();
     let mut err = rt.stderr();
     if me.number() >= sites.count() {
-        return refuse_site(&mut out, &mut err);
+        return Ok(refuse_site(&mut out, &mut err));
     }
-    match open_or_make(rt, file) {
-        Ok(mut conn) => {
-            let status = init_store(&mut conn, me, sites, limit, &mut out, &mut err);
-            close(rt, status, Some(conn))
-        }
-        Err(status) => status,
-    }
+    let mut conn = open_or_make(rt, file, start)?;
+    let status = init_store(&mut conn, me, sites, limit, &mut out, &mut err);
+    Ok(close(rt, (status, Some(conn))))
 }
 
-fn run_ask(rt: &HostRuntime, file: &str) -> Status {
-    match open_there(rt, file) {
-        Ok(conn) => {
-            let (status, conn) = ask_store(
-                rt.alloc(),
-                conn,
-                rt.stdin(),
-                &mut rt.stdout(),
-                &mut rt.stderr(),
-            );
-            close(rt, status, conn)
-        }
-        Err(status) => status,
-    }
+fn run_ask<S: Start>(rt: &HostRuntime, file: &str, start: S) -> Result<Status, Status> {
+    let conn = open_there(rt, file, start)?;
+    let came = ask_store(
+        rt.alloc(),
+        conn,
+        rt.stdin(),
+        &mut rt.stdout(),
+        &mut rt.stderr(),
+    );
+    Ok(close(rt, came))
 }
 
-fn run_find(rt: &HostRuntime, file: &str, number: RequestNumber) -> Status {
-    match open_there(rt, file) {
-        Ok(conn) => {
-            let (status, conn) = find_store(
-                rt.alloc(),
-                conn,
-                number,
-                &mut rt.stdout(),
-                &mut rt.stderr(),
-            );
-            close(rt, status, conn)
-        }
-        Err(status) => status,
-    }
+fn run_find<S: Start>(
+    rt: &HostRuntime,
+    file: &str,
+    number: RequestNumber,
+    start: S,
+) -> Result<Status, Status> {
+    let conn = open_there(rt, file, start)?;
+    let came = find_store(rt.alloc(), conn, number, &mut rt.stdout(), &mut rt.stderr());
+    Ok(close(rt, came))
 }
 
-fn run_list(rt: &HostRuntime, file: &str, event: &str) -> Status {
-    let Ok(mut out) = BufWriter::new(rt.alloc(), rt.stdout()) else {
-        return out_of_memory(rt);
-    };
-    match open_there(rt, file) {
-        Ok(conn) => {
-            let (status, conn) = list_store(rt.alloc(), conn, event, &mut out, &mut rt.stderr());
-            close(rt, status, conn)
-        }
-        Err(status) => status,
-    }
+fn run_list<S: Start>(
+    rt: &HostRuntime,
+    file: &str,
+    event: &str,
+    start: S,
+) -> Result<Status, Status> {
+    let mut out = buffered(rt)?;
+    let conn = open_there(rt, file, start)?;
+    let came = list_store(rt.alloc(), conn, event, &mut out, &mut rt.stderr());
+    Ok(close(rt, came))
 }
 
-fn run_export(rt: &HostRuntime, file: &str, to: SiteId) -> Status {
-    let Ok(mut out) = BufWriter::new(rt.alloc(), rt.stdout()) else {
-        return out_of_memory(rt);
-    };
-    match open_there(rt, file) {
-        Ok(conn) => {
-            let (status, conn) = export_store(rt.alloc(), conn, to, &mut out, &mut rt.stderr());
-            close(rt, status, conn)
-        }
-        Err(status) => status,
-    }
+fn run_export<S: Start>(
+    rt: &HostRuntime,
+    file: &str,
+    to: SiteId,
+    start: S,
+) -> Result<Status, Status> {
+    let mut out = buffered(rt)?;
+    let conn = open_there(rt, file, start)?;
+    let came = export_store(rt.alloc(), conn, to, &mut out, &mut rt.stderr());
+    Ok(close(rt, came))
 }
 
-fn run_import(rt: &HostRuntime, file: &str) -> Status {
-    match open_there(rt, file) {
-        Ok(conn) => {
-            let (status, conn) = import_store(
-                rt.alloc(),
-                conn,
-                rt.stdin(),
-                &mut rt.stdout(),
-                &mut rt.stderr(),
-            );
-            close(rt, status, conn)
-        }
-        Err(status) => status,
-    }
+fn run_import<S: Start>(rt: &HostRuntime, file: &str, start: S) -> Result<Status, Status> {
+    let conn = open_there(rt, file, start)?;
+    let came = import_store(
+        rt.alloc(),
+        conn,
+        rt.stdin(),
+        &mut rt.stdout(),
+        &mut rt.stderr(),
+    );
+    Ok(close(rt, came))
 }
 
-fn run_order(rt: &HostRuntime, order: Order<'_>) -> Status {
+// An error is the status of a command that could not begin, and whose fault was told.
+fn run_order<S: Start>(rt: &HostRuntime, order: Order<'_>, start: S) -> Result<Status, Status> {
     match order {
         Order::World => run_world(rt),
         Order::Init {
@@ -125,18 +125,20 @@ fn run_order(rt: &HostRuntime, order: Order<'_>) -> Status {
             me,
             sites,
             limit,
-        } => run_init(rt, file, me, sites, limit),
-        Order::Ask { file } => run_ask(rt, file),
-        Order::Find { file, number } => run_find(rt, file, number),
-        Order::List { file, event } => run_list(rt, file, event),
-        Order::Export { file, to } => run_export(rt, file, to),
-        Order::Import { file } => run_import(rt, file),
+        } => run_init(rt, file, me, sites, limit, start),
+        Order::Ask { file } => run_ask(rt, file, start),
+        Order::Find { file, number } => run_find(rt, file, number, start),
+        Order::List { file, event } => run_list(rt, file, event, start),
+        Order::Export { file, to } => run_export(rt, file, to, start),
+        Order::Import { file } => run_import(rt, file, start),
     }
 }
 
-fn run(rt: &HostRuntime, words: &[&str]) -> Status {
+fn run<S: Start>(rt: &HostRuntime, words: &[&str], start: S) -> Status {
     match read_words(rt.alloc(), words) {
-        Ok(order) => run_order(rt, order),
+        Ok(order) => match run_order(rt, order, start) {
+            Ok(status) | Err(status) => status,
+        },
         Err(WordsFault::NotUnderstood { text }) => {
             let _ = eprint!(rt; "{text}");
             Status::NotUnderstood
@@ -149,18 +151,19 @@ fn texts(alloc: Global, words: &[String]) -> Result<Vec<&str>, AllocError> {
     words.iter().map(|word| word.as_str()).collect(alloc)
 }
 
-fn started(rt: &HostRuntime) -> std::io::Result<Status> {
+fn started<S: Start>(rt: &HostRuntime, start: S) -> std::io::Result<Status> {
     let words: Vec<String> = env::args(rt)?.collect(rt.alloc())?;
     let texts = texts(rt.alloc(), &words)?;
-    Ok(run(rt, texts.as_slice()))
+    Ok(run(rt, texts.as_slice(), start))
 }
 
+// What the file holds is nobody's to know here, so the rest is proved for any first contents.
 fn main(rt: HostRuntime) -> ExitCode {
-    let status = match started(&rt) {
+    let status = match started(&rt, Unknown) {
         Ok(status) => status,
         Err(error) => match error.kind() {
             ErrorKind::OutOfMemory => out_of_memory(&rt),
-            _ => Status::NotUnderstood,
+            _ => not_unicode(&rt),
         },
     };
     ExitCode::from(status.code())

@@ -1,0 +1,235 @@
+#!/usr/bin/env python3
+"""Does to files what operators do to them, with C SQLite and without, and looks at what the built program answers.
+
+Usage: tests/files_of_operators.py [PROGRAM]     (PROGRAM: crates/boxoffice/out/boxoffice)
+
+Says what differs and ends with status 1 where anything does.
+"""
+
+import contextlib
+import os
+import sqlite3
+import subprocess
+import sys
+import tempfile
+
+HERE = os.path.dirname(os.path.abspath(__file__))
+PROGRAM = os.path.abspath(
+    sys.argv[1] if len(sys.argv) > 1 else os.path.join(HERE, "..", "crates", "boxoffice", "out", "boxoffice")
+)
+
+# Each request of a first evening with its reply.
+ASKED = [
+    ("announce 1 gala", "done"),
+    ("release 2 gala 100", "done"),
+    ("cede 3 gala 40 1", "done"),
+    ("sell 4 gala 3", "done"),
+]
+# What operators make of a file: statistics, an index and a view for reports, a table of their own.
+TENDED = [
+    "CREATE INDEX report ON entries(event, verb)",
+    "CREATE VIEW sold AS SELECT event, sum(amount) AS seats FROM entries WHERE verb = 'sell' AND reply = 'done' GROUP BY event",
+    "CREATE TABLE notes (text TEXT)",
+    "INSERT INTO notes VALUES ('the gala is on the first night')",
+    "ANALYZE",
+    "VACUUM",
+]
+
+failures = 0
+
+
+def same(what, found, wanted):
+    global failures
+    if found != wanted:
+        failures += 1
+        print(f"{what}: found {found!r}, wanted {wanted!r}")
+
+
+def call(folder, words, given=""):
+    done = subprocess.run(
+        [PROGRAM, *words], input=given.encode(), capture_output=True, cwd=folder, timeout=60, check=False
+    )
+    return done.returncode, done.stdout.decode(), done.stderr.decode()
+
+
+def run(folder, words, given=""):
+    status, out, err = call(folder, words, given)
+    same(f"{words}: status and standard error", (status, err), (0, ""))
+    return out
+
+
+def ask(folder, file, asked):
+    lines, replies = "".join(line + "\n" for line, _ in asked), "".join(reply + "\n" for _, reply in asked)
+    same(f"{file}: replies", run(folder, ["ask", file], lines), replies)
+
+
+def make(folder, file, site=0):
+    same(f"{file}: init", run(folder, ["init", file, str(site), "2", "1000"]), "done\n")
+
+
+def commands(file):
+    return [["ask", file], ["find", file, "1"], ["list", file, "gala"], ["export", file, "1"], ["import", file]]
+
+
+def tree(folder):
+    found = {}
+    for name in sorted(os.listdir(folder)):
+        with open(os.path.join(folder, name), "rb") as file:
+            found[name] = file.read()
+    return found
+
+
+# Each of these commands ends with this word, and no byte of the folder is another.
+def refused(folder, what, all_words, word):
+    before = tree(folder)
+    for words in all_words:
+        same(f"{what}: {words}", call(folder, words, "quit\n"), (3, "", word + "\n"))
+        same(f"{what}: the folder after {words}", tree(folder), before)
+
+
+@contextlib.contextmanager
+def opened(folder, file):
+    with contextlib.closing(sqlite3.connect(os.path.join(folder, file), isolation_level=None)) as db:
+        yield db
+
+
+def change(folder, file, statements):
+    with opened(folder, file) as db:
+        for statement in statements:
+            db.execute(statement)
+
+
+def tended(folder):
+    make(folder, "north.db")
+    make(folder, "south.db", 1)
+    ask(folder, "north.db", ASKED)
+    change(folder, "north.db", TENDED)
+    more = [("sell 4 gala 3", "done"), ("sell 5 gala 61", "short 57"), ("sell 6 gala 2", "done"), ("left gala", "left 55")]
+    ask(folder, "north.db", more)
+    same("find", run(folder, ["find", "north.db", "6"]), "5 done\n")
+    kept = ASKED + more[1:3]
+    listed = "".join(f"{place} {line} {reply}\n" for place, (line, reply) in enumerate(kept))
+    same("list", run(folder, ["list", "north.db", "gala"]), listed)
+    message = run(folder, ["export", "north.db", "1"])
+    same("import beside", run(folder, ["import", "south.db"], message), "joined\n")
+    ask(folder, "south.db", [("sell 1 gala 40", "done")])
+    back = run(folder, ["export", "south.db", "0"])
+    same("import", run(folder, ["import", "north.db"], back), "joined\n")
+    same("import again", run(folder, ["import", "north.db"], back), "nothing-new\n")
+    same("init again", call(folder, ["init", "north.db", "0", "2", "1000"]), (1, "already-there\n", ""))
+    with opened(folder, "north.db") as db:
+        same("integrity", db.execute("PRAGMA integrity_check").fetchall(), [("ok",)])
+        same("the view", db.execute("SELECT * FROM sold").fetchall(), [("gala", 5)])
+        count = db.execute("SELECT count(*) FROM entries INDEXED BY report WHERE event = 'gala'").fetchone()
+        same("the index", count, (len(kept),))
+        same("the table", db.execute("SELECT count(*) FROM notes").fetchone(), (1,))
+    change(folder, "north.db", ["VACUUM"])
+    ask(folder, "north.db", [("refund 7 6", "done"), ("left gala", "left 57")])
+
+
+def too_short(folder):
+    refused(folder, "a missing file", commands("missing"), "not-ours")
+    for name, content in [("empty", b""), ("one", b"x")]:
+        with open(os.path.join(folder, name), "wb") as file:
+            file.write(content)
+        refused(folder, f"a file of {len(content)} bytes", commands(name), "not-ours")
+    make(folder, "empty")
+    ask(folder, "empty", ASKED)
+
+
+def paths_as_they_stand(folder):
+    for name in [":memory:", "file:x", "file:x?mode=memory"]:
+        refused(folder, name, commands(name), "not-ours")
+        make(folder, name)
+        ask(folder, name, ASKED)
+        same(f"{name}: find", run(folder, ["find", name, "4"]), "3 done\n")
+        same(f"{name}: its file", os.path.isfile(os.path.join(folder, name)), True)
+    make(folder, os.path.join(folder, "whole.db"))
+    os.mkdir(os.path.join(folder, "inner"))
+    make(os.path.join(folder, "inner"), "../beside.db")
+    same("their files", [os.path.isfile(os.path.join(folder, name)) for name in ["whole.db", "beside.db"]], [True, True])
+
+
+def no_database(folder):
+    texts = [("notes.txt", b"what to do tonight\n" * 400), ("short.txt", b"notes\n"), ("zeros", bytes(4096))]
+    for name, content in texts:
+        with open(os.path.join(folder, name), "wb") as file:
+            file.write(content)
+        refused(folder, name, commands(name) + [["init", name, "0", "2", "1000"]], "not-ours")
+    change(folder, "other.db", ["CREATE TABLE seats (number INTEGER)", "INSERT INTO seats VALUES (7)"])
+    before = tree(folder)["other.db"]
+    for words in commands("other.db"):
+        same(f"a database of others: {words}", call(folder, words, "quit\n"), (3, "", "not-ours\n"))
+    same("a database of others", tree(folder)["other.db"], before)
+
+
+def damaged(folder):
+    make(folder, "site.db")
+    ask(folder, "site.db", ASKED)
+    with opened(folder, "site.db") as db:
+        (size,) = db.execute("PRAGMA page_size").fetchone()
+        roots = db.execute("SELECT rootpage FROM sqlite_schema WHERE rootpage > 0 ORDER BY rootpage").fetchall()
+    path = os.path.join(folder, "site.db")
+    with open(path, "rb") as file:
+        whole = file.read()
+    all_words = commands("site.db") + [["init", "site.db", "0", "2", "1000"]]
+    for (root,) in roots:
+        for rot in [bytes(size), b"\xff" * size]:
+            with open(path, "r+b") as file:
+                file.seek((root - 1) * size)
+                file.write(rot)
+            for words in all_words:
+                same(f"page {root} damaged: {words}", call(folder, words, "quit\n"), (3, "", "disk\n"))
+            with open(path, "r+b") as file:
+                same(f"page {root} damaged: the file", file.read(), whole[: (root - 1) * size] + rot + whole[root * size :])
+                file.seek(0)
+                file.write(whole)
+    same("mended", run(folder, ["find", "site.db", "4"]), "3 done\n")
+
+
+def other_records(folder):
+    changes = [
+        ("newer", ["UPDATE meta SET version = 7"], "other-schema 7"),
+        ("wider", ["ALTER TABLE meta ADD COLUMN zone TEXT", "UPDATE meta SET version = 2"], "other-schema 2"),
+        ("hole", ["DELETE FROM entries WHERE pos = 1"], "damaged 1"),
+        ("forged", ["UPDATE entries SET amount = 4 WHERE pos = 3"], "damaged 3"),
+        ("without", ["DROP TABLE meta"], "not-ours"),
+        ("kind", ["UPDATE meta SET kind = 'seats'"], "not-ours"),
+        ("sites", ["UPDATE meta SET me = 2"], "not-ours"),
+    ]
+    for name, statements, word in changes:
+        make(folder, name)
+        ask(folder, name, ASKED)
+        change(folder, name, statements)
+        for words in commands(name):
+            same(f"{name}: {words}", call(folder, words, "quit\n"), (3, "", word + "\n"))
+        with opened(folder, name) as db:
+            same(f"{name}: integrity", db.execute("PRAGMA integrity_check").fetchall(), [("ok",)])
+
+
+def in_use(folder):
+    make(folder, "site.db")
+    with opened(folder, "site.db") as db:
+        db.execute("BEGIN EXCLUSIVE")
+        for words in commands("site.db"):
+            same(f"in use: {words}", call(folder, words, "quit\n"), (3, "", "disk\n"))
+    ask(folder, "site.db", ASKED)
+
+
+def words_not_understood(folder):
+    for words in [["find", b"\xff.db", "1"], ["init", b"\xff.db", "0", "2", "1000"], ["list", "site.db", b"gal\xe4"], [b"\xff"]]:
+        status, out, err = call(folder, words)
+        same(f"{words}: status and standard output", (status, out), (2, ""))
+        same(f"{words}: a text", err.strip() != "", True)
+    same("made by words that are not understood", os.listdir(folder), [])
+
+
+def main():
+    for trial in [tended, too_short, paths_as_they_stand, no_database, damaged, other_records, in_use, words_not_understood]:
+        with tempfile.TemporaryDirectory() as folder:
+            trial(folder)
+    print("the files bear what operators do" if failures == 0 else f"{failures} differences")
+    return 1 if failures else 0
+
+
+sys.exit(main())
