@@ -13,3 +13,4 @@ pub mod MetaLemmas
 pub mod OpeningLemmas
 pub mod KeepLemmas
 pub mod StopLemmas
+mod MakeLemmas

@@ -7,3 +7,4 @@ pub mod Held
 pub mod Faults
 pub mod Lookups
 pub mod Opening
+pub mod Making

@@ -1,6 +1,15 @@
 -- The statements over the records. (Our own.)
 use Rattle.std.specs.Prelude.{ℕ, List, codes}
 
+abbrev pub meta_text : List ℕ
+meta_text = codes "CREATE TABLE meta (one INTEGER PRIMARY KEY CHECK (one = 1), kind TEXT NOT NULL, version INTEGER NOT NULL, me INTEGER NOT NULL, sites INTEGER NOT NULL, bound INTEGER NOT NULL) STRICT"
+
+abbrev pub entries_text : List ℕ
+entries_text = codes "CREATE TABLE entries (pos INTEGER PRIMARY KEY, peer INTEGER, number INTEGER UNIQUE, verb TEXT, event TEXT, amount INTEGER, target INTEGER, reply TEXT, rest INTEGER, delta TEXT NOT NULL) STRICT"
+
+abbrev pub meta_insert_text : List ℕ
+meta_insert_text = codes "INSERT INTO meta VALUES (?1, ?2, ?3, ?4, ?5, ?6)"
+
 abbrev pub meta_select_text : List ℕ
 meta_select_text = codes "SELECT kind, version, me, sites, bound FROM meta"
 

@@ -1,11 +1,12 @@
 //! A new site's records.
-ghost use Rattle.std.specs.Prelude.{◌≡◌, ◌≢◌, [], ◌<◌, ◌↔◌, true, false, IsTrue, OnOk, OnErr};
+ghost use Rattle.std.specs.Prelude.{◌≡◌, ◌≢◌, [], ◌<◌, ◌↔◌, true, false, IsTrue, OnOk, OnErr, IfErr};
 ghost use Rattle.sqlite.specs.State.{HasCleanDisk, Survives};
 ghost use Rattle.sqlite.specs.Held.{state};
 ghost use Rattle.sqlite.specs.Values.{bound};
 ghost use Rattle.sql_records.specs.Layout.{no_schema, has_our_table, meta_of, HasMeta};
 ghost use Rattle.sql_records.specs.Held.{IsNew, IsAtRest, LeavesAsBeforeOrNew, LeavesSite, MayLeaveIn};
 ghost use Rattle.sql_records.specs.Keeping.{LeavesOnly};
+ghost use Rattle.sql_records.specs.Making.{making, RunInTurn, FailInTurn, IsInitFault};
 
 use crate::fault::{InitFault, told};
 use crate::meta::Meta;
@@ -54,6 +55,8 @@ fn fill<S: Alter>(tx: &mut Transaction<'_, S>, meta: Meta) -> Result<(), Error>
     ensures kept { HasCleanDisk (state S.Store tx.new.conn.now) → IsTrue (state S.Store tx.new.conn.now).is_open
         → (state S.Store tx.new.conn.now).committed ≡ (state S.Store tx.old.conn.now).committed }
     ensures survives { Survives (state S.Store tx.old.conn.now) (state S.Store tx.new.conn.now) (λ _. ⊥) }
+    ensures runs { HasCleanDisk (state S.Store tx.new.conn.now) → OnOk result (RunInTurn S.Store (making meta) tx.old.conn.now tx.new.conn.now) }
+    ensures fails { HasCleanDisk (state S.Store tx.new.conn.now) → IfErr result (FailInTurn S.Store (making meta) tx.old.conn.now tx.new.conn.now) }
 {
     tx.execute(META, &[])?;
     tx.execute(ENTRIES, &[])?;
@@ -67,7 +70,7 @@ impl<S: Alter> Records<S> {
     ///
     /// A stop leaves the database as it was or the new records, and so does an error; `AlreadyThere`, where a table
     /// has the name of one of ours, leaves it. `Disk` too where the database holds anything else, or a transaction
-    /// is open, which leaves both.
+    /// is open, which leaves both; else it and `Memory` are what a statement or the commit was answered with.
     pub fn init(
         conn: &mut Connection<S>,
         me: SiteId,
@@ -89,6 +92,7 @@ impl<S: Alter> Records<S> {
             → LeavesAsBeforeOrNew (record { me = me; sites = sites; limit = limit }) (state S.Store conn.old) (state S.Store conn.new) }
         ensures as_before { HasCleanDisk (state S.Store conn.new) → IsTrue (state S.Store conn.new).is_open → OnErr result
             ((state S.Store conn.new).committed ≡ (state S.Store conn.old).committed) }
+        ensures fault { HasCleanDisk (state S.Store conn.new) → IfErr result (IsInitFault S.Store conn.old (record { me = me; sites = sites; limit = limit })) }
         ensures ended { conn.old.in_transaction ≡ false → conn.new.in_transaction ≡ false }
         ensures clean { HasCleanDisk (state S.Store conn.new) → HasCleanDisk (state S.Store conn.old) }
     {

@@ -53,4 +53,7 @@ pub trait Keeper {
     fn failures(&self) -> u64
         ensures counted { result ≡ failed self.now }
         ensures rest { result ≡ 0 → is_trusted self.now → LeavesOnly (kept self.now) (may_leave self.now) };
+
+    // A stop leaves something, also once the keeper is shut.
+    ghost survives: { (k : Self) → is_trusted k → ∥ ((left : Option (List Entered)) × may_leave k left) ∥₁ };
 }

@@ -1,5 +1,5 @@
 //! A keeper in memory.
-ghost use Rattle.std.specs.Prelude.{◌≡◌, ◌≢◌, ◌⊎◌, ◌++◌, [], ◌∷◌, Some, None, IsErr, false, true};
+ghost use Rattle.std.specs.Prelude.{◌≡◌, ◌≢◌, ◌⊎◌, ◌++◌, [], ◌∷◌, Some, None, IsErr, false, true, refl};
 ghost use Rattle.std.specs.Prelude.{OnOk, OnErr};
 ghost use Rattle.sql_records.specs.Listed.{IsDue, left_by, one_less};
 
@@ -123,6 +123,8 @@ impl Keeper for ListKeeper {
     ghost failed = { λ k. k.failures };
 
     ghost is_trusted = { λ k. Unit {0} };
+
+    ghost survives = { λ k _. ∣ (Some k.kept, refl) ∣₁ };
 
     /// As of every keeper; and `Disk` only where `fail_at` says so, with the entry kept where it says so. There the
     /// append is never Ok.

@@ -51,10 +51,11 @@ impl<S: Alter + Drop> Drop for Records<S> {
 }
 
 impl<S: Alter> Keeper for Records<S> {
-    ghost use Rattle.std.specs.Prelude.{◌≡◌, ◌≢◌, ◌++◌, ◌∷◌, [], OnOk, OnErr, IfErr, IsErrOf};
+    ghost use Rattle.std.specs.Prelude.{◌≡◌, ◌≢◌, ◌++◌, ◌∷◌, [], OnOk, OnErr, IfErr, IsErrOf, refl};
+    ghost use Rattle.std.proofs.Math.Logic.{∥∥₁_map};
     ghost use Rattle.sql_records.specs.declared.meta.Meta.{Meta as Numbers};
     ghost use Rattle.sql_records.specs.Keeping.{Keeps, LeavesWithOrWithout};
-    ghost use Rattle.sql_records.specs.Held.{kept_in, MayLeave, IsOf, IsTrusted, IsKeepFault};
+    ghost use Rattle.sql_records.specs.Held.{kept_in, opened_in, MayLeave, IsOf, IsTrusted, IsKeepFault};
 
     ghost kept = { kept_in S.Store };
 
@@ -65,6 +66,8 @@ impl<S: Alter> Keeper for Records<S> {
     ghost failed = { λ k. k.failures };
 
     ghost is_trusted = { IsTrusted S.Store };
+
+    ghost survives = { λ k clean. ∥∥₁_map (S.Store.survives k.conn.store clean) (λ it. (opened_in it.0, (it.0, it.1, refl))) };
 
     /// As of every keeper; `Memory` only where it was refused, and `Disk` only where there is no room for the
     /// entry or its INSERT failed.

@@ -1,7 +1,9 @@
 // What keepers answer, with ample memory.
 ghost use Rattle.std.specs.Prelude.{◌≡◌, false};
 
-use crate::{InitFault, KeepFault, Keeper, ListKeeper, Meta, OpenFault, Records};
+use crate::{
+    FindFault, Found, InitFault, KeepFault, Keeper, ListKeeper, Listed, Meta, OpenFault, Records,
+};
 use book_core::{Entry, Limit};
 use delta_mutators::Delta;
 use delta_wire::read_delta;
@@ -281,15 +283,15 @@ fn empty_database_is_not_ours(rt: HostRuntime) {
     assert_eq!(rt; fault, Some(OpenFault::NotOurs));
 }
 
-fn begin(rt: &impl Abort, conn: &mut Connection<MemStore>) {
-    assert!(rt; conn.execute("BEGIN", &[]).is_ok());
+fn execute(rt: &impl Abort, conn: &mut Connection<MemStore>, sql: &str) {
+    assert!(rt; conn.execute(sql, &[]).is_ok());
 }
 
 #[test]
 fn records_are_not_made_in_an_open_transaction(rt: HostRuntime) {
     let alloc = rt.alloc();
     let mut conn = Connection::open_in_memory(alloc).expect(&rt, "a database");
-    begin(&rt, &mut conn);
+    execute(&rt, &mut conn, "BEGIN");
     let Meta { me, sites, limit } = numbers(&rt);
     assert!(rt; me.number() < sites.count());
     let fault = Records::init(&mut conn, me, sites, limit);
@@ -300,7 +302,99 @@ fn records_are_not_made_in_an_open_transaction(rt: HostRuntime) {
 fn records_are_not_opened_in_an_open_transaction(rt: HostRuntime) {
     let alloc = rt.alloc();
     let mut conn = made(&rt, alloc);
-    begin(&rt, &mut conn);
+    execute(&rt, &mut conn, "BEGIN");
     let fault = Records::open(alloc, conn).err();
     assert_eq!(rt; fault, Some(OpenFault::Disk));
+}
+
+// Records of three entries: an event announced, seats of it released, and some of them sold.
+fn selling(rt: &impl Abort, alloc: Global) -> Records<MemStore> {
+    let (mut records, _) = opened(rt, alloc, made(rt, alloc));
+    append(rt, &mut records, announced(rt, alloc));
+    append(rt, &mut records, released(rt, alloc));
+    append(rt, &mut records, sold(rt, alloc));
+    records
+}
+
+// What an open answers of those records once this statement was run on them.
+fn fault_after(rt: &impl Abort, alloc: Global, sql: &str) -> Option<OpenFault> {
+    let mut conn = selling(rt, alloc).close();
+    execute(rt, &mut conn, sql);
+    Records::open(alloc, conn).err()
+}
+
+#[test]
+fn records_that_others_changed_are_refused(rt: HostRuntime) {
+    let alloc = rt.alloc();
+    let later = fault_after(&rt, alloc, "UPDATE meta SET version = 2");
+    assert_eq!(rt; later, Some(OpenFault::OtherSchema { version: 2 }));
+    let strange = fault_after(&rt, alloc, "UPDATE meta SET me = 2");
+    assert_eq!(rt; strange, Some(OpenFault::NotOurs));
+    let hole = fault_after(&rt, alloc, "DELETE FROM entries WHERE pos = 1");
+    assert_eq!(rt; hole, Some(OpenFault::Damaged { place: 1 }));
+    let row = fault_after(&rt, alloc, "UPDATE entries SET verb = 'gift' WHERE pos = 2");
+    assert_eq!(rt; row, Some(OpenFault::Damaged { place: 2 }));
+}
+
+#[test]
+fn records_find_what_is_kept(rt: HostRuntime) {
+    let alloc = rt.alloc();
+    let mut records = selling(&rt, alloc);
+    let found = Found {
+        place: 2,
+        reply: Reply::Done,
+    };
+    assert_eq!(rt; records.find(number(&rt, 3)), Ok(Some(found)));
+    assert_eq!(rt; records.find(number(&rt, 4)), Ok(None));
+}
+
+fn listed(place: u64, number: RequestNumber, request: Request) -> Listed {
+    Listed {
+        place,
+        number,
+        request,
+        reply: Reply::Done,
+    }
+}
+
+#[test]
+fn records_list_what_names_the_event(rt: HostRuntime) {
+    let mut records = selling(&rt, rt.alloc());
+    let event = gala(&rt);
+    let announce = Request::Announce { event };
+    let release = Request::Release {
+        event,
+        amount: seats(&rt, 100),
+    };
+    let sell = Request::Sell {
+        event,
+        amount: seats(&rt, 3),
+    };
+    let rows = records.list(event).expect(&rt, "rows");
+    assert_eq!(rt; rows.len(), 3);
+    assert_eq!(rt; rows.get(0), Some(&listed(0, number(&rt, 1), announce)));
+    assert_eq!(rt; rows.get(1), Some(&listed(1, number(&rt, 2), release)));
+    assert_eq!(rt; rows.get(2), Some(&listed(2, number(&rt, 3), sell)));
+}
+
+// The number of a request is kept once.
+#[test]
+fn failed_append_shuts_the_records(rt: HostRuntime) {
+    let alloc = rt.alloc();
+    let mut records = selling(&rt, alloc);
+    assert_eq!(rt; records.append(&sold(&rt, alloc)), Err(KeepFault::Disk));
+    assert_eq!(rt; records.failures(), 1);
+    assert_eq!(rt; records.append(&refused(&rt, alloc)), Err(KeepFault::Shut));
+    assert_eq!(rt; records.find(number(&rt, 3)), Err(FindFault::Shut));
+}
+
+#[test]
+fn stop_leaves_what_was_kept(rt: HostRuntime) {
+    let alloc = rt.alloc();
+    let conn = selling(&rt, alloc).close();
+    let Ok((_records, entries, meta)) = Records::open_after_stop(alloc, conn) else {
+        panic!(rt; "no records")
+    };
+    assert_eq!(rt; meta, numbers(&rt));
+    assert_eq!(rt; entries.len(), 3);
 }
