@@ -1,5 +1,5 @@
 //! The join of a stretch of a history.
-ghost use Rattle.std.specs.Prelude.{◌≡◌, ◌≤◌, length, IfOk};
+ghost use Rattle.std.specs.Prelude.{◌≡◌, ◌<◌, ◌≤◌, length, IfOk, OnErr};
 ghost use Rattle.book_core.specs.History.{interval};
 
 use book_core::Book;
@@ -10,7 +10,9 @@ use std::alloc::{AllocError, Global};
 pub fn interval(alloc: Global, book: &Book, from: usize, upto: usize) -> Result<Delta, AllocError>
     requires order { from ≤ upto }
     requires within { upto ≤ length book.now.history }
-    ensures { IfOk result (λ delta. delta ≡ interval book.now.history from upto) }
+    ensures delta { IfOk result (λ delta. delta ≡ interval book.now.history from upto) }
+    // An interval of no entries wants no memory.
+    ensures memory { OnErr result (from < upto) }
 {
     if from == upto {
         return Ok(Delta::empty(alloc));

@@ -5,6 +5,7 @@ use Rattle.std.proofs.lemmas.Bool.{lt-ltb, ltb-true, and_parts}
 use Rattle.request_ledger.specs.declared.request.Request.{Request}
 use Rattle.book_core.specs.declared.entry.Entry.{Entry}
 use Rattle.book_core.specs.Decision.{Office, decision, entry_of_ask}
+use Rattle.book_core.specs.Plans.{IsFresh}
 use Rattle.site_exchange.specs.declared.message.Message.{Message}
 use Rattle.site_exchange.specs.Exchange.{Site, zeros, next}
 use Rattle.site_exchange.specs.Taking.{with_entry, restarted, stopped_with}
@@ -17,7 +18,7 @@ use Rattle.world_steps.specs.declared.step.Outcome.TheVariants as outcomes
 use Rattle.world_steps.specs.declared.step.WorldFault.{WorldFault}
 use Rattle.world_steps.specs.declared.step.WorldFault.TheVariants.{NoSite, NoMessage, Memory}
 use Rattle.world_steps.specs.Nodes.{site_of, limit_of}
-use Rattle.world_steps.specs.Outcomes.{answered, outcome, delivered_as, IsDue}
+use Rattle.world_steps.specs.Outcomes.{answered, outcome, delivered_as, IsDue, MayGrow}
 use Rattle.world_steps.specs.Reaching.{world_of, IsKept}
 use Rattle.world_steps.specs.World.{World, count, site_at, history_at, office_at, at_site, with_sent, sends, asks, entry_of_input, is_there, after, IsReached}
 use Rattle.world_steps.proofs.Reached.{reached_after, sound_in}
@@ -81,6 +82,15 @@ ask_gives nodes sent i number request old new (Err fault) kept l is office answe
       made = tt;
       unchanged = same_world nodes sent i old new here.found office same;
     }
+
+-- a request that wants memory is a fresh one
+pub ask_wants : (nodes : List Node) (sent : List Message) (i number : ℕ) (request : Request) (old : Node) → IsKept nodes sent → i < length nodes → old ≡ get_or nodes i old
+    → IsFresh (decision old.book.office old.book.history number request) → MayGrow (world_of nodes sent) (Ask i number request)
+ask_wants nodes sent i number request old kept l is fresh =
+    let w : World = world_of nodes sent in
+    let here = at_place nodes sent i old kept l is in
+    subst (λ (s : Site). IsFresh (decision (office_at w i) s.history number request)) (sym here.site)
+    (subst (λ (f : Office). IsFresh (decision f old.book.history number request)) (sym here.office) fresh)
 
 -- a restart
 pub restart_made : (nodes : List Node) (sent : List Message) (i : ℕ) (old new : Node) → IsKept nodes sent → i < length nodes → old ≡ get_or nodes i old

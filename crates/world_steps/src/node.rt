@@ -1,6 +1,7 @@
 //! One site of a world: its book, and what its peers have acknowledged.
-ghost use Rattle.std.specs.Prelude.{◌≡◌, IfOk, IfErr, OnOk, OnErr, IsTrue};
+ghost use Rattle.std.specs.Prelude.{◌≡◌, IfOk, IfErr, OnOk, OnErr, IsTrue, Err};
 ghost use Rattle.book_core.specs.Decision.{decision, entry_of_ask};
+ghost use Rattle.book_core.specs.Plans.{IsFresh};
 ghost use Rattle.book_core.specs.Joining.{entry_of_join, join_decision};
 ghost use Rattle.site_exchange.specs.Exchange.{entry_of_take, verdict, verdict_of};
 ghost use Rattle.site_exchange.specs.Taking.{HasReply, IsAsked, extended, site_after, stopped_with, with_entry};
@@ -46,6 +47,7 @@ pub fn ask(
     ensures office { node.new.book.office ≡ node.old.book.office }
     ensures outcome { IfOk result (λ o. o ≡ answered (decision node.old.book.office node.old.book.history number request.now)) }
     ensures memory { IfErr result (λ fault. fault ≡ WorldFault.Memory) }
+    ensures wanted { result ≡ Err WorldFault.Memory → IsFresh (decision node.old.book.office node.old.book.history number request.now) }
     ensures entered { OnOk result (site_of node.new ≡ with_entry (entry_of_ask node.old.book.office node.old.book.history number request.now) (site_of node.old)) }
     ensures unchanged { OnErr result (site_of node.new ≡ site_of node.old) }
 {
@@ -137,6 +139,7 @@ pub fn stop(
     ensures office { node.new.book.office ≡ node.old.book.office }
     ensures outcome { IfOk result (λ o. o ≡ Outcome.Stopped) }
     ensures memory { IfErr result (λ fault. fault ≡ WorldFault.Memory) }
+    ensures wanted { result ≡ Err WorldFault.Memory → IsTrue stored }
     ensures stopped { OnOk result (site_of node.new ≡ stopped_with (entry_of_input node.old.book.office node.old.book.history sent.now input.now) stored (site_of node.old)) }
     ensures unchanged { OnErr result (site_of node.new ≡ site_of node.old) }
 {

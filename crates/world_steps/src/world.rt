@@ -1,5 +1,5 @@
 //! All sites of one world, and all messages that they ever sent.
-ghost use Rattle.std.specs.Prelude.{IfOk, IfErr, IfSome, OnOk, OnErr, IsSome, option_copied, ◌↔◌, ◌≡◌, ◌+◌, ◌<◌, ◌≤◌, ◌&&◌, ◌==◌, not, nat_lt, List, length, map, take, Ok, IsSomeAnd, slice_get, vec_len, vec_capacity};
+ghost use Rattle.std.specs.Prelude.{IfOk, IfErr, IfSome, OnOk, OnErr, IsSome, option_copied, ◌↔◌, ◌≡◌, ◌+◌, ◌<◌, ◌≤◌, ◌&&◌, ◌==◌, not, nat_lt, List, length, map, take, Ok, Err, IsTrue, IsSomeAnd, slice_get, vec_len, vec_capacity};
 ghost use Rattle.book_core.specs.History.{state_of};
 ghost use Rattle.book_core.specs.Operations.{outstanding, released, sold, refunded};
 ghost use Rattle.site_exchange.specs.Exchange.{receiver};
@@ -8,7 +8,7 @@ ghost use Rattle.world_steps.specs.World.{IsReached, after, all_operations, coun
 ghost use Rattle.world_steps.specs.Promises.{HoldsPromises};
 ghost use Rattle.world_steps.specs.Reaching.{AddsNames};
 ghost use Rattle.world_steps.specs.declared.step.Outcome.{Outcome};
-ghost use Rattle.world_steps.specs.Outcomes.{outcome, outcomes, sent_as, taken_as, IsDue};
+ghost use Rattle.world_steps.specs.Outcomes.{outcome, outcomes, sent_as, taken_as, IsDue, MayGrow};
 ghost use Rattle.world_steps.specs.Nodes.{verdict_told};
 
 use crate::node::{Node, Taken, ask, stop, take};
@@ -78,6 +78,7 @@ impl World {
     pub fn step(&mut self, alloc: Global, step: Step) -> Result<Outcome, WorldFault>
         ensures outcome { IfOk result (λ o. outcome self.old step ≡ Ok o) }
         ensures fault { IfErr result (IsDue self.old step) }
+        ensures memory { result ≡ Err WorldFault.Memory → MayGrow self.old step }
         ensures made { OnOk result (self.new ≡ after self.old step) }
         ensures unchanged { OnErr result (self.new ≡ self.old) }
         ensures promises { HoldsPromises self.new }
@@ -110,6 +111,7 @@ impl World {
     ) -> Result<Outcome, WorldFault>
         ensures outcome { IfOk result (λ o. outcome self.old (Step.Ask site number request.now) ≡ Ok o) }
         ensures fault { IfErr result (IsDue self.old (Step.Ask site number request.now)) }
+        ensures memory { result ≡ Err WorldFault.Memory → MayGrow self.old (Step.Ask site number request.now) }
         ensures made { OnOk result (self.new ≡ after self.old (Step.Ask site number request.now)) }
         ensures unchanged { OnErr result (self.new ≡ self.old) }
     {
@@ -124,6 +126,7 @@ impl World {
     fn restart(&mut self, site: SiteId) -> Result<Outcome, WorldFault>
         ensures outcome { IfOk result (λ o. outcome self.old (Step.Restart site) ≡ Ok o) }
         ensures fault { IfErr result (IsDue self.old (Step.Restart site)) }
+        ensures memory { result ≡ Err WorldFault.Memory → ⊥ }
         ensures made { OnOk result (self.new ≡ after self.old (Step.Restart site)) }
         ensures unchanged { OnErr result (self.new ≡ self.old) }
     {
@@ -145,6 +148,7 @@ impl World {
     ) -> Result<Outcome, WorldFault>
         ensures outcome { IfOk result (λ o. outcome self.old (Step.Stop site input stored) ≡ Ok o) }
         ensures fault { IfErr result (IsDue self.old (Step.Stop site input stored)) }
+        ensures memory { result ≡ Err WorldFault.Memory → IsTrue stored }
         ensures made { OnOk result (self.new ≡ after self.old (Step.Stop site input stored)) }
         ensures unchanged { OnErr result (self.new ≡ self.old) }
     {
