@@ -2,20 +2,12 @@
 
 use crate::{WireFault, delta_text, read_delta, read_message, write_message};
 use plain_words::WriteFault;
-use site_exchange::Message;
-use std::alloc::Global;
-use std::process::Abort;
 use std::test::Fail;
 
 const FIRST: &[u8] = b"delta 0 1 4\nname gala\ngave gala 0 0 100\ngave gala 0 1 40\nend\n";
 
 const SECOND: &[u8] =
     b"delta 1 0 2\nname gala\ngave gala 0 0 100\ngave gala 0 1 40\nused gala 1 40\nend\n";
-
-fn read(rt: &impl Abort, alloc: Global, bytes: &[u8]) -> Result<Message, WireFault> {
-    assert!(rt; bytes.len() <= 1000);
-    read_message(alloc, bytes)
-}
 
 #[test]
 fn refused_texts(rt: HostRuntime) {
@@ -37,14 +29,18 @@ fn refused_texts(rt: HostRuntime) {
         (b"delta 0 1 2\nend\nx".as_slice(), WireFault::Trailing),
     ];
     for (text, want) in rows {
-        assert_eq!(rt; read(&rt, rt.alloc(), text).err(), Some(want), "{text:?}");
+        assert_eq!(rt;
+            read_message(rt.alloc(), text).err(),
+            Some(want),
+            "{text:?}"
+        );
     }
 }
 
 #[test]
 fn fronts_are_truncated(rt: HostRuntime) {
     for len in 0..FIRST.len() {
-        let read = read(&rt, rt.alloc(), &FIRST[..len]);
+        let read = read_message(rt.alloc(), &FIRST[..len]);
         assert_eq!(rt; read.err(), Some(WireFault::Truncated), "{len} bytes");
     }
 }
@@ -58,7 +54,7 @@ fn texts_read_and_written(rt: HostRuntime) -> Result<(), Fail> {
         b"delta 0 1 2\nname gala\ngave gala 0 0 100\nused gala 0 3\nend\n".as_slice(),
     ];
     for text in texts {
-        let message = read(&rt, rt.alloc(), text)?;
+        let message = read_message(rt.alloc(), text)?;
         let mut out = Vec::new(rt.alloc());
         write_message(&message, &mut out)?;
         assert_eq!(rt; out.as_slice(), text);
@@ -68,7 +64,7 @@ fn texts_read_and_written(rt: HostRuntime) -> Result<(), Fail> {
 
 #[test]
 fn short_writer_keeps_a_front(rt: HostRuntime) -> Result<(), Fail> {
-    let message = read(&rt, rt.alloc(), b"ack 1 0 3\nend\n")?;
+    let message = read_message(rt.alloc(), b"ack 1 0 3\nend\n")?;
     let mut short = [0u8; 12];
     let written = write_message(&message, &mut short.as_mut_slice());
     assert_eq!(rt; written, Err(WriteFault));
@@ -83,9 +79,7 @@ fn texts_of_deltas(rt: HostRuntime) -> Result<(), Fail> {
         "name gala\n",
         "name gala\ngave gala 0 0 100\nused gala 0 3\n",
     ] {
-        let bytes = text.as_bytes();
-        assert!(rt; bytes.len() <= 1000);
-        let delta = read_delta(rt.alloc(), bytes)?;
+        let delta = read_delta(rt.alloc(), text.as_bytes())?;
         assert_eq!(rt; delta_text(rt.alloc(), &delta)?.as_str(), text);
     }
     let cut = read_delta(rt.alloc(), b"name gala");
