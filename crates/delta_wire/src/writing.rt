@@ -1,6 +1,8 @@
 //! Writing deltas and messages.
-ghost use Rattle.std.specs.Prelude.{◌≡◌, ◌++◌, codes, OnOk, IfOk, string_bytes};
+ghost use Rattle.std.specs.Prelude.{◌≡◌, ◌<◌, ◌+◌, ◌++◌, length, codes, OnOk, OnErr, IfOk, string_bytes};
 ghost use Rattle.std.specs.List.{AllByRecursion};
+ghost use Rattle.rights_lattice.specs.Cells.{marks_of};
+ghost use Rattle.rights_lattice.specs.State.{names_in_order};
 ghost use Rattle.delta_mutators.specs.declared.delta.Item.TheVariants as item;
 ghost use Rattle.delta_wire.specs.Grammar.{IsItem, IsDelta, delta_text, IsMessage, message_text};
 ghost use Rattle.delta_wire.specs.Parts.{names_text, marks_text};
@@ -17,6 +19,7 @@ use std::io::Write;
 fn write_names<W: Write>(names: &[Event], out: &mut W) -> Result<(), WriteFault>
     ensures text { Writes (W.contents out.old) (W.contents out.new) result (names_text names.now) }
     ensures fits { OnOk result (AllByRecursion (λ n. IsItem (item.Name n)) names.now) }
+    ensures some { OnErr result (0 < length names.now) }
 {
     'names: for name in names {
         let line = name_text(name);
@@ -28,6 +31,7 @@ fn write_names<W: Write>(names: &[Event], out: &mut W) -> Result<(), WriteFault>
 fn write_marks<W: Write>(marks: &[Mark], out: &mut W) -> Result<(), WriteFault>
     ensures text { Writes (W.contents out.old) (W.contents out.new) result (marks_text marks.now) }
     ensures fits { OnOk result (AllByRecursion (λ m. IsItem (item.Cell m)) marks.now) }
+    ensures some { OnErr result (0 < length marks.now) }
 {
     'marks: for mark in marks {
         let line = mark_text(mark);
@@ -40,6 +44,7 @@ fn write_marks<W: Write>(marks: &[Mark], out: &mut W) -> Result<(), WriteFault>
 fn write_items<W: Write>(delta: &Delta, out: &mut W) -> Result<(), WriteFault>
     ensures text { Writes (W.contents out.old) (W.contents out.new) result (delta_text delta.now) }
     ensures fits { OnOk result (IsDelta delta.now) }
+    ensures some { OnErr result (0 < length (names_in_order delta.now.names) + length (marks_of delta.now.cells)) }
 {
     write_names(delta.names(), out)?;
     write_marks(delta.marks(), out)
@@ -86,6 +91,8 @@ pub fn delta_text(alloc: Global, delta: &Delta) -> Result<String, AllocError>
     ensures text { IfOk result (λ text. string_bytes text ≡ delta_text delta.now) }
     // So what was written is read back.
     ensures fits { OnOk result (IsDelta delta.now) }
+    // The text of a delta without items wants no memory.
+    ensures memory { OnErr result (0 < length (names_in_order delta.now.names) + length (marks_of delta.now.cells)) }
 {
     let mut bytes = Vec::new(alloc);
     match write_items(delta, &mut bytes) {
