@@ -1,5 +1,5 @@
 -- What exporting and importing come to, by the records that were opened. (Our own.)
-use Rattle.std.specs.Prelude.{◌≡◌, ℕ, ◌<◌, ◌≤◌, IsTrue, if◌then◌else◌, nat_lt, List, length, Option, Some, None, Result, Ok, Err}
+use Rattle.std.specs.Prelude.{◌≡◌, ◌⊎◌, ⊤, ℕ, ◌<◌, ◌≤◌, Bool, true, IsTrue, IsSome, if◌then◌else◌, nat_lt, List, length, Option, Some, None, Result, Ok, Err}
 use Rattle.sqlite.specs.Tree.{Trees}
 use Rattle.book_core.specs.declared.entry.Entry.{Entry}
 use Rattle.book_core.specs.Decision.{Office}
@@ -16,6 +16,8 @@ use Rattle.site_desk.specs.Answers.{is_peer}
 use Rattle.site_desk.specs.SiteView.{SiteView, office_of}
 use Rattle.operator_cli.specs.declared.status.Status.{Status}
 use Rattle.operator_cli.specs.declared.status.Status.TheVariants.{Done}
+use Rattle.operator_cli.specs.declared.store_fault.StoreFault.{StoreFault}
+use Rattle.operator_cli.specs.declared.store_fault.StoreFault.TheVariants as fault
 use Rattle.operator_cli.specs.declared.told.Told.{Told}
 use Rattle.operator_cli.specs.declared.told.Told.TheVariants.{Joined, NothingNew, Acked, NoSite, Nothing, TooLong, Unread, NotTaken}
 use Rattle.operator_cli.specs.Printed.{IsTellingOf}
@@ -59,3 +61,16 @@ site_in db = record { history = history_in db; acked = zeros }
 abbrev pub IsInput : List ℕ → Option (List ℕ) → Type 0
 IsInput input None = most_bytes < length input
 IsInput input (Some bytes) = (bytes ≡ input) × (length input ≤ most_bytes)
+
+-- what ends sending early: the book is closed, memory is wanted for a message that is due, or it is not written
+abbrev pub IsNextEnd : Bool → Option Message → StoreFault → Type 0
+IsNextEnd closed due fault.Store = closed ≡ true
+IsNextEnd closed due fault.Memory = IsSome due
+IsNextEnd closed due fault.Write = ⊤
+IsNextEnd closed due _ = ⊥
+
+-- what ends taking early: the book is closed, memory is wanted, or what is joined is not stored; a refusal does not
+abbrev pub IsTakeEnd : Bool → Told → StoreFault → Type 0
+IsTakeEnd closed told fault.Store = (closed ≡ true) ⊎ (told ≡ Joined)
+IsTakeEnd closed told fault.Memory = ⊤
+IsTakeEnd closed told _ = ⊥

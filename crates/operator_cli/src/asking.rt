@@ -1,10 +1,12 @@
 //! A session with the book of a site.
 
-ghost use Rattle.std.specs.Prelude.{◌≡◌, ◌≤◌, ◌↔◌, None, IfSome};
+ghost use Rattle.std.specs.Prelude.{◌≡◌, ◌≤◌, ◌⊎◌, ◌++◌, ◌∷◌, [], None, IfOk, IfErr, IfSome};
+ghost use Rattle.std.specs.Option.{option_map};
 ghost use Rattle.arrayvec.specs.ArrayVec.{array_vec_len};
-ghost use Rattle.site_desk.specs.SiteView.{decision_in};
-ghost use Rattle.operator_cli.specs.Session.{session_line, asked_in, asked_after, left_in, totals_in, ask_in, AnswersAsk, look_text, shown_left, shown_totals};
-ghost use Rattle.operator_cli.specs.declared.asking.SessionLine.TheVariants.{Quit};
+ghost use Rattle.operator_cli.specs.Session.{session_line, asked_in, asked_after, left_in, totals_in, ask_in, came_text, AnswersAsk, AnswersLine, RepliesTo, NextAsked, look_text, shown_left, shown_totals};
+ghost use Rattle.operator_cli.specs.declared.status.Status.TheVariants.{Done, Failed};
+ghost use Rattle.plain_words.specs.Writing.{Writes};
+ghost use Rattle.operator_cli.specs.declared.fault.ScriptFault.TheVariants.{Write as WriteFailed};
 ghost use Rattle.operator_cli.specs.Told.{FaultTold};
 ghost use Rattle.operator_cli.specs.Opened.{IsLost};
 
@@ -18,7 +20,7 @@ use crate::store_fault::StoreFault;
 use plain_words::{LineBytes, Text, Words, has_more, next_line, put, write_bytes};
 use request_ledger::{Request, RequestNumber};
 use rights_lattice::Event;
-use site_desk::{AskFault, LookFault, SiteBook};
+use site_desk::{Answer, AskFault, LookFault, SiteBook};
 use sql_records::Keeper;
 use sqlite::{Alter, Connection};
 use std::alloc::Global;
@@ -102,16 +104,11 @@ fn session_line(bytes: &[u8]) -> Option<SessionLine>
     asked_in(&mut Words::new(bytes))
 }
 
-fn asked_text<K: Keeper>(
-    alloc: Global,
-    book: &mut SiteBook<K>,
-    number: RequestNumber,
-    request: &Request,
-) -> Text
-    ensures text { AnswersAsk book.old.closed (decision_in book.old.book number request.now) result.items }
+fn came_text(came: &Result<Answer, AskFault>) -> Text
+    ensures text { result.items ≡ came_text came.now }
     ensures len { array_vec_len result ≤ 200 }
 {
-    match book.ask(alloc, number, request) {
+    match came {
         Ok(answer) => reply_text(answer.reply),
         Err(AskFault::Closed) => word(b"closed"),
         Err(AskFault::Reused { .. }) => word(b"reused"),
@@ -119,6 +116,19 @@ fn asked_text<K: Keeper>(
         Err(AskFault::Memory) => word(b"memory"),
         Err(AskFault::Store) => word(b"store"),
     }
+}
+
+fn asked_text<K: Keeper>(
+    alloc: Global,
+    book: &mut SiteBook<K>,
+    number: RequestNumber,
+    request: &Request,
+) -> Text
+    ensures text { AnswersAsk K.failed book.old book.new number request.now result.items }
+    ensures len { array_vec_len result ≤ 200 }
+{
+    let came = book.ask(alloc, number, request);
+    came_text(&came)
 }
 
 fn left_text<K: Keeper>(book: &SiteBook<K>, event: Event) -> Text
@@ -144,7 +154,7 @@ fn seen_totals_text<K: Keeper>(book: &SiteBook<K>, event: Event) -> Text
 }
 
 fn asked_reply<K: Keeper>(alloc: Global, book: &mut SiteBook<K>, asked: SessionLine) -> Option<Text>
-    ensures quit { (result ≡ None) ↔ (asked ≡ Quit) }
+    ensures answers { AnswersLine K.failed book.old book.new asked (option_map (λ text. text.items) result) }
     ensures len { IfSome result (λ text. array_vec_len text ≤ 200) }
 {
     match asked {
@@ -157,7 +167,8 @@ fn asked_reply<K: Keeper>(alloc: Global, book: &mut SiteBook<K>, asked: SessionL
 
 // The reply to a line, and none to the last.
 fn session_reply<K: Keeper>(alloc: Global, book: &mut SiteBook<K>, line: &[u8]) -> Option<Text>
-    ensures { IfSome result (λ text. array_vec_len text ≤ 200) }
+    ensures replies { RepliesTo K.failed book.old book.new (session_line line.now) (option_map (λ text. text.items) result) }
+    ensures len { IfSome result (λ text. array_vec_len text ≤ 200) }
 {
     match session_line(line) {
         Some(asked) => asked_reply(alloc, book, asked),
@@ -168,6 +179,8 @@ fn session_reply<K: Keeper>(alloc: Global, book: &mut SiteBook<K>, line: &[u8]) 
 // The whole line is at its writer's end.
 fn write_reply<W: Write>(mut reply: Text, out: &mut W) -> Result<(), ScriptFault>
     requires { array_vec_len reply ≤ 200 }
+    ensures written { Writes (W.contents out.old) (W.contents out.new) result (reply.items ++ 10 ∷ []) }
+    ensures fault { IfErr result (λ fault. fault ≡ WriteFailed) }
 {
     put(&mut reply, b"\n");
     write_bytes(reply.as_slice(), out)?;
@@ -183,7 +196,9 @@ fn answer_next<K: Keeper, R: BufRead, W: Write>(
     book: &mut SiteBook<K>,
     reader: &mut R,
     out: &mut W,
-) -> Result<bool, ScriptFault> {
+) -> Result<bool, ScriptFault>
+    ensures { NextAsked K.failed (R.remaining reader.old) (R.remaining reader.new) (W.contents out.old) (W.contents out.new) book.old book.new result }
+{
     let mut line = LineBytes::new();
     if !next_line(reader, &mut line)? {
         return Ok(false);
@@ -219,7 +234,9 @@ fn run_session<K: Keeper, R: Read + Drop, W: Write>(
     book: &mut SiteBook<K>,
     input: R,
     out: &mut W,
-) -> Result<Status, StoreFault> {
+) -> Result<Status, StoreFault>
+    ensures done { IfOk result (λ status. status ≡ Done) }
+{
     let Ok(mut reader) = BufReader::new(alloc, input) else {
         return Err(StoreFault::Memory);
     };
@@ -243,6 +260,7 @@ pub fn ask_store<S: Alter + Drop, R: Read + Drop, W: Write, E: Write>(
     out: &mut W,
     err: &mut E,
 ) -> (Status, Option<Connection<S>>)
+    ensures status { (result.0 ≡ Done) ⊎ (result.0 ≡ Failed) }
     ensures err { FaultTold (E.contents err.old) (E.contents err.new) result.0 }
     ensures lost { result.1 ≡ None → IsLost S.Store conn (E.contents err.old) (E.contents err.new) result.0 }
 {

@@ -1,6 +1,6 @@
 //! The end of a command over records.
 
-ghost use Rattle.std.specs.Prelude.{◌≡◌, ◌⊎◌, IfOk, IfErr, MatchResult};
+ghost use Rattle.std.specs.Prelude.{◌≡◌, ◌≢◌, ◌⊎◌, IfOk, IfErr, MatchResult};
 ghost use Rattle.std.specs.Io.KnownBytes.{Keeps};
 ghost use Rattle.plain_words.specs.Writing.{Writes, AppendsFront};
 ghost use Rattle.operator_cli.specs.Told.{store_fault_line, FaultTold};
@@ -27,6 +27,7 @@ pub(crate) fn write_line<W: Write>(line: &Text, out: &mut W) -> Result<(), Store
 fn flushed<W: Write>(status: Status, out: &mut W) -> Result<Status, StoreFault>
     ensures kept { Keeps (W.contents out.old) (W.contents out.new) }
     ensures status { IfOk result (λ s. s ≡ status) }
+    ensures fault { IfErr result (λ fault. fault ≡ WriteFailed) }
 {
     match out.flush() {
         Ok(()) => Ok(status),
@@ -54,6 +55,7 @@ pub(crate) fn ended<W: Write, E: Write>(
     ensures kept { Keeps (W.contents out.old) (W.contents out.new) }
     ensures told { FaultTold (E.contents err.old) (E.contents err.new) result }
     ensures line { IfErr came (λ fault. AppendsFront (E.contents err.old) (E.contents err.new) (store_fault_line fault)) }
+    ensures flush { IfOk came (λ status. result ≢ status → AppendsFront (E.contents err.old) (E.contents err.new) (store_fault_line WriteFailed)) }
     ensures status { MatchResult came (λ status. (result ≡ status) ⊎ (result ≡ Failed)) (λ _. result ≡ Failed) }
 {
     match came {

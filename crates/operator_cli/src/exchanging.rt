@@ -1,13 +1,14 @@
 //! Messages to and from the records of a site.
 
-ghost use Rattle.std.specs.Prelude.{◌≡◌, ◌≤◌, None, Some, IfOk, IfSome, vec_len};
+ghost use Rattle.std.specs.Prelude.{◌≡◌, ◌≤◌, None, Some, IfOk, IfErr, IfSome, vec_len};
 ghost use Rattle.sqlite.specs.State.{HasCleanDisk};
 ghost use Rattle.sqlite.specs.Held.{state};
 ghost use Rattle.sql_records.specs.Layout.{HasMeta};
 ghost use Rattle.sql_records.specs.declared.meta.Meta.{Meta as Numbers};
 ghost use Rattle.site_desk.specs.SiteView.{office_of, site_of};
-ghost use Rattle.operator_cli.specs.Exchanged.{IsDueText, IsInput, most_bytes, site_in, told_of_bytes, told_of_read};
+ghost use Rattle.operator_cli.specs.Exchanged.{IsDueText, IsNextEnd, IsTakeEnd, IsInput, most_bytes, site_in, told_of_bytes, told_of_read};
 ghost use Rattle.delta_wire.specs.Wire.{message_of};
+ghost use Rattle.site_exchange.specs.Exchange.{next};
 ghost use Rattle.sql_records.specs.Held.{history_in};
 ghost use Rattle.operator_cli.specs.Told.{FaultTold, told_status};
 ghost use Rattle.operator_cli.specs.declared.status.Status.TheVariants.{Refused};
@@ -40,6 +41,7 @@ fn write_next<K: Keeper, W: Write>(
     ensures out { IfOk result (Printed IsSentText (W.contents out.old) (W.contents out.new)) }
     ensures due { IfOk result (Printed (IsDueText book.now.book.office (site_of book.now) to)
         (W.contents out.old) (W.contents out.new)) }
+    ensures fault { IfErr result (IsNextEnd book.now.closed (next book.now.book.office.me (site_of book.now) to)) }
 {
     match book.next(alloc, to) {
         Ok(Some(message)) => match write_message(&message, out) {
@@ -113,6 +115,7 @@ fn take_bytes<K: Keeper>(
     ensures told { IfOk result (λ told. told
         ≡ told_of_read book.old.book.office book.old.book.history (message_of bytes.now)) }
     ensures kept { IfOk result (λ told. told_status told ≡ Refused → book.new.keeper ≡ book.old.keeper) }
+    ensures fault { IfErr result (IsTakeEnd book.old.closed (told_of_read book.old.book.office book.old.book.history (message_of bytes.now))) }
     ensures trusted { K.is_trusted book.new.keeper → K.is_trusted book.old.keeper }
 {
     let message = match read_message(alloc, bytes) {

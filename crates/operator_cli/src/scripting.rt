@@ -1,7 +1,8 @@
 //! A script over a reader and writers.
 
-ghost use Rattle.std.specs.Prelude.{◌≡◌, ◌<◌, [], OnOk, IfOk, IfErr};
+ghost use Rattle.std.specs.Prelude.{◌≡◌, ◌<◌, [], Err, OnOk, IfOk, IfErr};
 ghost use Rattle.std.specs.Io.Buffered.{reader_remaining};
+ghost use Rattle.std.specs.Io.KnownBytes.{Keeps};
 ghost use Rattle.plain_words.specs.Writing.{Writes};
 ghost use Rattle.operator_cli.specs.Reading.{line_of};
 ghost use Rattle.operator_cli.specs.Replies.{reply_line};
@@ -37,6 +38,7 @@ fn reply<W: Write>(
     ensures written { Writes (W.contents out.old) (W.contents out.new) result (reply_line (answer_to world.old (line_of line.now)).0) }
     ensures world { OnOk result (world.new ≡ (answer_to world.old (line_of line.now)).1) }
     ensures fault { IfErr result IsOutFault }
+    ensures memory { result ≡ Err Memory → Keeps (W.contents out.old) (W.contents out.new) }
 {
     let answer = answer_line(world, alloc, line)?;
     write_answer(answer, out)?;

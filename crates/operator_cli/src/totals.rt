@@ -1,6 +1,8 @@
 //! The lines of totals at the end of a script.
 
-ghost use Rattle.std.specs.Prelude.{◌≡◌, ◌≤◌, ◌<◌, length, IfErr};
+ghost use Rattle.std.specs.Prelude.{◌≡◌, ◌≤◌, ◌<◌, length, Err, IfErr};
+ghost use Rattle.std.specs.Io.KnownBytes.{Keeps};
+ghost use Rattle.operator_cli.specs.declared.fault.ScriptFault.TheVariants.{Memory};
 ghost use Rattle.plain_words.specs.Writing.{Writes};
 ghost use Rattle.operator_cli.specs.Script.{total_line, total_lines};
 ghost use Rattle.operator_cli.specs.Faults.{IsOutFault};
@@ -39,6 +41,7 @@ pub(crate) fn write_totals<W: Write>(
 ) -> Result<(), ScriptFault>
     ensures lines { Writes (W.contents out.old) (W.contents out.new) result (total_lines world.now) }
     ensures fault { IfErr result IsOutFault }
+    ensures memory { result ≡ Err Memory → Keeps (W.contents out.old) (W.contents out.new) }
 {
     let events = world.events(alloc)?;
     for event in &events {
