@@ -93,6 +93,7 @@ impl<S: Alter> Records<S> {
         ensures as_before { HasCleanDisk (state S.Store conn.new) → IsTrue (state S.Store conn.new).is_open → OnErr result
             ((state S.Store conn.new).committed ≡ (state S.Store conn.old).committed) }
         ensures fault { HasCleanDisk (state S.Store conn.new) → IfErr result (IsInitFault S.Store conn.old (record { me = me; sites = sites; limit = limit })) }
+        ensures limit { conn.new.step_limit ≡ conn.old.step_limit }
         ensures ended { conn.old.in_transaction ≡ false → conn.new.in_transaction ≡ false }
         ensures clean { HasCleanDisk (state S.Store conn.new) → HasCleanDisk (state S.Store conn.old) }
     {

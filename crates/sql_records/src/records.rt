@@ -80,6 +80,7 @@ impl<S: Alter> Keeper for Records<S> {
         ensures shut { self.old.failures ≢ 0 → (result ≡ Err KeepFault.Shut) × (self.new ≡ self.old) }
         ensures cause { IfErr result (λ fault. IsTrusted S.Store self.new → IsKeepFault S.Store self.old self.new entry.now fault) }
         ensures site { IsTrusted S.Store self.new → (meta : Numbers) → IsOf S.Store self.old meta → IsOf S.Store self.new meta }
+        ensures limit { self.new.conn.step_limit ≡ self.old.conn.step_limit }
         ensures trusted { IsTrusted S.Store self.new → IsTrusted S.Store self.old }
     {
         if self.failures != 0 {
@@ -143,6 +144,7 @@ impl<S: Alter + Drop> Records<S> {
         ensures same { IfOk result (λ it. IsTrusted S.Store it.0 → (state S.Store it.0.conn).now ≡ (state S.Store conn).now) }
         ensures leaves { IfOk result (λ it. IsTrusted S.Store it.0 → LeavesOnly (kept_in S.Store it.0) (MayLeave S.Store it.0)) }
         ensures open { IfOk result (λ it. it.0.failures ≡ 0) }
+        ensures limit { IfOk result (λ it. it.0.conn.step_limit ≡ conn.step_limit) }
         ensures clean { IfOk result (λ it. IsTrusted S.Store it.0 → HasCleanDisk (state S.Store conn)) }
     {
         let is_settled = conn.is_autocommit();
