@@ -69,7 +69,7 @@ impl<S: Alter> Records<S> {
     /// Makes the records of a site that has no entry yet, in an empty database, in one transaction.
     ///
     /// A stop leaves the database as it was or the new records, and so does an error; `AlreadyThere`, where a table
-    /// has the name of one of ours, leaves it. `Disk` too where the database holds anything else, or a transaction
+    /// or view has the name of one of ours, leaves it. `Disk` too where the database holds anything else, or a transaction
     /// is open, which leaves both; else it and `Memory` are what a statement or the commit was answered with.
     pub fn init(
         conn: &mut Connection<S>,
