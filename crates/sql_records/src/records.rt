@@ -118,7 +118,7 @@ impl<S: Alter + Drop> Records<S> {
     ghost use Rattle.std.specs.Prelude.{◌≡◌, ◌≢◌, true, false, Some, IfOk, IfErr, IsErr};
     ghost use Rattle.sqlite.specs.State.{HasCleanDisk};
     ghost use Rattle.sqlite.specs.Held.{Held, state};
-    ghost use Rattle.sql_records.specs.Opening.{IsOpenFault};
+    ghost use Rattle.sql_records.specs.Opening.{IsForeignCause, IsOpenFault};
     ghost use Rattle.sql_records.specs.Keeping.{LeavesOnly};
     ghost use Rattle.sql_records.specs.Layout.{IsOurs, HasMeta, AreNumbers};
     ghost use Rattle.sql_records.specs.declared.meta.Meta.{Meta as Numbers};
@@ -135,6 +135,7 @@ impl<S: Alter + Drop> Records<S> {
         ensures foreign { ¬ IsOurs conn.schema → IsErr result }
         ensures busy { conn.in_transaction ≡ true → result ≡ Err OpenFault.Disk }
         ensures fault { conn.in_transaction ≡ false → IfErr result (λ fault. (after : Held S) × (HasCleanDisk (state S.Store after) → HasCleanDisk (state S.Store conn) × IsOpenFault (state S.Store conn) (state S.Store after) fault)) }
+        ensures version { ¬ IsOurs conn.schema → conn.in_transaction ≡ false → IfErr result (λ fault. (after : Held S) × (HasCleanDisk (state S.Store after) → IsForeignCause S.Store conn fault)) }
         ensures entries { IfOk result (λ it. IsTrusted S.Store it.0 → it.1.items ≡ kept_in S.Store it.0) }
         ensures meta { IfOk result (λ it. IsTrusted S.Store it.0 → HasMeta it.2 (state S.Store it.0.conn).now.trees) }
         ensures given { IfOk result (λ it. IsTrusted S.Store it.0 → (meta : Numbers) → HasMeta meta (state S.Store conn).now.trees → it.2 ≡ meta) }
