@@ -1,9 +1,14 @@
 -- What an open answers of a database that it does not read. (Our own.)
-use Rattle.std.specs.Prelude.{◌≡◌, ◌≢◌, ◌⊎◌, ℤ, pos, nat_lt, if◌then◌else◌, List, Option, Some, None}
+use Rattle.std.specs.Prelude.{◌≡◌, ◌≢◌, ◌⊎◌, ℤ, pos, nat_lt, if◌then◌else◌, true, List, [], ◌∷◌, Option, Some, None}
 use Rattle.sqlite.specs.declared.types.Value.{Value}
 use Rattle.sqlite.specs.declared.types.Value.TheVariants.{Int, Text}
 use Rattle.sqlite.specs.Order.{Row, column}
-use Rattle.sqlite.specs.State.{State}
+use Rattle.sqlite.specs.State.{State, HasCleanDisk, Shown, FailsToQuery, IsTooLate}
+use Rattle.sqlite.specs.Store.{Ghosts}
+use Rattle.sqlite.specs.Held.{Held, state}
+use Rattle.sqlite.specs.declared.error.Error.{Error}
+use Rattle.sqlite.specs.declared.error.Error.TheVariants.{SqliteFailure}
+use Rattle.sqlite.specs.declared.error.ErrorCode.TheVariants.{OutOfMemory, SystemIoFailure, DatabaseCorrupt, DiskFull, Closed}
 use Rattle.plain_words.specs.Words.{◌>>=◌}
 use Rattle.sql_records.specs.declared.meta.Meta.{Meta}
 use Rattle.sql_records.specs.declared.fault.OpenFault.{OpenFault}
@@ -11,6 +16,7 @@ use Rattle.sql_records.specs.declared.fault.OpenFault.TheVariants.{NotOurs, Othe
 use Rattle.sql_records.specs.Rows.{number_within, site_in, AreInOrder, IsDamagedAt}
 use Rattle.sql_records.specs.Layout.{IsOurs, our_kind, HasOtherSchema, HasGoodMeta, HasNoMeta}
 use Rattle.sql_records.specs.Faults.{HasDiskCause}
+use Rattle.sql_records.specs.Texts.{meta_select_text}
 use Rattle.sql_records.specs.Held.{entries_tree}
 
 abbrev pub int_in : Value → Option ℤ
@@ -70,7 +76,44 @@ AreRowsFault rows (Damaged place) = IsDamagedAt place rows
 AreRowsFault rows Memory = Unit {0}
 AreRowsFault rows Disk = ⊥
 
--- what a database answers whose tables are not ours; tests show when it answers which
+-- the rows are one, of our kind and of this other version
+abbrev pub AreOfVersion : ℤ → List Row → Type 0
+AreOfVersion version rows = (values : Row) × (rows ≡ values ∷ []) × IsOtherVersion version values
+
+-- what these rows are told as
+abbrev pub AreTold : List Row → OpenFault → Type 0
+AreTold rows NotOurs = (version : ℤ) → ¬ AreOfVersion version rows
+AreTold rows (OtherSchema version) = AreOfVersion version rows
+AreTold rows fault = ⊥
+
+-- what this error is told as: want of memory, a failure of the store, or that there is nothing to select from
+abbrev pub foreign_told : Error → OpenFault
+foreign_told (SqliteFailure OutOfMemory) = Memory
+foreign_told (SqliteFailure SystemIoFailure) = Disk
+foreign_told (SqliteFailure DatabaseCorrupt) = Disk
+foreign_told (SqliteFailure DiskFull) = Disk
+foreign_told (SqliteFailure Closed) = Disk
+foreign_told _ = NotOurs
+
+module _ {S : Type 0} (g : Ghosts S) (conn : Held S) where
+  -- in a transaction the select on `meta` shows these rows
+  pub record ShowsMeta (rows : List Row) : Type 0 where
+    pub after : Held S
+    pub clean : HasCleanDisk (state g after)
+    pub shows : Shown meta_select_text [] (state g (record conn { in_transaction = true })) (state g after) rows
+
+  -- in a transaction the select on `meta` was answered with this error
+  pub record FailsToShowMeta (e : Error) : Type 0 where
+    pub after : Held S
+    pub clean : HasCleanDisk (state g after)
+    pub fails : FailsToQuery meta_select_text [] (state g (record conn { in_transaction = true })) (state g after) e
+        ⊎ IsTooLate meta_select_text [] (state g (record conn { in_transaction = true })) (state g after) e
+
+  -- why a database is not read whose tables are not ours
+  abbrev pub IsForeignCause : OpenFault → Type 0
+  IsForeignCause fault = ((rows : List Row) × ShowsMeta rows × AreTold rows fault) ⊎ ((e : Error) × FailsToShowMeta e × (fault ≡ foreign_told e))
+
+-- what a database answers whose tables are not ours
 abbrev pub IsForeignFault : OpenFault → Type 0
 IsForeignFault (OtherSchema version) = version ≢ pos 1
 IsForeignFault (Damaged place) = ⊥

@@ -69,7 +69,7 @@ impl<S: Alter> Records<S> {
     /// Makes the records of a site that has no entry yet, in an empty database, in one transaction.
     ///
     /// A stop leaves the database as it was or the new records, and so does an error; `AlreadyThere`, where a table
-    /// has the name of one of ours, leaves it. `Disk` too where the database holds anything else, or a transaction
+    /// or view has the name of one of ours, leaves it. `Disk` too where the database holds anything else, or a transaction
     /// is open, which leaves both; else it and `Memory` are what a statement or the commit was answered with.
     pub fn init(
         conn: &mut Connection<S>,
@@ -93,6 +93,7 @@ impl<S: Alter> Records<S> {
         ensures as_before { HasCleanDisk (state S.Store conn.new) → IsTrue (state S.Store conn.new).is_open → OnErr result
             ((state S.Store conn.new).committed ≡ (state S.Store conn.old).committed) }
         ensures fault { HasCleanDisk (state S.Store conn.new) → IfErr result (IsInitFault S.Store conn.old (record { me = me; sites = sites; limit = limit })) }
+        ensures limit { conn.new.step_limit ≡ conn.old.step_limit }
         ensures ended { conn.old.in_transaction ≡ false → conn.new.in_transaction ≡ false }
         ensures clean { HasCleanDisk (state S.Store conn.new) → HasCleanDisk (state S.Store conn.old) }
     {

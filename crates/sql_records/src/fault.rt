@@ -8,7 +8,7 @@ use thiserror::Error;
 /// Why no new records were made.
 #[derive(Clone, Copy, Debug, PartialEq, Eq, Error)]
 pub enum InitFault {
-    /// The database has a table with the name of one of ours.
+    /// The database has a table or view with the name of one of ours.
     #[error("the database has a table of records")]
     AlreadyThere,
     #[error("out of memory")]

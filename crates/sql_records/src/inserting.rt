@@ -38,6 +38,7 @@ pub fn insert<S: Alter>(
     ensures site { HasCleanDisk (state S.Store conn.new) → (meta : Meta)
         → LeavesSite (state S.Store conn.old) meta → LeavesSite (state S.Store conn.new) meta }
     ensures fails { HasCleanDisk (state S.Store conn.new) → IfErr result (λ e. Executes INSERT.now (columns_of place entry.now) (state S.Store conn.old) (state S.Store conn.new) (Err e)) }
+    ensures limit { conn.new.step_limit ≡ conn.old.step_limit }
     ensures clean { HasCleanDisk (state S.Store conn.new) → HasCleanDisk (state S.Store conn.old) }
 {
     let row = columns(place, entry, text);

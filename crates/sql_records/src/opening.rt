@@ -1,5 +1,5 @@
 //! Reading the records of a database.
-ghost use Rattle.std.specs.Prelude.{◌≡◌, ◌≢◌, ◌↔◌, ◌≤◌, ℕ, length, IsTrue, IfOk, IfErr, OnOk, IfSome, IfNone, OnErr, [], ◌∷◌, ◌⊎◌, Some, None, pos};
+ghost use Rattle.std.specs.Prelude.{◌≡◌, ◌≢◌, ◌↔◌, ◌≤◌, ℕ, ℤ, false, length, IsTrue, IfOk, IfErr, OnOk, IfSome, IfNone, OnErr, [], ◌∷◌, ◌⊎◌, Some, None, pos};
 ghost use Rattle.std.specs.List.{filter_map};
 ghost use Rattle.sqlite.specs.declared.types.Value.TheVariants.{Int, Text};
 ghost use Rattle.sqlite.specs.State.{HasCleanDisk, IsLive, IsUnchanged};
@@ -9,7 +9,7 @@ ghost use Rattle.sqlite_value.specs.Value.{owned};
 ghost use Rattle.sql_records.specs.Layout.{IsOurs, our_kind, HasMeta, AreNumbers};
 ghost use Rattle.sql_records.specs.Rows.{entry_of, number_within, IsEntryAt, AreInOrder, AreWhole};
 ghost use Rattle.sql_records.specs.Held.{entries_tree, rows_in, history_in, LeavesNoMore};
-ghost use Rattle.sql_records.specs.Opening.{int_in, numbers_in, IsRowOf, IsRowFault, IsMetaFault, AreRowsFault, IsStoreFault, IsForeignFault, IsOpenFault};
+ghost use Rattle.sql_records.specs.Opening.{int_in, numbers_in, IsRowOf, IsRowFault, IsMetaFault, AreRowsFault, IsStoreFault, IsForeignFault, IsForeignCause, AreOfVersion, AreTold, foreign_told, IsOpenFault};
 
 use crate::fault::{OpenFault, told};
 use crate::meta::Meta;
@@ -34,6 +34,7 @@ fn read_rows<S: Alter>(conn: &mut Connection<S>) -> Result<Vec<Row>, OpenFault>
     ensures same { HasCleanDisk (state S.Store conn.new) → OnOk result (IsUnchanged (state S.Store conn.old) (state S.Store conn.new)) }
     ensures fault { HasCleanDisk (state S.Store conn.new) → IfErr result (IsStoreFault (state S.Store conn.old) (state S.Store conn.new)) }
     ensures left { HasCleanDisk (state S.Store conn.new) → LeavesNoMore (state S.Store conn.old) (state S.Store conn.new) }
+    ensures limit { conn.new.step_limit ≡ conn.old.step_limit }
     ensures clean { HasCleanDisk (state S.Store conn.new) → HasCleanDisk (state S.Store conn.old) }
 {
     match conn.query_all(SELECT, &[]) {
@@ -188,7 +189,9 @@ fn read_meta<S: Alter>(conn: &mut Connection<S>) -> Result<Meta, OpenFault>
 
 // Whether the rows are one, of our kind, and of another version.
 fn other_version(rows: Vec<Row>) -> Option<i64>
-    ensures { IfSome result (λ version. version ≢ pos 1) }
+    ensures some { IfSome result (λ version. AreOfVersion version rows.items) }
+    ensures none { IfNone result ((version : ℤ) → ¬ AreOfVersion version rows.items) }
+    ensures differs { IfSome result (λ version. version ≢ pos 1) }
 {
     match read_numbers(&only(rows)?) {
         Err(OpenFault::OtherSchema { version }) => Some(version),
@@ -196,24 +199,41 @@ fn other_version(rows: Vec<Row>) -> Option<i64>
     }
 }
 
-// The select on `meta` failed for another cause than what it says.
-fn is_disk_error(error: Error) -> bool {
-    matches!(
-        error,
+// What the rows that the select on `meta` shows are told as.
+fn foreign_rows(rows: Vec<Row>) -> OpenFault
+    ensures told { AreTold rows.items result }
+    ensures named { IsForeignFault result }
+{
+    match other_version(rows) {
+        Some(version) => OpenFault::OtherSchema { version },
+        None => OpenFault::NotOurs,
+    }
+}
+
+// What an error of the select on `meta` is told as.
+fn foreign_told(error: Error) -> OpenFault
+    ensures told { result ≡ foreign_told error }
+    ensures named { IsForeignFault result }
+{
+    match error {
+        Error::SqliteFailure(ErrorCode::OutOfMemory) => OpenFault::Memory,
         Error::SqliteFailure(
             ErrorCode::SystemIoFailure
-                | ErrorCode::DatabaseCorrupt
-                | ErrorCode::DiskFull
-                | ErrorCode::Closed
-        )
-    )
+            | ErrorCode::DatabaseCorrupt
+            | ErrorCode::DiskFull
+            | ErrorCode::Closed,
+        ) => OpenFault::Disk,
+        _ => OpenFault::NotOurs,
+    }
 }
 
 // What a database answers whose tables are not ours: a file of another version may have other columns. The
 // transaction says that nothing is written, whatever the database makes of the query.
 fn foreign_fault<S: Alter>(conn: &mut Connection<S>) -> OpenFault
     ensures named { IsForeignFault result }
+    ensures cause { conn.old.in_transaction ≡ false → HasCleanDisk (state S.Store conn.new) → IsForeignCause S.Store conn.old result }
     ensures left { HasCleanDisk (state S.Store conn.new) → LeavesNoMore (state S.Store conn.old) (state S.Store conn.new) }
+    ensures limit { conn.new.step_limit ≡ conn.old.step_limit }
     ensures clean { HasCleanDisk (state S.Store conn.new) → HasCleanDisk (state S.Store conn.old) }
 {
     if !conn.is_autocommit() {
@@ -223,13 +243,8 @@ fn foreign_fault<S: Alter>(conn: &mut Connection<S>) -> OpenFault
     let answer = tx.query_all(META_SELECT, &[]);
     tx.rollback();
     match answer {
-        Ok(rows) => match other_version(rows) {
-            Some(version) => OpenFault::OtherSchema { version },
-            None => OpenFault::NotOurs,
-        },
-        Err(Error::SqliteFailure(ErrorCode::OutOfMemory)) => OpenFault::Memory,
-        Err(error) if is_disk_error(error) => OpenFault::Disk,
-        Err(_) => OpenFault::NotOurs,
+        Ok(rows) => foreign_rows(rows),
+        Err(error) => foreign_told(error),
     }
 }
 
@@ -248,7 +263,9 @@ pub fn read_records<S: Alter>(
     ensures live { IsLive (state S.Store conn.old) }
     ensures same { HasCleanDisk (state S.Store conn.new) → OnOk result (IsUnchanged (state S.Store conn.old) (state S.Store conn.new)) }
     ensures fault { HasCleanDisk (state S.Store conn.new) → IfErr result (IsOpenFault (state S.Store conn.old) (state S.Store conn.new)) }
+    ensures foreign { ¬ IsOurs conn.old.schema → conn.old.in_transaction ≡ false → HasCleanDisk (state S.Store conn.new) → IfErr result (IsForeignCause S.Store conn.old) }
     ensures left { HasCleanDisk (state S.Store conn.new) → LeavesNoMore (state S.Store conn.old) (state S.Store conn.new) }
+    ensures limit { conn.new.step_limit ≡ conn.old.step_limit }
     ensures clean { HasCleanDisk (state S.Store conn.new) → HasCleanDisk (state S.Store conn.old) }
 {
     if !is_ours(conn.schema()) {

@@ -80,6 +80,7 @@ impl<S: Alter> Keeper for Records<S> {
         ensures shut { self.old.failures ≢ 0 → (result ≡ Err KeepFault.Shut) × (self.new ≡ self.old) }
         ensures cause { IfErr result (λ fault. IsTrusted S.Store self.new → IsKeepFault S.Store self.old self.new entry.now fault) }
         ensures site { IsTrusted S.Store self.new → (meta : Numbers) → IsOf S.Store self.old meta → IsOf S.Store self.new meta }
+        ensures limit { self.new.conn.step_limit ≡ self.old.conn.step_limit }
         ensures trusted { IsTrusted S.Store self.new → IsTrusted S.Store self.old }
     {
         if self.failures != 0 {
@@ -117,7 +118,7 @@ impl<S: Alter + Drop> Records<S> {
     ghost use Rattle.std.specs.Prelude.{◌≡◌, ◌≢◌, true, false, Some, IfOk, IfErr, IsErr};
     ghost use Rattle.sqlite.specs.State.{HasCleanDisk};
     ghost use Rattle.sqlite.specs.Held.{Held, state};
-    ghost use Rattle.sql_records.specs.Opening.{IsOpenFault};
+    ghost use Rattle.sql_records.specs.Opening.{IsForeignCause, IsOpenFault};
     ghost use Rattle.sql_records.specs.Keeping.{LeavesOnly};
     ghost use Rattle.sql_records.specs.Layout.{IsOurs, HasMeta, AreNumbers};
     ghost use Rattle.sql_records.specs.declared.meta.Meta.{Meta as Numbers};
@@ -134,6 +135,7 @@ impl<S: Alter + Drop> Records<S> {
         ensures foreign { ¬ IsOurs conn.schema → IsErr result }
         ensures busy { conn.in_transaction ≡ true → result ≡ Err OpenFault.Disk }
         ensures fault { conn.in_transaction ≡ false → IfErr result (λ fault. (after : Held S) × (HasCleanDisk (state S.Store after) → HasCleanDisk (state S.Store conn) × IsOpenFault (state S.Store conn) (state S.Store after) fault)) }
+        ensures version { ¬ IsOurs conn.schema → conn.in_transaction ≡ false → IfErr result (λ fault. (after : Held S) × (HasCleanDisk (state S.Store after) → IsForeignCause S.Store conn fault)) }
         ensures entries { IfOk result (λ it. IsTrusted S.Store it.0 → it.1.items ≡ kept_in S.Store it.0) }
         ensures meta { IfOk result (λ it. IsTrusted S.Store it.0 → HasMeta it.2 (state S.Store it.0.conn).now.trees) }
         ensures given { IfOk result (λ it. IsTrusted S.Store it.0 → (meta : Numbers) → HasMeta meta (state S.Store conn).now.trees → it.2 ≡ meta) }
@@ -143,6 +145,7 @@ impl<S: Alter + Drop> Records<S> {
         ensures same { IfOk result (λ it. IsTrusted S.Store it.0 → (state S.Store it.0.conn).now ≡ (state S.Store conn).now) }
         ensures leaves { IfOk result (λ it. IsTrusted S.Store it.0 → LeavesOnly (kept_in S.Store it.0) (MayLeave S.Store it.0)) }
         ensures open { IfOk result (λ it. it.0.failures ≡ 0) }
+        ensures limit { IfOk result (λ it. it.0.conn.step_limit ≡ conn.step_limit) }
         ensures clean { IfOk result (λ it. IsTrusted S.Store it.0 → HasCleanDisk (state S.Store conn)) }
     {
         let is_settled = conn.is_autocommit();

@@ -187,7 +187,7 @@ fn assert_same(rt: &impl Abort, left: &Entry, right: &Entry) {
     }
 }
 
-// Records that always answer `Disk` fail here (always_disk).
+// Records that always answer `Disk` fail here.
 #[test]
 fn records_open_with_what_was_kept(rt: HostRuntime) {
     let alloc = rt.alloc();

@@ -46,6 +46,7 @@ fn find_rows<S: Alter>(
     ensures rows { HasCleanDisk (state S.Store conn.new) → IfOk result (λ rows. rows.items ≡ map found_columns (filter (has_number number) (rows_in (state S.Store conn.old).now.trees))) }
     ensures same { HasCleanDisk (state S.Store conn.new) → OnOk result (IsUnchanged (state S.Store conn.old) (state S.Store conn.new)) }
     ensures left { HasCleanDisk (state S.Store conn.new) → LeavesNoMore (state S.Store conn.old) (state S.Store conn.new) }
+    ensures limit { conn.new.step_limit ≡ conn.old.step_limit }
     ensures clean { HasCleanDisk (state S.Store conn.new) → HasCleanDisk (state S.Store conn.old) }
     ensures fault { HasCleanDisk (state S.Store conn.new) → IfErr result (IsQueryFault (state S.Store conn.old) (state S.Store conn.new)) }
     ensures shut { result ≢ Err FindFault.Shut }
@@ -64,6 +65,7 @@ fn list_rows<S: Alter>(conn: &mut Connection<S>, event: &Event) -> Result<Vec<Ro
     ensures rows { HasCleanDisk (state S.Store conn.new) → IfOk result (λ rows. rows.items ≡ map listed_columns (filter (has_event event.now) (rows_in (state S.Store conn.old).now.trees))) }
     ensures same { HasCleanDisk (state S.Store conn.new) → OnOk result (IsUnchanged (state S.Store conn.old) (state S.Store conn.new)) }
     ensures left { HasCleanDisk (state S.Store conn.new) → LeavesNoMore (state S.Store conn.old) (state S.Store conn.new) }
+    ensures limit { conn.new.step_limit ≡ conn.old.step_limit }
     ensures clean { HasCleanDisk (state S.Store conn.new) → HasCleanDisk (state S.Store conn.old) }
     ensures fault { HasCleanDisk (state S.Store conn.new) → IfErr result (IsQueryFault (state S.Store conn.old) (state S.Store conn.new)) }
     ensures shut { result ≢ Err FindFault.Shut }
@@ -174,6 +176,7 @@ impl<S: Alter> Records<S> {
         ensures named { self.old.failures ≡ 0 → result ≢ Err FindFault.Shut }
         ensures shuts { self.old.failures ≡ 0 → OnErr result (self.new.failures ≡ 1) }
         ensures left { IsTrusted S.Store self.new → LeavesNoMore (state S.Store self.old.conn) (state S.Store self.new.conn) }
+        ensures limit { self.new.conn.step_limit ≡ self.old.conn.step_limit }
         ensures trusted { IsTrusted S.Store self.new → IsTrusted S.Store self.old }
     {
         if self.failures != 0 {
@@ -199,6 +202,7 @@ impl<S: Alter> Records<S> {
         ensures named { self.old.failures ≡ 0 → result ≢ Err FindFault.Shut }
         ensures shuts { self.old.failures ≡ 0 → OnErr result (self.new.failures ≡ 1) }
         ensures left { IsTrusted S.Store self.new → LeavesNoMore (state S.Store self.old.conn) (state S.Store self.new.conn) }
+        ensures limit { self.new.conn.step_limit ≡ self.old.conn.step_limit }
         ensures trusted { IsTrusted S.Store self.new → IsTrusted S.Store self.old }
     {
         if self.failures != 0 {
@@ -222,6 +226,7 @@ fn find_first<S: Alter>(
     ensures fault { HasCleanDisk (state S.Store conn.new) → IfErr result (IsQueryFault (state S.Store conn.old) (state S.Store conn.new)) }
     ensures same { HasCleanDisk (state S.Store conn.new) → OnOk result (IsUnchanged (state S.Store conn.old) (state S.Store conn.new)) }
     ensures left { HasCleanDisk (state S.Store conn.new) → LeavesNoMore (state S.Store conn.old) (state S.Store conn.new) }
+    ensures limit { conn.new.step_limit ≡ conn.old.step_limit }
     ensures clean { HasCleanDisk (state S.Store conn.new) → HasCleanDisk (state S.Store conn.old) }
     ensures shut { result ≢ Err FindFault.Shut }
 {
@@ -242,6 +247,7 @@ fn list_all<S: Alter>(
     ensures fault { HasCleanDisk (state S.Store conn.new) → IfErr result (IsQueryFault (state S.Store conn.old) (state S.Store conn.new)) }
     ensures same { HasCleanDisk (state S.Store conn.new) → OnOk result (IsUnchanged (state S.Store conn.old) (state S.Store conn.new)) }
     ensures left { HasCleanDisk (state S.Store conn.new) → LeavesNoMore (state S.Store conn.old) (state S.Store conn.new) }
+    ensures limit { conn.new.step_limit ≡ conn.old.step_limit }
     ensures clean { HasCleanDisk (state S.Store conn.new) → HasCleanDisk (state S.Store conn.old) }
     ensures shut { result ≢ Err FindFault.Shut }
 {

@@ -1,4 +1,4 @@
-use Rattle.std.proofs.Common.{◌∙◌, ap, subst}
+use Rattle.std.proofs.Common.{◌≡◌, ◌⊎◌, Bool, true, false, inl, inr, refl, ◌∙◌, ap, subst}
 use Rattle.sqlite.specs.State.{HasCleanDisk}
 use Rattle.sqlite.specs.Held.{state}
 use Rattle.sql_records.specs.Held.{history_in}
@@ -12,3 +12,17 @@ returns-in-Ok-start-clause-book g c = λ clean.
       history = c.in-Ok-start.ensures.history ∙ c.in-Ok.ensures.entries trusted ∙ ap (λ store. history_in store.trees) (c.in-Ok.ensures.same trusted);
       fresh = c.in-Ok-start.ensures.acknowledged;
     }
+
+either : (b : Bool) → (b ≡ true) ⊎ (b ≡ false)
+either true = inl refl
+either false = inr refl
+
+pub returns-in-Err-clause-fault : goal.returns-in-Err-clause-fault
+returns-in-Err-clause-fault g c = record {
+  cause = c.in-Err.fault;
+  told = c.of_open_fault.ensures;
+  found = elim (either c.args.conn.in_transaction) [
+    | inl busy ↦ inl (busy, (let is = c.in-Err.ensures.busy busy in cc))
+    | inr free ↦ inr (free, c.in-Err.ensures.fault free)
+  ];
+}

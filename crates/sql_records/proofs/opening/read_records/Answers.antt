@@ -32,3 +32,15 @@ returns-in_err-rows-clause-fault g c clean =
     let same = c.in_ok-meta.ensures.same (c.read_rows.ensures.clean clean) in
     if_err c.from_residual-in_err-rows.result _ _ c.from_residual-in_err-rows.ensures.1
     (λ f e. rw e (inr (subst IsOurs c.schema.ensures.value ours, rows_fault first mid last same c.read_meta.ensures.counts c.read_meta.ensures.limit _ (c.in_err-rows.ensures.fault clean))))
+
+pub returns-in_err-rows-clause-foreign : goal.returns-in_err-rows-clause-foreign
+returns-in_err-rows-clause-foreign g c foreign outside clean =
+    absurd (foreign (subst IsOurs c.schema.ensures.value (c.is_ours.ensures.0 c.if-not-is_ours.false)))
+
+pub returns-in_err-meta-clause-foreign : goal.returns-in_err-meta-clause-foreign
+returns-in_err-meta-clause-foreign g c foreign outside clean =
+    absurd (foreign (subst IsOurs c.schema.ensures.value (c.is_ours.ensures.0 c.if-not-is_ours.false)))
+
+pub returns-in_err-entries-clause-foreign : goal.returns-in_err-entries-clause-foreign
+returns-in_err-entries-clause-foreign g c foreign outside clean =
+    absurd (foreign (subst IsOurs c.schema.ensures.value (c.is_ours.ensures.0 c.if-not-is_ours.false)))

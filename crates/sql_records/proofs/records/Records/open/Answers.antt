@@ -51,3 +51,7 @@ returns-clause-site g c clean =
     let rest = opened first last c.len.result (c.in_ok-entries.ensures.same clean) outside (c.is_autocommit-is_settled.ensures.settled autocommit) c.read_records.ensures.live c.in_ok-entries.ensures.schema (c.in_ok-entries.ensures.whole clean) count in
     let now = subst (λ (d : Database). HasMeta c.in_ok-entries.meta d.trees) (sym (c.in_ok-entries.ensures.same clean).0.now_is) (c.in_ok-entries.ensures.meta clean) in
     leaves_site last c.len.result rest (λ db is_open left. g.met.S.Store.settled c.read_records.new.conn.store db is_open left) _ c.in_ok-entries.ensures.numbers now
+
+pub returns-in_err-entries-clause-version : goal.returns-in_err-entries-clause-version
+returns-in_err-entries-clause-version g c foreign outside =
+    if_err c.from_residual.result _ _ c.from_residual.ensures.1 (λ f e. (c.read_records.new.conn, λ clean. rw e (c.in_err-entries.ensures.foreign foreign outside clean)))
