@@ -1,10 +1,11 @@
 #!/usr/bin/env python3
-"""Times `boxoffice world` on large scripts.
+"""Times `boxoffice world` on large scripts, beside a plain program that answers the same.
 
-usage: world.py PROGRAM [PLAIN WORD..]
+usage: world.py PROGRAM
 
-PROGRAM is the built boxoffice. PLAIN, where it is given, is another program that answers the same scripts when it is
-called with these words, and the ratio of the two times is printed. Each time is the best of three runs.
+PROGRAM is the built boxoffice. It is compared with bench/plain_world.rs, an unproved program over Rust's standard
+library alone, which rustc has to be there for; both are made for the same processor (x86-64-v2). Each time is the best
+of three runs, and their answers have to be the same.
 """
 import os
 import random
@@ -52,32 +53,37 @@ def four_sites(sales, out):
 
 
 def best(words, path):
+    """The shortest time of three runs, and what the last one printed."""
     times = []
     for _ in range(3):
         with open(path, 'rb') as script:
             began = time.perf_counter()
-            subprocess.run(words, stdin=script, stdout=subprocess.DEVNULL, check=True)
+            printed = subprocess.run(words, stdin=script, stdout=subprocess.PIPE, check=True).stdout
             times.append(time.perf_counter() - began)
-    return min(times)
+    return min(times), printed
 
 
 def main(words):
-    if not words:
+    if len(words) != 1:
         sys.exit(__doc__)
-    program, plain = [words[0], 'world'], words[1:]
+    here = os.path.dirname(os.path.abspath(__file__))
     cases = [('one site', one_site, 10000), ('one site', one_site, 1000000), ('four sites', four_sites, 20000), ('four sites', four_sites, 200000)]
     with tempfile.TemporaryDirectory() as folder:
+        plain = os.path.join(folder, 'plain_world')
+        source = os.path.join(here, 'plain_world.rs')
+        subprocess.run(['rustc', '--edition', '2021', '-O', '-C', 'target-cpu=x86-64-v2', source, '-o', plain], check=True)
         path = os.path.join(folder, 'script')
         for name, write, size in cases:
             with open(path, 'w') as out:
                 write(size, out)
             with open(path) as script:
                 lines = sum(1 for _ in script)
-            ours = best(program, path)
-            text = '%s, %d lines: %.3f s, %.2f us a line' % (name, lines, ours, ours / lines * 1e6)
-            if plain:
-                text += ', ratio to the plain program %.2f' % (ours / best(plain, path))
-            print(text)
+            ours, answers = best([words[0], 'world'], path)
+            theirs, same = best([plain], path)
+            if answers != same:
+                sys.exit('%s, %d lines: the answers differ' % (name, lines))
+            per_line = ours / lines * 1e6
+            print('%s, %d lines: %.3f s, %.2f us a line, ratio to the plain program %.2f' % (name, lines, ours, per_line, ours / theirs))
 
 
 main(sys.argv[1:])
