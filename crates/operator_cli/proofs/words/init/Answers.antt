@@ -1,0 +1,16 @@
+use Rattle.std.specs.Prelude.{Result, Ok, Err, IfOk}
+use Rattle.std.proofs.Common.{ap₂, ◌∙◌}
+use Rattle.clap.specs.Words.{with_rule}
+use Rattle.operator_cli.proofs.words.init.Goals as goal
+
+-- what follows from P of a value follows of the result
+at_ok : {T E : Type 0} → (came : Result T E) → (P Q : T → Type 0) → ((x : T) → P x → Q x) → IfOk came P → IfOk came Q
+at_ok (Ok x) P Q f h = f x h
+at_ok (Err e) P Q f h = h
+
+pub returns-clause-app : goal.returns-clause-app
+returns-clause-app c =
+    let file = c.in_ok-arg.ensures.shape c.file.ensures.local ∙ ap₂ with_rule c.named.ensures.app c.file.ensures.rule in
+    let me = c.in_ok-arg-2.ensures.shape c.operand-me.ensures.local ∙ ap₂ with_rule file c.operand-me.ensures.rule in
+    let sites = c.in_ok-arg-3.ensures.shape c.operand-sites.ensures.local ∙ ap₂ with_rule me c.operand-sites.ensures.rule in
+    at_ok c.arg-4.result _ _ (λ command adds. adds.shape c.operand-limit.ensures.local ∙ ap₂ with_rule sites c.operand-limit.ensures.rule) c.arg-4.ensures
