@@ -70,10 +70,10 @@ pub session_takes : (bytes : List ℕ) (l : Line) → session_line_of bytes ≡ 
 unfolding session_text
 session_takes bytes l e = elim (cases_Bool (bytes_eq bytes (codes "quit"))) [
   | inl same ↦ let chosen : Some Quit ≡ Some l = rw same at e in
-    subst (λ (m : Line). IsSessionLine m × (bytes ≡ join_with_byte 32 (session_words m))) (some_is Quit l chosen) (tt, (bytes_eq-Decides bytes (codes "quit")).0 same)
+      subst (λ (m : Line). IsSessionLine m × (bytes ≡ join_with_byte 32 (session_words m))) (some_is Quit l chosen) (tt, (bytes_eq-Decides bytes (codes "quit")).0 same)
   | inr other ↦ let chosen : asked_in (slice_split is_space bytes) ≡ Some l = rw other at e in
-    let f = asked_found (slice_split is_space bytes) l chosen in
-    (f.1, sym (join_with_byte-slice_split 32 bytes) ∙ ap (join_with_byte 32) f.0)
+      let f = asked_found (slice_split is_space bytes) l chosen in
+      (f.1, sym (join_with_byte-slice_split 32 bytes) ∙ ap (join_with_byte 32) f.0)
 ]
 
 -- ---- back
@@ -117,18 +117,12 @@ no_request_quits n (Sell e a) = refl
 no_request_quits n (Refund s) = refl
 no_request_quits n (Cede e a to) = refl
 
-left_quits_not : (e : List ℕ) → bytes_eq (join_with_byte 32 (codes "left" ∷ e ∷ [])) (codes "quit") ≡ false
-left_quits_not e = refl
-
-totals_quits_not : (e : List ℕ) → bytes_eq (join_with_byte 32 (codes "totals" ∷ e ∷ [])) (codes "quit") ≡ false
-totals_quits_not e = refl
-
 -- what is spelled so is read
 pub session_reads : (l : Line) → IsSessionLine l → session_line_of (session_text l) ≡ Some l
 unfolding session_text
 session_reads (Ask n q) h = rw (no_request_quits n q, request_splits n q h.0 h.1) (ask_again n q h.0 h.1)
-session_reads (Left e) h = rw (left_quits_not e, look_splits (codes "left") e refl h) (left_again e h)
-session_reads (Totals e) h = rw (totals_quits_not e, look_splits (codes "totals") e refl h) (totals_again e h)
+session_reads (Left e) h = ap asked_in (look_splits (codes "left") e refl h) ∙ left_again e h
+session_reads (Totals e) h = ap asked_in (look_splits (codes "totals") e refl h) ∙ totals_again e h
 session_reads Quit h = refl
 
 -- so is the line of a request

@@ -7,7 +7,7 @@ ghost use Rattle.plain_words.specs.Words.{is_space};
 ghost use Rattle.plain_words.specs.Number.{number_of};
 ghost use Rattle.desk_lines.specs.declared.script_line.ScriptLine.{ScriptLine};
 ghost use Rattle.desk_lines.specs.Grammar.{script_text, IsScriptLine, sites_words, IsSites, limit_words, IsLimit};
-ghost use Rattle.desk_lines.specs.Reading.{at_a_site, at_site, line_of, named_number, sites_of, limit_of};
+ghost use Rattle.desk_lines.specs.Reading.{at_site, line_of, named_number, sites_of, limit_of};
 
 use crate::commands::commanded;
 use crate::line::{BadLine, Line};
@@ -18,10 +18,11 @@ use plain_words::{Words, number_at, read_number};
 use rights_lattice::{SiteId, Sites};
 use world_steps::Step;
 
-fn at_a_site(site: SiteId, line: Line) -> Option<ScriptLine>
-    ensures { result ≡ at_a_site site line }
+#[tactic(auto, unfolding(crate::specs::Reading::at_site))]
+fn at_site(site: SiteId, words: &mut Words<'_>) -> Option<ScriptLine>
+    ensures { result ≡ at_site site words.old }
 {
-    match line {
+    match asked_in(words)? {
         Line::Ask { number, request } => Some(ScriptLine::Make(Step::Ask {
             site,
             number,
@@ -31,14 +32,6 @@ fn at_a_site(site: SiteId, line: Line) -> Option<ScriptLine>
         Line::Totals { event } => Some(ScriptLine::Totals { site, event }),
         Line::Quit => None,
     }
-}
-
-#[tactic(auto, unfolding(crate::specs::Reading::at_site))]
-fn at_site(site: SiteId, words: &mut Words<'_>) -> Option<ScriptLine>
-    ensures { result ≡ at_site site words.old }
-{
-    let line = asked_in(words)?;
-    at_a_site(site, line)
 }
 
 fn site_of(word: &[u8]) -> Option<SiteId>
