@@ -4,6 +4,8 @@
 #[cfg(test)]
 mod ends;
 #[cfg(test)]
+mod lines;
+#[cfg(test)]
 mod many_sites;
 #[cfg(test)]
 mod messages;

@@ -1,10 +1,6 @@
-pub mod RequestLaws
-pub mod CommandLaws
-pub mod ReadingLaws
 pub mod TotalLines
 pub mod ScriptLaws
 pub mod Promised
-pub mod RequestLines
 pub mod EndLaws
 pub mod PrintLaws
 pub mod Inputs

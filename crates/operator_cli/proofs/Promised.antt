@@ -5,10 +5,10 @@ use Rattle.world_steps.specs.World.{World, opening, run, reached, totals_of, cou
 use Rattle.rights_lattice.specs.Sums.{max_sites}
 use Rattle.world_steps.proofs.Promised as promised
 use Rattle.world_steps.proofs.Reached.{count_reached, sound_reached}
-use Rattle.operator_cli.specs.declared.script_line.ScriptLine.{ScriptLine}
-use Rattle.operator_cli.specs.declared.script_line.ScriptLine.TheVariants.{Make, Left, Totals}
-use Rattle.operator_cli.specs.Grammar.{IsSites}
-use Rattle.operator_cli.specs.Reading.{line_of, limit_of}
+use Rattle.desk_lines.specs.declared.script_line.ScriptLine.{ScriptLine}
+use Rattle.desk_lines.specs.declared.script_line.ScriptLine.TheVariants.{Make, Left, Totals}
+use Rattle.desk_lines.specs.Grammar.{IsSites}
+use Rattle.desk_lines.specs.Reading.{line_of, limit_of}
 use Rattle.operator_cli.specs.Answering.{answer_to}
 use Rattle.operator_cli.specs.Script.{world_behind, opened, opened_by, greatest_limit}
 use Rattle.operator_cli.specs.Laws.{step_of, steps_of, ScriptsMakeSteps, IsNotOversold, TotalsAreNotOversold}

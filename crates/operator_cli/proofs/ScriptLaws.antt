@@ -14,14 +14,14 @@ use Rattle.plain_words.proofs.WriteLaws.{AppendsFront-after, AppendsFront-longer
 use Rattle.world_steps.specs.World.{World, opening}
 use Rattle.operator_cli.specs.declared.fault.ScriptFault.{ScriptFault}
 use Rattle.operator_cli.specs.declared.fault.ScriptFault.TheVariants as fault
-use Rattle.operator_cli.specs.Grammar.{IsSites, sites_words}
-use Rattle.operator_cli.specs.Reading.{line_of, sites_of, limit_of}
-use Rattle.operator_cli.specs.Replies.{reply_line}
+use Rattle.desk_lines.specs.Grammar.{IsSites, sites_words}
+use Rattle.desk_lines.specs.Reading.{line_of, sites_of, limit_of}
+use Rattle.desk_lines.specs.ScriptReplies.{reply_line}
 use Rattle.operator_cli.specs.Answering.{answer_to}
 use Rattle.operator_cli.specs.Faults.{IsOutFault, of_line_fault}
 use Rattle.operator_cli.specs.Script.{answers, world_behind, run, opened_by, replies_at, run_at, replies_started, run_started, replies, total_lines, bad_line, script, script_of_lines, greatest_limit, most_lines}
 use Rattle.operator_cli.specs.Ran.{StartsWell, MayGoOn, Always, printed, EndsEarly, NextRan, AllAnswered, RestRan, Opens, OpenRan, SecondRan, SitesRan, StartRan, ScriptRan}
-use Rattle.operator_cli.proofs.ReadingLaws.{named_takes}
+use Rattle.desk_lines.proofs.ReadingLaws.{named_takes}
 
 -- the exit of a `?`
 pub at_err : {T E : Type 0} (r : Result T E) (C : Result T E → Type 0) (Q : E → Type 0) → IsErrAnd r Q → ((e : E) → Q e → C (Err e)) → C r

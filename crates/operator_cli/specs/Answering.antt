@@ -11,10 +11,10 @@ use Rattle.world_steps.specs.declared.step.Outcome.{Outcome}
 use Rattle.world_steps.specs.declared.step.WorldFault.{WorldFault}
 use Rattle.world_steps.specs.declared.step.WorldFault.TheVariants as fault
 use Rattle.local_rights.specs.declared.report.Totals.{Totals}
-use Rattle.operator_cli.specs.declared.script_line.ScriptLine.{ScriptLine}
-use Rattle.operator_cli.specs.declared.script_line.ScriptLine.TheVariants.{Make, Left, Totals as ScriptTotals}
-use Rattle.operator_cli.specs.declared.answer.Answer.{Answer}
-use Rattle.operator_cli.specs.declared.answer.Answer.TheVariants.{Made, LeftIs, TotalsAre, NotKnown, NoSuchSite, NoSuchMessage, Unread}
+use Rattle.desk_lines.specs.declared.script_line.ScriptLine.{ScriptLine}
+use Rattle.desk_lines.specs.declared.script_line.ScriptLine.TheVariants.{Make, Left, Totals as ScriptTotals}
+use Rattle.desk_lines.specs.declared.script_answer.ScriptAnswer.{ScriptAnswer}
+use Rattle.desk_lines.specs.declared.script_answer.ScriptAnswer.TheVariants.{Made, LeftIs, TotalsAre, NotKnown, NoSuchSite, NoSuchMessage, Unread}
 
 -- a site's view of an event
 abbrev pub is_known_at : World → ℕ → List ℕ → Bool
@@ -31,26 +31,26 @@ totals_at w i event = record {
 }
 
 -- the answer to a look, where the site is there and knows the event
-abbrev pub looked : World → ℕ → List ℕ → Answer → Answer
+abbrev pub looked : World → ℕ → List ℕ → ScriptAnswer → ScriptAnswer
 looked w i event answer = if nat_lt i (count w) then (if is_known_at w i event then answer else NotKnown) else NoSuchSite
 
-abbrev pub left_answer : World → ℕ → List ℕ → Answer
+abbrev pub left_answer : World → ℕ → List ℕ → ScriptAnswer
 left_answer w i event = looked w i event (LeftIs (left_at w i event))
 
-abbrev pub totals_answer : World → ℕ → List ℕ → Answer
+abbrev pub totals_answer : World → ℕ → List ℕ → ScriptAnswer
 totals_answer w i event = looked w i event (TotalsAre (totals_at w i event))
 
 -- want of memory is no outcome, and is not answered
-abbrev pub outcome_answer : Result Outcome WorldFault → Answer
+abbrev pub outcome_answer : Result Outcome WorldFault → ScriptAnswer
 outcome_answer (Ok o) = Made o
 outcome_answer (Err fault.NoSite) = NoSuchSite
 outcome_answer (Err fault.NoMessage) = NoSuchMessage
 outcome_answer (Err fault.Memory) = Unread
 
-abbrev pub step_answer : World → Step → Answer × World
+abbrev pub step_answer : World → Step → ScriptAnswer × World
 step_answer w s = (outcome_answer (outcome w s), after w s)
 
-abbrev pub answer_to : World → Option ScriptLine → Answer × World
+abbrev pub answer_to : World → Option ScriptLine → ScriptAnswer × World
 answer_to w None = (Unread, w)
 answer_to w (Some (Make s)) = step_answer w s
 answer_to w (Some (Left i event)) = (left_answer w i event, w)

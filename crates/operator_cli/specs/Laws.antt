@@ -1,36 +1,13 @@
--- What scripts read and print, over the definitions alone. Our own.
+-- What scripts print, over the definitions alone. Our own.
 use Rattle.std.specs.Prelude.{◌≡◌, ℕ, ◌+◌, ◌≤◌, List, [], ◌∷◌, ◌++◌, replicate, Option, Some, None}
-use Rattle.std.specs.List.{join_with_byte}
 use Rattle.world_steps.specs.World.{World, totals_of, reached}
 use Rattle.world_steps.specs.declared.step.Step.{Step}
 use Rattle.local_rights.specs.declared.report.Totals.{Totals}
-use Rattle.operator_cli.specs.declared.script_line.ScriptLine.{ScriptLine}
-use Rattle.operator_cli.specs.declared.script_line.ScriptLine.TheVariants.{Make, Left, Totals as ScriptTotals}
-use Rattle.operator_cli.specs.Grammar.{script_text, sites_words, limit_words, IsScriptLine, IsSites, IsLimit}
-use Rattle.operator_cli.specs.Reading.{line_of, sites_of, limit_of}
+use Rattle.desk_lines.specs.declared.script_line.ScriptLine.{ScriptLine}
+use Rattle.desk_lines.specs.declared.script_line.ScriptLine.TheVariants.{Make, Left, Totals as ScriptTotals}
+use Rattle.desk_lines.specs.Grammar.{IsSites}
+use Rattle.desk_lines.specs.Reading.{line_of}
 use Rattle.operator_cli.specs.Script.{world_behind, opened, replies_at, run_at, total_lines}
-
--- each line is read from its text
-abbrev pub LinesAreRead : Type 0
-LinesAreRead = (l : ScriptLine) → IsScriptLine l → line_of (script_text l) ≡ Some l
-
--- and from no other
-abbrev pub OnlyLinesAreRead : Type 0
-OnlyLinesAreRead = (bytes : List ℕ) (l : ScriptLine) → line_of bytes ≡ Some l → IsScriptLine l × (bytes ≡ script_text l)
-
-abbrev pub SitesAreRead : Type 0
-SitesAreRead = (n : ℕ) → IsSites n → sites_of (join_with_byte 32 (sites_words n)) ≡ Some n
-
-abbrev pub OnlySitesAreRead : Type 0
-OnlySitesAreRead = (bytes : List ℕ) (n : ℕ) → sites_of bytes ≡ Some n → IsSites n × (bytes ≡ join_with_byte 32 (sites_words n))
-
-abbrev pub LimitsAreRead : Type 0
-LimitsAreRead = (n : ℕ) → IsLimit n → limit_of (join_with_byte 32 (limit_words n)) ≡ Some n
-
-abbrev pub OnlyLimitsAreRead : Type 0
-OnlyLimitsAreRead = (bytes : List ℕ) (n : ℕ) → limit_of bytes ≡ Some n → IsLimit n × (bytes ≡ join_with_byte 32 (limit_words n))
-
--- ---- totals
 
 -- the step that a line makes, if it makes one
 abbrev pub step_of : Option ScriptLine → List Step

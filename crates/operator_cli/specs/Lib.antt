@@ -1,9 +1,4 @@
 pub mod Codes
-pub mod Grammar
-pub mod Requests
-pub mod Commands
-pub mod Reading
-pub mod Replies
 pub mod Answering
 pub mod Faults
 pub mod Script

@@ -9,9 +9,9 @@ use Rattle.operator_cli.specs.declared.fault.ScriptFault.{ScriptFault}
 use Rattle.operator_cli.specs.declared.fault.ScriptFault.TheVariants.{Read, Write, LineTooLong, TooManyLines, Memory}
 use Rattle.operator_cli.specs.declared.status.Status.{Status}
 use Rattle.operator_cli.specs.declared.status.Status.TheVariants as status
-use Rattle.operator_cli.specs.Grammar.{IsSites, sites_words}
-use Rattle.operator_cli.specs.Reading.{line_of, sites_of}
-use Rattle.operator_cli.specs.Replies.{reply_line}
+use Rattle.desk_lines.specs.Grammar.{IsSites, sites_words}
+use Rattle.desk_lines.specs.Reading.{line_of, sites_of}
+use Rattle.desk_lines.specs.ScriptReplies.{reply_line}
 use Rattle.operator_cli.specs.Answering.{answer_to}
 use Rattle.operator_cli.specs.Faults.{IsOutFault, fault_line}
 use Rattle.operator_cli.specs.Script.{answers, world_behind, run, replies_at, run_at, replies, script_of_lines, bad_line, most_lines, script}

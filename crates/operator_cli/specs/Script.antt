@@ -5,8 +5,8 @@ use Rattle.std.specs.List.{flat_map}
 use Rattle.plain_words.specs.Input.{lines_of}
 use Rattle.world_steps.specs.World.{World, opening, totals_of, events_of}
 use Rattle.local_rights.specs.declared.report.Totals.{Totals}
-use Rattle.operator_cli.specs.Reading.{line_of, sites_of, limit_of}
-use Rattle.operator_cli.specs.Replies.{reply_line}
+use Rattle.desk_lines.specs.Reading.{line_of, sites_of, limit_of}
+use Rattle.desk_lines.specs.ScriptReplies.{reply_line}
 use Rattle.operator_cli.specs.Answering.{answer_to}
 
 -- the numbers of an event over all sites

@@ -21,7 +21,7 @@ use Rattle.operator_cli.specs.declared.told.Told.{Told}
 use Rattle.operator_cli.specs.declared.told.Told.TheVariants.{Made, Joined, NothingNew, Acked, AlreadyThere, NoSite, Nothing, NotFound, TooLong, Unread, NotTaken}
 use Rattle.operator_cli.specs.declared.status.Status.{Status}
 use Rattle.operator_cli.specs.declared.status.Status.TheVariants.{Done, Refused, NotUnderstood, Failed}
-use Rattle.operator_cli.specs.Replies.{take_fault_text}
+use Rattle.desk_lines.specs.Replies.{take_fault_text}
 
 -- the cause of status 3, one line on standard error
 abbrev pub store_fault_text : StoreFault → List ℕ

@@ -1,23 +1,22 @@
 //! A session with the book of a site.
 
-ghost use Rattle.std.specs.Prelude.{◌≡◌, ◌≤◌, ◌⊎◌, ◌++◌, ◌∷◌, [], None, IfOk, IfErr, IfSome};
-ghost use Rattle.std.specs.Option.{option_map};
-ghost use Rattle.arrayvec.specs.ArrayVec.{array_vec_len};
-ghost use Rattle.operator_cli.specs.Session.{session_line, asked_in, asked_after, left_in, totals_in, ask_in, came_text, AnswersAsk, AnswersLine, RepliesTo, NextAsked, look_text, shown_left, shown_totals};
+ghost use Rattle.std.specs.Prelude.{◌≡◌, ◌⊎◌, None, IfOk, IfErr};
+ghost use Rattle.desk_lines.specs.Reading.{session_line_of};
+ghost use Rattle.desk_lines.specs.Replies.{reply_line};
+ghost use Rattle.operator_cli.specs.Session.{answered_of, AnswersAsk, AnswersLine, RepliesTo, NextAsked, look_answer, shown_left, shown_totals};
 ghost use Rattle.operator_cli.specs.declared.status.Status.TheVariants.{Done, Failed};
 ghost use Rattle.plain_words.specs.Writing.{Writes};
 ghost use Rattle.operator_cli.specs.declared.fault.ScriptFault.TheVariants.{Write as WriteFailed};
 ghost use Rattle.operator_cli.specs.Told.{FaultTold};
 ghost use Rattle.operator_cli.specs.Opened.{IsLost};
 
-use crate::answer::{numbered, reply_text, totals_text, word};
 use crate::ending::ended;
 use crate::fault::ScriptFault;
 use crate::opening::open_book;
-use crate::requests::{Verb, event_at, numbered_at, verb_at};
 use crate::status::Status;
 use crate::store_fault::StoreFault;
-use plain_words::{LineBytes, Text, Words, has_more, next_line, put, write_bytes};
+use desk_lines::{Answered, BadLine, Line, read_line, reply_line};
+use plain_words::{LineBytes, has_more, next_line};
 use request_ledger::{Request, RequestNumber};
 use rights_lattice::Event;
 use site_desk::{Answer, AskFault, LookFault, SiteBook};
@@ -29,161 +28,82 @@ use std::io::{BufRead, BufReader, Read, Write};
 // The most lines of a session.
 const MOST_LINES: u32 = 1_000_000;
 
-/// What a line of a session asks.
-#[derive(Clone, Copy, Debug)]
-pub(crate) enum SessionLine {
-    Ask {
-        number: RequestNumber,
-        request: Request,
-    },
-    Left {
-        event: Event,
-    },
-    Totals {
-        event: Event,
-    },
-    Quit,
-}
-
-#[tactic(auto, unfolding(crate::specs::Session::left_in))]
-fn left_in(words: &mut Words<'_>) -> Option<SessionLine>
-    ensures { result ≡ left_in words.old }
-{
-    let event = event_at(words)?;
-    if words.is_empty() {
-        Some(SessionLine::Left { event })
-    } else {
-        None
-    }
-}
-
-#[tactic(auto, unfolding(crate::specs::Session::totals_in))]
-fn totals_in(words: &mut Words<'_>) -> Option<SessionLine>
-    ensures { result ≡ totals_in words.old }
-{
-    let event = event_at(words)?;
-    if words.is_empty() {
-        Some(SessionLine::Totals { event })
-    } else {
-        None
-    }
-}
-
-#[tactic(auto, unfolding(crate::specs::Session::ask_in))]
-fn ask_in(verb: Verb, words: &mut Words<'_>) -> Option<SessionLine>
-    ensures { result ≡ ask_in verb words.old }
-{
-    let (number, request) = numbered_at(verb, words)?;
-    Some(SessionLine::Ask { number, request })
-}
-
-fn asked_after(verb: Verb, words: &mut Words<'_>) -> Option<SessionLine>
-    ensures { result ≡ asked_after verb words.old }
-{
-    match verb {
-        Verb::Left => left_in(words),
-        Verb::Totals => totals_in(words),
-        _ => ask_in(verb, words),
-    }
-}
-
-#[tactic(auto, unfolding(crate::specs::Session::asked_in))]
-fn asked_in(words: &mut Words<'_>) -> Option<SessionLine>
-    ensures { result ≡ asked_in words.old }
-{
-    let verb = verb_at(words)?;
-    asked_after(verb, words)
-}
-
-fn session_line(bytes: &[u8]) -> Option<SessionLine>
-    ensures { result ≡ session_line bytes.now }
-{
-    if bytes == b"quit".as_slice() {
-        return Some(SessionLine::Quit);
-    }
-    asked_in(&mut Words::new(bytes))
-}
-
-fn came_text(came: &Result<Answer, AskFault>) -> Text
-    ensures text { result.items ≡ came_text came.now }
-    ensures len { array_vec_len result ≤ 200 }
+fn answered_of(came: Result<Answer, AskFault>) -> Answered
+    ensures { result ≡ answered_of came }
 {
     match came {
-        Ok(answer) => reply_text(answer.reply),
-        Err(AskFault::Closed) => word(b"closed"),
-        Err(AskFault::Reused { .. }) => word(b"reused"),
-        Err(AskFault::Full) => word(b"history-full"),
-        Err(AskFault::Memory) => word(b"memory"),
-        Err(AskFault::Store) => word(b"store"),
+        Ok(answer) => Answered::Kept(answer.reply),
+        Err(fault) => Answered::Refused(fault),
     }
 }
 
-fn asked_text<K: Keeper>(
+fn answer_ask<K: Keeper>(
     alloc: Global,
     book: &mut SiteBook<K>,
     number: RequestNumber,
     request: &Request,
-) -> Text
-    ensures text { AnswersAsk K.failed book.old book.new number request.now result.items }
-    ensures len { array_vec_len result ≤ 200 }
+) -> Answered
+    ensures { AnswersAsk K.failed book.old book.new number request.now result }
 {
     let came = book.ask(alloc, number, request);
-    came_text(&came)
+    answered_of(came)
 }
 
-fn left_text<K: Keeper>(book: &SiteBook<K>, event: Event) -> Text
-    ensures text { result.items ≡ look_text book.now.closed book.now.book event (shown_left book.now.book event) }
-    ensures len { array_vec_len result ≤ 200 }
+fn answer_left<K: Keeper>(book: &SiteBook<K>, event: Event) -> Answered
+    ensures { result ≡ look_answer book.now.closed book.now.book event (shown_left book.now.book event) }
 {
     match book.look(event) {
-        Ok(seen) => numbered(b"left ", seen.left),
-        Err(LookFault::Unknown) => word(b"unknown"),
-        Err(LookFault::Closed) => word(b"closed"),
+        Ok(seen) => Answered::LeftIs(seen.left),
+        Err(LookFault::Unknown) => Answered::NotKnown,
+        Err(LookFault::Closed) => Answered::Refused(AskFault::Closed),
     }
 }
 
-fn seen_totals_text<K: Keeper>(book: &SiteBook<K>, event: Event) -> Text
-    ensures text { result.items ≡ look_text book.now.closed book.now.book event (shown_totals book.now.book event) }
-    ensures len { array_vec_len result ≤ 200 }
+fn answer_totals<K: Keeper>(book: &SiteBook<K>, event: Event) -> Answered
+    ensures { result ≡ look_answer book.now.closed book.now.book event (shown_totals book.now.book event) }
 {
     match book.look(event) {
-        Ok(seen) => totals_text(seen.totals),
-        Err(LookFault::Unknown) => word(b"unknown"),
-        Err(LookFault::Closed) => word(b"closed"),
+        Ok(seen) => Answered::TotalsAre(seen.totals),
+        Err(LookFault::Unknown) => Answered::NotKnown,
+        Err(LookFault::Closed) => Answered::Refused(AskFault::Closed),
     }
 }
 
-fn asked_reply<K: Keeper>(alloc: Global, book: &mut SiteBook<K>, asked: SessionLine) -> Option<Text>
-    ensures answers { AnswersLine K.failed book.old book.new asked (option_map (λ text. text.items) result) }
-    ensures len { IfSome result (λ text. array_vec_len text ≤ 200) }
+fn answer_asked<K: Keeper>(
+    alloc: Global,
+    book: &mut SiteBook<K>,
+    asked: Line,
+) -> Option<Answered>
+    ensures { AnswersLine K.failed book.old book.new asked result }
 {
     match asked {
-        SessionLine::Ask { number, request } => Some(asked_text(alloc, book, number, &request)),
-        SessionLine::Left { event } => Some(left_text(book, event)),
-        SessionLine::Totals { event } => Some(seen_totals_text(book, event)),
-        SessionLine::Quit => None,
+        Line::Ask { number, request } => Some(answer_ask(alloc, book, number, &request)),
+        Line::Left { event } => Some(answer_left(book, event)),
+        Line::Totals { event } => Some(answer_totals(book, event)),
+        Line::Quit => None,
     }
 }
 
-// The reply to a line, and none to the last.
-fn session_reply<K: Keeper>(alloc: Global, book: &mut SiteBook<K>, line: &[u8]) -> Option<Text>
-    ensures replies { RepliesTo K.failed book.old book.new (session_line line.now) (option_map (λ text. text.items) result) }
-    ensures len { IfSome result (λ text. array_vec_len text ≤ 200) }
+// The answer to a line, and none to the last.
+fn answer_line<K: Keeper>(
+    alloc: Global,
+    book: &mut SiteBook<K>,
+    line: &[u8],
+) -> Option<Answered>
+    ensures { RepliesTo K.failed book.old book.new (session_line_of line.now) result }
 {
-    match session_line(line) {
-        Some(asked) => asked_reply(alloc, book, asked),
-        None => Some(word(b"bad-line")),
+    match read_line(line) {
+        Ok(asked) => answer_asked(alloc, book, asked),
+        Err(BadLine) => Some(Answered::Unread),
     }
 }
 
 // The whole line is at its writer's end.
-fn write_reply<W: Write>(mut reply: Text, out: &mut W) -> Result<(), ScriptFault>
-    requires { array_vec_len reply ≤ 200 }
-    ensures written { Writes (W.contents out.old) (W.contents out.new) result (reply.items ++ 10 ∷ []) }
+fn write_reply<W: Write>(answered: &Answered, out: &mut W) -> Result<(), ScriptFault>
+    ensures written { Writes (W.contents out.old) (W.contents out.new) result (reply_line answered.now) }
     ensures fault { IfErr result (λ fault. fault ≡ WriteFailed) }
 {
-    put(&mut reply, b"\n");
-    write_bytes(reply.as_slice(), out)?;
+    reply_line(answered, out)?;
     match out.flush() {
         Ok(()) => Ok(()),
         Err(_) => Err(ScriptFault::Write),
@@ -203,10 +123,10 @@ fn answer_next<K: Keeper, R: BufRead, W: Write>(
     if !next_line(reader, &mut line)? {
         return Ok(false);
     }
-    let Some(reply) = session_reply(alloc, book, line.as_slice()) else {
+    let Some(answered) = answer_line(alloc, book, line.as_slice()) else {
         return Ok(false);
     };
-    write_reply(reply, out)?;
+    write_reply(&answered, out)?;
     Ok(true)
 }
 

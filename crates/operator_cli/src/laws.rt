@@ -2,18 +2,8 @@
 
 ghost use Rattle.std.specs.Prelude.{◌≡◌, ◌∷◌, [], codes};
 ghost use Rattle.clap.specs.Words.{fault_of};
-ghost use Rattle.operator_cli.specs.Laws.{LinesAreRead, OnlyLinesAreRead, SitesAreRead, OnlySitesAreRead, LimitsAreRead, OnlyLimitsAreRead, ScriptsMakeSteps, TotalsAreThose, TotalsAreNotOversold};
+ghost use Rattle.operator_cli.specs.Laws.{ScriptsMakeSteps, TotalsAreThose, TotalsAreNotOversold};
 ghost use Rattle.operator_cli.specs.Orders.{boxoffice, AreUnderstood, Give, SaysWorld, SaysInit, SaysAsk, SaysFind, SaysList, SaysExport, SaysImport};
-
-/// Each line of a script is read from its text, and from no other.
-pub fn lines_are_read_exactly()
-    ensures lines { LinesAreRead }
-    ensures only_lines { OnlyLinesAreRead }
-    ensures sites { SitesAreRead }
-    ensures only_sites { OnlySitesAreRead }
-    ensures limits { LimitsAreRead }
-    ensures only_limits { OnlyLimitsAreRead }
-{}
 
 /// The totals of a script are those of a world that its steps lead to, and none is oversold.
 pub fn totals_are_not_oversold()

@@ -1,10 +1,8 @@
 //! The commands of the program `boxoffice`, over any reader and writers.
 #![tactic(auto)]
 
-mod answer;
 mod answering;
 mod asking;
-mod commands;
 mod ending;
 mod exchanging;
 mod fault;
@@ -13,10 +11,7 @@ mod looking;
 mod making;
 mod opening;
 mod orders;
-mod reading;
-mod request_lines;
-mod requests;
-mod script_line;
+mod record_lines;
 mod scripting;
 mod status;
 mod store_fault;

@@ -11,7 +11,7 @@ ghost use Rattle.operator_cli.specs.Opened.{IsLost};
 
 use crate::ending::{ended, write_line};
 use crate::opening::open_book;
-use crate::request_lines::{found_line, listed_line};
+use crate::record_lines::{found_line, listed_line};
 use crate::status::Status;
 use crate::store_fault::StoreFault;
 use crate::told::{Told, tell};

@@ -4,21 +4,20 @@ ghost use Rattle.std.specs.Prelude.{◌≡◌, ◌<◌, [], Err, OnOk, IfOk, IfE
 ghost use Rattle.std.specs.Io.Buffered.{reader_remaining};
 ghost use Rattle.std.specs.Io.KnownBytes.{Keeps};
 ghost use Rattle.plain_words.specs.Writing.{Writes};
-ghost use Rattle.operator_cli.specs.Reading.{line_of};
-ghost use Rattle.operator_cli.specs.Replies.{reply_line};
+ghost use Rattle.desk_lines.specs.Reading.{line_of};
+ghost use Rattle.desk_lines.specs.ScriptReplies.{reply_line};
 ghost use Rattle.operator_cli.specs.Answering.{answer_to};
 ghost use Rattle.operator_cli.specs.Faults.{IsOutFault};
 ghost use Rattle.operator_cli.specs.declared.fault.ScriptFault.TheVariants.{Memory};
 ghost use Rattle.operator_cli.specs.Script.{run_at};
 ghost use Rattle.operator_cli.specs.Ran.{NextRan, RestRan, OpenRan, SecondRan, SitesRan, StartRan, ScriptRan, ScriptTold, WorldRan};
 
-use crate::answer::write_answer;
 use crate::answering::answer_line;
 use crate::fault::{ScriptFault, fault_line};
-use crate::reading::{read_limit, read_sites};
 use crate::status::Status;
 use crate::totals::write_totals;
 use book_core::Limit;
+use desk_lines::{read_limit, read_sites, write_answer};
 use plain_words::{LineBytes, has_more, next_line, write_bytes};
 use rights_lattice::Sites;
 use std::alloc::Global;

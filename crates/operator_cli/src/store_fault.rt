@@ -5,8 +5,8 @@ ghost use Rattle.arrayvec.specs.ArrayVec.{array_vec_len};
 ghost use Rattle.std.specs.Fmt.{signed_decimal};
 ghost use Rattle.operator_cli.specs.Told.{store_fault_text, store_fault_line};
 
-use crate::answer::{numbered, word};
 use crate::fault::ScriptFault;
+use desk_lines::{numbered, word};
 use plain_words::{Text, put, put_number};
 
 /// What ends a command over records early, and is told on standard error.

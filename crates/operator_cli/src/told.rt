@@ -6,10 +6,10 @@ ghost use Rattle.plain_words.specs.Writing.{Writes};
 ghost use Rattle.operator_cli.specs.Told.{told_text, told_line, told_status, wire_fault_text, ended_by_wire, ended_by_take};
 ghost use Rattle.operator_cli.specs.declared.store_fault.StoreFault.TheVariants.{Write as WriteFailed};
 
-use crate::answer::{numbered, take_fault_text, word};
 use crate::status::Status;
 use crate::store_fault::StoreFault;
 use delta_wire::WireFault;
+use desk_lines::{numbered, take_fault_text, word};
 use plain_words::{Text, put, write_bytes};
 use site_exchange::TakeFault;
 use std::io::Write;

@@ -1,8 +1,8 @@
 use Rattle.std.proofs.Common.{◌≡◌, subst, rules}
 use Rattle.plain_words.specs.Writing.{AppendsFront}
 use Rattle.plain_words.proofs.WriteLaws.{Writes-err}
-use Rattle.operator_cli.specs.Reading.{line_of}
-use Rattle.operator_cli.specs.Replies.{reply_line}
+use Rattle.desk_lines.specs.Reading.{line_of}
+use Rattle.desk_lines.specs.ScriptReplies.{reply_line}
 use Rattle.operator_cli.specs.Answering.{answer_to}
 use Rattle.operator_cli.proofs.scripting.reply.Goals as goal
 

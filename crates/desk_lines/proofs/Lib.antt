@@ -1,0 +1,4 @@
+pub mod RequestLaws
+pub mod CommandLaws
+pub mod SessionLaws
+pub mod ReadingLaws

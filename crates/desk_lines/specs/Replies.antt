@@ -1,0 +1,56 @@
+-- What each answer of a session is written as, and what scripts and sessions both say.
+use Rattle.std.specs.Prelude.{ℕ, List, [], ◌∷◌, ◌++◌, codes}
+use Rattle.std.specs.Fmt.{decimal}
+use Rattle.request_ledger.specs.declared.reply.Reply.{Reply}
+use Rattle.request_ledger.specs.declared.reply.Reply.TheVariants.{Done, Known, Unknown, Short, CellFull, NoSale, Refunded, ToSelf, NoSite}
+use Rattle.site_desk.specs.declared.fault.AskFault.{AskFault}
+use Rattle.site_desk.specs.declared.fault.AskFault.TheVariants as ask
+use Rattle.site_exchange.specs.declared.message.TakeFault.{TakeFault}
+use Rattle.site_exchange.specs.declared.message.TakeFault.TheVariants as take
+use Rattle.local_rights.specs.declared.report.Totals.{Totals}
+use Rattle.desk_lines.specs.declared.answered.Answered.{Answered}
+use Rattle.desk_lines.specs.declared.answered.Answered.TheVariants.{Kept, LeftIs, TotalsAre, NotKnown, Refused, Unread}
+
+abbrev pub reply_text : Reply → List ℕ
+reply_text Done = codes "done"
+reply_text Known = codes "known"
+reply_text Unknown = codes "unknown"
+reply_text (Short left) = codes "short " ++ decimal left
+reply_text CellFull = codes "full-cell"
+reply_text NoSale = codes "no-sale"
+reply_text Refunded = codes "refunded"
+reply_text ToSelf = codes "to-self"
+reply_text NoSite = codes "no-site"
+
+-- why a request is not answered
+abbrev pub ask_fault_text : AskFault → List ℕ
+ask_fault_text ask.Closed = codes "closed"
+ask_fault_text (ask.Reused place) = codes "reused"
+ask_fault_text ask.Full = codes "history-full"
+ask_fault_text ask.Memory = codes "memory"
+ask_fault_text ask.Store = codes "store"
+
+-- why a message is not taken
+abbrev pub take_fault_text : TakeFault → List ℕ
+take_fault_text take.NotForMe = codes "not-for-me"
+take_fault_text take.UnknownSite = codes "unknown-site"
+take_fault_text (take.StrayAck len) = codes "stray-ack " ++ decimal len
+take_fault_text (take.ForeignRow mark) = codes "foreign-row"
+take_fault_text take.Full = codes "history-full"
+take_fault_text take.Memory = codes "memory"
+take_fault_text take.Closed = codes "closed"
+take_fault_text take.Store = codes "store"
+
+abbrev pub totals_text : Totals → List ℕ
+totals_text t = codes "totals released " ++ decimal t.released ++ codes " sold " ++ decimal t.sold ++ codes " refunded " ++ decimal t.refunded
+
+abbrev pub answered_text : Answered → List ℕ
+answered_text (Kept reply) = reply_text reply
+answered_text (LeftIs left) = codes "left " ++ decimal left
+answered_text (TotalsAre totals) = totals_text totals
+answered_text NotKnown = codes "unknown"
+answered_text (Refused fault) = ask_fault_text fault
+answered_text Unread = codes "bad-line"
+
+abbrev pub reply_line : Answered → List ℕ
+reply_line answered = answered_text answered ++ 10 ∷ []

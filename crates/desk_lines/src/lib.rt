@@ -1,0 +1,26 @@
+//! The lines of sessions and scripts, and the lines that answer them.
+//!
+//! Each line that can be read has one text, and each such text is of one line. A line is read
+//! without its line break; a line that answers is written with it.
+#![tactic(auto)]
+
+mod answered;
+mod commands;
+pub mod laws;
+mod line;
+mod reading;
+mod request_lines;
+mod requests;
+mod script_answer;
+mod script_line;
+mod session_lines;
+mod texts;
+
+pub use answered::{Answered, reply_line};
+pub use line::{BadLine, Line};
+pub use reading::{read_limit, read_sites, read_step};
+pub use request_lines::{request_line, request_text};
+pub use script_answer::{ScriptAnswer, write_answer};
+pub use script_line::ScriptLine;
+pub use session_lines::read_line;
+pub use texts::{numbered, reply_text, take_fault_text, word};

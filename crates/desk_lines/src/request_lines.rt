@@ -1,0 +1,107 @@
+//! Writing the line of a session that asks a request.
+
+ghost use Rattle.std.specs.Prelude.{◌≡◌, ◌≤◌, ◌∷◌, [], Some, length};
+ghost use Rattle.arrayvec.specs.ArrayVec.{array_vec_len};
+ghost use Rattle.std.specs.Fmt.{decimal};
+ghost use Rattle.std.specs.List.{join_with_byte};
+ghost use Rattle.plain_words.specs.Writing.{Writes};
+ghost use Rattle.desk_lines.specs.declared.line.Line.TheVariants.{Ask};
+ghost use Rattle.desk_lines.specs.Grammar.{request_words, request_line, IsAmount, IsRequest};
+ghost use Rattle.rights_lattice.specs.EventName.{IsEventName};
+ghost use Rattle.desk_lines.specs.Reading.{session_line_of};
+
+use plain_words::{Text, WriteFault, put, put_number, write_bytes};
+use request_ledger::{Amount, Request, RequestNumber};
+use rights_lattice::Event;
+use std::io::Write;
+
+// A verb with the request's number.
+fn verb_numbered(verb: &[u8], number: RequestNumber) -> Text
+    requires { length verb.now ≤ 8 }
+    ensures value { result.items ≡ join_with_byte 32 (verb.now ∷ decimal number ∷ []) }
+    ensures fits { IsAmount number }
+    ensures len { array_vec_len result ≤ 29 }
+{
+    let mut text = Text::new();
+    put(&mut text, verb);
+    put(&mut text, b" ");
+    put_number(&mut text, number.get());
+    text
+}
+
+// The same with an event.
+fn verb_named(verb: &[u8], number: RequestNumber, event: Event) -> Text
+    requires { length verb.now ≤ 8 }
+    ensures value { result.items ≡ join_with_byte 32 (verb.now ∷ decimal number ∷ event ∷ []) }
+    ensures fits { IsAmount number × IsEventName event }
+    ensures len { array_vec_len result ≤ 62 }
+{
+    let mut text = verb_numbered(verb, number);
+    put(&mut text, b" ");
+    put(&mut text, event.bytes());
+    text
+}
+
+// The same with an amount.
+fn verb_sized(verb: &[u8], number: RequestNumber, event: Event, amount: Amount) -> Text
+    requires { length verb.now ≤ 8 }
+    ensures value { result.items ≡ join_with_byte 32 (verb.now ∷ decimal number ∷ event ∷ decimal amount ∷ []) }
+    ensures fits { IsAmount number × IsEventName event × IsAmount amount }
+    ensures len { array_vec_len result ≤ 83 }
+{
+    let mut text = verb_named(verb, number, event);
+    put(&mut text, b" ");
+    put_number(&mut text, amount.seats());
+    text
+}
+
+// The words of a request, with one space between two.
+fn request_words(number: RequestNumber, request: Request) -> Text
+    ensures value { result.items ≡ join_with_byte 32 (request_words number request) }
+    ensures fits { IsAmount number × IsRequest request }
+    ensures len { array_vec_len result ≤ 104 }
+{
+    match request {
+        Request::Announce { event } => verb_named(b"announce", number, event),
+        Request::Release { event, amount } => verb_sized(b"release", number, event, amount),
+        Request::Sell { event, amount } => verb_sized(b"sell", number, event, amount),
+        Request::Refund { sale } => {
+            let mut text = verb_numbered(b"refund", number);
+            put(&mut text, b" ");
+            put_number(&mut text, sale.get());
+            text
+        }
+        Request::Cede { event, amount, to } => {
+            let mut text = verb_sized(b"cede", number, event, amount);
+            put(&mut text, b" ");
+            put_number(&mut text, to.number());
+            text
+        }
+    }
+}
+
+/// The session line that asks a request, without a line break.
+#[tactic(auto, unfolding(crate::specs::Grammar::request_line, crate::specs::Grammar::session_text))]
+pub fn request_text(number: RequestNumber, request: Request) -> Text
+    ensures line { result.items ≡ request_line number request }
+    // It is read as that request.
+    ensures read { session_line_of result.items ≡ Some (Ask number request) }
+    ensures len { array_vec_len result ≤ 104 }
+{
+    request_words(number, request)
+}
+
+/// Writes the session line that asks a request, without a line break, or after a fault a front of
+/// it.
+pub fn request_line<W: Write>(
+    number: RequestNumber,
+    request: &Request,
+    out: &mut W,
+) -> Result<(), WriteFault>
+    ensures written { Writes (W.contents out.old) (W.contents out.new) result (request_line number request.now) }
+    // It is read as that request.
+    ensures read { session_line_of (request_line number request.now) ≡ Some (Ask number request.now) }
+{
+    let text = request_text(number, *request);
+    write_bytes(text.as_slice(), out)
+}

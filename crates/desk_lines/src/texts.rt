@@ -1,0 +1,97 @@
+//! The texts that scripts and sessions share.
+
+ghost use Rattle.std.specs.Prelude.{◌≡◌, ◌+◌, ◌≤◌, ◌++◌, length};
+ghost use Rattle.std.specs.Fmt.{decimal};
+ghost use Rattle.arrayvec.specs.ArrayVec.{array_vec_len};
+ghost use Rattle.desk_lines.specs.Replies.{reply_text, ask_fault_text, take_fault_text, totals_text};
+
+use local_rights::Totals;
+use plain_words::{Text, put, put_number};
+use request_ledger::Reply;
+use site_desk::AskFault;
+use site_exchange::TakeFault;
+
+/// A text of these bytes, of which there are at most 256.
+pub fn word(bytes: &[u8]) -> Text
+    requires { length bytes.now ≤ 256 }
+    ensures value { result.items ≡ bytes.now }
+    ensures len { array_vec_len result ≡ length bytes.now }
+{
+    let mut text = Text::new();
+    put(&mut text, bytes);
+    text
+}
+
+/// A text of at most 100 bytes, and a number in decimal behind it.
+pub fn numbered(bytes: &[u8], number: u64) -> Text
+    requires { length bytes.now ≤ 100 }
+    ensures value { result.items ≡ bytes.now ++ decimal number }
+    ensures len { array_vec_len result ≤ length bytes.now + 20 }
+{
+    let mut text = word(bytes);
+    put_number(&mut text, number);
+    text
+}
+
+/// The text of a reply, without a line break.
+pub fn reply_text(reply: Reply) -> Text
+    ensures value { result.items ≡ reply_text reply }
+    ensures len { array_vec_len result ≤ 40 }
+{
+    match reply {
+        Reply::Done => word(b"done"),
+        Reply::Known => word(b"known"),
+        Reply::Unknown => word(b"unknown"),
+        Reply::Short { left } => numbered(b"short ", left),
+        Reply::CellFull => word(b"full-cell"),
+        Reply::NoSale => word(b"no-sale"),
+        Reply::Refunded => word(b"refunded"),
+        Reply::ToSelf => word(b"to-self"),
+        Reply::NoSite => word(b"no-site"),
+    }
+}
+
+/// The text of why a request is not answered.
+pub(crate) fn ask_fault_text(fault: AskFault) -> Text
+    ensures value { result.items ≡ ask_fault_text fault }
+    ensures len { array_vec_len result ≤ 40 }
+{
+    match fault {
+        AskFault::Closed => word(b"closed"),
+        AskFault::Reused { .. } => word(b"reused"),
+        AskFault::Full => word(b"history-full"),
+        AskFault::Memory => word(b"memory"),
+        AskFault::Store => word(b"store"),
+    }
+}
+
+/// The text of why a message is not taken, without a line break.
+pub fn take_fault_text(fault: TakeFault) -> Text
+    ensures value { result.items ≡ take_fault_text fault }
+    ensures len { array_vec_len result ≤ 200 }
+{
+    match fault {
+        TakeFault::NotForMe => word(b"not-for-me"),
+        TakeFault::UnknownSite => word(b"unknown-site"),
+        TakeFault::StrayAck { len } => numbered(b"stray-ack ", len as u64),
+        TakeFault::ForeignRow { .. } => word(b"foreign-row"),
+        TakeFault::Full => word(b"history-full"),
+        TakeFault::Memory => word(b"memory"),
+        TakeFault::Closed => word(b"closed"),
+        TakeFault::Store => word(b"store"),
+    }
+}
+
+/// The text of totals.
+pub(crate) fn totals_text(totals: Totals) -> Text
+    ensures value { result.items ≡ totals_text totals }
+    ensures len { array_vec_len result ≤ 200 }
+{
+    let mut text = word(b"totals released ");
+    put_number(&mut text, totals.released);
+    put(&mut text, b" sold ");
+    put_number(&mut text, totals.sold);
+    put(&mut text, b" refunded ");
+    put_number(&mut text, totals.refunded);
+    text
+}
