@@ -11,7 +11,7 @@ use Rattle.rights_lattice.specs.declared.cell.Cell.TheVariants.{Gave, Used, Back
 use Rattle.delta_mutators.specs.declared.delta.Item.{Item}
 use Rattle.delta_mutators.specs.declared.delta.Item.TheVariants as item
 use Rattle.rights_lattice.specs.EventName.{IsEventName}
-use Rattle.delta_wire.specs.Name.{name_of}
+use Rattle.rights_lattice.specs.EventName.{name_of}
 use Rattle.plain_words.specs.Words.{is_space, first_word, ended, ◌>>=◌}
 use Rattle.plain_words.specs.Number.{number_at}
 use Rattle.delta_wire.specs.declared.items.Kind.{Kind}
@@ -23,7 +23,8 @@ use Rattle.delta_wire.specs.Grammar.{cell_words, item_words, item_line, header_w
 use Rattle.delta_wire.specs.Reading.{name_at, site_at, value_at, kind_text, kind_of, kind_at, name_item, mark_item, gave_item, used_item, back_item, after_kind, item_of_words, item_of, purpose_text, purpose_of, purpose_at, upto_at, header_of_words, header_of}
 use Rattle.plain_words.proofs.NumberLaws.{number_at_found, number_at_again, decimal_lacks_space}
 use Rattle.plain_words.proofs.WordLaws.{lacks_space, split_join, bind_some, some_is, word_found, ended_found}
-use Rattle.delta_wire.proofs.Names.{name_of_found, name_of_again, name_lacks_space}
+use Rattle.rights_lattice.proofs.EventLaws.{name_of_found, name_of_again}
+use Rattle.delta_wire.proofs.Names.{name_lacks_space}
 
 -- ---- first words
 

@@ -12,7 +12,7 @@ use Rattle.delta_wire.specs.declared.ending.Ending.{Ending}
 use Rattle.delta_wire.specs.declared.fault.WireFault.{WireFault}
 use Rattle.delta_wire.specs.declared.fault.WireFault.TheVariants.{Truncated, BadLine, OutOfOrder, Trailing, Memory}
 use Rattle.delta_wire.specs.Items.{comes_next}
-use Rattle.delta_wire.specs.Reading.{item_of, header_of}
+use Rattle.delta_wire.specs.Reading.{item_of}
 use Rattle.site_exchange.specs.declared.message.Message.{Message}
 use Rattle.delta_wire.specs.declared.ending.Ending.TheVariants.{AtEndLine, AtEndOfBytes}
 use Rattle.delta_wire.specs.Wire.{Gives, is_over, ends, at_last, with_item, items_from, ack_from, BeginsWithItem}

@@ -6,7 +6,7 @@ use Rattle.rights_lattice.specs.declared.cell.Cell.{Cell}
 use Rattle.rights_lattice.specs.declared.cell.Cell.TheVariants.{Gave, Used, Back}
 use Rattle.delta_mutators.specs.declared.delta.Item.{Item}
 use Rattle.delta_mutators.specs.declared.delta.Item.TheVariants as item
-use Rattle.delta_wire.specs.Name.{name_of}
+use Rattle.rights_lattice.specs.EventName.{name_of}
 use Rattle.plain_words.specs.Number.{number_at}
 use Rattle.plain_words.specs.Words.{first_word, is_space, ended, ◌>>=◌}
 use Rattle.delta_wire.specs.declared.items.Kind.{Kind}

@@ -1,7 +1,6 @@
 //! Reading the line of an item.
 ghost use Rattle.std.specs.Prelude.{◌≡◌, ◌<◌, ◌^◌, ◌≤◌, ℕ, IfSome};
 ghost use Rattle.std.specs.Option.{option_map};
-ghost use Rattle.delta_wire.specs.Name.{name_of};
 ghost use Rattle.delta_wire.specs.Reading.{kind_of, kind_at, name_at, site_at, value_at, name_item, mark_item, gave_item, used_item, back_item, after_kind, item_of};
 
 use delta_mutators::Item;
@@ -43,18 +42,12 @@ fn kind_at(words: &mut Words<'_>) -> Option<Kind>
     Some(kind)
 }
 
-fn read_event(word: &[u8]) -> Option<Event>
-    ensures { result ≡ name_of word.now }
-{
-    Event::read(word)
-}
-
 #[tactic(auto, unfolding(crate::specs::Reading::name_at))]
 fn name_at(words: &mut Words<'_>) -> Option<Event>
     ensures { option_map (λ x. (x, words.new)) result ≡ name_at words.old }
 {
     let word = words.next()?;
-    let event = read_event(word)?;
+    let event = Event::read(word)?;
     Some(event)
 }
 

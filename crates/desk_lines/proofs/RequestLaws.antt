@@ -13,8 +13,9 @@ use Rattle.plain_words.specs.Words.{first_word, ended, ◌>>=◌}
 use Rattle.plain_words.specs.Number.{number_at}
 use Rattle.plain_words.proofs.WordLaws.{lacks_space, some_is, bind_some, word_found, ended_found}
 use Rattle.plain_words.proofs.NumberLaws.{number_at_found, number_at_again, decimal_lacks_space}
-use Rattle.delta_wire.specs.Name.{name_of}
-use Rattle.delta_wire.proofs.Names.{name_of_again, name_of_found, name_lacks_space}
+use Rattle.rights_lattice.specs.EventName.{name_of}
+use Rattle.rights_lattice.proofs.EventLaws.{name_of_again, name_of_found}
+use Rattle.delta_wire.proofs.Names.{name_lacks_space}
 use Rattle.desk_lines.specs.declared.requests.Verb.{Verb}
 use Rattle.desk_lines.specs.declared.requests.Verb.TheVariants as verb
 use Rattle.desk_lines.specs.Grammar.{request_words, IsAmount, IsSiteNumber, IsRequest}

@@ -4,7 +4,7 @@ use Rattle.std.specs.Str.{bytes_eq}
 use Rattle.rights_lattice.specs.Cells.{max_value}
 use Rattle.plain_words.specs.Words.{first_word, ended, ◌>>=◌}
 use Rattle.plain_words.specs.Number.{number_at}
-use Rattle.delta_wire.specs.Name.{name_of}
+use Rattle.rights_lattice.specs.EventName.{name_of}
 use Rattle.request_ledger.specs.declared.request.Request.{Request}
 use Rattle.request_ledger.specs.declared.request.Request.TheVariants.{Announce, Release, Sell, Refund, Cede}
 use Rattle.desk_lines.specs.declared.requests.Verb.{Verb}

@@ -2,7 +2,6 @@
 
 ghost use Rattle.std.specs.Prelude.{◌≡◌};
 ghost use Rattle.std.specs.Option.{option_map};
-ghost use Rattle.delta_wire.specs.Name.{name_of};
 ghost use Rattle.desk_lines.specs.Requests.{verb_of, verb_at, event_at, site_at, amount_at, sized_at, announce_at, release_at, sell_at, refund_at, cede_at, request_at, numbered_at};
 
 use plain_words::{Words, number_at};
@@ -53,18 +52,12 @@ pub(crate) fn verb_at(words: &mut Words<'_>) -> Option<Verb>
     Some(verb)
 }
 
-fn read_event(word: &[u8]) -> Option<Event>
-    ensures { result ≡ name_of word.now }
-{
-    Event::read(word)
-}
-
 #[tactic(auto, unfolding(crate::specs::Requests::event_at))]
 pub(crate) fn event_at(words: &mut Words<'_>) -> Option<Event>
     ensures { option_map (λ e. (e, words.new)) result ≡ event_at words.old }
 {
     let word = words.next()?;
-    let event = read_event(word)?;
+    let event = Event::read(word)?;
     Some(event)
 }
 

@@ -1,5 +1,6 @@
 pub mod CellLaws
 pub mod DenseLaws
+pub mod EventLaws
 pub mod MarkLaws
 pub mod MergeLaws
 pub mod MissingLaws

@@ -1,5 +1,5 @@
 -- Event names: 1 to 32 bytes of a-z, 0-9 and -, kept in a buffer of 32 bytes whose rest is zero. Our own.
-use Rattle.std.specs.Prelude.{◌≡◌, ℕ, ◌-◌, ◌≤◌, Bool, ◌&&◌, ◌||◌, nat_le, ◌==◌, IsTrue, List, ◌++◌, length, replicate, take}
+use Rattle.std.specs.Prelude.{◌≡◌, ℕ, ◌-◌, ◌≤◌, Bool, ◌&&◌, ◌||◌, nat_le, nat_lt, ◌==◌, IsTrue, if◌then◌else◌, List, ◌++◌, length, replicate, take, Option, Some, None}
 use Rattle.std.specs.List.{list_all}
 
 -- the test of one byte of a name: a letter, a digit or a dash
@@ -11,6 +11,14 @@ pub record IsEventName (name : List ℕ) : Type 0 where
   pub not_empty : 1 ≤ length name
   pub at_most_32 : length name ≤ 32
   pub bytes_allowed : IsTrue (list_all is_event_byte name)
+
+-- the same as a test
+abbrev pub is_name : List ℕ → Bool
+is_name word = nat_lt 0 (length word) && nat_le (length word) 32 && list_all is_event_byte word
+
+-- the name that a word spells, if it is one
+unfoldable pub name_of : List ℕ → Option (List ℕ)
+name_of word = if is_name word then Some word else None
 
 -- the name, with zeros up to 32 bytes
 abbrev pub padded_name : List ℕ → List ℕ

@@ -1,6 +1,6 @@
 // Event names.
 ghost use Rattle.std.specs.Prelude.{◌≡◌, ℕ, ◌<◌, ◌≤◌, IsSome, IfSome, IsTrue, ◌↔◌, Some, None, ◌==◌, nat_eq, length};
-ghost use Rattle.rights_lattice.specs.EventName.{IsEventName, is_event_byte, padded_name};
+ghost use Rattle.rights_lattice.specs.EventName.{IsEventName, is_event_byte, name_of, padded_name};
 ghost use Rattle.std.specs.Ordering.{nat_cmp, as_partial_cmp};
 ghost use Rattle.std.specs.Cmp.Lexicographic.{slice_cmp};
 ghost use Rattle.std.specs.Cmp.{partial_order_from_own_ties};
@@ -42,6 +42,8 @@ impl Event {
     pub fn read(bytes: &[u8]) -> Option<Event>
         ensures names { IsSome result ↔ IsEventName bytes.now }
         ensures same { IfSome result (λ event. event ≡ bytes.now) }
+        // Both as a function.
+        ensures name { result ≡ name_of bytes.now }
     {
         if !is_event_name(bytes) {
             return None;

@@ -12,7 +12,7 @@ use Rattle.request_ledger.specs.declared.reply.Reply.TheVariants.{Done, Known, U
 use Rattle.book_core.specs.declared.entry.Entry.{Entry}
 use Rattle.book_core.specs.declared.entry.Entry.TheVariants.{Asked, Joined}
 use Rattle.delta_wire.specs.Grammar.{IsSite, IsValue, IsDelta, delta_text}
-use Rattle.delta_wire.proofs.Names.{name_of_again}
+use Rattle.rights_lattice.proofs.EventLaws.{name_of_again}
 use Rattle.delta_wire.proofs.Texts.{delta_again}
 use Rattle.sql_records.specs.Rows.{verb_word, event_column, amount_column, target_column, reply_word, rest_column, columns_of, HasRequestColumns, HasReplyColumns, longest, IsStorable, number_within, value_in, site_in, event_in, verb_named, verb_in, announce_of, release_of, sell_of, refund_of, cede_of, request_in, reply_named, short_of, reply_in, delta_in, asked_of, joined_of, entry_of}
 

@@ -28,8 +28,8 @@ use Rattle.book_core.specs.declared.entry.Entry.TheVariants.{Asked, Joined}
 use Rattle.book_core.specs.History.{asked_from}
 use Rattle.plain_words.specs.Words.{◌>>=◌}
 use Rattle.plain_words.proofs.WordLaws.{bind_some, some_is}
-use Rattle.delta_wire.specs.Name.{name_of}
-use Rattle.delta_wire.proofs.Names.{name_of_found}
+use Rattle.rights_lattice.specs.EventName.{name_of}
+use Rattle.rights_lattice.proofs.EventLaws.{name_of_found}
 use Rattle.sql_records.specs.declared.lookup.FindFault.{FindFault}
 use Rattle.sql_records.specs.declared.lookup.FindFault.TheVariants as fault
 use Rattle.sql_records.specs.declared.lookup.Found.{Found}

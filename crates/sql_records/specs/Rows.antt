@@ -18,7 +18,7 @@ use Rattle.book_core.specs.declared.entry.Entry.{Entry}
 use Rattle.book_core.specs.declared.entry.Entry.TheVariants.{Asked, Joined}
 use Rattle.plain_words.specs.Words.{◌>>=◌}
 use Rattle.delta_wire.specs.Grammar.{IsSite, IsValue, IsDelta, delta_text}
-use Rattle.delta_wire.specs.Name.{name_of}
+use Rattle.rights_lattice.specs.EventName.{name_of}
 use Rattle.delta_wire.specs.Wire.{delta_of}
 use Rattle.sql_records.specs.declared.verb.Verb.{Verb}
 use Rattle.sql_records.specs.declared.verb.Verb.TheVariants as verb

@@ -3,7 +3,6 @@ ghost use Rattle.std.specs.Prelude.{◌≡◌, IfOk, IsTrue, true};
 ghost use Rattle.std.specs.Option.{option_map};
 ghost use Rattle.sqlite.specs.Order.{column};
 ghost use Rattle.sqlite_value.specs.Value.{owned};
-ghost use Rattle.delta_wire.specs.Name.{name_of};
 ghost use Rattle.sql_records.specs.Rows.{is_null, text_in, number_within, value_in, site_in, event_in, verb_in, announce_of, release_of, sell_of, refund_of, cede_of, request_of, request_in, reply_named, short_of, reply_of, reply_in, delta_in, asks_nothing, asked_of, joined_of, entry_with, entry_of};
 
 use crate::columns::LONGEST;
@@ -78,18 +77,12 @@ pub fn site_in(value: ValueRef<'_>) -> Option<SiteId>
     SiteId::of(number)
 }
 
-fn read_event(bytes: &[u8]) -> Option<Event>
-    ensures { result ≡ name_of bytes.now }
-{
-    Event::read(bytes)
-}
-
 #[tactic(auto, unfolding(crate::specs::Rows::event_in))]
 fn event_in(value: ValueRef<'_>) -> Option<Event>
     ensures { result ≡ event_in (owned value.entry) }
 {
     let text = text_in(value)?;
-    read_event(text)
+    Event::read(text)
 }
 
 #[tactic(auto, unfolding(crate::specs::Rows::verb_in))]

@@ -1,5 +1,0 @@
-use Rattle.delta_wire.proofs.Names.{event_is}
-use Rattle.sql_records.proofs.reading.read_event.Goals as goal
-
-pub returns : goal.returns
-returns c = event_is c.read.result c.args.bytes.now c.read.ensures.names c.read.ensures.same
