@@ -69,11 +69,7 @@ fn answer_totals<K: Keeper>(book: &SiteBook<K>, event: Event) -> Answered
     }
 }
 
-fn answer_asked<K: Keeper>(
-    alloc: Global,
-    book: &mut SiteBook<K>,
-    asked: Line,
-) -> Option<Answered>
+fn answer_asked<K: Keeper>(alloc: Global, book: &mut SiteBook<K>, asked: Line) -> Option<Answered>
     ensures { AnswersLine K.failed book.old book.new asked result }
 {
     match asked {
@@ -85,11 +81,7 @@ fn answer_asked<K: Keeper>(
 }
 
 // The answer to a line, and none to the last.
-fn answer_line<K: Keeper>(
-    alloc: Global,
-    book: &mut SiteBook<K>,
-    line: &[u8],
-) -> Option<Answered>
+fn answer_line<K: Keeper>(alloc: Global, book: &mut SiteBook<K>, line: &[u8]) -> Option<Answered>
     ensures { RepliesTo K.failed book.old book.new (session_line_of line.now) result }
 {
     match read_line(line) {
