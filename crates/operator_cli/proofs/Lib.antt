@@ -3,6 +3,7 @@ pub mod CommandLaws
 pub mod ReadingLaws
 pub mod TotalLines
 pub mod ScriptLaws
+pub mod BreakLaws
 pub mod Promised
 pub mod RequestLines
 pub mod EndLaws
