@@ -8,7 +8,7 @@ ghost use Rattle.operator_cli.specs.declared.status.Status.TheVariants.{Done, Fa
 ghost use Rattle.plain_words.specs.Writing.{Writes};
 ghost use Rattle.operator_cli.specs.declared.fault.ScriptFault.TheVariants.{Write as WriteFailed};
 ghost use Rattle.operator_cli.specs.Told.{FaultTold};
-ghost use Rattle.operator_cli.specs.Opened.{IsLost};
+ghost use Rattle.operator_cli.specs.Opened.{FailsIfIllegal, IsLost};
 
 use crate::answer::{numbered, reply_text, totals_text, word};
 use crate::ending::ended;
@@ -126,6 +126,7 @@ fn asked_text<K: Keeper>(
 ) -> Text
     ensures text { AnswersAsk K.failed book.old book.new number request.now result.items }
     ensures len { array_vec_len result ≤ 200 }
+    ensures trusted { K.is_trusted book.new.keeper → K.is_trusted book.old.keeper }
 {
     let came = book.ask(alloc, number, request);
     came_text(&came)
@@ -156,6 +157,7 @@ fn seen_totals_text<K: Keeper>(book: &SiteBook<K>, event: Event) -> Text
 fn asked_reply<K: Keeper>(alloc: Global, book: &mut SiteBook<K>, asked: SessionLine) -> Option<Text>
     ensures answers { AnswersLine K.failed book.old book.new asked (option_map (λ text. text.items) result) }
     ensures len { IfSome result (λ text. array_vec_len text ≤ 200) }
+    ensures trusted { K.is_trusted book.new.keeper → K.is_trusted book.old.keeper }
 {
     match asked {
         SessionLine::Ask { number, request } => Some(asked_text(alloc, book, number, &request)),
@@ -169,6 +171,7 @@ fn asked_reply<K: Keeper>(alloc: Global, book: &mut SiteBook<K>, asked: SessionL
 fn session_reply<K: Keeper>(alloc: Global, book: &mut SiteBook<K>, line: &[u8]) -> Option<Text>
     ensures replies { RepliesTo K.failed book.old book.new (session_line line.now) (option_map (λ text. text.items) result) }
     ensures len { IfSome result (λ text. array_vec_len text ≤ 200) }
+    ensures trusted { K.is_trusted book.new.keeper → K.is_trusted book.old.keeper }
 {
     match session_line(line) {
         Some(asked) => asked_reply(alloc, book, asked),
@@ -197,7 +200,8 @@ fn answer_next<K: Keeper, R: BufRead, W: Write>(
     reader: &mut R,
     out: &mut W,
 ) -> Result<bool, ScriptFault>
-    ensures { NextAsked K.failed (R.remaining reader.old) (R.remaining reader.new) (W.contents out.old) (W.contents out.new) book.old book.new result }
+    ensures asked { NextAsked K.failed (R.remaining reader.old) (R.remaining reader.new) (W.contents out.old) (W.contents out.new) book.old book.new result }
+    ensures trusted { K.is_trusted book.new.keeper → K.is_trusted book.old.keeper }
 {
     let mut line = LineBytes::new();
     if !next_line(reader, &mut line)? {
@@ -215,7 +219,9 @@ fn answer_all<K: Keeper, R: BufRead, W: Write>(
     book: &mut SiteBook<K>,
     reader: &mut R,
     out: &mut W,
-) -> Result<(), ScriptFault> {
+) -> Result<(), ScriptFault>
+    ensures trusted { K.is_trusted book.new.keeper → K.is_trusted book.old.keeper }
+{
     'lines: for _count in 0..MOST_LINES {
         let is_answered = answer_next(alloc, book, reader, out)?;
         if !is_answered {
@@ -236,6 +242,7 @@ fn run_session<K: Keeper, R: Read + Drop, W: Write>(
     out: &mut W,
 ) -> Result<Status, StoreFault>
     ensures done { IfOk result (λ status. status ≡ Done) }
+    ensures trusted { K.is_trusted book.new.keeper → K.is_trusted book.old.keeper }
 {
     let Ok(mut reader) = BufReader::new(alloc, input) else {
         return Err(StoreFault::Memory);
@@ -262,6 +269,7 @@ pub fn ask_store<S: Alter + Drop, R: Read + Drop, W: Write, E: Write>(
 ) -> (Status, Option<Connection<S>>)
     ensures status { (result.0 ≡ Done) ⊎ (result.0 ≡ Failed) }
     ensures err { FaultTold (E.contents err.old) (E.contents err.new) result.0 }
+    ensures illegal { IfSome result.1 (λ after. FailsIfIllegal S.Store conn after (E.contents err.old) (E.contents err.new) result.0) }
     ensures lost { result.1 ≡ None → IsLost S.Store conn (E.contents err.old) (E.contents err.new) result.0 }
 {
     match open_book(alloc, conn) {
