@@ -1,17 +1,16 @@
 -- What was read and written before a reader broke off.
-use Rattle.std.proofs.Common.{◌≡◌, ◌⊎◌, ℕ, suc, ◌+◌, ◌<◌, ◌≤◌, true, false, List, [], ◌∷◌, ◌++◌, length, Option, Some, None, Result, Ok, Err, refl, sym, ap, subst, ◌∙◌, arith, append_assoc, length-append, inl, inr}
+use Rattle.std.proofs.Common.{◌≡◌, ◌⊎◌, ℕ, suc, ◌+◌, ◌<◌, ◌≤◌, false, List, [], ◌∷◌, ◌++◌, length, Option, Some, None, Result, Ok, Err, refl, sym, ap, subst, ◌∙◌, arith, append_assoc, length-append, inl, inr}
 use Rattle.std.specs.Prelude.{IfErr, IsErrAnd}
 use Rattle.std.specs.Io.KnownBytes.{Appends, Keeps}
 use Rattle.std.proofs.KnownBytes.{Appends-trans, Appends-nil}
 use Rattle.std.proofs.lemmas.Bool.{cases_lt}
 use Rattle.std.proofs.lemmas.List.Elements.{All-from_recursion}
-use Rattle.plain_words.specs.Input.{is_line_break, lines_of, Between, LineGives, BreaksOff}
+use Rattle.plain_words.specs.Input.{is_line_break, lines_of, Between, LineGives}
 use Rattle.plain_words.specs.declared.lines.LineFault.{LineFault}
 use Rattle.plain_words.specs.declared.lines.LineFault.TheVariants as line_fault
 use Rattle.world_steps.specs.World.{World}
 use Rattle.operator_cli.specs.declared.fault.ScriptFault.{ScriptFault}
 use Rattle.operator_cli.specs.declared.fault.ScriptFault.TheVariants as fault
-use Rattle.operator_cli.specs.Reading.{sites_of}
 use Rattle.operator_cli.specs.Faults.{IsOutFault, of_line_fault}
 use Rattle.operator_cli.specs.Script.{answers, replies_at, replies_started, replies}
 use Rattle.operator_cli.specs.Ran.{ReadBrokeOff, OpenRan, StartRan}
