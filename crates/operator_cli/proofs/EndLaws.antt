@@ -1,12 +1,17 @@
 -- What is told at the end of a command over records.
-use Rattle.std.proofs.Common.{ℕ, List, [], Option, Result, Ok, Err, sym, append-nil}
+use Rattle.std.proofs.Common.{◌≡◌, ◌≢◌, ℕ, List, [], Option, Some, None, Result, Ok, Err, sym, subst, ◌∙◌, append-nil}
+use Rattle.std.specs.Prelude.{IfOk, IfErr, IfSome, MatchOption}
 use Rattle.std.proofs.KnownBytes.{Keeps-refl}
 use Rattle.plain_words.specs.Writing.{AppendsFront, Writes}
 use Rattle.plain_words.proofs.WriteLaws.{AppendsFront-nothing}
 use Rattle.operator_cli.specs.declared.status.Status.{Status}
 use Rattle.operator_cli.specs.declared.status.Status.TheVariants.{Done, Refused, NotUnderstood, Failed}
+use Rattle.operator_cli.specs.declared.store_fault.StoreFault.{StoreFault}
 use Rattle.operator_cli.specs.declared.store_fault.StoreFault.TheVariants as fault
-use Rattle.operator_cli.specs.Told.{store_fault_line, FaultTold}
+use Rattle.operator_cli.specs.declared.told.Told.{Told}
+use Rattle.operator_cli.specs.declared.told.Told.TheVariants.{Made, Joined, NothingNew, Acked, AlreadyThere, NoSite, Nothing, NotFound, TooLong, Unread, NotTaken}
+use Rattle.operator_cli.specs.Opened.{FailsFor}
+use Rattle.operator_cli.specs.Told.{store_fault_line, told_status, FaultTold}
 
 -- whatever came of a write, a front of the text went out
 pub front_written : {T E : Type 0} (old new : Option (List ℕ)) (r : Result T E) (text : List ℕ) → Writes old new r text → AppendsFront old new text
@@ -19,3 +24,41 @@ nothing_told old Done = Keeps-refl old
 nothing_told old Refused = Keeps-refl old
 nothing_told old NotUnderstood = Keeps-refl old
 nothing_told old Failed = (fault.Write, AppendsFront-nothing old old (store_fault_line fault.Write) (Keeps-refl old))
+
+-- ---- why a command failed
+
+never_failed : (told : Told) → told_status told ≢ Failed
+never_failed Made e = cc
+never_failed Joined e = cc
+never_failed NothingNew e = cc
+never_failed Acked e = cc
+never_failed AlreadyThere e = cc
+never_failed NoSite e = cc
+never_failed Nothing e = cc
+never_failed NotFound e = cc
+never_failed TooLong e = cc
+never_failed (Unread f) e = cc
+never_failed (NotTaken f) e = cc
+
+-- what is told does not fail
+pub told_lives : (r : Result Status StoreFault) (told : Told) → IfOk r (λ status. status ≡ told_status told) → IfOk r (λ status. status ≢ Failed)
+told_lives (Ok status) told e = λ failed. never_failed told (sym e ∙ failed)
+told_lives (Err f) told e = tt
+
+pub for_write : (r : Result Status StoreFault) (P : StoreFault → Type 0) → IfErr r (λ f. f ≡ fault.Write) → P fault.Write → IfErr r P
+for_write (Ok status) P e h = tt
+for_write (Err f) P e h = subst P (sym e) h
+
+pub fails_for : (P : StoreFault → Type 0) (a b : Option (List ℕ)) (came : Result Status StoreFault) (status : Status) → IfErr came P → P fault.Write → IfOk came (λ s. s ≢ Failed)
+    → IfErr came (λ f. AppendsFront a b (store_fault_line f)) → IfOk came (λ s. status ≢ s → AppendsFront a b (store_fault_line fault.Write)) → FailsFor P a b status
+fails_for P a b (Ok s) status cause write lives line flush = λ failed. (fault.Write, write, flush (λ same. lives (sym same ∙ failed)))
+fails_for P a b (Err f) status cause write lives line flush = λ failed. (f, cause, line)
+
+pub weaker : (P Q : StoreFault → Type 0) (r : Result Status StoreFault) → ((f : StoreFault) → P f → Q f) → IfErr r P → IfErr r Q
+weaker P Q (Ok s) to h = tt
+weaker P Q (Err f) to h = to f h
+
+-- a connection that came back
+pub if_back : {A : Type 0} (o : Option A) (P : Type 0) (Q R : A → Type 0) → MatchOption o P Q → ((a : A) → Q a → R a) → IfSome o R
+if_back None P Q R h to = tt
+if_back (Some a) P Q R h to = to a h

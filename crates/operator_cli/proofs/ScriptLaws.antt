@@ -151,6 +151,10 @@ run-append w front lines =
     (λ i. answers-append w front lines i ++ total_lines (world_behind-append w front lines i))
     ∙ append_assoc (answers w front) (answers (world_behind w front) lines) (total_lines (world_behind (world_behind w front) lines))
 
+-- the answers to lines that follow those that led to this world
+pub answered : (start now : World) (front : Lines) → now ≡ world_behind start front → (lines : Lines) → answers start (front ++ lines) ≡ answers start front ++ answers now lines
+answered start now front made lines = answers-append start front lines ∙ ap (λ (w : World). answers start front ++ answers w lines) (sym made)
+
 -- what was read and written so far
 pub record SoFar (input rest old new : Option Text) (start now : World) (count : ℕ) : Type 0 where
   pub lines : Lines
@@ -202,7 +206,7 @@ taken_after most more xs ys lines count read short counted most_is =
 broken_after : (most more : ℕ) (x y : Text) (old new new' : Option Text) (start now : World) (count : ℕ) (f : ScriptFault) → SoFar (Some x) (Some y) old new start now count → most ≡ count + more
     → EndsEarly Always (answers now) (run now) (taken more (lines_of y)) new new' f → EndsEarly Always (answers start) (run start) (taken most (lines_of x)) old new' f
 broken_after most more x y old new new' start now count f h most_is e =
-    let some : (l : Lines) → answers start (h.lines ++ l) ≡ answers start h.lines ++ answers now l = λ l. answers-append start h.lines l ∙ ap (λ (w : World). answers start h.lines ++ answers w l) (sym h.made) in
+    let some = answered start now h.lines h.made in
     let whole : (l : Lines) → run start (h.lines ++ l) ≡ answers start h.lines ++ run now l = λ l. run-append start h.lines l ∙ ap (λ (w : World). answers start h.lines ++ run w l) (sym h.made) in
     subst (λ (t : Taken). EndsEarly Always (answers start) (run start) t old new' f) (sym (taken_after most more (lines_of x) (lines_of y) h.lines count h.read h.short h.counted most_is))
     (behind_lines Always Always (answers start) (run start) h.lines (taken more (lines_of y)) old new' f (always h.lines)

@@ -3,6 +3,7 @@ use Rattle.std.specs.Prelude.{◌≡◌, ◌⊎◌, ⊤, ℕ, ◌<◌, ◌≤◌
 use Rattle.sqlite.specs.Tree.{Trees}
 use Rattle.book_core.specs.declared.entry.Entry.{Entry}
 use Rattle.book_core.specs.Decision.{Office}
+use Rattle.book_core.specs.Legal.{IsLegal}
 use Rattle.site_exchange.specs.declared.message.Message.{Message}
 use Rattle.site_exchange.specs.Exchange as exchange
 use Rattle.site_exchange.specs.Exchange.{Site, Verdict, next, verdict, zeros}
@@ -22,10 +23,11 @@ use Rattle.operator_cli.specs.declared.told.Told.{Told}
 use Rattle.operator_cli.specs.declared.told.Told.TheVariants.{Joined, NothingNew, Acked, NoSite, Nothing, TooLong, Unread, NotTaken}
 use Rattle.operator_cli.specs.Printed.{IsTellingOf}
 
--- the book is that of the records in this database, as they are opened: with their history and nothing acknowledged
+-- the book is that of the records in this database, as they are opened: with their history, which is legal, and nothing acknowledged
 pub record IsBookOf {K : Type 0} (db : Trees) (book : SiteView K) : Type 0 where
   pub office : (meta : Meta) → HasMeta meta db → book.book.office ≡ office_of meta
   pub history : book.book.history ≡ history_in db
+  pub legal : (meta : Meta) → HasMeta meta db → IsLegal (office_of meta) (history_in db)
   pub fresh : book.acked ≡ zeros
 
 -- what is told of what a site does with a message

@@ -1,22 +1,45 @@
 -- Why the records of a database are not opened, and what is told of it. (Our own.)
-use Rattle.std.specs.Prelude.{◌≡◌, ◌⊎◌, ℕ, List, Option, true, false}
+use Rattle.std.specs.Prelude.{◌≡◌, ◌⊎◌, ⊤, ℕ, List, Option, true, false}
 use Rattle.plain_words.specs.Writing.{AppendsFront}
 use Rattle.operator_cli.specs.declared.status.Status.{Status}
 use Rattle.operator_cli.specs.declared.status.Status.TheVariants.{Failed}
 use Rattle.sqlite.specs.Store.{Ghosts}
-use Rattle.sqlite.specs.State.{HasCleanDisk}
+use Rattle.sqlite.specs.State.{State, HasCleanDisk}
 use Rattle.sqlite.specs.Held.{Held, state}
 use Rattle.book_core.specs.declared.plan.ReplayFault.{ReplayFault}
+use Rattle.book_core.specs.Legal.{IsLegal}
 use Rattle.book_core.specs.Replay.{IsReplayFault}
 use Rattle.sql_records.specs.declared.fault.OpenFault.{OpenFault}
 use Rattle.sql_records.specs.declared.fault.OpenFault.TheVariants as opening
+use Rattle.sql_records.specs.declared.fault.InitFault.TheVariants as making
 use Rattle.sql_records.specs.declared.meta.Meta.{Meta}
+use Rattle.sql_records.specs.Faults.{HasDiskCause}
+use Rattle.sql_records.specs.Making.{IsInitFault}
 use Rattle.sql_records.specs.Held.{history_in}
 use Rattle.sql_records.specs.Layout.{HasMeta}
 use Rattle.sql_records.specs.Opening.{IsOpenFault}
 use Rattle.site_desk.specs.SiteView.{office_of}
 use Rattle.operator_cli.specs.declared.store_fault.StoreFault.{StoreFault}
+use Rattle.operator_cli.specs.declared.store_fault.StoreFault.TheVariants as fault
 use Rattle.operator_cli.specs.Told.{of_open_fault, of_replay_fault, store_fault_line}
+
+-- what ends making early: no records are made, or that is not written
+abbrev pub IsMakeEnd : {S : Type 0} → Ghosts S → Held S → Meta → StoreFault → Type 0
+IsMakeEnd g conn meta fault.Memory = IsInitFault g conn meta making.Memory
+IsMakeEnd g conn meta fault.Disk = IsInitFault g conn meta making.Disk
+IsMakeEnd g conn meta fault.Write = ⊤
+IsMakeEnd g conn meta _ = ⊥
+
+-- what ends looking up early: memory is wanted, the disk is at fault, or what is found is not written
+abbrev pub IsLookupEnd : State → State → StoreFault → Type 0
+IsLookupEnd old new fault.Memory = ⊤
+IsLookupEnd old new fault.Disk = HasDiskCause old new
+IsLookupEnd old new fault.Write = ⊤
+IsLookupEnd old new _ = ⊥
+
+-- a command failed for one of these causes, and told which
+abbrev pub FailsFor : (StoreFault → Type 0) → Option (List ℕ) → Option (List ℕ) → Status → Type 0
+FailsFor P old_err new_err status = status ≡ Failed → (fault : StoreFault) × P fault × AppendsFront old_err new_err (store_fault_line fault)
 
 module _ {S : Type 0} (g : Ghosts S) (conn : Held S) where
   -- the records are not opened for this cause: a transaction is open, or what they are found to be at fault in
@@ -36,6 +59,19 @@ module _ {S : Type 0} (g : Ghosts S) (conn : Held S) where
     pub told : fault ≡ of_replay_fault cause
     pub same : HasCleanDisk (state g after) → (state g after).now ≡ (state g conn).now
     pub found : HasCleanDisk (state g after) → (meta : Meta) → HasMeta meta (state g conn).now.trees → IsReplayFault (office_of meta) (history_in (state g conn).now.trees) cause
+
+  -- where the history of the records is not legal, a command told at which place, or that memory was wanted, and failed
+  abbrev pub FailsIfIllegal : Held S → Option (List ℕ) → Option (List ℕ) → Status → Type 0
+  FailsIfIllegal after old_err new_err status =
+      HasCleanDisk (state g after) → (meta : Meta) → HasMeta meta (state g conn).now.trees → (IsLegal (office_of meta) (history_in (state g conn).now.trees) → ⊥)
+      → (fault : StoreFault) × IsIllegal after fault × AppendsFront old_err new_err (store_fault_line fault) × (status ≡ Failed)
+
+  -- the records were opened, their history being legal, and what was done over them ended so
+  pub record EndsOpened (Ends : State → State → StoreFault → Type 0) (after : Held S) (fault : StoreFault) : Type 0 where
+    pub opened : Held S
+    pub same : (state g opened).now ≡ (state g conn).now
+    pub legal : (meta : Meta) → HasMeta meta (state g conn).now.trees → IsLegal (office_of meta) (history_in (state g conn).now.trees)
+    pub ended : Ends (state g opened) (state g after) fault
 
   -- a command has no connection to give back: its records were refused, and that is what it told
   pub record IsLost (old_err new_err : Option (List ℕ)) (status : Status) : Type 0 where

@@ -2,7 +2,7 @@
 use Rattle.std.specs.Prelude.{◌≡◌, ℕ, suc, ◌≤◌, List, [], ◌∷◌, ◌++◌, length, Bool, true, false, Option, Some, None, Result, Ok, Err, IfSome}
 use Rattle.std.specs.List.{join_with_byte}
 use Rattle.std.specs.Io.KnownBytes.{Appends, Keeps}
-use Rattle.plain_words.specs.Input.{lines_of, Between, BeginsTooLong, End, AtEnd, AtLongLine, AtTooMany, Taken, taken}
+use Rattle.plain_words.specs.Input.{lines_of, Between, BeginsTooLong, BreaksOff, End, AtEnd, AtLongLine, AtTooMany, Taken, taken}
 use Rattle.plain_words.specs.Writing.{AppendsFront}
 use Rattle.world_steps.specs.World.{World}
 use Rattle.operator_cli.specs.declared.fault.ScriptFault.{ScriptFault}
@@ -42,6 +42,10 @@ EndsEarly goes replies whole t old new LineTooLong = (t.end ≡ AtLongLine) × g
 EndsEarly goes replies whole t old new TooManyLines = (t.end ≡ AtTooMany) × goes t.lines × Appends old new (replies t.lines)
 EndsEarly goes replies whole t old new Write = AppendsFront old new (printed t.end replies whole t.lines)
 EndsEarly goes replies whole t old new Memory = AppendsFront old new (printed t.end replies whole t.lines)
+
+-- Reading broke off where this many lines may be there, and the replies to the lines that it took went out.
+abbrev pub ReadBrokeOff : ℕ → (List (List ℕ) → List ℕ) → Option (List ℕ) → Option (List ℕ) → Option (List ℕ) → Option (List ℕ) → Type 0
+ReadBrokeOff most replies input rest old new = Between input rest (λ xs ys. (b : BreaksOff most xs ys) × Appends old new (replies b.lines))
 
 -- one line behind the second: its reply line went out, or none was left
 abbrev pub NextRan : Option (List ℕ) → Option (List ℕ) → Option (List ℕ) → Option (List ℕ) → World → World → Result Bool ScriptFault → Type 0

@@ -8,7 +8,7 @@ ghost use Rattle.operator_cli.specs.declared.status.Status.TheVariants.{Done, Fa
 ghost use Rattle.plain_words.specs.Writing.{Writes};
 ghost use Rattle.operator_cli.specs.declared.fault.ScriptFault.TheVariants.{Write as WriteFailed};
 ghost use Rattle.operator_cli.specs.Told.{FaultTold};
-ghost use Rattle.operator_cli.specs.Opened.{IsLost};
+ghost use Rattle.operator_cli.specs.Opened.{FailsIfIllegal, IsLost};
 
 use crate::ending::ended;
 use crate::fault::ScriptFault;
@@ -43,7 +43,8 @@ fn answer_ask<K: Keeper>(
     number: RequestNumber,
     request: &Request,
 ) -> Answered
-    ensures { AnswersAsk K.failed book.old book.new number request.now result }
+    ensures answers { AnswersAsk K.failed book.old book.new number request.now result }
+    ensures trusted { K.is_trusted book.new.keeper → K.is_trusted book.old.keeper }
 {
     let came = book.ask(alloc, number, request);
     answered_of(came)
@@ -70,7 +71,8 @@ fn answer_totals<K: Keeper>(book: &SiteBook<K>, event: Event) -> Answered
 }
 
 fn answer_asked<K: Keeper>(alloc: Global, book: &mut SiteBook<K>, asked: Line) -> Option<Answered>
-    ensures { AnswersLine K.failed book.old book.new asked result }
+    ensures answers { AnswersLine K.failed book.old book.new asked result }
+    ensures trusted { K.is_trusted book.new.keeper → K.is_trusted book.old.keeper }
 {
     match asked {
         Line::Ask { number, request } => Some(answer_ask(alloc, book, number, &request)),
@@ -82,7 +84,8 @@ fn answer_asked<K: Keeper>(alloc: Global, book: &mut SiteBook<K>, asked: Line) -
 
 // The answer to a line, and none to the last.
 fn answer_line<K: Keeper>(alloc: Global, book: &mut SiteBook<K>, line: &[u8]) -> Option<Answered>
-    ensures { RepliesTo K.failed book.old book.new (session_line_of line.now) result }
+    ensures answers { RepliesTo K.failed book.old book.new (session_line_of line.now) result }
+    ensures trusted { K.is_trusted book.new.keeper → K.is_trusted book.old.keeper }
 {
     match read_line(line) {
         Ok(asked) => answer_asked(alloc, book, asked),
@@ -109,7 +112,8 @@ fn answer_next<K: Keeper, R: BufRead, W: Write>(
     reader: &mut R,
     out: &mut W,
 ) -> Result<bool, ScriptFault>
-    ensures { NextAsked K.failed (R.remaining reader.old) (R.remaining reader.new) (W.contents out.old) (W.contents out.new) book.old book.new result }
+    ensures asked { NextAsked K.failed (R.remaining reader.old) (R.remaining reader.new) (W.contents out.old) (W.contents out.new) book.old book.new result }
+    ensures trusted { K.is_trusted book.new.keeper → K.is_trusted book.old.keeper }
 {
     let mut line = LineBytes::new();
     if !next_line(reader, &mut line)? {
@@ -127,7 +131,9 @@ fn answer_all<K: Keeper, R: BufRead, W: Write>(
     book: &mut SiteBook<K>,
     reader: &mut R,
     out: &mut W,
-) -> Result<(), ScriptFault> {
+) -> Result<(), ScriptFault>
+    ensures trusted { K.is_trusted book.new.keeper → K.is_trusted book.old.keeper }
+{
     'lines: for _count in 0..MOST_LINES {
         let is_answered = answer_next(alloc, book, reader, out)?;
         if !is_answered {
@@ -148,6 +154,7 @@ fn run_session<K: Keeper, R: Read + Drop, W: Write>(
     out: &mut W,
 ) -> Result<Status, StoreFault>
     ensures done { IfOk result (λ status. status ≡ Done) }
+    ensures trusted { K.is_trusted book.new.keeper → K.is_trusted book.old.keeper }
 {
     let Ok(mut reader) = BufReader::new(alloc, input) else {
         return Err(StoreFault::Memory);
@@ -174,6 +181,7 @@ pub fn ask_store<S: Alter + Drop, R: Read + Drop, W: Write, E: Write>(
 ) -> (Status, Option<Connection<S>>)
     ensures status { (result.0 ≡ Done) ⊎ (result.0 ≡ Failed) }
     ensures err { FaultTold (E.contents err.old) (E.contents err.new) result.0 }
+    ensures illegal { IfSome result.1 (λ after. FailsIfIllegal S.Store conn after (E.contents err.old) (E.contents err.new) result.0) }
     ensures lost { result.1 ≡ None → IsLost S.Store conn (E.contents err.old) (E.contents err.new) result.0 }
 {
     match open_book(alloc, conn) {

@@ -1,13 +1,14 @@
 //! Looking requests up in the records of a site.
 
-ghost use Rattle.std.specs.Prelude.{◌≡◌, ◌≢◌, IfOk, OnOk, IfSome, None};
+ghost use Rattle.std.specs.Prelude.{◌≡◌, ◌≢◌, ◌⊎◌, IfOk, IfErr, OnOk, IfSome, None};
 ghost use Rattle.operator_cli.specs.declared.status.Status.TheVariants.{Failed};
+ghost use Rattle.operator_cli.specs.declared.store_fault.StoreFault.TheVariants.{Write as WriteFailed};
 ghost use Rattle.sqlite.specs.State.{HasCleanDisk};
 ghost use Rattle.sqlite.specs.Held.{state};
 ghost use Rattle.sql_records.specs.Held.{IsTrusted, kept_in, history_in};
 ghost use Rattle.operator_cli.specs.Told.{of_find_fault, FaultTold};
 ghost use Rattle.operator_cli.specs.Printed.{Printed, IsFoundText, IsFoundIn, IsListText, AreListed, IsListIn};
-ghost use Rattle.operator_cli.specs.Opened.{IsLost};
+ghost use Rattle.operator_cli.specs.Opened.{EndsOpened, FailsFor, FailsIfIllegal, IsIllegal, IsLookupEnd, IsLost};
 
 use crate::ending::{ended, write_line};
 use crate::opening::open_book;
@@ -43,6 +44,9 @@ fn write_found<S: Alter, W: Write>(
         → IfOk result (Printed (IsFoundIn (kept_in S.Store records.old) number) (W.contents out.old) (W.contents out.new)) }
     ensures same { IsTrusted S.Store records.new → OnOk result
         ((state S.Store records.new.conn).now ≡ (state S.Store records.old.conn).now) }
+    ensures fault { records.old.failures ≡ 0 → IsTrusted S.Store records.new
+        → IfErr result (IsLookupEnd (state S.Store records.old.conn) (state S.Store records.new.conn)) }
+    ensures ends { IfOk result (λ status. status ≢ Failed) }
     ensures trusted { IsTrusted S.Store records.new → IsTrusted S.Store records.old }
 {
     match records.find(number) {
@@ -73,6 +77,10 @@ pub fn find_store<S: Alter + Drop, W: Write, E: Write>(
     ensures same { IfSome result.1 (λ after. HasCleanDisk (state S.Store after) → result.0 ≢ Failed
         → (state S.Store after).now ≡ (state S.Store conn).now) }
     ensures err { FaultTold (E.contents err.old) (E.contents err.new) result.0 }
+    ensures cause { IfSome result.1 (λ after. HasCleanDisk (state S.Store after)
+        → FailsFor (λ fault. IsIllegal S.Store conn after fault ⊎ EndsOpened S.Store conn IsLookupEnd after fault)
+        (E.contents err.old) (E.contents err.new) result.0) }
+    ensures illegal { IfSome result.1 (λ after. FailsIfIllegal S.Store conn after (E.contents err.old) (E.contents err.new) result.0) }
     ensures lost { result.1 ≡ None → IsLost S.Store conn (E.contents err.old) (E.contents err.new) result.0 }
 {
     match open_book(alloc, conn) {
@@ -86,7 +94,9 @@ pub fn find_store<S: Alter + Drop, W: Write, E: Write>(
 }
 
 fn write_all<W: Write>(listed: &[Listed], out: &mut W) -> Result<Status, StoreFault>
-    ensures { IfOk result (Printed (AreListed listed.now) (W.contents out.old) (W.contents out.new)) }
+    ensures out { IfOk result (Printed (AreListed listed.now) (W.contents out.old) (W.contents out.new)) }
+    ensures fault { IfErr result (λ fault. fault ≡ WriteFailed) }
+    ensures ends { IfOk result (λ status. status ≢ Failed) }
 {
     if listed.is_empty() {
         return tell(&Told::NotFound, out);
@@ -108,6 +118,9 @@ fn write_listed<S: Alter, W: Write>(
         → IfOk result (Printed (IsListIn (kept_in S.Store records.old) event.now) (W.contents out.old) (W.contents out.new)) }
     ensures same { IsTrusted S.Store records.new → OnOk result
         ((state S.Store records.new.conn).now ≡ (state S.Store records.old.conn).now) }
+    ensures fault { records.old.failures ≡ 0 → IsTrusted S.Store records.new
+        → IfErr result (IsLookupEnd (state S.Store records.old.conn) (state S.Store records.new.conn)) }
+    ensures ends { IfOk result (λ status. status ≢ Failed) }
     ensures trusted { IsTrusted S.Store records.new → IsTrusted S.Store records.old }
 {
     let Some(event) = Event::read(event.as_bytes()) else {
@@ -137,6 +150,10 @@ pub fn list_store<S: Alter + Drop, W: Write, E: Write>(
     ensures same { IfSome result.1 (λ after. HasCleanDisk (state S.Store after) → result.0 ≢ Failed
         → (state S.Store after).now ≡ (state S.Store conn).now) }
     ensures err { FaultTold (E.contents err.old) (E.contents err.new) result.0 }
+    ensures cause { IfSome result.1 (λ after. HasCleanDisk (state S.Store after)
+        → FailsFor (λ fault. IsIllegal S.Store conn after fault ⊎ EndsOpened S.Store conn IsLookupEnd after fault)
+        (E.contents err.old) (E.contents err.new) result.0) }
+    ensures illegal { IfSome result.1 (λ after. FailsIfIllegal S.Store conn after (E.contents err.old) (E.contents err.new) result.0) }
     ensures lost { result.1 ≡ None → IsLost S.Store conn (E.contents err.old) (E.contents err.new) result.0 }
 {
     match open_book(alloc, conn) {

@@ -1,14 +1,15 @@
 //! Making the records of a site.
 
-ghost use Rattle.std.specs.Prelude.{◌≡◌, ◌<◌, true, false, Err, IfOk};
+ghost use Rattle.std.specs.Prelude.{◌≡◌, ◌≢◌, ◌<◌, true, false, Err, IfOk, IfErr};
 ghost use Rattle.sqlite.specs.State.{HasCleanDisk};
 ghost use Rattle.sqlite.specs.Held.{state};
 ghost use Rattle.sql_records.specs.Held.{IsNew};
 ghost use Rattle.operator_cli.specs.Told.{FaultTold, told_status};
+ghost use Rattle.operator_cli.specs.Opened.{IsMakeEnd, FailsFor};
 ghost use Rattle.operator_cli.specs.Printed.{Printed, IsTellingOf, IsMadeText, told_of_making};
 ghost use Rattle.sql_records.specs.Layout.{has_our_table};
 ghost use Rattle.operator_cli.specs.declared.store_fault.StoreFault.TheVariants.{Disk};
-ghost use Rattle.operator_cli.specs.declared.status.Status.TheVariants.{Done, Refused};
+ghost use Rattle.operator_cli.specs.declared.status.Status.TheVariants.{Done, Refused, Failed};
 ghost use Rattle.operator_cli.specs.declared.told.Told.TheVariants.{NoSite};
 
 use crate::ending::ended;
@@ -42,6 +43,7 @@ fn make<S: Alter>(
     ensures made { HasCleanDisk (state S.Store conn.new) → IfOk result (λ told. told_status told ≡ Done
         → IsNew (record { me = me; sites = sites; limit = limit }) (state S.Store conn.new).now) }
     ensures kept { IfOk result (λ told. told_status told ≡ Refused → conn.new ≡ conn.old) }
+    ensures fault { HasCleanDisk (state S.Store conn.new) → IfErr result (IsMakeEnd S.Store conn.old (record { me = me; sites = sites; limit = limit })) }
 {
     if me.number() >= sites.count() {
         return Ok(Told::NoSite);
@@ -65,6 +67,8 @@ fn write_made<S: Alter, W: Write>(
     ensures made { HasCleanDisk (state S.Store conn.new) → IfOk result (λ status. status ≡ Done
         → IsNew (record { me = me; sites = sites; limit = limit }) (state S.Store conn.new).now) }
     ensures kept { IfOk result (λ status. status ≡ Refused → conn.new ≡ conn.old) }
+    ensures fault { HasCleanDisk (state S.Store conn.new) → IfErr result (IsMakeEnd S.Store conn.old (record { me = me; sites = sites; limit = limit })) }
+    ensures ends { IfOk result (λ status. status ≢ Failed) }
 {
     match make(conn, me, sites, limit) {
         Ok(told) => tell(&told, out),
@@ -90,6 +94,8 @@ pub fn init_store<S: Alter, W: Write, E: Write>(
     ensures made { HasCleanDisk (state S.Store conn.new) → result ≡ Done
         → IsNew (record { me = me; sites = sites; limit = limit }) (state S.Store conn.new).now }
     ensures kept { result ≡ Refused → conn.new ≡ conn.old }
+    ensures cause { HasCleanDisk (state S.Store conn.new)
+        → FailsFor (IsMakeEnd S.Store conn.old (record { me = me; sites = sites; limit = limit })) (E.contents err.old) (E.contents err.new) result }
 {
     let came = write_made(conn, me, sites, limit, out);
     ended(came, out, err)

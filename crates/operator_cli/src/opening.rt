@@ -47,6 +47,7 @@ pub(crate) fn open_book<S: Alter + Drop>(
 ) -> Result<SiteBook<Records<S>>, (StoreFault, Option<Connection<S>>)>
     ensures kept { IfOk result (λ book. IsTrusted S.Store book.keeper
         → kept_in S.Store book.keeper ≡ history_in (state S.Store conn).now.trees) }
+    ensures open { IfOk result (λ book. book.keeper.failures ≡ 0) }
     ensures book { IfOk result (λ book. IsTrusted S.Store book.keeper → IsBookOf (state S.Store conn).now.trees book) }
     ensures same { IfOk result (λ book. IsTrusted S.Store book.keeper
         → (state S.Store book.keeper.conn).now ≡ (state S.Store conn).now) }

@@ -1,6 +1,6 @@
 //! A script over a reader and writers.
 
-ghost use Rattle.std.specs.Prelude.{◌≡◌, ◌<◌, [], Err, OnOk, IfOk, IfErr};
+ghost use Rattle.std.specs.Prelude.{◌≡◌, ◌<◌, ℕ, List, [], ◌∷◌, Option, Err, OnOk, IfOk, IfErr};
 ghost use Rattle.std.specs.Io.Buffered.{reader_remaining};
 ghost use Rattle.std.specs.Io.KnownBytes.{Keeps};
 ghost use Rattle.plain_words.specs.Writing.{Writes};
@@ -8,9 +8,9 @@ ghost use Rattle.desk_lines.specs.Reading.{line_of};
 ghost use Rattle.desk_lines.specs.ScriptReplies.{reply_line};
 ghost use Rattle.operator_cli.specs.Answering.{answer_to};
 ghost use Rattle.operator_cli.specs.Faults.{IsOutFault};
-ghost use Rattle.operator_cli.specs.declared.fault.ScriptFault.TheVariants.{Memory};
-ghost use Rattle.operator_cli.specs.Script.{run_at};
-ghost use Rattle.operator_cli.specs.Ran.{NextRan, RestRan, OpenRan, SecondRan, SitesRan, StartRan, ScriptRan, ScriptTold, WorldRan};
+ghost use Rattle.operator_cli.specs.declared.fault.ScriptFault.TheVariants.{Memory, Read as ReadFailed};
+ghost use Rattle.operator_cli.specs.Script.{answers, replies, replies_at, run_at};
+ghost use Rattle.operator_cli.specs.Ran.{ReadBrokeOff, NextRan, RestRan, OpenRan, SecondRan, SitesRan, StartRan, ScriptRan, ScriptTold, WorldRan};
 
 use crate::answering::answer_line;
 use crate::fault::{ScriptFault, fault_line};
@@ -51,7 +51,8 @@ fn reply_next<R: BufRead, W: Write>(
     out: &mut W,
     world: &mut World,
 ) -> Result<bool, ScriptFault>
-    ensures { NextRan (R.remaining reader.old) (R.remaining reader.new) (W.contents out.old) (W.contents out.new) world.old world.new result }
+    ensures ran { NextRan (R.remaining reader.old) (R.remaining reader.new) (W.contents out.old) (W.contents out.new) world.old world.new result }
+    ensures reads { result ≡ Err ReadFailed → ReadBrokeOff 1 (answers world.old) (R.remaining reader.old) (R.remaining reader.new) (W.contents out.old) (W.contents out.new) }
 {
     let mut line = LineBytes::new();
     if !next_line(reader, &mut line)? {
@@ -69,7 +70,8 @@ fn reply_all<R: BufRead, W: Write>(
     world: &mut World,
     most: u32,
 ) -> Result<(), ScriptFault>
-    ensures { RestRan most (R.remaining reader.old) (W.contents out.old) (W.contents out.new) world.old world.new result }
+    ensures ran { RestRan most (R.remaining reader.old) (W.contents out.old) (W.contents out.new) world.old world.new result }
+    ensures reads { result ≡ Err ReadFailed → ReadBrokeOff most (answers world.old) (R.remaining reader.old) (R.remaining reader.new) (W.contents out.old) (W.contents out.new) }
 {
     'lines: for _count in 0..most {
         let is_answered = reply_next(alloc, reader, out, world)?;
@@ -110,7 +112,8 @@ fn run_second<R: BufRead, W: Write>(
     line: &[u8],
     sites: Sites,
 ) -> Result<(), ScriptFault>
-    ensures { SecondRan 999998 sites line.now (R.remaining reader.old) (W.contents out.old) (W.contents out.new) result }
+    ensures ran { SecondRan 999998 sites line.now (R.remaining reader.old) (W.contents out.old) (W.contents out.new) result }
+    ensures reads { result ≡ Err ReadFailed → ReadBrokeOff 999998 (λ lines. replies_at sites (line.now ∷ lines)) (R.remaining reader.old) (R.remaining reader.new) (W.contents out.old) (W.contents out.new) }
 {
     let mut world = open_world(alloc, line, out, sites)?;
     reply_all(alloc, reader, out, &mut world, MOST_LINES)?;
@@ -134,7 +137,8 @@ fn run_sites<R: BufRead, W: Write>(
     out: &mut W,
     sites: Sites,
 ) -> Result<(), ScriptFault>
-    ensures { SitesRan 999999 sites (R.remaining reader.old) (W.contents out.old) (W.contents out.new) result }
+    ensures ran { SitesRan 999999 sites (R.remaining reader.old) (W.contents out.old) (W.contents out.new) result }
+    ensures reads { result ≡ Err ReadFailed → ReadBrokeOff 999999 (replies_at sites) (R.remaining reader.old) (R.remaining reader.new) (W.contents out.old) (W.contents out.new) }
 {
     let mut line = LineBytes::new();
     if next_line(reader, &mut line)? {
@@ -146,7 +150,8 @@ fn run_sites<R: BufRead, W: Write>(
 
 // The count of sites that the first line gives.
 fn read_start<R: BufRead>(reader: &mut R) -> Result<Option<Sites>, ScriptFault>
-    ensures { StartRan (R.remaining reader.old) (R.remaining reader.new) result }
+    ensures ran { StartRan (R.remaining reader.old) (R.remaining reader.new) result }
+    ensures reads { result ≡ Err ReadFailed → (out : Option (List ℕ)) → ReadBrokeOff 1000000 replies (R.remaining reader.old) (R.remaining reader.new) out out }
 {
     let mut line = LineBytes::new();
     if !next_line(reader, &mut line)? {
@@ -164,7 +169,8 @@ pub fn run_script<R: BufRead, W: Write>(
     reader: &mut R,
     out: &mut W,
 ) -> Result<bool, ScriptFault>
-    ensures { ScriptRan (R.remaining reader.old) (W.contents out.old) (W.contents out.new) result }
+    ensures ran { ScriptRan (R.remaining reader.old) (W.contents out.old) (W.contents out.new) result }
+    ensures reads { result ≡ Err ReadFailed → ReadBrokeOff 1000000 replies (R.remaining reader.old) (R.remaining reader.new) (W.contents out.old) (W.contents out.new) }
 {
     let Some(sites) = read_start(reader)? else {
         write_bytes(b"bad-line\n", out)?;

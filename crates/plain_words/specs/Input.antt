@@ -1,5 +1,5 @@
 -- The lines of an input.
-use Rattle.std.specs.Prelude.{◌≡◌, ◌≢◌, ℕ, zero, suc, ◌≤◌, ◌<◌, Bool, true, false, ◌==◌, nat_le, List, [], ◌∷◌, ◌++◌, length, Option, Some, None, Result, Ok, Err, if◌then◌else◌}
+use Rattle.std.specs.Prelude.{◌≡◌, ◌≢◌, ◌⊎◌, ℕ, zero, suc, ◌≤◌, ◌<◌, Bool, true, false, ◌==◌, nat_le, List, [], ◌∷◌, ◌++◌, length, All, Option, Some, None, Result, Ok, Err, if◌then◌else◌}
 use Rattle.std.specs.List.{slice_split}
 use Rattle.std.specs.Io.KnownBytes.{Consumes, IsAtEnd, Keeps}
 use Rattle.plain_words.specs.declared.lines.LineFault.{LineFault}
@@ -58,12 +58,26 @@ taken (suc most) (line ∷ lines) = if nat_le (length line) 200 then with_line l
 abbrev pub GivesUp : Option (List ℕ) → Option (List ℕ) → List ℕ → Type 0
 GivesUp old new line = (byte : ℕ) × (byte ≢ 10) × (length line ≡ 200) × Consumes old new (line ++ byte ∷ [])
 
+-- bytes of a line that may be there, as far as it was read
+abbrev pub IsPartOfLine : List ℕ → Type 0
+IsPartOfLine part = (length part ≤ 200) × All (λ b. is_line_break b ≡ false) part
+
 -- what one call leaves
 abbrev pub LineGives : Option (List ℕ) → Option (List ℕ) → List ℕ → Result Bool LineFault → Type 0
 LineGives old new line (Ok true) = (length line ≤ 200) × Between old new (λ before after. lines_of before ≡ line ∷ lines_of after)
 LineGives old new line (Ok false) = Between old new (λ before after. (lines_of before ≡ []) × (lines_of after ≡ []))
 LineGives old new line (Err LineTooLong) = GivesUp old new line × Between old new (λ before after. BeginsTooLong (lines_of before))
-LineGives old new line (Err Read) = Consumes old new line
+LineGives old new line (Err Read) = IsPartOfLine line × Consumes old new line
+
+-- Reading broke off where this many lines may be there: it took whole lines, and then a part of one that may be there.
+pub record BreaksOff (most : ℕ) (before after : List ℕ) : Type 0 where
+  pub lines : List (List ℕ)
+  pub part : List ℕ
+  pub rest : List ℕ
+  pub read : lines_of before ≡ lines ++ lines_of rest
+  pub begun : rest ≡ part ++ after
+  pub is_part : IsPartOfLine part
+  pub within : (length lines < most) ⊎ ((length lines ≡ most) × (part ≡ []))
 
 -- what reading one byte leaves
 abbrev pub ByteGives : {E : Type 0} → Option (List ℕ) → Option (List ℕ) → Result (Option ℕ) E → Type 0

@@ -5,6 +5,7 @@ ghost use Rattle.rights_lattice.specs.Cell.{owner_of};
 ghost use Rattle.rights_lattice.specs.State.{knows};
 ghost use Rattle.book_core.specs.History.{state_of};
 ghost use Rattle.book_core.specs.OwnRow.{HasOwnRights, cell_in};
+ghost use Rattle.book_core.specs.Legal.{IsLegal};
 ghost use Rattle.book_core.specs.Replay.{IsReplayFault};
 ghost use Rattle.site_exchange.specs.Exchange.{Joins, ack_for, entry_of_take, next, zeros};
 ghost use Rattle.site_exchange.specs.Taking.{site_after, with_entry};
@@ -65,6 +66,7 @@ impl<K: Keeper> SiteBook<K> {
         ensures open { IfOk result (λ s. s.closed ≡ false) }
         ensures history { IfOk result (λ s. s.book.history ≡ entries.items) }
         ensures office { IfOk result (λ s. s.book.office ≡ office_of meta) }
+        ensures legal { IfOk result (λ s. IsLegal s.book.office s.book.history) }
         ensures acknowledged { IfOk result (λ s. s.acked ≡ zeros) }
         ensures keeper { IfOk result (λ s. s.keeper ≡ keeper) }
         ensures has_rights { IfOk result (λ s. HasOwnRights s.book) }
@@ -74,12 +76,16 @@ impl<K: Keeper> SiteBook<K> {
         let _none = keeper.failures();
         let Meta { me, sites, limit } = meta;
         match Book::replay(alloc, me, sites, limit, entries) {
-            Ok(book) => Ok(SiteBook {
-                book,
-                exchange: Exchange::fresh(),
-                keeper,
-                is_closed: false,
-            }),
+            Ok(book) => {
+                // What the book says of its history.
+                let _len = book.len();
+                Ok(SiteBook {
+                    book,
+                    exchange: Exchange::fresh(),
+                    keeper,
+                    is_closed: false,
+                })
+            }
             Err(fault) => Err((keeper, fault)),
         }
     }

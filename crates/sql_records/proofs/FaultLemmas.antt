@@ -20,7 +20,7 @@ use Rattle.sqlite.specs.declared.error.Error.TheVariants.{SqliteFailure}
 use Rattle.sqlite.specs.declared.error.ErrorCode.TheVariants as code
 use Rattle.sqlite.specs.Effect.{Database, RefusesQuery, RefusesToRead}
 use Rattle.sqlite.specs.Listing.{understood, reads_listing, IsSourceOf}
-use Rattle.sqlite.specs.State.{State, store_error, HasCause, Fails, FailsToShow, IsNoStatement, IsNotRun, FailsToQuery}
+use Rattle.sqlite.specs.State.{State, store_error, HasCause, Fails, IsUnchanged, IsRolledBack, FailsToShow, IsNoStatement, IsNotRun, FailsToQuery}
 use Rattle.sqlite.proofs.Callers.{IsPlain, command_of}
 use Rattle.sql_records.specs.Faults.{told, HasDiskCause}
 
@@ -94,6 +94,19 @@ module _ (sql : List ℕ) (params : Row) (old new : State) (schema : Schema) (ha
       let refuses = subst₂ (λ k d. RefusesToRead old.step_limit k d params e) command db it.2 in
       let typed = subst (λ s. accepts_program s (lets_of runs.program) runs.program.body params ≡ true) (sym has) runs.typed in
       inr (inr (inr (refused old.step_limit old.now runs.program params e typed (runs.small old.now.trees) refuses)))
+
+  not_run_undone : IsNotRun old new sql params e → IsUnchanged old new ⊎ IsRolledBack old new
+  unfolding IsNotRun
+  not_run_undone (inl h) = inl h.1
+  not_run_undone (inr h) = inr h.3
+
+  pub query_undone : FailsToQuery sql params old new e → IsUnchanged old new ⊎ IsRolledBack old new
+  unfolding FailsToQuery
+  query_undone (inl h) = not_run_undone h
+  query_undone (inr h) =
+      let bare = subst IsPlain (known (Ok h.0) h.1.is) runs.plain in
+      let it = rw (bare.0, bare.1, append-nil params) at h.2 in
+      inl it.3
 
 -- the fault that is told of it
 pub told_fault : {F : Type 0} (Is : F → Type 0) (memory disk : F) (old new : State) (e : Error) → Is memory → (HasDiskCause old new → Is disk) → Caused old new e → Is (told memory disk e)

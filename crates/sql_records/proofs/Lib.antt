@@ -8,6 +8,7 @@ pub mod CheckLemmas
 pub mod ShapeLemmas
 pub mod InitLemmas
 pub mod FaultLemmas
+pub mod UndoneLemmas
 pub mod QueryLemmas
 pub mod MetaLemmas
 pub mod OpeningLemmas

@@ -1,9 +1,9 @@
 -- What an open answers of a database that it does not read. (Our own.)
-use Rattle.std.specs.Prelude.{◌≡◌, ◌≢◌, ◌⊎◌, ℤ, pos, nat_lt, if◌then◌else◌, true, List, [], ◌∷◌, Option, Some, None}
+use Rattle.std.specs.Prelude.{◌≡◌, ◌≢◌, ◌⊎◌, ℤ, pos, nat_lt, if◌then◌else◌, true, false, IsTrue, List, [], ◌∷◌, Option, Some, None}
 use Rattle.sqlite.specs.declared.types.Value.{Value}
 use Rattle.sqlite.specs.declared.types.Value.TheVariants.{Int, Text}
 use Rattle.sqlite.specs.Order.{Row, column}
-use Rattle.sqlite.specs.State.{State, HasCleanDisk, Shown, FailsToQuery, IsTooLate}
+use Rattle.sqlite.specs.State.{State, HasCleanDisk, KeepsCommit, Shown, FailsToQuery, IsTooLate}
 use Rattle.sqlite.specs.Store.{Ghosts}
 use Rattle.sqlite.specs.Held.{Held, state}
 use Rattle.sqlite.specs.declared.error.Error.{Error}
@@ -128,6 +128,16 @@ IsOurFault old new fault = IsMetaFault old new fault
 -- what is at fault in a database
 abbrev pub IsOpenFault : State → State → OpenFault → Type 0
 IsOpenFault old new fault = ((¬ IsOurs old.now.schema) × IsForeignFault fault) ⊎ (IsOurs old.now.schema × IsOurFault old new fault)
+
+-- the store came back with a database that a stop may leave, in which an open found this at fault
+abbrev pub IsFoundAfterStop : {S : Type 0} → Ghosts S → Held S → OpenFault → Type 0
+IsFoundAfterStop {S} g conn fault =
+    (again : Held S) × (after : Held S) × (HasCleanDisk (state g after) → (state g conn).may_leave (state g again).now.trees × IsOpenFault (state g again) (state g after) fault)
+
+-- Nothing was committed. The connection shows what it showed, or its transaction was undone.
+pub record IsLeftOrUndone (old new : State) : Type 0 where
+  pub kept : KeepsCommit old new
+  pub shows : IsTrue new.is_open → ((new.now ≡ old.now) × (new.in_transaction ≡ old.in_transaction)) ⊎ ((new.now ≡ old.committed) × (new.in_transaction ≡ false))
 
 -- what may be at fault in the next open after a stop: memory or the disk
 abbrev pub IsAfterStop : Option OpenFault → Type 0

@@ -9,7 +9,7 @@ ghost use Rattle.sqlite_value.specs.Value.{owned};
 ghost use Rattle.sql_records.specs.Layout.{IsOurs, our_kind, HasMeta, AreNumbers};
 ghost use Rattle.sql_records.specs.Rows.{entry_of, number_within, IsEntryAt, AreInOrder, AreWhole};
 ghost use Rattle.sql_records.specs.Held.{entries_tree, rows_in, history_in, LeavesNoMore};
-ghost use Rattle.sql_records.specs.Opening.{int_in, numbers_in, IsRowOf, IsRowFault, IsMetaFault, AreRowsFault, IsStoreFault, IsForeignFault, IsForeignCause, AreOfVersion, AreTold, foreign_told, IsOpenFault};
+ghost use Rattle.sql_records.specs.Opening.{int_in, numbers_in, IsRowOf, IsRowFault, IsMetaFault, AreRowsFault, IsStoreFault, IsForeignFault, IsForeignCause, AreOfVersion, AreTold, foreign_told, IsOpenFault, IsLeftOrUndone};
 
 use crate::fault::{OpenFault, told};
 use crate::meta::Meta;
@@ -32,6 +32,7 @@ fn read_rows<S: Alter>(conn: &mut Connection<S>) -> Result<Vec<Row>, OpenFault>
     ensures shown { HasCleanDisk (state S.Store conn.new) → IfOk result
         (λ rows. AreInOrder ((state S.Store conn.old).now.trees entries_tree) rows.items) }
     ensures same { HasCleanDisk (state S.Store conn.new) → OnOk result (IsUnchanged (state S.Store conn.old) (state S.Store conn.new)) }
+    ensures undone { HasCleanDisk (state S.Store conn.new) → OnErr result (IsLeftOrUndone (state S.Store conn.old) (state S.Store conn.new)) }
     ensures fault { HasCleanDisk (state S.Store conn.new) → IfErr result (IsStoreFault (state S.Store conn.old) (state S.Store conn.new)) }
     ensures left { HasCleanDisk (state S.Store conn.new) → LeavesNoMore (state S.Store conn.old) (state S.Store conn.new) }
     ensures limit { conn.new.step_limit ≡ conn.old.step_limit }
@@ -171,6 +172,7 @@ fn read_meta<S: Alter>(conn: &mut Connection<S>) -> Result<Meta, OpenFault>
     ensures meta { HasCleanDisk (state S.Store conn.new) → IfOk result (λ meta. HasMeta meta (state S.Store conn.old).now.trees) }
     ensures numbers { IfOk result AreNumbers }
     ensures same { HasCleanDisk (state S.Store conn.new) → OnOk result (IsUnchanged (state S.Store conn.old) (state S.Store conn.new)) }
+    ensures undone { HasCleanDisk (state S.Store conn.new) → OnErr result (IsLeftOrUndone (state S.Store conn.old) (state S.Store conn.new)) }
     ensures fault { HasCleanDisk (state S.Store conn.new) → IfErr result (IsMetaFault (state S.Store conn.old) (state S.Store conn.new)) }
     ensures counts { (state S.Store conn.old).faults ≤ (state S.Store conn.new).faults }
     ensures limit { (state S.Store conn.new).step_limit ≡ (state S.Store conn.old).step_limit }
@@ -231,6 +233,7 @@ fn foreign_told(error: Error) -> OpenFault
 // transaction says that nothing is written, whatever the database makes of the query.
 fn foreign_fault<S: Alter>(conn: &mut Connection<S>) -> OpenFault
     ensures named { IsForeignFault result }
+    ensures undone { HasCleanDisk (state S.Store conn.new) → IsLeftOrUndone (state S.Store conn.old) (state S.Store conn.new) }
     ensures cause { conn.old.in_transaction ≡ false → HasCleanDisk (state S.Store conn.new) → IsForeignCause S.Store conn.old result }
     ensures left { HasCleanDisk (state S.Store conn.new) → LeavesNoMore (state S.Store conn.old) (state S.Store conn.new) }
     ensures limit { conn.new.step_limit ≡ conn.old.step_limit }
@@ -250,7 +253,8 @@ fn foreign_fault<S: Alter>(conn: &mut Connection<S>) -> OpenFault
 
 /// The entries of a site's records, the oldest first, and its numbers. It writes nothing.
 ///
-/// What it says holds where the disk has returned what was written.
+/// What it says holds where the disk has returned what was written. An error leaves the connection as it was, or
+/// with its transaction undone.
 pub fn read_records<S: Alter>(
     alloc: Global,
     conn: &mut Connection<S>,
@@ -262,6 +266,7 @@ pub fn read_records<S: Alter>(
     ensures schema { OnOk result (IsOurs conn.old.schema) }
     ensures live { IsLive (state S.Store conn.old) }
     ensures same { HasCleanDisk (state S.Store conn.new) → OnOk result (IsUnchanged (state S.Store conn.old) (state S.Store conn.new)) }
+    ensures undone { HasCleanDisk (state S.Store conn.new) → OnErr result (IsLeftOrUndone (state S.Store conn.old) (state S.Store conn.new)) }
     ensures fault { HasCleanDisk (state S.Store conn.new) → IfErr result (IsOpenFault (state S.Store conn.old) (state S.Store conn.new)) }
     ensures foreign { ¬ IsOurs conn.old.schema → conn.old.in_transaction ≡ false → HasCleanDisk (state S.Store conn.new) → IfErr result (IsForeignCause S.Store conn.old) }
     ensures left { HasCleanDisk (state S.Store conn.new) → LeavesNoMore (state S.Store conn.old) (state S.Store conn.new) }

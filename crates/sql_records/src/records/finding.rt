@@ -165,8 +165,8 @@ fn all_of(alloc: Global, rows: &[Row]) -> Result<Vec<Listed>, FindFault>
 impl<S: Alter> Records<S> {
     /// The place and the reply of the request that is kept under this number.
     ///
-    /// After an error but `Shut` the records are shut; `Shut` changes nothing. `Damaged` comes only where something
-    /// else has written the store, and names the first row that does not read.
+    /// After an error but `Shut` the records are shut; `Shut` changes nothing. `Damaged` comes only where the store
+    /// does not return what was written to it.
     pub fn find(&mut self, number: RequestNumber) -> Result<Option<Found>, FindFault>
         ensures found { IfOk result (λ found. IsTrusted S.Store self.new → found ≡ found_in (kept_in S.Store self.old) number) }
         ensures same { OnOk result (IsTrusted S.Store self.new → IsUnchanged (state S.Store self.old.conn) (state S.Store self.new.conn)) }
@@ -191,8 +191,8 @@ impl<S: Alter> Records<S> {
 
     /// The requests that name the event, by place.
     ///
-    /// After an error but `Shut` the records are shut; `Shut` changes nothing. `Damaged` comes only where something
-    /// else has written the store, and names the first row that does not read.
+    /// After an error but `Shut` the records are shut; `Shut` changes nothing. `Damaged` comes only where the store
+    /// does not return what was written to it.
     pub fn list(&mut self, event: Event) -> Result<Vec<Listed>, FindFault>
         ensures listed { IfOk result (λ listed. IsTrusted S.Store self.new → listed.items ≡ listed_in (kept_in S.Store self.old) event) }
         ensures same { OnOk result (IsTrusted S.Store self.new → IsUnchanged (state S.Store self.old.conn) (state S.Store self.new.conn)) }

@@ -6,7 +6,7 @@ ghost use Rattle.sqlite.specs.Held.{Held, state};
 ghost use Rattle.sql_records.specs.declared.meta.Meta.{Meta as Numbers};
 ghost use Rattle.sql_records.specs.Held.{IsTrusted, Finds, LeavesSite, MayLeaveIn};
 ghost use Rattle.sql_records.specs.Keeping.{Opens};
-ghost use Rattle.sql_records.specs.Opening.{IsAfterStop};
+ghost use Rattle.sql_records.specs.Opening.{IsAfterStop, IsFoundAfterStop};
 
 use super::Records;
 use crate::fault::OpenFault;
@@ -38,14 +38,15 @@ impl<S: Alter + Reopen + Drop> Records<S> {
     ///
     /// What is found is a database that may be left: so after an Ok of `append` it is the list with the entry,
     /// after its first error that or the list before, and the numbers are those of `init`. Where each one that may
-    /// be left is a site's and reads, only memory or the disk can stand in the way. `None` where the store does
-    /// not come back.
+    /// be left is a site's and reads, only memory or the disk can stand in the way. Each error is that of an open of
+    /// the database that came back, and `None` where none did.
     pub fn open_after_stop(
         alloc: Global,
         conn: Connection<S>,
     ) -> Result<(Records<S>, Vec<Entry>, Meta), Option<OpenFault>>
         ensures found { IfOk result (λ it. IsTrusted S.Store it.0 → Finds (state S.Store conn) it.2 it.1.items) }
         ensures numbers { IfOk result (λ it. IsTrusted S.Store it.0 → (meta : Numbers) → LeavesSite (state S.Store conn) meta → it.2 ≡ meta) }
+        ensures fault { IfErr result (λ fault. IfSome fault (IsFoundAfterStop S.Store conn)) }
         ensures opens { IfErr result (λ fault. (after : Held S) × (HasCleanDisk (state S.Store after) → (meta : Numbers) → LeavesSite (state S.Store conn) meta → Opens (MayLeaveIn (state S.Store conn)) → IsAfterStop fault)) }
     {
         let Some(again) = come_back(alloc, conn) else {

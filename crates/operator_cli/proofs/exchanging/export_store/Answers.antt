@@ -9,6 +9,8 @@ use Rattle.site_desk.specs.SiteView.{office_of, site_of}
 use Rattle.operator_cli.specs.Exchanged.{IsDueText, site_in}
 use Rattle.operator_cli.specs.Printed.{Printed}
 use Rattle.operator_cli.specs.Printed.{IsSentText}
+use Rattle.operator_cli.specs.Opened.{IsIllegal, IsRefused}
+use Rattle.operator_cli.proofs.EndLaws.{if_back}
 use Rattle.operator_cli.proofs.PrintLaws.{ends_printed, refused_if_none}
 use Rattle.operator_cli.proofs.exchanging.export_store.Goals as goal
 
@@ -42,3 +44,14 @@ returns-in-Ok-clause-same g c clean =
     let conn_is = c.close.ensures ∙ ap (λ (k : Kept g.row.S.Denot). k.conn) c.into_keeper.ensures in
     let trusted : IsTrusted g.S.Store c.in-Ok.book.keeper = subst (λ (conn : Held g.row.S.Denot). HasCleanDisk (state g.S.Store conn)) conn_is clean in
     ap (λ (conn : Held g.row.S.Denot). (state g.S.Store conn).now) conn_is ∙ c.in-Ok.ensures.same trusted
+
+pub returns-in-Err-clause-illegal : goal.returns-in-Err-clause-illegal
+returns-in-Err-clause-illegal g c =
+    if_back c.in-Err.conn (IsRefused g.S.Store c.args.conn c.in-Err.fault) (λ after. IsIllegal g.S.Store c.args.conn after c.in-Err.fault) _ c.in-Err.ensures.fault
+    (λ after found clean meta has illegal. (c.in-Err.fault, found, c.ended-in-Err.ensures.line, c.ended-in-Err.ensures.status))
+
+pub returns-in-Ok-clause-illegal : goal.returns-in-Ok-clause-illegal
+returns-in-Ok-clause-illegal g c clean meta has illegal =
+    let conn_is = c.close.ensures ∙ ap (λ (k : Kept g.row.S.Denot). k.conn) c.into_keeper.ensures in
+    let trusted : IsTrusted g.S.Store c.in-Ok.book.keeper = subst (λ (conn : Held g.row.S.Denot). HasCleanDisk (state g.S.Store conn)) conn_is clean in
+    absurd (illegal ((c.in-Ok.ensures.book trusted).legal meta has))

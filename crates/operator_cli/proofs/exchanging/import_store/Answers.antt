@@ -11,6 +11,8 @@ use Rattle.operator_cli.specs.declared.status.Status.TheVariants.{Refused}
 use Rattle.operator_cli.specs.Exchanged.{told_of_bytes}
 use Rattle.operator_cli.specs.Printed.{Printed, IsTellingOf}
 use Rattle.operator_cli.specs.Printed.{IsTakenText}
+use Rattle.operator_cli.specs.Opened.{IsIllegal, IsRefused}
+use Rattle.operator_cli.proofs.EndLaws.{if_back}
 use Rattle.operator_cli.proofs.PrintLaws.{ends_printed, ends_as, if_some_map, refused_if_none}
 use Rattle.operator_cli.proofs.exchanging.import_store.Goals as goal
 
@@ -48,3 +50,14 @@ returns-in-Ok-clause-kept g c clean refused =
     ap (λ (conn : Held g.row.S.Denot). (state g.S.Store conn).now) conn_is
     ∙ ap (λ (k : Kept g.row.S.Denot). (state g.S.Store k.conn).now) unchanged
     ∙ c.in-Ok.ensures.same (c.write_taken-came.ensures.trusted after)
+
+pub returns-in-Err-clause-illegal : goal.returns-in-Err-clause-illegal
+returns-in-Err-clause-illegal g c =
+    if_back c.in-Err.conn (IsRefused g.S.Store c.args.conn c.in-Err.fault) (λ after. IsIllegal g.S.Store c.args.conn after c.in-Err.fault) _ c.in-Err.ensures.fault
+    (λ after found clean meta has illegal. (c.in-Err.fault, found, c.ended-in-Err.ensures.line, c.ended-in-Err.ensures.status))
+
+pub returns-in-Ok-clause-illegal : goal.returns-in-Ok-clause-illegal
+returns-in-Ok-clause-illegal g c clean meta has illegal =
+    let conn_is = c.close.ensures ∙ ap (λ (k : Kept g.row.S.Denot). k.conn) c.into_keeper.ensures in
+    let after : IsTrusted g.S.Store c.write_taken-came.new.book.keeper = subst (λ (conn : Held g.row.S.Denot). HasCleanDisk (state g.S.Store conn)) conn_is clean in
+    absurd (illegal ((c.in-Ok.ensures.book (c.write_taken-came.ensures.trusted after)).legal meta has))

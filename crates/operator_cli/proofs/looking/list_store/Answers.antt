@@ -1,10 +1,14 @@
-use Rattle.std.proofs.Common.{ap, subst, ◌∙◌}
-use Rattle.std.specs.Prelude.{List, IfOk}
+use Rattle.std.proofs.Common.{◌⊎◌, inl, inr, ap, sym, subst, ◌∙◌}
+use Rattle.std.specs.Prelude.{List, IfOk, IfErr}
 use Rattle.sqlite.specs.State.{HasCleanDisk}
 use Rattle.sqlite.specs.Held.{Held, state}
 use Rattle.book_core.specs.declared.entry.Entry.{Entry}
 use Rattle.sql_records.specs.Held.{IsTrusted, Kept, kept_in, history_in}
 use Rattle.operator_cli.specs.Printed.{Printed, IsListText, IsListIn}
+use Rattle.operator_cli.specs.declared.store_fault.StoreFault.{StoreFault}
+use Rattle.operator_cli.specs.declared.store_fault.StoreFault.TheVariants as write
+use Rattle.operator_cli.specs.Opened.{EndsOpened, IsIllegal, IsLookupEnd, IsRefused}
+use Rattle.operator_cli.proofs.EndLaws.{fails_for, weaker, if_back}
 use Rattle.operator_cli.proofs.PrintLaws.{ends_printed, ok_unless_failed, refused_if_none}
 use Rattle.operator_cli.proofs.looking.list_store.Goals as goal
 
@@ -38,3 +42,34 @@ returns-in-Err-clause-lost g c none = record {
   told = c.ended-in-Err.ensures.line;
   failed = c.ended-in-Err.ensures.status;
 }
+
+pub returns-in-Err-clause-illegal : goal.returns-in-Err-clause-illegal
+returns-in-Err-clause-illegal g c =
+    if_back c.in-Err.conn (IsRefused g.S.Store c.args.conn c.in-Err.fault) (λ after. IsIllegal g.S.Store c.args.conn after c.in-Err.fault) _ c.in-Err.ensures.fault
+    (λ after found clean meta has illegal. (c.in-Err.fault, found, c.ended-in-Err.ensures.line, c.ended-in-Err.ensures.status))
+
+pub returns-in-Ok-clause-illegal : goal.returns-in-Ok-clause-illegal
+returns-in-Ok-clause-illegal g c clean meta has illegal =
+    let trusted : IsTrusted g.S.Store c.write_listed-came.new.records = subst (λ (conn : Held g.row.S.Denot). HasCleanDisk (state g.S.Store conn)) c.close.ensures clean in
+    let before = subst (IsTrusted g.S.Store) c.into_keeper-records.ensures (c.write_listed-came.ensures.trusted trusted) in
+    absurd (illegal ((c.in-Ok.ensures.book before).legal meta has))
+
+pub returns-in-Err-clause-cause : goal.returns-in-Err-clause-cause
+returns-in-Err-clause-cause g c =
+    if_back c.in-Err.conn (IsRefused g.S.Store c.args.conn c.in-Err.fault) (λ after. IsIllegal g.S.Store c.args.conn after c.in-Err.fault) _ c.in-Err.ensures.fault
+    (λ after found clean failed. (c.in-Err.fault, inl found, c.ended-in-Err.ensures.line))
+
+pub returns-in-Ok-clause-cause : goal.returns-in-Ok-clause-cause
+returns-in-Ok-clause-cause g c clean =
+    let trusted : IsTrusted g.S.Store c.write_listed-came.new.records = subst (λ (conn : Held g.row.S.Denot). HasCleanDisk (state g.S.Store conn)) c.close.ensures clean in
+    let before = subst (IsTrusted g.S.Store) c.into_keeper-records.ensures (c.write_listed-came.ensures.trusted trusted) in
+    let first = c.args.conn in
+    let opened = c.into_keeper-records.result.conn in
+    let last = c.close.result in
+    let same = ap (λ (k : Kept g.row.S.Denot). (state g.S.Store k.conn).now) c.into_keeper-records.ensures ∙ c.in-Ok.ensures.same before in
+    let sound = ap (λ (k : Kept g.row.S.Denot). k.failures) c.into_keeper-records.ensures ∙ c.in-Ok.ensures.open in
+    let P : StoreFault → Type 0 = λ fault. IsIllegal g.S.Store first last fault ⊎ EndsOpened g.S.Store first IsLookupEnd last fault in
+    let ends : (fault : StoreFault) → IsLookupEnd (state g.S.Store opened) (state g.S.Store last) fault → P fault = λ fault e. inr (record { opened = opened; same = same; legal = (c.in-Ok.ensures.book before).legal; ended = e }) in
+    let fault = subst (λ (conn : Held g.row.S.Denot). IfErr c.write_listed-came.result (IsLookupEnd (state g.S.Store opened) (state g.S.Store conn))) (sym c.close.ensures) (c.write_listed-came.ensures.fault sound trusted) in
+    fails_for P (g.E.Write.contents c.args.err.now) (g.E.Write.contents c.ended.new.err) c.write_listed-came.result c.ended.result (weaker _ P c.write_listed-came.result ends fault) (ends write.Write tt)
+    c.write_listed-came.ensures.ends c.ended.ensures.line c.ended.ensures.flush

@@ -6,6 +6,8 @@ use Rattle.operator_cli.specs.declared.status.Status.{Status}
 use Rattle.operator_cli.specs.declared.status.Status.TheVariants.{Done, Refused}
 use Rattle.sql_records.specs.Layout.{has_our_table}
 use Rattle.operator_cli.specs.Printed.{IsMadeText}
+use Rattle.operator_cli.specs.Opened.{IsMakeEnd}
+use Rattle.operator_cli.proofs.EndLaws.{fails_for}
 use Rattle.operator_cli.proofs.PrintLaws.{ends_printed, ends_as}
 use Rattle.operator_cli.proofs.making.init_store.Goals as goal
 
@@ -21,3 +23,9 @@ returns-clause-made g c clean =
 pub returns-clause-kept : goal.returns-clause-kept
 returns-clause-kept g c =
     ends_as (λ (status : Status). status ≡ Refused → c.write_made-came.new.conn ≡ c.args.conn.now) c.write_made-came.result c.ended.result c.write_made-came.ensures.kept (λ e. absurd (let is = e in cc)) c.ended.ensures.status
+
+pub returns-clause-cause : goal.returns-clause-cause
+returns-clause-cause g c clean =
+    let numbers : Meta = record { me = c.args.me; sites = c.args.sites; limit = c.args.limit } in
+    fails_for (IsMakeEnd g.S.Store c.args.conn.now numbers) (g.E.Write.contents c.args.err.now) (g.E.Write.contents c.ended.new.err) c.write_made-came.result c.ended.result (c.write_made-came.ensures.fault clean) tt
+    c.write_made-came.ensures.ends c.ended.ensures.line c.ended.ensures.flush

@@ -6,6 +6,7 @@ use Rattle.operator_cli.specs.declared.status.Status.{Status}
 use Rattle.operator_cli.specs.declared.status.Status.TheVariants.{Done, Refused}
 use Rattle.sql_records.specs.Layout.{has_our_table}
 use Rattle.operator_cli.specs.Printed.{IsMadeText}
+use Rattle.operator_cli.proofs.EndLaws.{for_write, told_lives}
 use Rattle.operator_cli.proofs.PrintLaws.{told_printed, told_ends}
 use Rattle.operator_cli.proofs.making.write_made.Goals as goal
 
@@ -21,3 +22,9 @@ returns-in-Ok-clause-made g c clean =
 pub returns-in-Ok-clause-kept : goal.returns-in-Ok-clause-kept
 returns-in-Ok-clause-kept g c =
     told_ends (λ (status : Status). status ≡ Refused → c.make.new.conn ≡ c.args.conn.now) c.tell.result c.in-Ok.told c.tell.ensures.status c.in-Ok.ensures.kept
+
+pub returns-in-Ok-clause-fault : goal.returns-in-Ok-clause-fault
+returns-in-Ok-clause-fault g c clean = for_write c.tell.result _ c.tell.ensures.fault tt
+
+pub returns-in-Ok-clause-ends : goal.returns-in-Ok-clause-ends
+returns-in-Ok-clause-ends g c = told_lives c.tell.result c.in-Ok.told c.tell.ensures.status

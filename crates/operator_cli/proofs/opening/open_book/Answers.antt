@@ -1,6 +1,7 @@
-use Rattle.std.proofs.Common.{◌≡◌, ◌⊎◌, Bool, true, false, inl, inr, refl, ◌∙◌, ap, subst}
+use Rattle.std.proofs.Common.{◌≡◌, ◌⊎◌, Bool, true, false, inl, inr, refl, ◌∙◌, ap, subst, subst₂}
 use Rattle.sqlite.specs.State.{HasCleanDisk}
 use Rattle.sqlite.specs.Held.{state}
+use Rattle.book_core.specs.Legal.{IsLegal}
 use Rattle.sql_records.specs.Held.{history_in}
 use Rattle.site_desk.specs.SiteView.{office_of}
 use Rattle.operator_cli.proofs.opening.open_book.Goals as goal
@@ -10,6 +11,10 @@ returns-in-Ok-start-clause-book g c = λ clean.
     let trusted = subst (λ kept. HasCleanDisk (state g.S.Store kept.conn)) (c.in-Ok-start.ensures.keeper) clean in record {
       office = λ meta has. c.in-Ok-start.ensures.office ∙ ap office_of (c.in-Ok.ensures.given trusted meta has);
       history = c.in-Ok-start.ensures.history ∙ c.in-Ok.ensures.entries trusted ∙ ap (λ store. history_in store.trees) (c.in-Ok.ensures.same trusted);
+      legal = λ meta has.
+          let entries = c.in-Ok-start.ensures.history ∙ c.in-Ok.ensures.entries trusted ∙ ap (λ store. history_in store.trees) (c.in-Ok.ensures.same trusted) in
+          let office = c.in-Ok-start.ensures.office ∙ ap office_of (c.in-Ok.ensures.given trusted meta has) in
+          subst₂ IsLegal office entries c.in-Ok-start.ensures.legal;
       fresh = c.in-Ok-start.ensures.acknowledged;
     }
 

@@ -1,11 +1,12 @@
-use Rattle.std.proofs.Common.{arith, subst, sym}
+use Rattle.std.proofs.Common.{arith, inl, subst, sym}
 use Rattle.sqlite.specs.Held.{state}
-use Rattle.sql_records.proofs.QueryLemmas.{shown_meta, meta_same, meta_left, meta_select_fails}
+use Rattle.sql_records.proofs.QueryLemmas.{shown_meta, meta_same, meta_left, meta_select_fails, meta_select_undone}
 use Rattle.sql_records.proofs.FaultLemmas.{told_fault}
 use Rattle.sql_records.specs.Opening.{IsMetaFault}
 use Rattle.sql_records.specs.declared.fault.OpenFault.TheVariants.{Memory, Disk}
 use Rattle.sql_records.proofs.MetaLemmas.{alone, no_row, meta_found, numbers_are, meta_fault}
 use Rattle.sql_records.proofs.OpeningLemmas.{on_ok}
+use Rattle.sql_records.proofs.UndoneLemmas.{left_or_undone, on_err}
 use Rattle.sql_records.proofs.opening.read_meta.Goals as goal
 
 pub returns-in-Some-clause-meta : goal.returns-in-Some-clause-meta
@@ -59,3 +60,21 @@ returns-in-Err-clause-fault g c clean =
     let new = state g.S.Store c.query_all.new.self in
     let schema = c.requires (omega (arith, c.query_all.ensures.survives.clean)) in
     subst (IsMetaFault old new) (sym c.told.ensures) (told_fault (IsMetaFault old new) Memory Disk old new c.in-Err.error tt (λ h. h) (meta_select_fails old new c.in-Err.error schema (c.in-Err.ensures.err clean)))
+
+pub returns-in-Err-clause-undone : goal.returns-in-Err-clause-undone
+returns-in-Err-clause-undone g c clean =
+    meta_select_undone (state g.S.Store c.args.conn.now) (state g.S.Store c.query_all.new.self) c.in-Err.error (c.requires (omega (arith, c.query_all.ensures.survives.clean))) (c.in-Err.ensures.err clean)
+
+pub returns-in-Some-clause-undone : goal.returns-in-Some-clause-undone
+returns-in-Some-clause-undone g c clean =
+    let old = state g.S.Store c.args.conn.now in
+    let new = state g.S.Store c.query_all.new.self in
+    let schema = c.requires (omega (arith, c.query_all.ensures.survives.clean)) in
+    on_err c.read_numbers.result _ (left_or_undone old new (inl (meta_same old new _ schema (c.in-Ok.ensures.ok clean))))
+
+pub returns-in-None-clause-undone : goal.returns-in-None-clause-undone
+returns-in-None-clause-undone g c clean =
+    let old = state g.S.Store c.args.conn.now in
+    let new = state g.S.Store c.query_all.new.self in
+    let schema = c.requires (omega (arith, c.query_all.ensures.survives.clean)) in
+    left_or_undone old new (inl (meta_same old new _ schema (c.in-Ok.ensures.ok clean)))

@@ -1,9 +1,10 @@
-use Rattle.std.proofs.Common.{inr, ap, subst, ◌∙◌}
+use Rattle.std.proofs.Common.{inl, inr, ap, subst, ◌∙◌}
 use Rattle.std.specs.List.{filter_map}
 use Rattle.sqlite.specs.Held.{state}
 use Rattle.sql_records.specs.Layout.{IsOurs}
 use Rattle.sql_records.specs.Rows.{entry_of, AreWhole}
 use Rattle.sql_records.proofs.OpeningLemmas.{read_whole, read_history, rows_fault, if_err}
+use Rattle.sql_records.proofs.UndoneLemmas.{left_or_undone, left_after, on_err}
 use Rattle.sql_records.proofs.opening.read_records.Goals as goal
 
 pub returns-clause-entries : goal.returns-clause-entries
@@ -44,3 +45,17 @@ returns-in_err-meta-clause-foreign g c foreign outside clean =
 pub returns-in_err-entries-clause-foreign : goal.returns-in_err-entries-clause-foreign
 returns-in_err-entries-clause-foreign g c foreign outside clean =
     absurd (foreign (subst IsOurs c.schema.ensures.value (c.is_ours.ensures.0 c.if-not-is_ours.false)))
+
+pub returns-in_err-rows-clause-undone : goal.returns-in_err-rows-clause-undone
+returns-in_err-rows-clause-undone g c clean =
+    let first = state g.S.Store c.args.conn.now in
+    let mid = state g.S.Store c.read_meta.new.conn in
+    let last = state g.S.Store c.read_rows.new.conn in
+    on_err c.from_residual-in_err-rows.result _ (left_after first mid last (c.in_ok-meta.ensures.same (c.read_rows.ensures.clean clean)) (c.in_err-rows.ensures.undone clean))
+
+pub returns-in_err-entries-clause-undone : goal.returns-in_err-entries-clause-undone
+returns-in_err-entries-clause-undone g c clean =
+    let first = state g.S.Store c.args.conn.now in
+    let mid = state g.S.Store c.read_meta.new.conn in
+    let last = state g.S.Store c.read_rows.new.conn in
+    on_err c.from_residual-in_err-entries.result _ (left_after first mid last (c.in_ok-meta.ensures.same (c.read_rows.ensures.clean clean)) (left_or_undone mid last (inl (c.in_ok-rows.ensures.same clean))))

@@ -1,6 +1,6 @@
 use Rattle.std.proofs.Common.{arith, subst, sym}
 use Rattle.sqlite.specs.Held.{state}
-use Rattle.sql_records.proofs.QueryLemmas.{shown_rows, shown_same, entries_left, select_fails}
+use Rattle.sql_records.proofs.QueryLemmas.{shown_rows, shown_same, entries_left, select_fails, select_undone}
 use Rattle.sql_records.proofs.FaultLemmas.{told_fault}
 use Rattle.sql_records.specs.Opening.{IsStoreFault}
 use Rattle.sql_records.specs.declared.fault.OpenFault.TheVariants.{Memory, Disk}
@@ -28,3 +28,7 @@ returns-in-Err-clause-fault g c clean =
     let new = state g.S.Store c.query_all.new.self in
     let schema = c.requires (omega (arith, c.query_all.ensures.survives.clean)) in
     subst (IsStoreFault old new) (sym c.told.ensures) (told_fault (IsStoreFault old new) Memory Disk old new c.in-Err.error tt (λ h. h) (select_fails old new c.in-Err.error schema (c.in-Err.ensures.err clean)))
+
+pub returns-in-Err-clause-undone : goal.returns-in-Err-clause-undone
+returns-in-Err-clause-undone g c clean =
+    select_undone (state g.S.Store c.args.conn.now) (state g.S.Store c.query_all.new.self) c.in-Err.error (c.requires (omega (arith, c.query_all.ensures.survives.clean))) (c.in-Err.ensures.err clean)

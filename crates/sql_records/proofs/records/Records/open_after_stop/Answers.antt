@@ -29,3 +29,8 @@ returns-in-Err-clause-opens g c =
           let left = c.in-Some.ensures.left both.0 in
           after_stop first (state g.S.Store h.0) meta (site first.now.trees left) (c.in-Some.ensures.sound both.0) (opens _ (first.now.trees, left, refl)) c.in-Err.fault both.1,
     )
+
+pub returns-in-Err-clause-fault : goal.returns-in-Err-clause-fault
+returns-in-Err-clause-fault g c =
+    let h = c.in-Err.ensures.fault c.in-Some.ensures.outside in
+    (c.in-Some.again, h.0, λ clean. let both = h.1 clean in (c.in-Some.ensures.left both.0, both.1))
