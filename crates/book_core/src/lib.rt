@@ -11,6 +11,3 @@ pub use book::Book;
 pub use entry::Entry;
 pub use limit::Limit;
 pub use plan::{JoinFault, JoinPlan, Plan, PlanFault, Planned, ReplayFault};
-
-#[cfg(test)]
-mod tests;

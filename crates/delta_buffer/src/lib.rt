@@ -2,7 +2,5 @@
 #![tactic(auto)]
 
 pub mod intervals;
-#[cfg(test)]
-mod tests;
 
 pub use intervals::interval;

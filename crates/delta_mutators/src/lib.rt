@@ -8,8 +8,6 @@
 pub mod delta;
 pub mod laws;
 pub mod mutators;
-#[cfg(test)]
-mod tests;
 
 pub use delta::{Delta, Item};
 pub use mutators::{CellFull, announce, cession, refund, release, sale};

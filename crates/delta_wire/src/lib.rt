@@ -12,8 +12,6 @@ mod items;
 pub mod laws;
 mod lines;
 mod reading;
-#[cfg(test)]
-mod tests;
 mod text;
 mod writing;
 

@@ -4,6 +4,3 @@
 pub mod catalogue;
 
 pub use catalogue::Catalogue;
-
-#[cfg(test)]
-mod tests;

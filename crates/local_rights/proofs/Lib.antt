@@ -1,4 +1,3 @@
 pub mod CounterLaws
-pub mod OtherRows
 pub mod Sums
 pub mod Within

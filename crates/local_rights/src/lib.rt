@@ -10,6 +10,3 @@ pub mod rights;
 
 pub use report::Totals;
 pub use rights::{left, paper_value, totals};
-
-#[cfg(test)]
-mod tests;

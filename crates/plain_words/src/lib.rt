@@ -15,6 +15,3 @@ pub use number::{number_at, read_number};
 pub use text::{Text, put, put_number};
 pub use words::Words;
 pub use writing::{WriteFault, write_bytes};
-
-#[cfg(test)]
-mod tests;

@@ -12,6 +12,3 @@ pub use ledger::Ledger;
 pub use number::RequestNumber;
 pub use reply::{Kept, Reply, SaleState};
 pub use request::Request;
-
-#[cfg(test)]
-mod tests;

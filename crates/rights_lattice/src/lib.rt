@@ -13,8 +13,6 @@ pub mod mark;
 pub mod merge;
 pub mod rights;
 pub mod site;
-#[cfg(test)]
-mod tests;
 
 pub use cell::{Cell, owner};
 pub use event::Event;

@@ -26,7 +26,6 @@ pub(crate) fn answer<K: Keeper>(
     requires sound { K.failed keeper.old ≡ 0 }
     requires same { K.is_trusted keeper.old → book.old.history ≡ K.kept keeper.old }
     requires rests { K.is_trusted keeper.old → LeavesOnly book.old.history (K.may_leave keeper.old) }
-    requires rights { HasOwnRights book.old }
     ensures office { book.new.office ≡ book.old.office }
     ensures answer { IfOk result (IsAnswer (decision_in book.old number request.now) (length book.old.history)) }
     ensures entered { OnOk result (book.new.history ≡ extended (entry_in book.old number request.now) book.old.history) }

@@ -29,7 +29,6 @@ pub(crate) fn join<K: Keeper>(
     requires sound { K.failed keeper.old ≡ 0 }
     requires same { K.is_trusted keeper.old → book.old.history ≡ K.kept keeper.old }
     requires rests { K.is_trusted keeper.old → LeavesOnly book.old.history (K.may_leave keeper.old) }
-    requires rights { HasOwnRights book.old }
     ensures office { book.new.office ≡ book.old.office }
     ensures taken { IfOk result (IsTaken (verdict_of (join_decision book.old.office book.old.history peer delta)) (Some ack)) }
     ensures entered { OnOk result (book.new.history ≡ extended (entry_of_join book.old.office book.old.history peer delta) book.old.history) }

@@ -4,8 +4,6 @@
 pub mod checking;
 pub mod exchange;
 pub mod message;
-#[cfg(test)]
-mod tests;
 pub mod upto;
 
 pub use checking::{ack_for, check};

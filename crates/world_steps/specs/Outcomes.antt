@@ -1,12 +1,12 @@
 -- What each step is answered. (Our own.)
-use Rattle.std.specs.Prelude.{◌≡◌, ℕ, true, not, ◌&&◌, ◌==◌, if◌then◌else◌, nat_lt, List, [], ◌∷◌, length, slice_get, Option, Some, None, Result, Ok, Err, IsOk}
+use Rattle.std.specs.Prelude.{◌≡◌, ℕ, true, not, ◌&&◌, ◌==◌, if◌then◌else◌, nat_lt, List, [], ◌∷◌, length, slice_get, Option, Some, None, Result, Ok, Err, IsOk, IsSome, IsSomeAnd}
 use Rattle.book_core.specs.declared.plan.PlanFault.TheVariants as fault
 use Rattle.book_core.specs.Decision as decided
 use Rattle.book_core.specs.Decision.{decision}
 use Rattle.book_core.specs.Plans.{IsFresh}
 use Rattle.site_exchange.specs.declared.message.Message.{Message}
 use Rattle.site_exchange.specs.Exchange as exchange
-use Rattle.site_exchange.specs.Exchange.{Verdict, next}
+use Rattle.site_exchange.specs.Exchange.{Verdict, next, IsDelta}
 use Rattle.world_steps.specs.declared.step.Step.{Step}
 use Rattle.world_steps.specs.declared.step.Step.TheVariants.{Ask, Send, Deliver, Restart, Stop}
 use Rattle.world_steps.specs.declared.step.Outcome.{Outcome}
@@ -57,11 +57,11 @@ IsDue w step Memory = IsOk (outcome w step)
 IsDue w step NoSite = outcome w step ≡ Err NoSite
 IsDue w step NoMessage = outcome w step ≡ Err NoMessage
 
--- Making the step may want memory: a kept number and a full history want none, nor does starting anew, nor a stop
--- that stores nothing.
+-- Making the step may want memory: a kept number and a full history want none, nor does a send where nothing is due,
+-- a delivered acknowledgement, starting anew, or a stop that stores nothing.
 abbrev pub MayGrow : World → Step → Type 0
 MayGrow w (Ask i number request) = IsFresh (decision (office_at w i) (history_at w i) number request)
-MayGrow w (Send i j) = Unit {0}
-MayGrow w (Deliver index) = Unit {0}
+MayGrow w (Send i j) = IsSome (next i (site_at w i) j)
+MayGrow w (Deliver index) = IsSomeAnd (slice_get w.sent index) IsDelta
 MayGrow w (Restart i) = ⊥
 MayGrow w (Stop i in_hand stored) = stored ≡ true

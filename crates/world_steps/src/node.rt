@@ -3,7 +3,7 @@ ghost use Rattle.std.specs.Prelude.{◌≡◌, IfOk, IfErr, OnOk, OnErr, IsTrue,
 ghost use Rattle.book_core.specs.Decision.{decision, entry_of_ask};
 ghost use Rattle.book_core.specs.Plans.{IsFresh};
 ghost use Rattle.book_core.specs.Joining.{entry_of_join, join_decision};
-ghost use Rattle.site_exchange.specs.Exchange.{entry_of_take, verdict, verdict_of};
+ghost use Rattle.site_exchange.specs.Exchange.{IsDelta, entry_of_take, verdict, verdict_of};
 ghost use Rattle.site_exchange.specs.Taking.{HasReply, IsAsked, extended, site_after, stopped_with, with_entry};
 ghost use Rattle.world_steps.specs.World.{entry_of_input, is_there};
 ghost use Rattle.world_steps.specs.Outcomes.{answered};
@@ -79,6 +79,7 @@ pub fn take(node: &mut Node, alloc: Global, message: &Message) -> Result<Taken, 
     ensures office { node.new.book.office ≡ node.old.book.office }
     ensures taken { IfOk result (λ t. verdict_told t ≡ verdict node.old.book.office node.old.book.history message.now) }
     ensures changed { OnOk result (site_of node.new ≡ site_after (verdict node.old.book.office node.old.book.history message.now) message.now (site_of node.old)) }
+    ensures wanted { OnErr result (IsDelta message.now) }
     ensures unchanged { OnErr result (site_of node.new ≡ site_of node.old) }
 {
     match check(&node.book, message) {

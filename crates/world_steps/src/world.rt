@@ -2,7 +2,7 @@
 ghost use Rattle.std.specs.Prelude.{IfOk, IfErr, IfSome, OnOk, OnErr, IsSome, option_copied, ◌↔◌, ◌≡◌, ◌+◌, ◌<◌, ◌≤◌, ◌&&◌, ◌==◌, not, nat_lt, List, length, map, take, Ok, Err, IsTrue, IsSomeAnd, slice_get, vec_len, vec_capacity};
 ghost use Rattle.book_core.specs.History.{state_of};
 ghost use Rattle.book_core.specs.Operations.{outstanding, released, sold, refunded};
-ghost use Rattle.site_exchange.specs.Exchange.{receiver};
+ghost use Rattle.site_exchange.specs.Exchange.{IsDelta, receiver};
 ghost use Rattle.site_exchange.specs.Taking.{given_back};
 ghost use Rattle.world_steps.specs.World.{IsReached, after, all_operations, count, events_of, history_at, is_there, office_at, opening, run, totals_of, with_sent};
 ghost use Rattle.world_steps.specs.Promises.{HoldsPromises};
@@ -214,20 +214,21 @@ impl World {
     fn send(&mut self, alloc: Global, by: SiteId, to: SiteId) -> Result<Outcome, WorldFault>
         ensures outcome { IfOk result (λ o. outcome self.old (Step.Send by to) ≡ Ok o) }
         ensures fault { IfErr result (IsDue self.old (Step.Send by to)) }
+        ensures memory { result ≡ Err WorldFault.Memory → MayGrow self.old (Step.Send by to) }
         ensures made { OnOk result (self.new ≡ after self.old (Step.Send by to)) }
         ensures unchanged { OnErr result (self.new ≡ self.old) }
     {
         if !self.are_peers(by, to) {
             return Err(WorldFault::NoSite);
         }
-        if self.sent.reserve(1).is_err() {
-            return Err(WorldFault::Memory);
-        }
         let node = &self.sites[by.number() as usize];
         let due = match node.exchange.next(alloc, &node.book, to) {
             Ok(due) => due,
             Err(_) => return Err(WorldFault::Memory),
         };
+        if make_room(&mut self.sent, due.is_some()).is_err() {
+            return Err(WorldFault::Memory);
+        }
         let outcome = sent_as(&due, self.sent.len());
         put(&mut self.sent, due);
         Ok(outcome)
@@ -243,6 +244,7 @@ impl World {
     fn deliver(&mut self, alloc: Global, index: usize) -> Result<Outcome, WorldFault>
         ensures outcome { IfOk result (λ o. outcome self.old (Step.Deliver index) ≡ Ok o) }
         ensures fault { IfErr result (IsDue self.old (Step.Deliver index)) }
+        ensures memory { result ≡ Err WorldFault.Memory → MayGrow self.old (Step.Deliver index) }
         ensures made { OnOk result (self.new ≡ after self.old (Step.Deliver index)) }
         ensures unchanged { OnErr result (self.new ≡ self.old) }
     {
@@ -250,7 +252,8 @@ impl World {
             return Err(WorldFault::NoMessage);
         }
         // Room first, so that nothing can fail once the message is taken.
-        if self.sent.reserve(1).is_err() {
+        let is_answered = is_delta(&self.sent[index]);
+        if make_room(&mut self.sent, is_answered).is_err() {
             return Err(WorldFault::Memory);
         }
         let message = &self.sent[index];
@@ -382,6 +385,12 @@ fn receiver(message: &Message) -> SiteId
     }
 }
 
+fn is_delta(message: &Message) -> bool
+    ensures { IsTrue result ↔ IsDelta message.now }
+{
+    matches!(message, Message::Delta { .. })
+}
+
 // What sending is answered, where the message gets this index.
 fn sent_as(due: &Option<Message>, index: usize) -> Outcome
     ensures { result ≡ sent_as due.now index }
@@ -414,9 +423,18 @@ fn given_back(taken: &Taken, message: &Message) -> Option<Message>
     }
 }
 
+// Makes room for a message, if one is to be put.
+fn make_room(sent: &mut Vec<Message>, is_put: bool) -> Result<(), AllocError>
+    ensures items { sent.new.items ≡ sent.old.items }
+    ensures ok { OnOk result (IsTrue is_put → vec_len sent.new < vec_capacity sent.new) }
+    ensures wanted { OnErr result (IsTrue is_put) }
+{
+    if is_put { sent.reserve(1) } else { Ok(()) }
+}
+
 // Puts the message, if there is one, at the end of those that were sent.
 fn put(sent: &mut Vec<Message>, message: Option<Message>)
-    requires { vec_len sent.old < vec_capacity sent.old }
+    requires { IsSome message → vec_len sent.old < vec_capacity sent.old }
     ensures { sent.new.items ≡ with_sent sent.old.items message }
 {
     if let Some(message) = message {

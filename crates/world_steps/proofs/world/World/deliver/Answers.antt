@@ -18,31 +18,31 @@ pub index_mut-node-requires : goal.index_mut-node-requires
 index_mut-node-requires c =
     let below : c.number.result < length c.self.inside.sites.items =
     receiver_below c.self.inside.sites.items c.self.inside.sent.items c.args.index c.number.result c.index-message.result.now c.self.invariant
-    (message_at c.self.inside.sent.items c.reserve.new.self.items c.args.index c.index-message.result.now c.reserve.ensures.items (search rules) c.index-message.ensures) (c.number.ensures.number ∙ c.receiver.ensures) in
+    (message_at c.self.inside.sent.items c.make_room.new.sent.items c.args.index c.index-message.result.now c.make_room.ensures.items (search rules) c.index-message.ensures) (c.number.ensures.number ∙ c.receiver.ensures) in
     search rules
 
 node_in_err : (c : goal.In-Err) → slice_get c.self.inside.sites.items c.number.result ≡ Some c.index_mut-node.result.now
 node_in_err c =
     found_at c.self.inside.sites.items c.number.result c.index_mut-node.result.now
     (receiver_below c.self.inside.sites.items c.self.inside.sent.items c.args.index c.number.result c.index-message.result.now c.self.invariant
-    (message_at c.self.inside.sent.items c.reserve.new.self.items c.args.index c.index-message.result.now c.reserve.ensures.items (search rules) c.index-message.ensures) (c.number.ensures.number ∙ c.receiver.ensures))
+    (message_at c.self.inside.sent.items c.make_room.new.sent.items c.args.index c.index-message.result.now c.make_room.ensures.items (search rules) c.index-message.ensures) (c.number.ensures.number ∙ c.receiver.ensures))
     c.index_mut-node.ensures.value
 
 pub invariant_of-self-in-Err : goal.invariant_of-self-in-Err
 invariant_of-self-in-Err c =
-    subst (λ (sent : List Message). IsKept (slice_set c.self.inside.sites.items c.number.result c.take.new.node) sent) (sym c.reserve.ensures.items)
+    subst (λ (sent : List Message). IsKept (slice_set c.self.inside.sites.items c.number.result c.take.new.node) sent) (sym c.make_room.ensures.items)
     (kept_same c.self.inside.sites.items c.self.inside.sent.items c.number.result c.index_mut-node.result.now c.take.new.node c.self.invariant (node_in_err c) c.in-Err.ensures.office c.in-Err.ensures.unchanged)
 
 pub returns-in-Err-clause-unchanged : goal.returns-in-Err-clause-unchanged
 returns-in-Err-clause-unchanged c =
-    ap (world_of (slice_set c.self.inside.sites.items c.number.result c.take.new.node)) c.reserve.ensures.items
+    ap (world_of (slice_set c.self.inside.sites.items c.number.result c.take.new.node)) c.make_room.ensures.items
     ∙ same_world c.self.inside.sites.items c.self.inside.sent.items c.number.result c.index_mut-node.result.now c.take.new.node (node_in_err c) c.in-Err.ensures.office c.in-Err.ensures.unchanged
     ∙ c.self.view_is
 
 given : (c : goal.After-put) → IsDelivered c.self.inside.sites.items c.self.inside.sent.items (slice_set c.self.inside.sites.items c.number.result c.take.new.node) (with_sent c.self.inside.sent.items (given_back (verdict_told c.in-Ok.taken) c.index-message.result.now)) c.args.index (taken_as (verdict_told c.in-Ok.taken) (length c.self.inside.sent.items))
 given c =
     let sent_is : slice_get c.self.inside.sent.items c.args.index ≡ Some c.index-message.result.now =
-    message_at c.self.inside.sent.items c.reserve.new.self.items c.args.index c.index-message.result.now c.reserve.ensures.items (search rules) c.index-message.ensures in
+    message_at c.self.inside.sent.items c.make_room.new.sent.items c.args.index c.index-message.result.now c.make_room.ensures.items (search rules) c.index-message.ensures in
     let to : c.number.result ≡ receiver c.index-message.result.now = c.number.ensures.number ∙ c.receiver.ensures in
     deliver_gives c.self.inside.sites.items c.self.inside.sent.items c.args.index c.number.result c.index-message.result.now c.index_mut-node.result.now c.take.new.node c.in-Ok.taken
     c.self.invariant sent_is to (receiver_below c.self.inside.sites.items c.self.inside.sent.items c.args.index c.number.result c.index-message.result.now c.self.invariant sent_is to)
@@ -50,7 +50,7 @@ given c =
 
 sent_now : (c : goal.After-put) → with_sent c.self.inside.sent.items (given_back (verdict_told c.in-Ok.taken) c.index-message.result.now) ≡ c.put.new.sent.items
 sent_now c =
-    (λ k. with_sent (sym c.reserve.ensures.items k) (sym c.given_back-ack.ensures k)) ∙ sym c.put.ensures
+    (λ k. with_sent (sym c.make_room.ensures.items k) (sym c.given_back-ack.ensures k)) ∙ sym c.put.ensures
 
 pub invariant_of-self-2 : goal.invariant_of-self-2
 invariant_of-self-2 c = subst (λ (sent : List Message). IsKept (slice_set c.self.inside.sites.items c.number.result c.take.new.node) sent) (sent_now c) (given c).kept

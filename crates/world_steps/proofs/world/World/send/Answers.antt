@@ -22,7 +22,7 @@ made c =
     (peer_below c.self.inside.sites.items c.self.inside.sent.items c.number.result c.args.to there) c.index-node.ensures there c.in-Ok.ensures.message
 
 sent_is : (c : goal.After-put) → with_sent c.self.inside.sent.items c.in-Ok.due ≡ c.put.new.sent.items
-sent_is c = ap (λ (sent : List Message). with_sent sent c.in-Ok.due) (sym c.reserve.ensures.items) ∙ sym c.put.ensures
+sent_is c = ap (λ (sent : List Message). with_sent sent c.in-Ok.due) (sym c.make_room.ensures.items) ∙ sym c.put.ensures
 
 pub invariant_of-self-2 : goal.invariant_of-self-2
 invariant_of-self-2 c = subst (λ (sent : List Message). IsKept c.self.inside.sites.items sent) (sent_is c) (made c).kept

@@ -1,19 +1,18 @@
-use crate::Catalogue;
+use event_catalogue::Catalogue;
 use rights_lattice::Event;
-use std::test::Fail;
 
 #[test]
-fn names_in_the_order_of_first_knowing(rt: HostRuntime) -> Result<(), Fail> {
+fn names_in_the_order_of_first_knowing(rt: HostRuntime) {
     let gala = Event::read(b"gala").expect(&rt, "a name");
     let opera = Event::read(b"opera").expect(&rt, "a name");
     let mass = Event::read(b"mass").expect(&rt, "a name");
     let mut catalogue = Catalogue::new(rt.alloc());
     assert!(rt; !catalogue.has(opera));
 
-    catalogue.reserve(&[opera])?;
+    catalogue.reserve(&[opera]).expect(&rt, "memory");
     catalogue.add(opera);
     let names = [gala, opera, mass, gala];
-    catalogue.reserve(&names)?;
+    catalogue.reserve(&names).expect(&rt, "memory");
     catalogue.join(&names);
     assert_eq!(rt; catalogue.len(), 3);
     for (k, want) in [Some(opera), Some(gala), Some(mass), None]
@@ -23,5 +22,4 @@ fn names_in_the_order_of_first_knowing(rt: HostRuntime) -> Result<(), Fail> {
         assert_eq!(rt; catalogue.at(k), *want, "at {k}");
     }
     assert!(rt; catalogue.has(mass));
-    Ok(())
 }

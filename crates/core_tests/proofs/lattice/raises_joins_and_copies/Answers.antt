@@ -1,7 +1,8 @@
-use Rattle.std.proofs.Common.{◌≡◌, ◌≤◌, ◌+◌, ℕ, Bool, true, false, cond, length, ap, arith}
+use Rattle.std.proofs.Common.{◌≡◌, ◌≤◌, ◌+◌, ℕ, Bool, true, false, cond, length, ap, subst, arith}
+use Rattle.std.specs.Prelude.{OnOk}
 use Rattle.rights_lattice.specs.Cells.{Cells, Valued, all_zero, raise, marks_of}
 use Rattle.rights_lattice.proofs.MissingLaws.{missing_le-marks, length-marks_of-all_zero, length-marks_of-raise}
-use Rattle.rights_lattice.proofs.tests.raises_joins_and_copies.Goals as goal
+use Rattle.core_tests.proofs.lattice.raises_joins_and_copies.Goals as goal
 
 one_at_most : (b : Bool) (n k : ℕ) → n ≤ k + cond b 1 0 → n ≤ k + 1
 one_at_most true n k h = h
@@ -19,6 +20,7 @@ two_marks W X Y Z m n p q r s =
 pub join-requires-clause-room : goal.join-requires-clause-room
 join-requires-clause-room g c =
     let most = missing_le-marks c.raise-3.new.self.cells c.raise-2.new.self.cells in
-    let two = two_marks _ _ _ _ _ _ c.new-there.ensures.cells c.in_ok-reserve.ensures.cells c.raise.ensures.cells c.raise-2.ensures.cells in
+    let two = two_marks _ _ _ _ _ _ c.new-there.ensures.cells c.reserve.ensures.cells c.raise.ensures.cells c.raise-2.ensures.cells in
     let left = one_at_most _ _ _ c.raise-3.ensures.room in
-    omega (arith, most, two, left, c.in_ok-reserve-2.ensures.ok)
+    let ok : 3 ≤ c.reserve-2.new.self.room = subst (λ r. OnOk r (3 ≤ c.reserve-2.new.self.room)) c.expect-2.ensures c.reserve-2.ensures.ok in
+    omega (arith, most, two, left, ok)

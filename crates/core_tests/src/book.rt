@@ -1,27 +1,15 @@
 // What asking, joining and replaying answer, with ample memory; the expected values are worked out by hand.
-use crate::{Book, Entry, JoinFault, JoinPlan, Limit, Plan, PlanFault, ReplayFault};
+use crate::values::{book_of, event, gave, join, mark, number, seats, site};
+use book_core::{Book, Entry, JoinFault, Limit, Plan, PlanFault, ReplayFault};
 use delta_mutators::{Delta, Item, announce};
 use local_rights::Totals;
 use request_ledger::{Amount, Kept, Reply, Request, RequestNumber, SaleState};
-use rights_lattice::{Cell, Event, MAX_VALUE, Mark, SiteId, Sites};
-use std::alloc::{AllocError, Global};
+use rights_lattice::{Cell, Event, SiteId};
+use std::alloc::Global;
 use std::process::Abort;
-use std::test::Fail;
 
 // A request under its number, and what it is answered.
 type Row = (u64, Request, Result<Reply, PlanFault>);
-
-fn event(rt: &impl Abort, name: &[u8]) -> Event {
-    Event::read(name).expect(rt, "a name")
-}
-
-fn site(rt: &impl Abort, number: u64) -> SiteId {
-    SiteId::of(number).expect(rt, "a site")
-}
-
-fn seats(rt: &impl Abort, count: u64) -> Amount {
-    Amount::of(count).expect(rt, "an amount")
-}
 
 fn release(event: Event, amount: Amount) -> Request {
     Request::Release { event, amount }
@@ -33,30 +21,6 @@ fn sell(event: Event, amount: Amount) -> Request {
 
 fn cede(event: Event, amount: Amount, to: SiteId) -> Request {
     Request::Cede { event, amount, to }
-}
-
-fn gave(rt: &impl Abort, event: Event, by: u64, to: u64, value: u64) -> Mark {
-    assert!(rt; 1 <= value && value <= MAX_VALUE);
-    Mark {
-        event,
-        cell: Cell::Gave {
-            by: site(rt, by),
-            to: site(rt, to),
-        },
-        value,
-    }
-}
-
-fn number(rt: &impl Abort, asked: u64) -> RequestNumber {
-    RequestNumber::of(asked).expect(rt, "a request number")
-}
-
-fn book_of(rt: &impl Abort, alloc: Global, me: u64, count: u64, limit: u64) -> Book {
-    let me = site(rt, me);
-    let sites = Sites::of(count).expect(rt, "a count");
-    let limit = Limit::of(limit).expect(rt, "a limit");
-    assert!(rt; me.number() < sites.count());
-    Book::new(alloc, me, sites, limit)
 }
 
 // Plans the request and enters what is new.
@@ -86,27 +50,13 @@ fn ask_each(rt: &impl Abort, alloc: Global, book: &mut Book, rows: &[Row]) {
     }
 }
 
-// Plans the delta and enters it where it is new, which the answer tells.
-fn join(book: &mut Book, peer: SiteId, delta: Delta) -> Result<bool, JoinFault> {
-    match book.plan_join(peer, delta) {
-        Ok(JoinPlan::NothingNew) => Ok(false),
-        Ok(JoinPlan::New(planned)) => {
-            book.enter(planned);
-            Ok(true)
-        }
-        Err(refused) => {
-            let (_delta, fault) = refused;
-            Err(fault)
-        }
-    }
-}
-
-fn delta_of(alloc: Global, items: &[Item]) -> Result<Delta, AllocError> {
+fn delta_of(rt: &impl Abort, alloc: Global, items: &[Item]) -> Delta {
     let mut delta = Delta::empty(alloc);
     for item in items {
-        delta = delta.join(alloc, &Delta::of(alloc, *item)?)?;
+        let one = Delta::of(alloc, *item).expect(rt, "memory");
+        delta = delta.join(alloc, &one).expect(rt, "memory");
     }
-    Ok(delta)
+    delta
 }
 
 fn deliver(
@@ -116,10 +66,9 @@ fn deliver(
     peer: u64,
     items: &[Item],
     want: Result<bool, JoinFault>,
-) -> Result<(), AllocError> {
-    let delta = delta_of(alloc, items)?;
+) {
+    let delta = delta_of(rt, alloc, items);
     assert_eq!(rt; join(book, site(rt, peer), delta), want, "from {peer}");
-    Ok(())
 }
 
 // The first of two sites after each kind of request and each refusal but of a full cell and a full history.
@@ -173,7 +122,7 @@ fn busy_book(rt: &impl Abort, alloc: Global) -> Book {
 }
 
 #[test]
-fn requests_and_their_refusals(rt: HostRuntime) -> Result<(), Fail> {
+fn requests_and_their_refusals(rt: HostRuntime) {
     let gala = event(&rt, b"gala");
     let book = busy_book(&rt, rt.alloc());
     assert_eq!(rt; book.len(), 15);
@@ -189,12 +138,23 @@ fn requests_and_their_refusals(rt: HostRuntime) -> Result<(), Fail> {
         to: site(&rt, 1),
     };
     assert_eq!(rt; book.cell(gala, ceded), 4);
+}
+
+#[test]
+fn events_that_are_known(rt: HostRuntime) {
+    let gala = event(&rt, b"gala");
+    let book = busy_book(&rt, rt.alloc());
     assert!(rt; book.knows(gala) && !book.knows(event(&rt, b"expo")));
     assert_eq!(rt; book.event_count(), 1);
     assert_eq!(rt; book.event_at(0), Some(gala));
     assert_eq!(rt; book.event_at(1), None);
+}
+
+#[test]
+fn sales_and_replies_that_are_kept(rt: HostRuntime) {
+    let book = busy_book(&rt, rt.alloc());
     let sold = SaleState {
-        event: gala,
+        event: event(&rt, b"gala"),
         seats: seats(&rt, 5),
         given_back: 5,
     };
@@ -207,11 +167,32 @@ fn requests_and_their_refusals(rt: HostRuntime) -> Result<(), Fail> {
         reply: Reply::Done,
     };
     assert_eq!(rt; book.kept(number(&rt, 10)), Some(refund));
-    Ok(())
 }
 
 #[test]
-fn greatest_cell_value(rt: HostRuntime) -> Result<(), Fail> {
+fn entries_tell_their_deltas(rt: HostRuntime) {
+    let gala = event(&rt, b"gala");
+    let book = busy_book(&rt, rt.alloc());
+    let released = book.entry(1).expect(&rt, "an entry").delta();
+    assert!(rt; released.names().is_empty());
+    let mark = mark(&rt, gala, gave(&rt, 0, 0), 5);
+    assert_eq!(rt; released.marks(), [mark].as_slice());
+    let refused = book.entry(3).expect(&rt, "an entry").delta();
+    assert!(rt; refused.names().is_empty() && refused.marks().is_empty());
+}
+
+#[test]
+fn limits_of_a_history(rt: HostRuntime) {
+    for (entries, is_one) in [(0, false), (1, true), (1_000_000, true), (1_000_001, false)] {
+        let limit = Limit::of(entries).map(|limit| limit.entries());
+        let want = if is_one { Some(entries) } else { None };
+        assert_eq!(rt; limit, want, "{entries} entries");
+    }
+    assert_eq!(rt; Limit::greatest().entries(), Limit::MAX);
+}
+
+#[test]
+fn greatest_cell_value(rt: HostRuntime) {
     let gala = event(&rt, b"gala");
     let one = seats(&rt, 1);
     let all = seats(&rt, 1_000_000_000_000);
@@ -231,11 +212,10 @@ fn greatest_cell_value(rt: HostRuntime) -> Result<(), Fail> {
         ],
     );
     assert_eq!(rt; book.left(gala), 1_000_000_000_000);
-    Ok(())
 }
 
 #[test]
-fn history_limit(rt: HostRuntime) -> Result<(), Fail> {
+fn history_limit(rt: HostRuntime) {
     let gala = event(&rt, b"gala");
     let mut book = book_of(&rt, rt.alloc(), 0, 2, 3);
     ask_each(
@@ -255,67 +235,75 @@ fn history_limit(rt: HostRuntime) -> Result<(), Fail> {
             ),
         ],
     );
-    let delta = delta_of(rt.alloc(), &[announce(event(&rt, b"expo"))])?;
-    assert_eq!(rt; join(&mut book, site(&rt, 1), delta), Err(JoinFault::Full));
+    let news = [announce(event(&rt, b"expo"))];
+    deliver(&rt, rt.alloc(), &mut book, 1, &news, Err(JoinFault::Full));
     assert_eq!(rt; book.len(), 3);
-    Ok(())
+}
+
+// The book of the second of two sites, which was sent 100 released seats, of which 40 were ceded to it.
+fn told_book(rt: &impl Abort, alloc: Global, gala: Event) -> Book {
+    let sent = [
+        announce(gala),
+        Item::Cell(mark(rt, gala, gave(rt, 0, 0), 100)),
+        Item::Cell(mark(rt, gala, gave(rt, 0, 1), 40)),
+    ];
+    let mut book = book_of(rt, alloc, 1, 2, 1000);
+    deliver(rt, alloc, &mut book, 0, &sent, Ok(true));
+    deliver(rt, alloc, &mut book, 0, &sent, Ok(false));
+    deliver(rt, alloc, &mut book, 1, &sent, Err(JoinFault::UnknownSite));
+    deliver(rt, alloc, &mut book, 2, &sent, Err(JoinFault::UnknownSite));
+    book
 }
 
 #[test]
-fn delta_delivered_twice_and_forged(rt: HostRuntime) -> Result<(), Fail> {
+fn delta_delivered_twice(rt: HostRuntime) {
     let gala = event(&rt, b"gala");
-    let alloc = rt.alloc();
-    let forged = gave(&rt, gala, 1, 1, 7);
-    let sent = [
-        announce(gala),
-        Item::Cell(gave(&rt, gala, 0, 0, 100)),
-        Item::Cell(gave(&rt, gala, 0, 1, 40)),
+    let book = told_book(&rt, rt.alloc(), gala);
+    assert_eq!(rt; book.len(), 1);
+    assert_eq!(rt; book.left(gala), 40);
+}
+
+#[test]
+fn forged_deltas(rt: HostRuntime) {
+    let gala = event(&rt, b"gala");
+    let forged = mark(&rt, gala, gave(&rt, 1, 1), 7);
+    let above_the_own_row = [
+        Item::Cell(mark(&rt, gala, gave(&rt, 0, 0), 101)),
+        Item::Cell(forged),
     ];
-    let above_the_own_row = [Item::Cell(gave(&rt, gala, 0, 0, 101)), Item::Cell(forged)];
-    let of_no_site = [Item::Cell(gave(&rt, gala, 0, 7, 3))];
-    let foreign_row = JoinFault::ForeignRow { mark: forged };
-    let mut book = book_of(&rt, alloc, 1, 2, 1000);
-    deliver(&rt, alloc, &mut book, 0, &sent, Ok(true))?;
-    deliver(&rt, alloc, &mut book, 0, &sent, Ok(false))?;
+    let of_no_site = [Item::Cell(mark(&rt, gala, gave(&rt, 0, 7), 3))];
+    let foreign_row = Err(JoinFault::ForeignRow { mark: forged });
+    let no_site = Err(JoinFault::UnknownSite);
+    let mut book = told_book(&rt, rt.alloc(), gala);
     deliver(
         &rt,
-        alloc,
+        rt.alloc(),
         &mut book,
         0,
         &above_the_own_row,
-        Err(foreign_row),
-    )?;
-    deliver(
-        &rt,
-        alloc,
-        &mut book,
-        0,
-        &of_no_site,
-        Err(JoinFault::UnknownSite),
-    )?;
-    deliver(&rt, alloc, &mut book, 1, &sent, Err(JoinFault::UnknownSite))?;
-    deliver(&rt, alloc, &mut book, 2, &sent, Err(JoinFault::UnknownSite))?;
+        foreign_row,
+    );
+    deliver(&rt, rt.alloc(), &mut book, 0, &of_no_site, no_site);
     assert_eq!(rt; book.len(), 1);
     assert_eq!(rt; book.left(gala), 40);
-    Ok(())
 }
 
 // The entries of the book, where the reply at the forged place is another.
-fn entries_of(alloc: Global, book: &Book, forged: Option<usize>) -> Result<Vec<Entry>, AllocError> {
+fn entries_of(rt: &impl Abort, alloc: Global, book: &Book, forged: Option<usize>) -> Vec<Entry> {
     let mut entries = Vec::new(alloc);
     for place in 0..book.len() {
         let Some(entry) = book.entry(place) else {
             break;
         };
-        let mut entry = entry.copy(alloc)?;
+        let mut entry = entry.copy(alloc).expect(rt, "memory");
         if forged == Some(place) {
             if let Entry::Asked { reply, .. } = &mut entry {
                 *reply = Reply::CellFull;
             }
         }
-        entries.push(entry)?;
+        entries.push(entry).expect(rt, "memory");
     }
-    Ok(entries)
+    entries
 }
 
 fn replay_of(alloc: Global, book: &Book, entries: Vec<Entry>) -> Result<Book, ReplayFault> {
@@ -324,17 +312,21 @@ fn replay_of(alloc: Global, book: &Book, entries: Vec<Entry>) -> Result<Book, Re
 
 #[test]
 fn history_is_replayed(rt: HostRuntime) {
-    let alloc = rt.alloc();
     let gala = event(&rt, b"gala");
     let refund = number(&rt, 10);
-    let book = busy_book(&rt, alloc);
-    let entries = entries_of(alloc, &book, None).expect(&rt, "memory");
-    let again = replay_of(alloc, &book, entries).ok().expect(&rt, "a book");
+    let book = busy_book(&rt, rt.alloc());
+    let entries = entries_of(&rt, rt.alloc(), &book, None);
+    let again = replay_of(rt.alloc(), &book, entries).expect(&rt, "a book");
     assert_eq!(rt; again.len(), 15);
     assert_eq!(rt; again.left(gala), 0);
     assert_eq!(rt; again.totals(gala), book.totals(gala));
     assert_eq!(rt; again.kept(refund), book.kept(refund));
-    let forged = entries_of(alloc, &book, Some(3)).expect(&rt, "memory");
-    let fault = replay_of(alloc, &book, forged).err();
+}
+
+#[test]
+fn forged_entry_is_named(rt: HostRuntime) {
+    let book = busy_book(&rt, rt.alloc());
+    let forged = entries_of(&rt, rt.alloc(), &book, Some(3));
+    let fault = replay_of(rt.alloc(), &book, forged).err();
     assert_eq!(rt; fault, Some(ReplayFault::IllegalAt { place: 3 }));
 }

@@ -1,6 +1,5 @@
-use crate::{Amount, Kept, Ledger, Reply, Request, RequestNumber, SaleState};
+use request_ledger::{Amount, Kept, Ledger, Reply, Request, RequestNumber, SaleState};
 use rights_lattice::Event;
-use std::test::Fail;
 
 #[test]
 fn amounts_and_numbers_have_limits(rt: HostRuntime) {
@@ -19,7 +18,7 @@ fn amounts_and_numbers_have_limits(rt: HostRuntime) {
 }
 
 #[test]
-fn refund_once_at_the_seller(rt: HostRuntime) -> Result<(), Fail> {
+fn refund_once_at_the_seller(rt: HostRuntime) {
     let event = Event::read(b"gala").expect(&rt, "a name");
     let seats = Amount::of(3).expect(&rt, "an amount");
     let sale = RequestNumber::of(7).expect(&rt, "a number");
@@ -28,7 +27,7 @@ fn refund_once_at_the_seller(rt: HostRuntime) -> Result<(), Fail> {
     assert_eq!(rt; ledger.sale(sale), None);
     assert_eq!(rt; ledger.len(), 0);
 
-    ledger.reserve()?;
+    ledger.reserve().expect(&rt, "memory");
     assert_eq!(rt; ledger.kept(sale), None);
     let sell = Request::Sell {
         event,
@@ -42,7 +41,7 @@ fn refund_once_at_the_seller(rt: HostRuntime) -> Result<(), Fail> {
     };
     assert_eq!(rt; ledger.sale(sale), Some(sold));
 
-    ledger.reserve()?;
+    ledger.reserve().expect(&rt, "memory");
     assert_eq!(rt; ledger.kept(refund), None);
     ledger.keep(refund, 1, Request::Refund { sale }, Reply::Done);
     let given_back = SaleState {
@@ -59,5 +58,4 @@ fn refund_once_at_the_seller(rt: HostRuntime) -> Result<(), Fail> {
     };
     assert_eq!(rt; ledger.kept(refund), Some(kept));
     assert_eq!(rt; ledger.len(), 2);
-    Ok(())
 }

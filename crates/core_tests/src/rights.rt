@@ -1,10 +1,9 @@
-use crate::{Totals, left, paper_value, totals};
+use local_rights::{Totals, left, paper_value, totals};
 use rights_lattice::{Cell, Event, Mark, Rights, Sites};
-use std::test::Fail;
 
 // The first site released 100 seats and ceded 30 of them; the second sold 25 and took 2 back.
 #[test]
-fn cession_reaches_the_other_site(rt: HostRuntime) -> Result<(), Fail> {
+fn cession_reaches_the_other_site(rt: HostRuntime) {
     let event = Event::read(b"gala").expect(&rt, "a name");
     let sites = Sites::of(2).expect(&rt, "a count");
     let giver = sites.site(0);
@@ -18,7 +17,7 @@ fn cession_reaches_the_other_site(rt: HostRuntime) -> Result<(), Fail> {
         to: taker,
     };
     let mut rights = Rights::new(rt.alloc(), sites);
-    rights.reserve(4)?;
+    rights.reserve(4).expect(&rt, "memory");
     rights.raise(Mark {
         event,
         cell: released,
@@ -48,7 +47,6 @@ fn cession_reaches_the_other_site(rt: HostRuntime) -> Result<(), Fail> {
     };
     assert_eq!(rt; totals(&rights, event), want);
     assert_eq!(rt; paper_value(&rights, event), 77);
-    Ok(())
 }
 
 // The cells of the seller after five seats were released, sold, given back and sold again.

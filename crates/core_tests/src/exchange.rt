@@ -1,51 +1,20 @@
 //! What two books tell each other, worked out by hand, with ample memory.
 
-use crate::{CheckFault, Exchange, Message, Upto, ack_for, check};
-use book_core::{Book, JoinFault, JoinPlan, Limit, Plan};
+use crate::values::{book_of, event, gave, join, mark, number, seats, site};
+use book_core::{Book, JoinFault, Plan};
 use delta_mutators::{Delta, Item};
-use request_ledger::{Amount, Request, RequestNumber};
-use rights_lattice::{Cell, Event, MAX_VALUE, Mark, SiteId, Sites};
+use request_ledger::Request;
+use rights_lattice::{Cell, Event, Mark, SiteId};
+use site_exchange::{CheckFault, Exchange, Message, Upto, ack_for, check};
 use std::alloc::Global;
 use std::process::Abort;
-
-fn event(rt: &impl Abort, name: &[u8]) -> Event {
-    Event::read(name).expect(rt, "a name")
-}
-
-fn site(rt: &impl Abort, number: u64) -> SiteId {
-    SiteId::of(number).expect(rt, "a site")
-}
-
-fn seats(rt: &impl Abort, count: u64) -> Amount {
-    Amount::of(count).expect(rt, "an amount")
-}
 
 fn upto(rt: &impl Abort, entries: u64) -> Upto {
     Upto::of(entries).expect(rt, "a length")
 }
 
-fn gave(rt: &impl Abort, by: u64, to: u64) -> Cell {
-    Cell::Gave {
-        by: site(rt, by),
-        to: site(rt, to),
-    }
-}
-
-fn mark(rt: &impl Abort, event: Event, cell: Cell, value: u64) -> Mark {
-    assert!(rt; 1 <= value && value <= MAX_VALUE);
-    Mark { event, cell, value }
-}
-
-fn book_of(rt: &impl Abort, alloc: Global, me: u64, count: u64) -> Book {
-    let me = site(rt, me);
-    let sites = Sites::of(count).expect(rt, "a count");
-    assert!(rt; me.number() < sites.count());
-    Book::new(alloc, me, sites, Limit::greatest())
-}
-
 fn ask(rt: &impl Abort, alloc: Global, book: &mut Book, asked: u64, request: &Request) {
-    let number = RequestNumber::of(asked).expect(rt, "a request number");
-    match book.plan(alloc, number, request) {
+    match book.plan(alloc, number(rt, asked), request) {
         Ok(Plan::New(planned)) => book.enter(planned),
         _ => panic!(rt; "request {asked}"),
     }
@@ -54,21 +23,6 @@ fn ask(rt: &impl Abort, alloc: Global, book: &mut Book, asked: u64, request: &Re
 fn ask_each(rt: &impl Abort, alloc: Global, book: &mut Book, rows: &[(u64, Request)]) {
     for (asked, request) in rows {
         ask(rt, alloc, book, *asked, request);
-    }
-}
-
-// Plans the delta and enters it where it is new, which the answer tells.
-fn join(book: &mut Book, peer: SiteId, delta: Delta) -> Result<bool, JoinFault> {
-    match book.plan_join(peer, delta) {
-        Ok(JoinPlan::NothingNew) => Ok(false),
-        Ok(JoinPlan::New(planned)) => {
-            book.enter(planned);
-            Ok(true)
-        }
-        Err(refused) => {
-            let (_delta, fault) = refused;
-            Err(fault)
-        }
     }
 }
 
@@ -110,7 +64,7 @@ fn header(message: &Message) -> (u64, u64, u64) {
 
 // The first of two sites: 100 seats released, 40 of them ceded to the other, a sale of 61 refused.
 fn ceding_book(rt: &impl Abort, alloc: Global, event: Event) -> Book {
-    let mut book = book_of(rt, alloc, 0, 2);
+    let mut book = book_of(rt, alloc, 0, 2, 1_000_000);
     let rows = [
         (1, Request::Announce { event }),
         (
@@ -142,7 +96,7 @@ fn ceding_book(rt: &impl Abort, alloc: Global, event: Event) -> Book {
 
 // The second of two sites: 50 seats released, 8 of them sold, a sale of 100 refused.
 fn selling_book(rt: &impl Abort, alloc: Global, event: Event) -> Book {
-    let mut book = book_of(rt, alloc, 1, 2);
+    let mut book = book_of(rt, alloc, 1, 2, 1_000_000);
     let rows = [
         (1, Request::Announce { event }),
         (
@@ -204,7 +158,7 @@ fn cession_reaches_the_other_site(rt: HostRuntime) {
     let gala = event(&rt, b"gala");
     let book = ceding_book(&rt, rt.alloc(), gala);
     let message = first_message(&rt, rt.alloc(), &book, 1);
-    let mut other = book_of(&rt, rt.alloc(), 1, 2);
+    let mut other = book_of(&rt, rt.alloc(), 1, 2, 1_000_000);
     assert_eq!(rt; check(&other, &message), Ok(()));
     assert_eq!(rt; deliver(&rt, rt.alloc(), &mut other, &message), Ok(true));
     assert_eq!(rt; deliver(&rt, rt.alloc(), &mut other, &message), Ok(false));

@@ -1,7 +1,8 @@
 // Each public call with ample memory; the expected values are worked out by hand.
-use crate::{Cell, Event, Mark, Rights, SiteId, Sites, key_order, merge_marks, merge_names, owner};
+use rights_lattice::{
+    Cell, Event, Mark, Rights, SiteId, Sites, key_order, merge_marks, merge_names, owner,
+};
 use std::cmp::Ordering;
-use std::test::Fail;
 
 #[test]
 fn sites_have_limits(rt: HostRuntime) {
@@ -23,23 +24,22 @@ fn sites_have_limits(rt: HostRuntime) {
 }
 
 #[test]
-fn names_of_events(rt: HostRuntime) -> Result<(), Fail> {
-    let name = Event::read(b"gala-2026").ok_or("a name")?;
+fn names_of_events(rt: HostRuntime) {
+    let name = Event::read(b"gala-2026").expect(&rt, "a name");
     assert_eq!(rt; name.bytes(), b"gala-2026".as_slice());
     assert!(rt; Event::read(b"").is_none());
     assert!(rt; Event::read(b"Gala").is_none());
     assert!(rt; Event::read(b"a-name-of-exactly-32-bytes-here-").is_some());
     assert!(rt; Event::read(b"a-name-of-more-than-32-bytes-here").is_none());
-    Ok(())
 }
 
 #[test]
-fn owners_and_the_order_of_marks(rt: HostRuntime) -> Result<(), Fail> {
+fn owners_and_the_order_of_marks(rt: HostRuntime) {
     let (by, to) = (
-        SiteId::of(1).ok_or("a site")?,
-        SiteId::of(0).ok_or("a site")?,
+        SiteId::of(1).expect(&rt, "a site"),
+        SiteId::of(0).expect(&rt, "a site"),
     );
-    let event = Event::read(b"gala").ok_or("a name")?;
+    let event = Event::read(b"gala").expect(&rt, "a name");
     for cell in [Cell::Gave { by, to }, Cell::Used { by }, Cell::Back { by }] {
         assert!(rt; owner(cell) == by);
     }
@@ -57,15 +57,14 @@ fn owners_and_the_order_of_marks(rt: HostRuntime) -> Result<(), Fail> {
     assert!(rt; key_order(&given, &sold) == Ordering::Less);
     assert!(rt; key_order(&sold, &given) == Ordering::Greater);
     assert!(rt; key_order(&sold, &sold) == Ordering::Equal);
-    Ok(())
 }
 
 // The state of two sites once the first released 100 seats and ceded 40 and then 10 of them to the second.
 #[test]
-fn copy_of_ceded_rights(rt: HostRuntime) -> Result<(), Fail> {
-    let sites = Sites::of(2).ok_or("two sites")?;
+fn copy_of_ceded_rights(rt: HostRuntime) {
+    let sites = Sites::of(2).expect(&rt, "two sites");
     let (first, second) = (sites.site(0), sites.site(1));
-    let event = Event::read(b"gala").ok_or("a name")?;
+    let event = Event::read(b"gala").expect(&rt, "a name");
     let released = Cell::Gave {
         by: first,
         to: first,
@@ -75,7 +74,7 @@ fn copy_of_ceded_rights(rt: HostRuntime) -> Result<(), Fail> {
         to: second,
     };
     let mut rights = Rights::new(rt.alloc(), sites);
-    rights.reserve(2)?;
+    rights.reserve(2).expect(&rt, "memory");
     rights.raise(Mark {
         event,
         cell: released,
@@ -86,21 +85,20 @@ fn copy_of_ceded_rights(rt: HostRuntime) -> Result<(), Fail> {
         cell: ceded,
         value: 50,
     });
-    let copy = rights.copy(rt.alloc())?;
+    let copy = rights.copy(rt.alloc()).expect(&rt, "memory");
     assert_eq!(rt; copy.sites().count(), 2);
     assert_eq!(rt; copy.get(event, released), 100);
     assert_eq!(rt; copy.get(event, ceded), 50);
     assert!(rt; copy.at_or_below(&rights) && rights.at_or_below(&copy));
-    Ok(())
 }
 
 #[test]
-fn raises_joins_and_copies(rt: HostRuntime) -> Result<(), Fail> {
-    let sites = Sites::of(2).ok_or("two sites")?;
+fn raises_joins_and_copies(rt: HostRuntime) {
+    let sites = Sites::of(2).expect(&rt, "two sites");
     let (first, second) = (sites.site(0), sites.site(1));
-    let concert = Event::read(b"concert").ok_or("a name")?;
+    let concert = Event::read(b"concert").expect(&rt, "a name");
     let mut there = Rights::new(rt.alloc(), sites);
-    there.reserve(2)?;
+    there.reserve(2).expect(&rt, "memory");
     there.raise(Mark {
         event: concert,
         cell: Cell::Gave {
@@ -115,7 +113,7 @@ fn raises_joins_and_copies(rt: HostRuntime) -> Result<(), Fail> {
         value: 3,
     });
     let mut here = Rights::new(rt.alloc(), sites);
-    here.reserve(3)?;
+    here.reserve(3).expect(&rt, "memory");
     here.raise(Mark {
         event: concert,
         cell: Cell::Gave {
@@ -128,7 +126,7 @@ fn raises_joins_and_copies(rt: HostRuntime) -> Result<(), Fail> {
     here.join(&there);
     assert!(rt; there.at_or_below(&here));
     assert!(rt; !here.at_or_below(&there));
-    let copy = here.copy(rt.alloc())?;
+    let copy = here.copy(rt.alloc()).expect(&rt, "memory");
     assert_eq!(rt;
         copy.get(
             concert,
@@ -141,14 +139,13 @@ fn raises_joins_and_copies(rt: HostRuntime) -> Result<(), Fail> {
     );
     assert_eq!(rt; copy.get(concert, Cell::Used { by: second }), 3);
     assert_eq!(rt; copy.get(concert, Cell::Back { by: first }), 0);
-    Ok(())
 }
 
 #[test]
-fn merges_marks_and_names(rt: HostRuntime) -> Result<(), Fail> {
-    let site = SiteId::of(1).ok_or("a site")?;
-    let opera = Event::read(b"opera").ok_or("a name")?;
-    let ballet = Event::read(b"ballet").ok_or("a name")?;
+fn merges_marks_and_names(rt: HostRuntime) {
+    let site = SiteId::of(1).expect(&rt, "a site");
+    let opera = Event::read(b"opera").expect(&rt, "a name");
+    let ballet = Event::read(b"ballet").expect(&rt, "a name");
     let sold = Mark {
         event: opera,
         cell: Cell::Used { by: site },
@@ -164,13 +161,12 @@ fn merges_marks_and_names(rt: HostRuntime) -> Result<(), Fail> {
         cell: Cell::Used { by: site },
         value: 9,
     };
-    let same_cell = merge_marks(rt.alloc(), &[sold], &[sold_later])?;
+    let same_cell = merge_marks(rt.alloc(), &[sold], &[sold_later]).expect(&rt, "memory");
     assert_eq!(rt; same_cell.as_slice(), [sold_later].as_slice());
-    let two_cells = merge_marks(rt.alloc(), &[sold], &[earlier])?;
+    let two_cells = merge_marks(rt.alloc(), &[sold], &[earlier]).expect(&rt, "memory");
     assert_eq!(rt; two_cells.as_slice(), [earlier, sold].as_slice());
-    let names = merge_names(rt.alloc(), &[opera], &[ballet])?;
+    let names = merge_names(rt.alloc(), &[opera], &[ballet]).expect(&rt, "memory");
     assert_eq!(rt; names.as_slice(), [ballet, opera].as_slice());
-    let one_name = merge_names(rt.alloc(), &[opera], &[opera])?;
+    let one_name = merge_names(rt.alloc(), &[opera], &[opera]).expect(&rt, "memory");
     assert_eq!(rt; one_name.as_slice(), [opera].as_slice());
-    Ok(())
 }

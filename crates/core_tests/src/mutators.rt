@@ -1,16 +1,15 @@
 // Each public call with ample memory; the expected values are worked out by hand.
-use crate::{CellFull, Delta, Item, announce, cession, refund, release, sale};
+use delta_mutators::{CellFull, Delta, Item, announce, cession, refund, release, sale};
 use rights_lattice::{Cell, Event, MAX_VALUE, Mark, Rights, SiteId, Sites};
-use std::test::Fail;
 
 // The marks of 100 seats released, 40 of them ceded and then 10 more, of a sale of 5 and its refund.
 #[test]
-fn marks_of_operations(rt: HostRuntime) -> Result<(), Fail> {
-    let sites = Sites::of(2).ok_or("two sites")?;
+fn marks_of_operations(rt: HostRuntime) {
+    let sites = Sites::of(2).expect(&rt, "two sites");
     let (me, peer) = (sites.site(0), sites.site(1));
-    let gala = Event::read(b"gala").ok_or("a name")?;
+    let gala = Event::read(b"gala").expect(&rt, "a name");
     let mut rights = Rights::new(rt.alloc(), sites);
-    rights.reserve(1)?;
+    rights.reserve(1).expect(&rt, "memory");
     let released = Mark {
         event: gala,
         cell: Cell::Gave { by: me, to: me },
@@ -42,16 +41,15 @@ fn marks_of_operations(rt: HostRuntime) -> Result<(), Fail> {
     };
     assert_eq!(rt; sale(&rights, me, gala, 5), Ok(sold));
     assert_eq!(rt; refund(&rights, me, gala, 5), Ok(back));
-    Ok(())
 }
 
 #[test]
-fn cell_at_its_greatest_value(rt: HostRuntime) -> Result<(), Fail> {
-    let sites = Sites::of(1).ok_or("a site")?;
+fn cell_at_its_greatest_value(rt: HostRuntime) {
+    let sites = Sites::of(1).expect(&rt, "a site");
     let me = sites.site(0);
-    let gala = Event::read(b"gala").ok_or("a name")?;
+    let gala = Event::read(b"gala").expect(&rt, "a name");
     let mut rights = Rights::new(rt.alloc(), sites);
-    rights.reserve(1)?;
+    rights.reserve(1).expect(&rt, "memory");
     let all = Mark {
         event: gala,
         cell: Cell::Gave { by: me, to: me },
@@ -60,14 +58,13 @@ fn cell_at_its_greatest_value(rt: HostRuntime) -> Result<(), Fail> {
     assert_eq!(rt; release(&rights, me, gala, MAX_VALUE), Ok(all));
     rights.raise(all);
     assert_eq!(rt; release(&rights, me, gala, 1), Err(CellFull));
-    Ok(())
 }
 
 #[test]
-fn names_and_marks_are_put_at_the_end(rt: HostRuntime) -> Result<(), Fail> {
-    let site = SiteId::of(0).ok_or("a site")?;
-    let ballet = Event::read(b"ballet").ok_or("a name")?;
-    let opera = Event::read(b"opera").ok_or("a name")?;
+fn names_and_marks_are_put_at_the_end(rt: HostRuntime) {
+    let site = SiteId::of(0).expect(&rt, "a site");
+    let ballet = Event::read(b"ballet").expect(&rt, "a name");
+    let opera = Event::read(b"opera").expect(&rt, "a name");
     let sold = Mark {
         event: ballet,
         cell: Cell::Used { by: site },
@@ -76,21 +73,20 @@ fn names_and_marks_are_put_at_the_end(rt: HostRuntime) -> Result<(), Fail> {
     let mut delta = Delta::empty(rt.alloc());
     assert!(rt; delta.names().is_empty() && delta.marks().is_empty());
     if delta.rises(&Item::Cell(sold)) {
-        delta.push(Item::Cell(sold))?;
+        delta.push(Item::Cell(sold)).expect(&rt, "memory");
     }
     if delta.rises(&announce(opera)) {
-        delta.push(announce(opera))?;
+        delta.push(announce(opera)).expect(&rt, "memory");
     }
     assert!(rt; !delta.rises(&announce(ballet)) && !delta.rises(&announce(opera)));
     assert_eq!(rt; delta.names(), [opera].as_slice());
     assert_eq!(rt; delta.marks(), [sold].as_slice());
-    Ok(())
 }
 
 #[test]
-fn makes_joins_and_copies(rt: HostRuntime) -> Result<(), Fail> {
-    let site = SiteId::of(0).ok_or("a site")?;
-    let concert = Event::read(b"concert").ok_or("a name")?;
+fn makes_joins_and_copies(rt: HostRuntime) {
+    let site = SiteId::of(0).expect(&rt, "a site");
+    let concert = Event::read(b"concert").expect(&rt, "a name");
     let four = Mark {
         event: concert,
         cell: Cell::Used { by: site },
@@ -106,17 +102,16 @@ fn makes_joins_and_copies(rt: HostRuntime) -> Result<(), Fail> {
         cell: Cell::Back { by: site },
         value: 1,
     };
-    let known = Delta::of(rt.alloc(), announce(concert))?;
-    let sold = Delta::of(rt.alloc(), Item::Cell(four))?;
-    let sold_more = Delta::of(rt.alloc(), Item::Cell(six))?;
-    let first = known.join(rt.alloc(), &sold_more)?;
-    let both = first.join(rt.alloc(), &sold)?;
-    let mut copy = both.copy(rt.alloc())?;
+    let known = Delta::of(rt.alloc(), announce(concert)).expect(&rt, "memory");
+    let sold = Delta::of(rt.alloc(), Item::Cell(four)).expect(&rt, "memory");
+    let sold_more = Delta::of(rt.alloc(), Item::Cell(six)).expect(&rt, "memory");
+    let first = known.join(rt.alloc(), &sold_more).expect(&rt, "memory");
+    let both = first.join(rt.alloc(), &sold).expect(&rt, "memory");
+    let mut copy = both.copy(rt.alloc()).expect(&rt, "memory");
     assert_eq!(rt; copy.names(), [concert].as_slice());
     assert_eq!(rt; copy.marks(), [six].as_slice());
     assert!(rt; !copy.rises(&Item::Cell(four)));
     assert!(rt; copy.rises(&Item::Cell(back)));
-    copy.push(Item::Cell(back))?;
+    copy.push(Item::Cell(back)).expect(&rt, "memory");
     assert_eq!(rt; copy.marks(), [six, back].as_slice());
-    Ok(())
 }

@@ -1,8 +1,7 @@
 //! The texts that are named in the formats, with ample memory.
 
-use crate::{WireFault, delta_text, read_delta, read_message, write_message};
+use delta_wire::{WireFault, delta_text, read_delta, read_message, write_message};
 use plain_words::WriteFault;
-use std::test::Fail;
 
 const FIRST: &[u8] = b"delta 0 1 4\nname gala\ngave gala 0 0 100\ngave gala 0 1 40\nend\n";
 
@@ -46,7 +45,7 @@ fn fronts_are_truncated(rt: HostRuntime) {
 }
 
 #[test]
-fn texts_read_and_written(rt: HostRuntime) -> Result<(), Fail> {
+fn texts_read_and_written(rt: HostRuntime) {
     let texts = [
         FIRST,
         SECOND,
@@ -54,35 +53,33 @@ fn texts_read_and_written(rt: HostRuntime) -> Result<(), Fail> {
         b"delta 0 1 2\nname gala\ngave gala 0 0 100\nused gala 0 3\nend\n".as_slice(),
     ];
     for text in texts {
-        let message = read_message(rt.alloc(), text)?;
+        let message = read_message(rt.alloc(), text).expect(&rt, "a message");
         let mut out = Vec::new(rt.alloc());
-        write_message(&message, &mut out)?;
+        write_message(&message, &mut out).expect(&rt, "a text");
         assert_eq!(rt; out.as_slice(), text);
     }
-    Ok(())
 }
 
 #[test]
-fn short_writer_keeps_a_front(rt: HostRuntime) -> Result<(), Fail> {
-    let message = read_message(rt.alloc(), b"ack 1 0 3\nend\n")?;
+fn short_writer_keeps_a_front(rt: HostRuntime) {
+    let message = read_message(rt.alloc(), b"ack 1 0 3\nend\n").expect(&rt, "a message");
     let mut short = [0u8; 12];
     let written = write_message(&message, &mut short.as_mut_slice());
     assert_eq!(rt; written, Err(WriteFault));
     assert_eq!(rt; short.as_slice(), b"ack 1 0 3\nen".as_slice());
-    Ok(())
 }
 
 #[test]
-fn texts_of_deltas(rt: HostRuntime) -> Result<(), Fail> {
+fn texts_of_deltas(rt: HostRuntime) {
     for text in [
         "",
         "name gala\n",
         "name gala\ngave gala 0 0 100\nused gala 0 3\n",
     ] {
-        let delta = read_delta(rt.alloc(), text.as_bytes())?;
-        assert_eq!(rt; delta_text(rt.alloc(), &delta)?.as_str(), text);
+        let delta = read_delta(rt.alloc(), text.as_bytes()).expect(&rt, "a delta");
+        let written = delta_text(rt.alloc(), &delta).expect(&rt, "memory");
+        assert_eq!(rt; written.as_str(), text);
     }
     let cut = read_delta(rt.alloc(), b"name gala");
     assert_eq!(rt; cut.err(), Some(WireFault::Truncated));
-    Ok(())
 }
