@@ -1,6 +1,6 @@
 //! A session with the book of a site.
 
-ghost use Rattle.std.specs.Prelude.{◌≡◌, ◌⊎◌, None, IfOk, IfErr};
+ghost use Rattle.std.specs.Prelude.{◌≡◌, ◌⊎◌, None, IfOk, IfErr, IfSome};
 ghost use Rattle.desk_lines.specs.Reading.{session_line_of};
 ghost use Rattle.desk_lines.specs.Replies.{reply_line};
 ghost use Rattle.operator_cli.specs.Session.{answered_of, AnswersAsk, AnswersLine, RepliesTo, NextAsked, look_answer, shown_left, shown_totals};
