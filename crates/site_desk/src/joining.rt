@@ -12,7 +12,7 @@ ghost use Rattle.site_desk.specs.Answers.{IsTaken, IsTakeFault, LeavesEither};
 
 use crate::answer::Taken;
 use crate::storing::store;
-use book_core::{Book, JoinFault, JoinPlan};
+use book_core::{Book, JoinPlan};
 use delta_mutators::Delta;
 use rights_lattice::SiteId;
 use site_exchange::{Message, TakeFault};
@@ -54,12 +54,7 @@ pub(crate) fn join<K: Keeper>(
         },
         Err(refused) => {
             let (_delta, fault) = refused;
-            match fault {
-                JoinFault::UnknownSite => Err(TakeFault::UnknownSite),
-                JoinFault::ForeignRow { mark } => Err(TakeFault::ForeignRow { mark }),
-                JoinFault::Full => Err(TakeFault::Full),
-                JoinFault::Memory => Err(TakeFault::Memory),
-            }
+            Err(TakeFault::from(fault))
         }
     }
 }

@@ -21,7 +21,7 @@ use crate::joining::join;
 use book_core::{Book, Entry, ReplayFault};
 use request_ledger::{Request, RequestNumber};
 use rights_lattice::{Event, SiteId};
-use site_exchange::{CheckFault, Exchange, Message, TakeFault, check};
+use site_exchange::{Exchange, Message, TakeFault, check};
 use sql_records::{Keeper, Meta};
 use std::alloc::Global;
 use std::marker::Model;
@@ -188,12 +188,7 @@ impl<K: Keeper> SiteBook<K> {
         if self.is_closed {
             return Err(TakeFault::Closed);
         }
-        match check(&self.book, &message) {
-            Ok(()) => {}
-            Err(CheckFault::NotForMe) => return Err(TakeFault::NotForMe),
-            Err(CheckFault::UnknownSite) => return Err(TakeFault::UnknownSite),
-            Err(CheckFault::StrayAck { len }) => return Err(TakeFault::StrayAck { len }),
-        }
+        check(&self.book, &message)?;
         match message {
             Message::Ack { by, upto, .. } => {
                 self.exchange.ack(by, upto);

@@ -1,5 +1,6 @@
 //! Messages, and why one is not taken.
 use crate::upto::Upto;
+use book_core::JoinFault;
 use delta_mutators::Delta;
 use rights_lattice::{Mark, SiteId};
 use thiserror::Error;
@@ -63,4 +64,35 @@ pub enum TakeFault {
     /// The records failed.
     #[error("the records failed")]
     Store,
+}
+
+impl From<CheckFault> for TakeFault {
+    ghost use Rattle.std.specs.Prelude.{◌≡◌};
+    ghost use Rattle.site_exchange.specs.Exchange.{unchecked};
+
+    ghost from_gives = { λ check take. take ≡ unchecked check };
+
+    fn from(fault: CheckFault) -> TakeFault {
+        match fault {
+            CheckFault::NotForMe => TakeFault::NotForMe,
+            CheckFault::UnknownSite => TakeFault::UnknownSite,
+            CheckFault::StrayAck { len } => TakeFault::StrayAck { len },
+        }
+    }
+}
+
+impl From<JoinFault> for TakeFault {
+    ghost use Rattle.std.specs.Prelude.{◌≡◌};
+    ghost use Rattle.site_exchange.specs.Exchange.{unjoined};
+
+    ghost from_gives = { λ join take. take ≡ unjoined join };
+
+    fn from(fault: JoinFault) -> TakeFault {
+        match fault {
+            JoinFault::UnknownSite => TakeFault::UnknownSite,
+            JoinFault::ForeignRow { mark } => TakeFault::ForeignRow { mark },
+            JoinFault::Full => TakeFault::Full,
+            JoinFault::Memory => TakeFault::Memory,
+        }
+    }
 }

@@ -14,7 +14,7 @@ use book_core::{Book, Entry, JoinFault, JoinPlan, Plan, PlanFault};
 use delta_mutators::Delta;
 use request_ledger::{Reply, Request, RequestNumber};
 use rights_lattice::SiteId;
-use site_exchange::{CheckFault, Exchange, Message, TakeFault, check};
+use site_exchange::{Exchange, Message, TakeFault, check};
 use std::alloc::{AllocError, Global};
 
 /// One site of a world.
@@ -84,9 +84,7 @@ pub fn take(node: &mut Node, alloc: Global, message: &Message) -> Result<Taken, 
 {
     match check(&node.book, message) {
         Ok(()) => {}
-        Err(CheckFault::NotForMe) => return Ok(Taken::Refused(TakeFault::NotForMe)),
-        Err(CheckFault::UnknownSite) => return Ok(Taken::Refused(TakeFault::UnknownSite)),
-        Err(CheckFault::StrayAck { len }) => return Ok(Taken::Refused(TakeFault::StrayAck { len })),
+        Err(fault) => return Ok(Taken::Refused(TakeFault::from(fault))),
     }
     match message {
         Message::Ack { by, upto, .. } => {
@@ -116,12 +114,8 @@ fn join(book: &mut Book, peer: SiteId, delta: Delta) -> Result<Taken, AllocError
         Err(refused) => {
             let (_delta, fault) = refused;
             match fault {
-                JoinFault::UnknownSite => Ok(Taken::Refused(TakeFault::UnknownSite)),
-                JoinFault::ForeignRow { mark } => Ok(Taken::Refused(TakeFault::ForeignRow {
-                    mark,
-                })),
-                JoinFault::Full => Ok(Taken::Refused(TakeFault::Full)),
                 JoinFault::Memory => Err(AllocError),
+                fault => Ok(Taken::Refused(TakeFault::from(fault))),
             }
         }
     }
