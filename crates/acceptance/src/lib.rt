@@ -2,7 +2,11 @@
 #![tactic(auto)]
 
 #[cfg(test)]
+mod desk;
+#[cfg(test)]
 mod ends;
+#[cfg(test)]
+mod keepers;
 #[cfg(test)]
 mod lines;
 #[cfg(test)]
@@ -21,5 +25,7 @@ mod script_lines;
 mod scripts;
 #[cfg(test)]
 mod texts;
+#[cfg(test)]
+mod values;
 #[cfg(test)]
 mod worlds;

@@ -1,33 +1,18 @@
 //! The commands over the records of a site, in memory.
 
+use crate::values::{gala, number, seats, site};
 use book_core::Limit;
 use operator_cli::{
     Status, ask_store, export_store, find_store, import_store, init_store, list_store,
 };
-use request_ledger::{Amount, Reply, Request, RequestNumber};
-use rights_lattice::{Event, SiteId, Sites};
+use request_ledger::{Reply, Request};
+use rights_lattice::Sites;
 use site_desk::SiteBook;
 use sql_records::Records;
 use sqlite::{Alter, Connection};
 use std::alloc::Global;
 use std::process::Abort;
 use std::test::Fail;
-
-fn gala(rt: &impl Abort) -> Event {
-    Event::read(b"gala").expect(rt, "a name")
-}
-
-fn site(rt: &impl Abort, number: u64) -> SiteId {
-    SiteId::of(number).expect(rt, "a site")
-}
-
-fn number(rt: &impl Abort, number: u64) -> RequestNumber {
-    RequestNumber::of(number).expect(rt, "a number")
-}
-
-fn seats(rt: &impl Abort, seats: u64) -> Amount {
-    Amount::of(seats).expect(rt, "an amount")
-}
 
 // Makes the records of a site of two.
 fn init<S: Alter>(

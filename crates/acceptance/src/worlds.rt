@@ -1,55 +1,42 @@
 //! The steps of one site that sells, made one by one and as a list.
 
+use crate::values::{gala, number, seats, site};
 use book_core::{Limit, PlanFault};
 use local_rights::Totals;
-use request_ledger::{Amount, Reply, Request, RequestNumber};
-use rights_lattice::{Event, SiteId, Sites};
-use std::test::Fail;
+use request_ledger::{Reply, Request};
+use rights_lattice::Sites;
+use std::process::Abort;
 use world_steps::{Input, Outcome, Step, World, WorldFault};
 
-fn ask(number: u64, request: Request) -> Result<Step, Fail> {
-    let site = SiteId::of(0).ok_or("no site")?;
-    let number = RequestNumber::of(number).ok_or("no number")?;
-    Ok(Step::Ask {
-        site,
-        number,
+fn ask(rt: &impl Abort, by: u64, under: u64, request: Request) -> Step {
+    Step::Ask {
+        site: site(rt, by),
+        number: number(rt, under),
         request,
-    })
+    }
 }
 
-fn one_site(rt: &HostRuntime) -> Result<World, Fail> {
-    let sites = Sites::of(1).ok_or("no sites")?;
-    Ok(World::new(rt.alloc(), sites, Limit::greatest())?)
+fn world_of(rt: &(impl Abort + AllocGlobal), count: u64) -> World {
+    let sites = Sites::of(count).expect(rt, "a count");
+    World::new(rt.alloc(), sites, Limit::greatest()).expect(rt, "memory")
 }
 
 // announce 1 gala, release 2 gala 100, sell 3 gala 3
-fn selling(rt: &HostRuntime) -> Result<Vec<Step>, Fail> {
-    // Names a type inside of the steps, which the prover wants to see in this function.
-    let _: Option<Input> = None;
-    let event = Event::read(b"gala").ok_or("no event")?;
-    let released = Amount::of(100).ok_or("no amount")?;
-    let sold = Amount::of(3).ok_or("no amount")?;
-    let mut steps = Vec::new(rt.alloc());
-    steps.push(ask(1, Request::Announce { event })?)?;
-    steps.push(ask(
-        2,
-        Request::Release {
-            event,
-            amount: released,
-        },
-    )?)?;
-    steps.push(ask(
-        3,
-        Request::Sell {
-            event,
-            amount: sold,
-        },
-    )?)?;
-    Ok(steps)
-}
-
-fn gala() -> Result<Event, Fail> {
-    Ok(Event::read(b"gala").ok_or("no event")?)
+fn selling(rt: &impl Abort) -> [Step; 3] {
+    let event = gala(rt);
+    let released = Request::Release {
+        event,
+        amount: seats(rt, 100),
+    };
+    let sold = Request::Sell {
+        event,
+        amount: seats(rt, 3),
+    };
+    [
+        ask(rt, 0, 1, Request::Announce { event }),
+        ask(rt, 0, 2, released),
+        ask(rt, 0, 3, sold),
+    ]
 }
 
 const SOLD: Totals = Totals {
@@ -58,65 +45,84 @@ const SOLD: Totals = Totals {
     refunded: 0,
 };
 
-#[test]
-fn one_site_sells_step_by_step(rt: HostRuntime) -> Result<(), Fail> {
-    let mut world = one_site(&rt)?;
-    for step in selling(&rt)?.iter() {
+// The world of this many sites once the first made those steps.
+fn sold_world(rt: &(impl Abort + AllocGlobal), count: u64) -> World {
+    let mut world = world_of(rt, count);
+    for step in selling(rt) {
         assert_eq!(rt;
-            world.step(rt.alloc(), *step),
+            world.step(rt.alloc(), step),
             Ok(Outcome::Answered(Reply::Done))
         );
     }
-    assert_eq!(rt; world.totals(gala()?), SOLD);
-    let events = world.events(rt.alloc())?;
-    assert_eq!(rt; events.as_slice(), [gala()?].as_slice());
-    let site = SiteId::of(0).ok_or("no site")?;
-    let book = world.book(site).ok_or("no book")?;
-    assert_eq!(rt; book.left(gala()?), 97);
-    assert_eq!(rt; book.len(), 3);
-    Ok(())
+    world
 }
 
 #[test]
-fn one_site_sells_as_a_list(rt: HostRuntime) -> Result<(), Fail> {
+fn one_site_sells_step_by_step(rt: HostRuntime) {
+    let gala = gala(&rt);
+    let world = sold_world(&rt, 1);
+    assert_eq!(rt; world.totals(gala), SOLD);
+    let events = world.events(rt.alloc()).expect(&rt, "memory");
+    assert_eq!(rt; events.as_slice(), [gala].as_slice());
+    let book = world.book(site(&rt, 0)).expect(&rt, "a book");
+    assert_eq!(rt; book.left(gala), 97);
+    assert_eq!(rt; book.len(), 3);
+}
+
+#[test]
+fn one_site_sells_as_a_list(rt: HostRuntime) {
     // Names a type inside of the steps, which the prover wants to see in this function.
     let _: Option<Input> = None;
-    let mut world = one_site(&rt)?;
-    match world.run(rt.alloc(), selling(&rt)?) {
+    let mut world = world_of(&rt, 1);
+    let steps = Vec::from_array(rt.alloc(), selling(&rt)).expect(&rt, "memory");
+    match world.run(rt.alloc(), steps) {
         Ok(outcomes) => assert_eq!(rt; outcomes.len(), 3),
         Err(_) => panic!(rt; "the steps were made"),
     }
-    assert_eq!(rt; world.totals(gala()?), SOLD);
-    let other = SiteId::of(1).ok_or("no site")?;
-    let request = Request::Announce { event: gala()? };
-    let number = RequestNumber::of(1).ok_or("no number")?;
-    let step = Step::Ask {
-        site: other,
-        number,
-        request,
-    };
-    assert_eq!(rt; world.step(rt.alloc(), step), Err(WorldFault::NoSite));
-    let reused = ask(3, request)?;
+    assert_eq!(rt; world.totals(gala(&rt)), SOLD);
+}
+
+#[test]
+fn list_ends_at_the_first_step_that_is_not_made(rt: HostRuntime) {
+    // Names a type inside of the steps, which the prover wants to see in this function.
+    let _: Option<Input> = None;
+    let event = gala(&rt);
+    let mut world = world_of(&rt, 1);
+    let steps = [
+        ask(&rt, 0, 1, Request::Announce { event }),
+        ask(&rt, 1, 1, Request::Announce { event }),
+        ask(&rt, 0, 2, Request::Announce { event }),
+    ];
+    let steps = Vec::from_array(rt.alloc(), steps).expect(&rt, "memory");
+    match world.run(rt.alloc(), steps) {
+        Ok(_) => panic!(rt; "a step of no site"),
+        Err((place, fault)) => {
+            assert_eq!(rt; place, 1);
+            assert_eq!(rt; fault, WorldFault::NoSite);
+        }
+    }
+    let book = world.book(site(&rt, 0)).expect(&rt, "a book");
+    assert_eq!(rt; book.len(), 1);
+}
+
+#[test]
+fn refused_steps_change_nothing(rt: HostRuntime) {
+    let event = gala(&rt);
+    let mut world = sold_world(&rt, 1);
+    let strange = ask(&rt, 1, 1, Request::Announce { event });
+    assert_eq!(rt; world.step(rt.alloc(), strange), Err(WorldFault::NoSite));
+    let reused = ask(&rt, 0, 3, Request::Announce { event });
     assert_eq!(rt;
         world.step(rt.alloc(), reused),
         Ok(Outcome::Refused(PlanFault::Reused { place: 2 }))
     );
-    assert_eq!(rt; world.totals(gala()?), SOLD);
-    Ok(())
+    assert_eq!(rt; world.totals(event), SOLD);
 }
 
 #[test]
-fn two_sites_step_by_step(rt: HostRuntime) -> Result<(), Fail> {
-    let sites = Sites::of(2).ok_or("no sites")?;
-    let mut world = World::new(rt.alloc(), sites, Limit::greatest())?;
-    let by = SiteId::of(0).ok_or("no site")?;
-    let to = SiteId::of(1).ok_or("no site")?;
-    for step in selling(&rt)?.iter() {
-        assert_eq!(rt;
-            world.step(rt.alloc(), *step),
-            Ok(Outcome::Answered(Reply::Done))
-        );
-    }
+fn two_sites_step_by_step(rt: HostRuntime) {
+    let mut world = sold_world(&rt, 2);
+    let (by, to) = (site(&rt, 0), site(&rt, 1));
     let stop = |stored| Step::Stop {
         site: to,
         input: Input::Take { message: 0 },
@@ -141,9 +147,8 @@ fn two_sites_step_by_step(rt: HostRuntime) -> Result<(), Fail> {
     for (step, outcome) in made {
         assert_eq!(rt; world.step(rt.alloc(), step), outcome);
     }
-    assert_eq!(rt; world.totals(gala()?), SOLD);
-    let book = world.book(to).ok_or("no book")?;
-    assert_eq!(rt; book.totals(gala()?), SOLD);
-    assert_eq!(rt; book.left(gala()?), 0);
-    Ok(())
+    assert_eq!(rt; world.totals(gala(&rt)), SOLD);
+    let book = world.book(to).expect(&rt, "a book");
+    assert_eq!(rt; book.totals(gala(&rt)), SOLD);
+    assert_eq!(rt; book.left(gala(&rt)), 0);
 }

@@ -14,6 +14,3 @@ mod storing;
 pub use answer::{Answer, Seen, Taken};
 pub use fault::{AskFault, LookFault, NextFault};
 pub use site_book::SiteBook;
-
-#[cfg(test)]
-mod tests;

@@ -25,6 +25,3 @@ pub use lookup::{FindFault, Found, Listed};
 pub use meta::Meta;
 pub use opening::read_records;
 pub use records::Records;
-
-#[cfg(test)]
-mod tests;

@@ -1,36 +1,29 @@
-// What a site's book answers over a keeper in memory, worked out by hand, with ample memory.
+//! What a site's book answers over a keeper in memory, worked out by hand, with ample memory.
 ghost use Rattle.std.specs.Prelude.{◌≡◌, IfOk};
 
-use crate::{Answer, AskFault, LookFault, NextFault, Seen, SiteBook, Taken};
+use crate::values::{event, number, seats, site};
 use book_core::{Entry, Limit};
 use delta_mutators::{Delta, Item, announce};
 use local_rights::Totals;
-use request_ledger::{Amount, Reply, Request, RequestNumber};
-use rights_lattice::{Cell, Event, Mark, SiteId, Sites};
+use request_ledger::{Reply, Request};
+use rights_lattice::{Cell, Event, Mark, Sites};
+use site_desk::{Answer, AskFault, LookFault, NextFault, Seen, SiteBook, Taken};
 use site_exchange::{Message, TakeFault, Upto};
 use sql_records::{ListKeeper, Meta};
 use std::alloc::{AllocError, Global};
 use std::process::Abort;
-
-fn event(rt: &impl Abort, name: &[u8]) -> Event {
-    Event::read(name).expect(rt, "a name")
-}
-
-fn site(rt: &impl Abort, number: u64) -> SiteId {
-    SiteId::of(number).expect(rt, "a site")
-}
 
 fn upto(rt: &impl Abort, entries: u64) -> Upto {
     Upto::of(entries).expect(rt, "a length")
 }
 
 fn release(rt: &impl Abort, event: Event, count: u64) -> Request {
-    let amount = Amount::of(count).expect(rt, "an amount");
+    let amount = seats(rt, count);
     Request::Release { event, amount }
 }
 
 fn sell(rt: &impl Abort, event: Event, count: u64) -> Request {
-    let amount = Amount::of(count).expect(rt, "an amount");
+    let amount = seats(rt, count);
     Request::Sell { event, amount }
 }
 
@@ -88,8 +81,7 @@ fn ask(
     asked: u64,
     request: &Request,
 ) -> Result<Answer, AskFault> {
-    let number = RequestNumber::of(asked).expect(rt, "a request number");
-    book.ask(alloc, number, request)
+    book.ask(alloc, number(rt, asked), request)
 }
 
 fn answered(reply: Reply, place: usize, fresh: bool) -> Result<Answer, AskFault> {

@@ -1,27 +1,27 @@
-// What keepers answer, with ample memory.
+//! What keepers answer, with ample memory.
 ghost use Rattle.std.specs.Prelude.{◌≡◌, false};
 
-use crate::{
-    FindFault, Found, InitFault, KeepFault, Keeper, ListKeeper, Listed, Meta, OpenFault, Records,
-};
+use crate::values::{gala, number, seats, site};
 use book_core::{Entry, Limit};
 use delta_mutators::Delta;
 use delta_wire::read_delta;
-use request_ledger::{Amount, Reply, Request, RequestNumber};
-use rights_lattice::{Event, SiteId, Sites};
+use request_ledger::{Reply, Request, RequestNumber};
+use rights_lattice::Sites;
+use sql_records::{
+    FindFault, Found, InitFault, KeepFault, Keeper, ListKeeper, Listed, Meta, OpenFault, Records,
+};
 use sqlite::types::ValueRef;
 use sqlite::{Connection, MemStore, Row};
 use std::alloc::Global;
 use std::process::Abort;
-use std::test::Fail;
 
 #[test]
-fn second_append_fails_and_shuts(rt: HostRuntime) -> Result<(), Fail> {
+fn second_append_fails_and_shuts(rt: HostRuntime) {
     let alloc = rt.alloc();
     let mut keeper = ListKeeper::new(alloc);
     keeper.fail_at(2, true);
     let entry = Entry::Joined {
-        peer: SiteId::of(3).expect(&rt, "a site"),
+        peer: site(&rt, 3),
         delta: Delta::empty(alloc),
     };
     assert_eq!(rt; keeper.append(&entry), Ok(()));
@@ -30,23 +30,6 @@ fn second_append_fails_and_shuts(rt: HostRuntime) -> Result<(), Fail> {
     assert_eq!(rt; keeper.append(&entry), Err(KeepFault::Shut));
     let again = ListKeeper::from(alloc, keeper.into_entries());
     assert_eq!(rt; again.into_entries().len(), 2);
-    Ok(())
-}
-
-fn site(rt: &impl Abort, number: u64) -> SiteId {
-    SiteId::of(number).expect(rt, "a site")
-}
-
-fn gala(rt: &impl Abort) -> Event {
-    Event::read(b"gala").expect(rt, "a name")
-}
-
-fn seats(rt: &impl Abort, seats: u64) -> Amount {
-    Amount::of(seats).expect(rt, "seats")
-}
-
-fn number(rt: &impl Abort, number: u64) -> RequestNumber {
-    RequestNumber::of(number).expect(rt, "a request number")
 }
 
 fn delta(rt: &impl Abort, alloc: Global, text: &[u8]) -> Delta {

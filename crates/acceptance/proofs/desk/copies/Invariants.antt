@@ -1,5 +1,5 @@
 use Rattle.std.proofs.Common.{◌≡◌, take}
-use Rattle.site_desk.proofs.tests.copies.Given as goal
+use Rattle.acceptance.proofs.desk.copies.Given as goal
 
 abbrev pub invariant-loop-entry : goal.invariant-loop-entry
 invariant-loop-entry l = l.copies.items ≡ take l.entry-index l.entries
