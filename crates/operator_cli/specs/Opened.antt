@@ -70,6 +70,7 @@ module _ {S : Type 0} (g : Ghosts S) (conn : Held S) where
   pub record EndsOpened (Ends : State → State → StoreFault → Type 0) (after : Held S) (fault : StoreFault) : Type 0 where
     pub opened : Held S
     pub same : (state g opened).now ≡ (state g conn).now
+    pub limit : opened.step_limit ≡ conn.step_limit
     pub legal : (meta : Meta) → HasMeta meta (state g conn).now.trees → IsLegal (office_of meta) (history_in (state g conn).now.trees)
     pub ended : Ends (state g opened) (state g after) fault
 
