@@ -23,8 +23,9 @@ use Rattle.operator_cli.specs.declared.told.Told.{Told}
 use Rattle.operator_cli.specs.declared.told.Told.TheVariants.{Joined, NothingNew, Acked, NoSite, Nothing, TooLong, Unread, NotTaken}
 use Rattle.operator_cli.specs.Printed.{IsTellingOf}
 
--- the book is that of the records in this database, as they are opened: with their history, which is legal, and nothing acknowledged
+-- the book is that of the records in this database, which are a site's, as they are opened: with their history, which is legal, and nothing acknowledged
 pub record IsBookOf {K : Type 0} (db : Trees) (book : SiteView K) : Type 0 where
+  pub ours : (meta : Meta) × HasMeta meta db
   pub office : (meta : Meta) → HasMeta meta db → book.book.office ≡ office_of meta
   pub history : book.book.history ≡ history_in db
   pub legal : (meta : Meta) → HasMeta meta db → IsLegal (office_of meta) (history_in db)

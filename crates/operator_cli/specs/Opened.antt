@@ -58,6 +58,7 @@ module _ {S : Type 0} (g : Ghosts S) (conn : Held S) where
     pub cause : ReplayFault
     pub told : fault ≡ of_replay_fault cause
     pub same : HasCleanDisk (state g after) → (state g after).now ≡ (state g conn).now
+    pub ours : HasCleanDisk (state g after) → (meta : Meta) × HasMeta meta (state g conn).now.trees
     pub found : HasCleanDisk (state g after) → (meta : Meta) → HasMeta meta (state g conn).now.trees → IsReplayFault (office_of meta) (history_in (state g conn).now.trees) cause
 
   -- where the history of the records is not legal, a command told at which place, or that memory was wanted, and failed
@@ -70,6 +71,8 @@ module _ {S : Type 0} (g : Ghosts S) (conn : Held S) where
   pub record EndsOpened (Ends : State → State → StoreFault → Type 0) (after : Held S) (fault : StoreFault) : Type 0 where
     pub opened : Held S
     pub same : (state g opened).now ≡ (state g conn).now
+    pub limit : opened.step_limit ≡ conn.step_limit
+    pub ours : (meta : Meta) × HasMeta meta (state g conn).now.trees
     pub legal : (meta : Meta) → HasMeta meta (state g conn).now.trees → IsLegal (office_of meta) (history_in (state g conn).now.trees)
     pub ended : Ends (state g opened) (state g after) fault
 

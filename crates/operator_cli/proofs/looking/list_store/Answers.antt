@@ -67,9 +67,10 @@ returns-in-Ok-clause-cause g c clean =
     let opened = c.into_keeper-records.result.conn in
     let last = c.close.result in
     let same = ap (λ (k : Kept g.row.S.Denot). (state g.S.Store k.conn).now) c.into_keeper-records.ensures ∙ c.in-Ok.ensures.same before in
+    let limit = ap (λ (k : Kept g.row.S.Denot). k.conn.step_limit) c.into_keeper-records.ensures ∙ c.in-Ok.ensures.limit in
     let sound = ap (λ (k : Kept g.row.S.Denot). k.failures) c.into_keeper-records.ensures ∙ c.in-Ok.ensures.open in
     let P : StoreFault → Type 0 = λ fault. IsIllegal g.S.Store first last fault ⊎ EndsOpened g.S.Store first IsLookupEnd last fault in
-    let ends : (fault : StoreFault) → IsLookupEnd (state g.S.Store opened) (state g.S.Store last) fault → P fault = λ fault e. inr (record { opened = opened; same = same; legal = (c.in-Ok.ensures.book before).legal; ended = e }) in
+    let ends : (fault : StoreFault) → IsLookupEnd (state g.S.Store opened) (state g.S.Store last) fault → P fault = λ fault e. inr (record { opened = opened; same = same; limit = limit; ours = (c.in-Ok.ensures.book before).ours; legal = (c.in-Ok.ensures.book before).legal; ended = e }) in
     let fault = subst (λ (conn : Held g.row.S.Denot). IfErr c.write_listed-came.result (IsLookupEnd (state g.S.Store opened) (state g.S.Store conn))) (sym c.close.ensures) (c.write_listed-came.ensures.fault sound trusted) in
     fails_for P (g.E.Write.contents c.args.err.now) (g.E.Write.contents c.ended.new.err) c.write_listed-came.result c.ended.result (weaker _ P c.write_listed-came.result ends fault) (ends write.Write tt)
     c.write_listed-came.ensures.ends c.ended.ensures.line c.ended.ensures.flush

@@ -1,14 +1,18 @@
-use Rattle.std.proofs.Common.{◌≡◌, ◌⊎◌, Bool, true, false, inl, inr, refl, ◌∙◌, ap, subst, subst₂}
+use Rattle.std.proofs.Common.{◌≡◌, ◌⊎◌, List, Bool, true, false, inl, inr, refl, ◌∙◌, ap, subst, subst₂}
 use Rattle.sqlite.specs.State.{HasCleanDisk}
-use Rattle.sqlite.specs.Held.{state}
+use Rattle.sqlite.specs.Held.{Held, state}
+use Rattle.book_core.specs.declared.entry.Entry.{Entry}
+use Rattle.book_core.specs.Decision.{Office}
 use Rattle.book_core.specs.Legal.{IsLegal}
-use Rattle.sql_records.specs.Held.{history_in}
+use Rattle.book_core.specs.Replay.{IsReplayFault}
+use Rattle.sql_records.specs.Held.{Kept, history_in}
 use Rattle.site_desk.specs.SiteView.{office_of}
 use Rattle.operator_cli.proofs.opening.open_book.Goals as goal
 
 pub returns-in-Ok-start-clause-book : goal.returns-in-Ok-start-clause-book
 returns-in-Ok-start-clause-book g c = λ clean.
     let trusted = subst (λ kept. HasCleanDisk (state g.S.Store kept.conn)) (c.in-Ok-start.ensures.keeper) clean in record {
+      ours = (_, (c.in-Ok.ensures.holds trusted).0.numbers);
       office = λ meta has. c.in-Ok-start.ensures.office ∙ ap office_of (c.in-Ok.ensures.given trusted meta has);
       history = c.in-Ok-start.ensures.history ∙ c.in-Ok.ensures.entries trusted ∙ ap (λ store. history_in store.trees) (c.in-Ok.ensures.same trusted);
       legal = λ meta has.
@@ -31,3 +35,20 @@ returns-in-Err-clause-fault g c = record {
     | inr free ↦ inr (free, c.in-Err.ensures.fault free)
   ];
 }
+
+pub returns-in-Err-start-clause-fault : goal.returns-in-Err-start-clause-fault
+returns-in-Err-start-clause-fault g c =
+    let back = c.close.ensures ∙ ap (λ (k : Kept g.row.S.Denot). k.conn) c.in-Err-start.ensures.fault.0 in
+    record {
+      cause = c.in-Err-start.fault;
+      told = c.of_replay_fault.ensures;
+      same = λ clean. ap (λ (h : Held g.row.S.Denot). (state g.S.Store h).now) back
+          ∙ c.in-Ok.ensures.same (subst (λ (h : Held g.row.S.Denot). HasCleanDisk (state g.S.Store h)) back clean);
+      ours = λ clean. (_, (c.in-Ok.ensures.holds (subst (λ (h : Held g.row.S.Denot). HasCleanDisk (state g.S.Store h)) back clean)).0.numbers);
+      found = λ clean meta has.
+          let trusted = subst (λ (h : Held g.row.S.Denot). HasCleanDisk (state g.S.Store h)) back clean in
+          subst₂ (λ (office : Office) (entries : List Entry). IsReplayFault office entries c.in-Err-start.fault)
+          (ap office_of (c.in-Ok.ensures.given trusted meta has))
+          (c.in-Ok.ensures.entries trusted ∙ ap (λ store. history_in store.trees) (c.in-Ok.ensures.same trusted))
+          c.in-Err-start.ensures.fault.1;
+    }
