@@ -1,5 +1,6 @@
 -- Why the records of a database are not opened, and what is told of it. (Our own.)
 use Rattle.std.specs.Prelude.{◌≡◌, ◌⊎◌, ⊤, ℕ, List, Option, true, false}
+use Rattle.std.specs.Io.KnownBytes.{Keeps}
 use Rattle.plain_words.specs.Writing.{AppendsFront}
 use Rattle.operator_cli.specs.declared.status.Status.{Status}
 use Rattle.operator_cli.specs.declared.status.Status.TheVariants.{Failed}
@@ -61,11 +62,15 @@ module _ {S : Type 0} (g : Ghosts S) (conn : Held S) where
     pub ours : HasCleanDisk (state g after) → (meta : Meta) × HasMeta meta (state g conn).now.trees
     pub found : HasCleanDisk (state g after) → (meta : Meta) → HasMeta meta (state g conn).now.trees → IsReplayFault (office_of meta) (history_in (state g conn).now.trees) cause
 
-  -- where the history of the records is not legal, a command told at which place, or that memory was wanted, and failed
-  abbrev pub FailsIfIllegal : Held S → Option (List ℕ) → Option (List ℕ) → Status → Type 0
-  FailsIfIllegal after old_err new_err status =
+  -- a connection that comes back showed the records of a site
+  abbrev pub ShowedRecords : Held S → Type 0
+  ShowedRecords after = HasCleanDisk (state g after) → (meta : Meta) × HasMeta meta (state g conn).now.trees
+
+  -- where the history of the records is not legal, a command wrote nothing, told at which place, or that memory was wanted, and failed
+  abbrev pub FailsIfIllegal : Held S → Option (List ℕ) → Option (List ℕ) → Option (List ℕ) → Option (List ℕ) → Status → Type 0
+  FailsIfIllegal after old_out new_out old_err new_err status =
       HasCleanDisk (state g after) → (meta : Meta) → HasMeta meta (state g conn).now.trees → (IsLegal (office_of meta) (history_in (state g conn).now.trees) → ⊥)
-      → (fault : StoreFault) × IsIllegal after fault × AppendsFront old_err new_err (store_fault_line fault) × (status ≡ Failed)
+      → (fault : StoreFault) × IsIllegal after fault × Keeps old_out new_out × AppendsFront old_err new_err (store_fault_line fault) × (status ≡ Failed)
 
   -- the records were opened, their history being legal, and what was done over them ended so
   pub record EndsOpened (Ends : State → State → StoreFault → Type 0) (after : Held S) (fault : StoreFault) : Type 0 where
@@ -76,9 +81,10 @@ module _ {S : Type 0} (g : Ghosts S) (conn : Held S) where
     pub legal : (meta : Meta) → HasMeta meta (state g conn).now.trees → IsLegal (office_of meta) (history_in (state g conn).now.trees)
     pub ended : Ends (state g opened) (state g after) fault
 
-  -- a command has no connection to give back: its records were refused, and that is what it told
-  pub record IsLost (old_err new_err : Option (List ℕ)) (status : Status) : Type 0 where
+  -- a command has no connection to give back: its records were refused, it wrote nothing, and that is what it told
+  pub record IsLost (old_out new_out old_err new_err : Option (List ℕ)) (status : Status) : Type 0 where
     pub fault : StoreFault
     pub refused : IsRefused fault
+    pub silent : Keeps old_out new_out
     pub told : AppendsFront old_err new_err (store_fault_line fault)
     pub failed : status ≡ Failed

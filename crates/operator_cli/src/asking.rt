@@ -8,7 +8,7 @@ ghost use Rattle.operator_cli.specs.declared.status.Status.TheVariants.{Done, Fa
 ghost use Rattle.plain_words.specs.Writing.{Writes};
 ghost use Rattle.operator_cli.specs.declared.fault.ScriptFault.TheVariants.{Write as WriteFailed};
 ghost use Rattle.operator_cli.specs.Told.{FaultTold};
-ghost use Rattle.operator_cli.specs.Opened.{FailsIfIllegal, IsLost};
+ghost use Rattle.operator_cli.specs.Opened.{FailsIfIllegal, IsLost, ShowedRecords};
 
 use crate::ending::ended;
 use crate::fault::ScriptFault;
@@ -181,8 +181,9 @@ pub fn ask_store<S: Alter + Drop, R: Read + Drop, W: Write, E: Write>(
 ) -> (Status, Option<Connection<S>>)
     ensures status { (result.0 ≡ Done) ⊎ (result.0 ≡ Failed) }
     ensures err { FaultTold (E.contents err.old) (E.contents err.new) result.0 }
-    ensures illegal { IfSome result.1 (λ after. FailsIfIllegal S.Store conn after (E.contents err.old) (E.contents err.new) result.0) }
-    ensures lost { result.1 ≡ None → IsLost S.Store conn (E.contents err.old) (E.contents err.new) result.0 }
+    ensures ours { IfSome result.1 (ShowedRecords S.Store conn) }
+    ensures illegal { IfSome result.1 (λ after. FailsIfIllegal S.Store conn after (W.contents out.old) (W.contents out.new) (E.contents err.old) (E.contents err.new) result.0) }
+    ensures lost { result.1 ≡ None → IsLost S.Store conn (W.contents out.old) (W.contents out.new) (E.contents err.old) (E.contents err.new) result.0 }
 {
     match open_book(alloc, conn) {
         Ok(mut book) => {

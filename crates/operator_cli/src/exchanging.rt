@@ -14,7 +14,7 @@ ghost use Rattle.operator_cli.specs.Told.{FaultTold, told_status};
 ghost use Rattle.operator_cli.specs.declared.status.Status.TheVariants.{Refused};
 ghost use Rattle.std.specs.Option.{option_map};
 ghost use Rattle.operator_cli.specs.Printed.{Printed, IsSentText, IsTakenText, IsOfTaking, IsTellingOf};
-ghost use Rattle.operator_cli.specs.Opened.{FailsIfIllegal, IsLost};
+ghost use Rattle.operator_cli.specs.Opened.{FailsIfIllegal, IsLost, ShowedRecords};
 
 use crate::ending::ended;
 use crate::opening::open_book;
@@ -75,8 +75,9 @@ pub fn export_store<S: Alter + Drop, W: Write, E: Write>(
     ensures same { IfSome result.1 (λ after. HasCleanDisk (state S.Store after)
         → (state S.Store after).now ≡ (state S.Store conn).now) }
     ensures err { FaultTold (E.contents err.old) (E.contents err.new) result.0 }
-    ensures illegal { IfSome result.1 (λ after. FailsIfIllegal S.Store conn after (E.contents err.old) (E.contents err.new) result.0) }
-    ensures lost { result.1 ≡ None → IsLost S.Store conn (E.contents err.old) (E.contents err.new) result.0 }
+    ensures ours { IfSome result.1 (ShowedRecords S.Store conn) }
+    ensures illegal { IfSome result.1 (λ after. FailsIfIllegal S.Store conn after (W.contents out.old) (W.contents out.new) (E.contents err.old) (E.contents err.new) result.0) }
+    ensures lost { result.1 ≡ None → IsLost S.Store conn (W.contents out.old) (W.contents out.new) (E.contents err.old) (E.contents err.new) result.0 }
 {
     match open_book(alloc, conn) {
         Ok(book) => {
@@ -189,8 +190,9 @@ pub fn import_store<S: Alter + Drop, R: Read + Drop, W: Write, E: Write>(
     ensures kept { IfSome result.1 (λ after. HasCleanDisk (state S.Store after) → result.0 ≡ Refused
         → (state S.Store after).now ≡ (state S.Store conn).now) }
     ensures err { FaultTold (E.contents err.old) (E.contents err.new) result.0 }
-    ensures illegal { IfSome result.1 (λ after. FailsIfIllegal S.Store conn after (E.contents err.old) (E.contents err.new) result.0) }
-    ensures lost { result.1 ≡ None → IsLost S.Store conn (E.contents err.old) (E.contents err.new) result.0 }
+    ensures ours { IfSome result.1 (ShowedRecords S.Store conn) }
+    ensures illegal { IfSome result.1 (λ after. FailsIfIllegal S.Store conn after (W.contents out.old) (W.contents out.new) (E.contents err.old) (E.contents err.new) result.0) }
+    ensures lost { result.1 ≡ None → IsLost S.Store conn (W.contents out.old) (W.contents out.new) (E.contents err.old) (E.contents err.new) result.0 }
 {
     match open_book(alloc, conn) {
         Ok(mut book) => {

@@ -8,7 +8,7 @@ ghost use Rattle.sqlite.specs.Held.{state};
 ghost use Rattle.sql_records.specs.Held.{IsTrusted, kept_in, history_in};
 ghost use Rattle.operator_cli.specs.Told.{of_find_fault, FaultTold};
 ghost use Rattle.operator_cli.specs.Printed.{Printed, IsFoundText, IsFoundIn, IsListText, AreListed, IsListIn};
-ghost use Rattle.operator_cli.specs.Opened.{EndsOpened, FailsFor, FailsIfIllegal, IsIllegal, IsLookupEnd, IsLost};
+ghost use Rattle.operator_cli.specs.Opened.{EndsOpened, FailsFor, FailsIfIllegal, IsIllegal, IsLookupEnd, IsLost, ShowedRecords};
 
 use crate::ending::{ended, write_line};
 use crate::opening::open_book;
@@ -80,8 +80,9 @@ pub fn find_store<S: Alter + Drop, W: Write, E: Write>(
     ensures cause { IfSome result.1 (λ after. HasCleanDisk (state S.Store after)
         → FailsFor (λ fault. IsIllegal S.Store conn after fault ⊎ EndsOpened S.Store conn IsLookupEnd after fault)
         (E.contents err.old) (E.contents err.new) result.0) }
-    ensures illegal { IfSome result.1 (λ after. FailsIfIllegal S.Store conn after (E.contents err.old) (E.contents err.new) result.0) }
-    ensures lost { result.1 ≡ None → IsLost S.Store conn (E.contents err.old) (E.contents err.new) result.0 }
+    ensures ours { IfSome result.1 (ShowedRecords S.Store conn) }
+    ensures illegal { IfSome result.1 (λ after. FailsIfIllegal S.Store conn after (W.contents out.old) (W.contents out.new) (E.contents err.old) (E.contents err.new) result.0) }
+    ensures lost { result.1 ≡ None → IsLost S.Store conn (W.contents out.old) (W.contents out.new) (E.contents err.old) (E.contents err.new) result.0 }
 {
     match open_book(alloc, conn) {
         Ok(book) => {
@@ -153,8 +154,9 @@ pub fn list_store<S: Alter + Drop, W: Write, E: Write>(
     ensures cause { IfSome result.1 (λ after. HasCleanDisk (state S.Store after)
         → FailsFor (λ fault. IsIllegal S.Store conn after fault ⊎ EndsOpened S.Store conn IsLookupEnd after fault)
         (E.contents err.old) (E.contents err.new) result.0) }
-    ensures illegal { IfSome result.1 (λ after. FailsIfIllegal S.Store conn after (E.contents err.old) (E.contents err.new) result.0) }
-    ensures lost { result.1 ≡ None → IsLost S.Store conn (E.contents err.old) (E.contents err.new) result.0 }
+    ensures ours { IfSome result.1 (ShowedRecords S.Store conn) }
+    ensures illegal { IfSome result.1 (λ after. FailsIfIllegal S.Store conn after (W.contents out.old) (W.contents out.new) (E.contents err.old) (E.contents err.new) result.0) }
+    ensures lost { result.1 ≡ None → IsLost S.Store conn (W.contents out.old) (W.contents out.new) (E.contents err.old) (E.contents err.new) result.0 }
 {
     match open_book(alloc, conn) {
         Ok(book) => {

@@ -39,6 +39,7 @@ pub returns-in-Err-clause-lost : goal.returns-in-Err-clause-lost
 returns-in-Err-clause-lost g c none = record {
   fault = c.in-Err.fault;
   refused = refused_if_none _ _ _ c.in-Err.ensures.fault none;
+  silent = c.ended-in-Err.ensures.kept;
   told = c.ended-in-Err.ensures.line;
   failed = c.ended-in-Err.ensures.status;
 }
@@ -46,7 +47,7 @@ returns-in-Err-clause-lost g c none = record {
 pub returns-in-Err-clause-illegal : goal.returns-in-Err-clause-illegal
 returns-in-Err-clause-illegal g c =
     if_back c.in-Err.conn (IsRefused g.S.Store c.args.conn c.in-Err.fault) (λ after. IsIllegal g.S.Store c.args.conn after c.in-Err.fault) _ c.in-Err.ensures.fault
-    (λ after found clean meta has illegal. (c.in-Err.fault, found, c.ended-in-Err.ensures.line, c.ended-in-Err.ensures.status))
+    (λ after found clean meta has illegal. (c.in-Err.fault, found, c.ended-in-Err.ensures.kept, c.ended-in-Err.ensures.line, c.ended-in-Err.ensures.status))
 
 pub returns-in-Ok-clause-illegal : goal.returns-in-Ok-clause-illegal
 returns-in-Ok-clause-illegal g c clean meta has illegal =
@@ -74,3 +75,13 @@ returns-in-Ok-clause-cause g c clean =
     let fault = subst (λ (conn : Held g.row.S.Denot). IfErr c.write_listed-came.result (IsLookupEnd (state g.S.Store opened) (state g.S.Store conn))) (sym c.close.ensures) (c.write_listed-came.ensures.fault sound trusted) in
     fails_for P (g.E.Write.contents c.args.err.now) (g.E.Write.contents c.ended.new.err) c.write_listed-came.result c.ended.result (weaker _ P c.write_listed-came.result ends fault) (ends write.Write tt)
     c.write_listed-came.ensures.ends c.ended.ensures.line c.ended.ensures.flush
+
+pub returns-in-Err-clause-ours : goal.returns-in-Err-clause-ours
+returns-in-Err-clause-ours g c =
+    if_back c.in-Err.conn (IsRefused g.S.Store c.args.conn c.in-Err.fault) (λ after. IsIllegal g.S.Store c.args.conn after c.in-Err.fault) _ c.in-Err.ensures.fault (λ after found. found.ours)
+
+pub returns-in-Ok-clause-ours : goal.returns-in-Ok-clause-ours
+returns-in-Ok-clause-ours g c clean =
+    let trusted : IsTrusted g.S.Store c.write_listed-came.new.records = subst (λ (conn : Held g.row.S.Denot). HasCleanDisk (state g.S.Store conn)) c.close.ensures clean in
+    let before = subst (IsTrusted g.S.Store) c.into_keeper-records.ensures (c.write_listed-came.ensures.trusted trusted) in
+    (c.in-Ok.ensures.book before).ours
