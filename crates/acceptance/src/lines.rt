@@ -117,7 +117,10 @@ fn reply_lines(rt: HostRuntime) -> Result<(), Fail> {
             b"totals released 100 sold 3 refunded 1\n",
         ),
         (Answered::NotKnown, b"unknown\n"),
-        (Answered::Refused(AskFault::Reused { place: 2 }), b"reused\n"),
+        (
+            Answered::Refused(AskFault::Reused { place: 2 }),
+            b"reused\n",
+        ),
         (Answered::Refused(AskFault::Full), b"history-full\n"),
         (Answered::Refused(AskFault::Memory), b"memory\n"),
         (Answered::Refused(AskFault::Store), b"store\n"),
