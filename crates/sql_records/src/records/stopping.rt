@@ -2,7 +2,7 @@
 ghost use Rattle.std.specs.Prelude.{◌≡◌, false, IfOk, IfErr, IfSome};
 ghost use Rattle.sqlite.specs.Effect.{IsDatabase};
 ghost use Rattle.sqlite.specs.State.{HasCleanDisk};
-ghost use Rattle.sqlite.specs.Held.{Held, state};
+ghost use Rattle.sqlite.specs.Held.{Held, IsNew, state};
 ghost use Rattle.sql_records.specs.declared.meta.Meta.{Meta as Numbers};
 ghost use Rattle.sql_records.specs.Held.{IsTrusted, Finds, LeavesSite, MayLeaveIn};
 ghost use Rattle.sql_records.specs.Keeping.{Opens};
@@ -20,7 +20,7 @@ use std::alloc::Global;
 fn come_back<S: Alter + Reopen + Drop>(alloc: Global, conn: Connection<S>) -> Option<Connection<S>>
     ensures left { IfSome result (λ again. HasCleanDisk (state S.Store again) → (state S.Store conn).may_leave (state S.Store again).now.trees) }
     ensures sound { IfSome result (λ again. HasCleanDisk (state S.Store again) → IsDatabase (state S.Store again).now) }
-    ensures outside { IfSome result (λ again. again.in_transaction ≡ false) }
+    ensures fresh { IfSome result IsNew }
 {
     let mut store = conn.into_store();
     match store.crash_and_reopen() {
