@@ -5,7 +5,8 @@ use Rattle.sqlite.specs.declared.types.Value.TheVariants.{Int, Text}
 use Rattle.sqlite.specs.Order.{Row, column}
 use Rattle.sqlite.specs.State.{State, HasCleanDisk, KeepsCommit, Shown, FailsToQuery, IsTooLate}
 use Rattle.sqlite.specs.Store.{Ghosts}
-use Rattle.sqlite.specs.Held.{Held, state}
+use Rattle.sqlite.specs.Effect.{IsDatabase}
+use Rattle.sqlite.specs.Held.{Held, IsNew, state}
 use Rattle.sqlite.specs.declared.error.Error.{Error}
 use Rattle.sqlite.specs.declared.error.Error.TheVariants.{SqliteFailure}
 use Rattle.sqlite.specs.declared.error.ErrorCode.TheVariants.{OutOfMemory, SystemIoFailure, DatabaseCorrupt, DiskFull, Closed}
@@ -129,10 +130,14 @@ IsOurFault old new fault = IsMetaFault old new fault
 abbrev pub IsOpenFault : State → State → OpenFault → Type 0
 IsOpenFault old new fault = ((¬ IsOurs old.now.schema) × IsForeignFault fault) ⊎ (IsOurs old.now.schema × IsOurFault old new fault)
 
--- the store came back with a database that a stop may leave, in which an open found this at fault
-abbrev pub IsFoundAfterStop : {S : Type 0} → Ghosts S → Held S → OpenFault → Type 0
-IsFoundAfterStop {S} g conn fault =
-    (again : Held S) × (after : Held S) × (HasCleanDisk (state g after) → (state g conn).may_leave (state g again).now.trees × IsOpenFault (state g again) (state g after) fault)
+-- The store came back, and over it a new connection, with a database that a stop may leave; an open found this at
+-- fault in it. What such a database holds tells its schema.
+pub record IsFoundAfterStop {S : Type 0} (g : Ghosts S) (conn : Held S) (fault : OpenFault) : Type 0 where
+  pub again : Held S
+  pub is_new : IsNew again
+  pub after : Held S
+  pub found : HasCleanDisk (state g after) → (state g conn).may_leave (state g again).now.trees × IsDatabase (state g again).now × IsOpenFault (state g again) (state g after) fault
+  pub foreign : ¬ IsOurs again.schema → (last : Held S) × (HasCleanDisk (state g last) → IsForeignCause g again fault)
 
 -- Nothing was committed. The connection shows what it showed, or its transaction was undone.
 pub record IsLeftOrUndone (old new : State) : Type 0 where

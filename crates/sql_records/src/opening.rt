@@ -253,8 +253,8 @@ fn foreign_fault<S: Alter>(conn: &mut Connection<S>) -> OpenFault
 
 /// The entries of a site's records, the oldest first, and its numbers. It writes nothing.
 ///
-/// What it says holds where the disk has returned what was written. An error leaves the connection as it was, or
-/// with its transaction undone.
+/// What it says holds where the disk has returned what was written. An error commits nothing: a connection that is
+/// still open shows what it showed, or its transaction was undone; a failure of the disk may shut it.
 pub fn read_records<S: Alter>(
     alloc: Global,
     conn: &mut Connection<S>,

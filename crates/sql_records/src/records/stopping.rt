@@ -1,8 +1,8 @@
 //! What an open finds after a stop.
-ghost use Rattle.std.specs.Prelude.{◌≡◌, false, IfOk, IfErr, IfSome};
+ghost use Rattle.std.specs.Prelude.{◌≡◌, IfOk, IfErr, IfSome};
 ghost use Rattle.sqlite.specs.Effect.{IsDatabase};
 ghost use Rattle.sqlite.specs.State.{HasCleanDisk};
-ghost use Rattle.sqlite.specs.Held.{Held, state};
+ghost use Rattle.sqlite.specs.Held.{Held, IsNew, state};
 ghost use Rattle.sql_records.specs.declared.meta.Meta.{Meta as Numbers};
 ghost use Rattle.sql_records.specs.Held.{IsTrusted, Finds, LeavesSite, MayLeaveIn};
 ghost use Rattle.sql_records.specs.Keeping.{Opens};
@@ -20,7 +20,7 @@ use std::alloc::Global;
 fn come_back<S: Alter + Reopen + Drop>(alloc: Global, conn: Connection<S>) -> Option<Connection<S>>
     ensures left { IfSome result (λ again. HasCleanDisk (state S.Store again) → (state S.Store conn).may_leave (state S.Store again).now.trees) }
     ensures sound { IfSome result (λ again. HasCleanDisk (state S.Store again) → IsDatabase (state S.Store again).now) }
-    ensures outside { IfSome result (λ again. again.in_transaction ≡ false) }
+    ensures fresh { IfSome result IsNew }
 {
     let mut store = conn.into_store();
     match store.crash_and_reopen() {
@@ -39,7 +39,7 @@ impl<S: Alter + Reopen + Drop> Records<S> {
     /// What is found is a database that may be left: so after an Ok of `append` it is the list with the entry,
     /// after its first error that or the list before, and the numbers are those of `init`. Where each one that may
     /// be left is a site's and reads, only memory or the disk can stand in the way. Each error is that of an open of
-    /// the database that came back, and `None` where none did.
+    /// the database that came back, by a new connection, and `None` where none did.
     pub fn open_after_stop(
         alloc: Global,
         conn: Connection<S>,

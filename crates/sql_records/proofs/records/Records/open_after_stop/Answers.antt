@@ -21,7 +21,7 @@ returns-in-Ok-clause-numbers g c clean meta site =
 
 pub returns-in-Err-clause-opens : goal.returns-in-Err-clause-opens
 returns-in-Err-clause-opens g c =
-    let h = c.in-Err.ensures.fault c.in-Some.ensures.outside in (
+    let h = c.in-Err.ensures.fault c.in-Some.ensures.fresh.autocommit in (
       h.0,
       λ clean meta site opens.
           let both = h.1 clean in
@@ -32,5 +32,11 @@ returns-in-Err-clause-opens g c =
 
 pub returns-in-Err-clause-fault : goal.returns-in-Err-clause-fault
 returns-in-Err-clause-fault g c =
-    let h = c.in-Err.ensures.fault c.in-Some.ensures.outside in
-    (c.in-Some.again, h.0, λ clean. let both = h.1 clean in (c.in-Some.ensures.left both.0, both.1))
+    let h = c.in-Err.ensures.fault c.in-Some.ensures.fresh.autocommit in
+    record {
+      again = c.in-Some.again;
+      is_new = c.in-Some.ensures.fresh;
+      after = h.0;
+      found = λ clean. let both = h.1 clean in (c.in-Some.ensures.left both.0, c.in-Some.ensures.sound both.0, both.1);
+      foreign = λ strange. c.in-Err.ensures.version strange c.in-Some.ensures.fresh.autocommit;
+    }
