@@ -1,8 +1,7 @@
 -- Why a query over the records fails.
-use Rattle.std.proofs.Common.{◌≡◌, ◌≢◌, ◌⊎◌, inl, inr, ℕ, ◌≤◌, pos, leb, List, [], ◌∷◌, length, true, false, None, Some, Option, Ok, Err, Result, refl, sym, ap, subst, subst₂, ◌∙◌, arith, append-nil, IsSome}
+use Rattle.std.proofs.Common.{◌≡◌, ◌≢◌, ◌⊎◌, inl, inr, ℕ, ◌≤◌, leb, List, [], length, true, false, Option, Ok, Err, Result, refl, sym, ap, subst, subst₂, ◌∙◌, append-nil, IsSome}
 use Rattle.std.proofs.lemmas.Bool.{leb-true}
 use Rattle.std.specs.List.{Any}
-use Rattle.sqlite_disk.specs.Disk.{MoreFaults}
 use Rattle.sqlite_trees.specs.declared.error.StoreError.{StoreError}
 use Rattle.sqlite_trees.specs.declared.error.StoreError.TheVariants.{OutOfMemory, Io, Corrupt, Full, Broken, Unstorable}
 use Rattle.sqlite_schema.specs.declared.program.Program.{Program}
@@ -20,7 +19,7 @@ use Rattle.sqlite.specs.declared.error.Error.TheVariants.{SqliteFailure}
 use Rattle.sqlite.specs.declared.error.ErrorCode.TheVariants as code
 use Rattle.sqlite.specs.Effect.{Database, RefusesQuery, RefusesToRead}
 use Rattle.sqlite.specs.Listing.{understood, reads_listing, IsSourceOf}
-use Rattle.sqlite.specs.State.{State, store_error, HasCause, Fails, IsUnchanged, IsRolledBack, FailsToShow, IsNoStatement, IsNotRun, FailsToQuery}
+use Rattle.sqlite.specs.State.{State, store_error, HasCause, IsUnchanged, IsRolledBack, IsNoStatement, IsNotRun, FailsToQuery}
 use Rattle.sqlite.proofs.Callers.{IsPlain, command_of}
 use Rattle.sql_records.specs.Faults.{told, HasDiskCause}
 

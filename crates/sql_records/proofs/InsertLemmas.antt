@@ -1,5 +1,5 @@
 -- What the one INSERT makes of the database.
-use Rattle.std.proofs.Common.{◌≡◌, ◌⊎◌, flat_map, inl, inr, ℕ, pos, List, [], ◌∷◌, codes, Bool, true, false, cond, None, Option, Ok, Err, Result, refl, ap, subst, ◌∙◌, arith}
+use Rattle.std.proofs.Common.{◌≡◌, ◌⊎◌, flat_map, inl, inr, ℕ, pos, List, [], ◌∷◌, Bool, true, false, cond, None, Option, Ok, Err, Result, refl, ap, subst, ◌∙◌, arith}
 use Rattle.sqlite.specs.declared.types.Value.{Value}
 use Rattle.sqlite.specs.declared.types.Value.TheVariants.{Null, Int}
 use Rattle.sqlite.specs.Order.{Row}

@@ -1,5 +1,5 @@
 -- Why an entry is not known to be kept.
-use Rattle.std.proofs.Common.{◌≡◌, ◌≢◌, ◌⊎◌, inl, inr, ℕ, length, Err, refl, sym, subst}
+use Rattle.std.proofs.Common.{inl, inr, ℕ, length, Err, sym, subst}
 use Rattle.book_core.specs.declared.entry.Entry.{Entry}
 use Rattle.sqlite.specs.Store.{Ghosts}
 use Rattle.sqlite.specs.declared.error.Error.{Error}

@@ -1,5 +1,5 @@
 -- Rows in the order of their places, and one more at their end.
-use Rattle.std.proofs.Common.{◌≡◌, ℕ, ◌+◌, ◌<◌, pos, negsuc, Bool, true, false, eqb, IsTrue, Some, None, Option, cond, refl, sym, ap, ◌∙◌, List, [], ◌∷◌, ◌++◌, map, length, IsSome, arith}
+use Rattle.std.proofs.Common.{◌≡◌, ℕ, ◌+◌, ◌<◌, pos, negsuc, Bool, true, false, IsTrue, Some, None, Option, cond, refl, sym, ap, ◌∙◌, List, [], ◌∷◌, ◌++◌, map, length, IsSome, arith}
 use Rattle.std.specs.declared.cmp.Ordering.TheVariants.{Less}
 use Rattle.std.specs.Ordering.{is_gt}
 use Rattle.std.specs.Cmp.{IsTotalOrder}

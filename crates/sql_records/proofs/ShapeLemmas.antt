@@ -1,11 +1,10 @@
 -- A schema that begins with ours, as the code tests it.
-use Rattle.std.proofs.Common.{◌≡◌, List, [], ◌∷◌, refl, sym, ap, subst, ◌∙◌}
-use Rattle.std.specs.List.{AllByRecursion}
+use Rattle.std.proofs.Common.{List, [], ◌∷◌, refl, sym, subst}
 use Rattle.sqlite.specs.Table.{Table}
 use Rattle.sqlite.specs.Schema.{Schema}
 use Rattle.sqlite_schema.specs.declared.schema.Index.{Index}
 use Rattle.sqlite_schema.specs.declared.schema.View.{View}
-use Rattle.sql_records.specs.Layout.{IsOurs, ours_and, AreOursFirst, IsOursFirst, meta_at, entries_at, number_index}
+use Rattle.sql_records.specs.Layout.{IsOurs, AreOursFirst, IsOursFirst}
 
 from_lists : (tables : List Table) (indexes : List Index) (views : List View) → AreOursFirst tables → IsOursFirst indexes → IsOurs (record { tables = tables; indexes = indexes; views = views })
 from_lists [] indexes views h k = absurd h

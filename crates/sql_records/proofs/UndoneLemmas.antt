@@ -1,5 +1,5 @@
 -- What a query that does not answer leaves.
-use Rattle.std.proofs.Common.{◌≡◌, ◌⊎◌, inl, inr, true, List, Option, Some, None, Result, Ok, Err, OnErr, IsTrue, refl, sym, ap, subst, ◌∙◌, if◌then◌else◌, Bool, ℕ}
+use Rattle.std.proofs.Common.{◌≡◌, ◌⊎◌, inl, inr, true, List, Option, Some, None, Result, Ok, Err, OnErr, IsTrue, refl, ◌∙◌, if◌then◌else◌, Bool, ℕ}
 use Rattle.sqlite_schema.specs.declared.command.Returning.{Returning}
 use Rattle.sqlite_resolve.specs.declared.compiled.Compiled.{Compiled}
 use Rattle.sqlite.specs.Order.{Row}

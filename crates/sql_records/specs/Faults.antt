@@ -1,5 +1,5 @@
 -- Why a statement over the records fails. (Our own.)
-use Rattle.std.specs.Prelude.{◌≡◌, ◌⊎◌, false, Bool, true, IsSome}
+use Rattle.std.specs.Prelude.{◌≡◌, ◌⊎◌, false, IsSome}
 use Rattle.sqlite_disk.specs.Disk.{MoreFaults}
 use Rattle.sqlite.specs.declared.error.Error.{Error}
 use Rattle.sqlite.specs.declared.error.Error.TheVariants.{SqliteFailure}

@@ -1,5 +1,5 @@
 -- What the records hold, and what a stop may leave of them. (Our own.)
-use Rattle.std.specs.Prelude.{◌≡◌, ◌≢◌, ◌⊎◌, ◌≤◌, ◌^◌, ℕ, Err, false, List, [], ◌∷◌, ◌++◌, length, map, Option, Some, IsTrue, refl}
+use Rattle.std.specs.Prelude.{◌≡◌, ◌≢◌, ◌⊎◌, ◌≤◌, ◌^◌, ℕ, Err, false, List, [], length, map, Option, Some, IsTrue, refl}
 use Rattle.std.specs.Coded.{Coded, code_by, coded×, coded_ℕ}
 use Rattle.book_core.specs.declared.entry.Entry.{Entry}
 use Rattle.sqlite.specs.Store.{Ghosts}

@@ -1,5 +1,5 @@
 use Rattle.std.proofs.Common.{inl, inr, true, refl, rules, subst, [], ◌⊎◌}
-use Rattle.sqlite.specs.State.{HasCleanDisk, KeepsCommit, Shown, FailsToQuery, IsTooLate}
+use Rattle.sqlite.specs.State.{HasCleanDisk, Shown, FailsToQuery, IsTooLate}
 use Rattle.sqlite.specs.Held.{state}
 use Rattle.sql_records.specs.Texts.{meta_select_text}
 use Rattle.sql_records.specs.Opening.{IsForeignCause, IsLeftOrUndone}

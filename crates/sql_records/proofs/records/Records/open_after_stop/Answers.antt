@@ -1,4 +1,4 @@
-use Rattle.std.proofs.Common.{Some, refl, sym, ap, subst, ◌∙◌}
+use Rattle.std.proofs.Common.{refl}
 use Rattle.sqlite.specs.Held.{state}
 use Rattle.sql_records.proofs.OpeningLemmas.{one_meta}
 use Rattle.sql_records.proofs.StopLemmas.{after_stop}

@@ -1,9 +1,8 @@
-use Rattle.std.proofs.Common.{◌≡◌, ℕ, List, Bool, true, false, inl, inr, ◌++◌, [], ◌∷◌, refl, sym, ap, subst, ◌∙◌, length, arith}
+use Rattle.std.proofs.Common.{◌≡◌, ℕ, List, Bool, true, false, inl, inr, ◌++◌, [], ◌∷◌, sym, ap, subst, ◌∙◌, length, arith}
 use Rattle.sqlite.specs.Held.{state}
-use Rattle.book_core.specs.History.{delta_of}
 use Rattle.delta_wire.specs.Grammar.{delta_text}
 use Rattle.sql_records.specs.Rows.{HasRoom}
-use Rattle.sql_records.specs.Keeping.{Keeps, LeavesWithOrWithout}
+use Rattle.sql_records.specs.Keeping.{LeavesWithOrWithout}
 use Rattle.sql_records.specs.Held.{Kept, IsOf, IsKeepFault, MayLeaveIn, kept_in}
 use Rattle.sql_records.specs.Faults.{told}
 use Rattle.sql_records.specs.declared.keeper.KeepFault.TheVariants.{Memory, Disk}
