@@ -1,6 +1,6 @@
 #!/bin/sh
 # Two box offices for one night, from a script: the program as it stands in its sources, run at once and UNPROVED.
-# What is proved is built by scripts/build; this shows within three minutes of the checkout what there is to prove.
+# What is proved is built by scripts/build; this shows some three minutes after the checkout what there is to prove.
 set -eu
 here=$(cd "$(dirname "$0")" && pwd)
 cd "$here/../crates/boxoffice"
