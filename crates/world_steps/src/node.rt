@@ -6,7 +6,7 @@ ghost use Rattle.book_core.specs.Joining.{entry_of_join, join_decision};
 ghost use Rattle.site_exchange.specs.Exchange.{IsDelta, entry_of_take, verdict, verdict_of};
 ghost use Rattle.site_exchange.specs.Taking.{HasReply, IsAsked, extended, site_after, stopped_with, with_entry};
 ghost use Rattle.world_steps.specs.World.{entry_of_input, is_there};
-ghost use Rattle.world_steps.specs.Outcomes.{answered};
+ghost use Rattle.world_steps.specs.Outcomes.{answered, MayStore};
 ghost use Rattle.world_steps.specs.Nodes.{site_of, verdict_told};
 
 use crate::step::{Input, Outcome, WorldFault};
@@ -134,7 +134,8 @@ pub fn stop(
     ensures office { node.new.book.office ≡ node.old.book.office }
     ensures outcome { IfOk result (λ o. o ≡ Outcome.Stopped) }
     ensures memory { IfErr result (λ fault. fault ≡ WorldFault.Memory) }
-    ensures wanted { result ≡ Err WorldFault.Memory → IsTrue stored }
+    ensures stores { result ≡ Err WorldFault.Memory → IsTrue stored }
+    ensures wanted { result ≡ Err WorldFault.Memory → MayStore node.old.book.office node.old.book.history sent.now input.now }
     ensures stopped { OnOk result (site_of node.new ≡ stopped_with (entry_of_input node.old.book.office node.old.book.history sent.now input.now) stored (site_of node.old)) }
     ensures unchanged { OnErr result (site_of node.new ≡ site_of node.old) }
 {
@@ -150,6 +151,7 @@ fn store(book: &mut Book, alloc: Global, sent: &[Message], input: &Input) -> Res
     requires { IsTrue (is_there sent.now input.now) }
     ensures office { book.new.office ≡ book.old.office }
     ensures stored { OnOk result (book.new.history ≡ extended (entry_of_input book.old.office book.old.history sent.now input.now) book.old.history) }
+    ensures wanted { OnErr result (MayStore book.old.office book.old.history sent.now input.now) }
     ensures unchanged { OnErr result (book.new.history ≡ book.old.history) }
 {
     match input {
@@ -167,6 +169,7 @@ fn store_request(
 ) -> Result<(), AllocError>
     ensures office { book.new.office ≡ book.old.office }
     ensures stored { OnOk result (book.new.history ≡ extended (entry_of_ask book.old.office book.old.history number request.now) book.old.history) }
+    ensures wanted { OnErr result (IsFresh (decision book.old.office book.old.history number request.now)) }
     ensures unchanged { OnErr result (book.new.history ≡ book.old.history) }
 {
     match book.plan(alloc, number, request) {
@@ -183,6 +186,7 @@ fn store_request(
 fn store_delta(book: &mut Book, alloc: Global, message: &Message) -> Result<(), AllocError>
     ensures office { book.new.office ≡ book.old.office }
     ensures stored { OnOk result (book.new.history ≡ extended (entry_of_take book.old.office book.old.history message.now) book.old.history) }
+    ensures wanted { OnErr result (IsDelta message.now) }
     ensures unchanged { OnErr result (book.new.history ≡ book.old.history) }
 {
     match check(book, message) {
