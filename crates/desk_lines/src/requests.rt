@@ -5,8 +5,8 @@ ghost use Rattle.std.specs.Option.{option_map};
 ghost use Rattle.desk_lines.specs.Requests.{verb_of, verb_at, event_at, site_at, amount_at, sized_at, announce_at, release_at, sell_at, refund_at, cede_at, request_at, numbered_at};
 
 use plain_words::{Words, number_at};
-use request_ledger::{Amount, Request, RequestNumber};
-use rights_lattice::{Event, MAX_VALUE, SiteId};
+use request_ledger::{Request, RequestNumber};
+use rights_lattice::{Amount, Event, MAX_VALUE, SiteId};
 
 /// The word that says what a site is asked.
 #[derive(Clone, Copy, Debug, PartialEq, Eq)]

@@ -1,7 +1,6 @@
 //! What a request was answered, and what is kept of it.
-use crate::amount::Amount;
 use crate::request::Request;
-use rights_lattice::Event;
+use rights_lattice::{Amount, Event};
 
 /// The decision on a request.
 #[derive(Clone, Copy, PartialEq, Eq, Debug)]

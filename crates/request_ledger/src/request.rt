@@ -1,7 +1,6 @@
 //! What is asked of a site.
-use crate::amount::Amount;
 use crate::number::RequestNumber;
-use rights_lattice::{Event, SiteId};
+use rights_lattice::{Amount, Event, SiteId};
 
 /// A request to one site, which decides it from its own rights.
 #[derive(Clone, Copy, PartialEq, Eq, Debug)]

@@ -4,15 +4,15 @@ ghost use Rattle.book_core.specs.Decision.{decision, entry_of_ask};
 ghost use Rattle.book_core.specs.Plans.{IsFresh};
 ghost use Rattle.book_core.specs.Joining.{entry_of_join, join_decision};
 ghost use Rattle.site_exchange.specs.Exchange.{IsDelta, entry_of_take, verdict, verdict_of};
-ghost use Rattle.site_exchange.specs.Taking.{HasReply, IsAsked, extended, site_after, stopped_with, with_entry};
+ghost use Rattle.site_exchange.specs.Taking.{extended, site_after, stopped_with, with_entry};
 ghost use Rattle.world_steps.specs.World.{entry_of_input, is_there};
 ghost use Rattle.world_steps.specs.Outcomes.{answered, MayStore};
 ghost use Rattle.world_steps.specs.Nodes.{site_of, verdict_told};
 
 use crate::step::{Input, Outcome, WorldFault};
-use book_core::{Book, Entry, JoinFault, JoinPlan, Plan, PlanFault};
+use book_core::{Book, JoinFault, JoinPlan, Plan, PlanFault};
 use delta_mutators::Delta;
-use request_ledger::{Reply, Request, RequestNumber};
+use request_ledger::{Request, RequestNumber};
 use rights_lattice::SiteId;
 use site_exchange::{Exchange, Message, TakeFault, check};
 use std::alloc::{AllocError, Global};
@@ -54,23 +54,12 @@ pub fn ask(
     match node.book.plan(alloc, number, request) {
         Ok(Plan::Again { reply, .. }) => Ok(Outcome::Answered(reply)),
         Ok(Plan::New(planned)) => {
-            let reply = reply_of(planned.entry());
+            let reply = planned.reply();
             node.book.enter(planned);
             Ok(Outcome::Answered(reply))
         }
         Err(PlanFault::Memory) => Err(WorldFault::Memory),
         Err(fault) => Ok(Outcome::Refused(fault)),
-    }
-}
-
-// The reply of an entry that was asked.
-fn reply_of(entry: &Entry) -> Reply
-    requires { IsAsked entry.now }
-    ensures { HasReply entry.now result }
-{
-    match entry {
-        Entry::Asked { reply, .. } => *reply,
-        Entry::Joined { .. } => unreachable!(),
     }
 }
 
