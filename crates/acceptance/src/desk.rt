@@ -37,7 +37,7 @@ fn office(rt: &impl Abort) -> Meta {
 }
 
 // The book of no entries, over a keeper whose append with this number fails.
-fn failing_book(
+pub(crate) fn failing_book(
     rt: &impl Abort,
     alloc: Global,
     append: u64,
@@ -64,7 +64,7 @@ fn copies(alloc: Global, entries: &[Entry]) -> Result<Vec<Entry>, AllocError>
 }
 
 // The book of these entries, which its keeper has.
-fn restarted(rt: &impl Abort, alloc: Global, entries: Vec<Entry>) -> SiteBook<ListKeeper> {
+pub(crate) fn restarted(rt: &impl Abort, alloc: Global, entries: Vec<Entry>) -> SiteBook<ListKeeper> {
     let kept = copies(alloc, entries.as_slice()).expect(rt, "memory");
     let meta = office(rt);
     assert!(rt; meta.me.number() < meta.sites.count());

@@ -7,6 +7,7 @@ use sqlite::Connection;
 use std::io;
 use std::io::{ErrorKind, Read, Write};
 use std::process::Abort;
+use std::sync::Wait;
 use std::test::Fail;
 
 // Gives one byte a call, and then fails.
@@ -121,7 +122,7 @@ fn script_whose_flush_fails(rt: HostRuntime) {
 
 // A session of three lines, over a writer that lets so many flushes through.
 fn session(
-    rt: &(impl Abort + AllocGlobal),
+    rt: &(impl Abort + AllocGlobal + Wait),
     most: u32,
     status: Status,
     replies: &[u8],
@@ -140,7 +141,7 @@ fn session(
         most,
     };
     let lines = b"announce 1 gala\nrelease 2 gala 9\nleft gala\n";
-    let (ended, conn) = ask_store(rt.alloc(), conn, lines.as_slice(), &mut flushes, &mut err);
+    let (ended, conn) = ask_store(rt, rt.alloc(), conn, lines.as_slice(), &mut flushes, &mut err);
     assert_eq!(rt; ended, status);
     assert!(rt; conn.is_some());
     assert_eq!(rt; flushes.bytes.as_slice(), replies);

@@ -12,6 +12,7 @@ use sql_records::Records;
 use sqlite::{Alter, Connection};
 use std::alloc::Global;
 use std::process::Abort;
+use std::sync::Wait;
 use std::test::Fail;
 
 // Makes the records of a site of two.
@@ -158,7 +159,7 @@ fn records_meet_forged_messages(rt: HostRuntime) -> Result<(), Fail> {
 
 // A session with the records, up to its end.
 fn session<S: Alter + Drop>(
-    rt: &impl Abort,
+    rt: &(impl Abort + Wait),
     alloc: Global,
     conn: Connection<S>,
     lines: &[u8],
@@ -166,7 +167,7 @@ fn session<S: Alter + Drop>(
 ) -> Connection<S> {
     let mut out = Vec::new(alloc);
     let mut err = Vec::new(alloc);
-    let (ended, conn) = ask_store(alloc, conn, lines, &mut out, &mut err);
+    let (ended, conn) = ask_store(rt, alloc, conn, lines, &mut out, &mut err);
     assert_eq!(rt; ended, Status::Done);
     assert_eq!(rt; out.as_slice(), replies);
     assert!(rt; err.is_empty());

@@ -60,6 +60,7 @@ fn run_init<S: Start>(
 fn run_ask<S: Start>(rt: &HostRuntime, file: &str, start: S) -> Result<Status, Status> {
     let conn = open_there(rt, file, start)?;
     let came = ask_store(
+        rt,
         rt.alloc(),
         conn,
         rt.stdin(),

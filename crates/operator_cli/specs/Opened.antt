@@ -66,11 +66,16 @@ module _ {S : Type 0} (g : Ghosts S) (conn : Held S) where
   abbrev pub ShowedRecords : Held S → Type 0
   ShowedRecords after = HasCleanDisk (state g after) → (meta : Meta) × HasMeta meta (state g conn).now.trees
 
-  -- where the history of the records is not legal, a command wrote nothing, told at which place, or that memory was wanted, and failed
+  -- a command wrote nothing, told at which place the history is not legal, or that memory was wanted to read it, and failed
+  abbrev pub FailsAsIllegal : Held S → Option (List ℕ) → Option (List ℕ) → Option (List ℕ) → Option (List ℕ) → Status → Type 0
+  FailsAsIllegal after old_out new_out old_err new_err status =
+      (fault : StoreFault) × IsIllegal after fault × Keeps old_out new_out × AppendsFront old_err new_err (store_fault_line fault) × (status ≡ Failed)
+
+  -- so does a command where that history is not legal
   abbrev pub FailsIfIllegal : Held S → Option (List ℕ) → Option (List ℕ) → Option (List ℕ) → Option (List ℕ) → Status → Type 0
   FailsIfIllegal after old_out new_out old_err new_err status =
       HasCleanDisk (state g after) → (meta : Meta) → HasMeta meta (state g conn).now.trees → (IsLegal (office_of meta) (history_in (state g conn).now.trees) → ⊥)
-      → (fault : StoreFault) × IsIllegal after fault × Keeps old_out new_out × AppendsFront old_err new_err (store_fault_line fault) × (status ≡ Failed)
+      → FailsAsIllegal after old_out new_out old_err new_err status
 
   -- the records were opened, their history being legal, and what was done over them ended so
   pub record EndsOpened (Ends : State → State → StoreFault → Type 0) (after : Held S) (fault : StoreFault) : Type 0 where

@@ -8,6 +8,7 @@ ghost use Rattle.operator_cli.specs.Told.{store_fault_text, store_fault_line};
 use crate::fault::ScriptFault;
 use desk_lines::{numbered, word};
 use plain_words::{Text, put, put_number};
+use session_server::TalkFault;
 
 /// What ends a command over records early, and is told on standard error.
 #[derive(Clone, Copy, Debug, PartialEq, Eq)]
@@ -45,6 +46,23 @@ impl From<ScriptFault> for StoreFault {
             ScriptFault::LineTooLong => StoreFault::LineTooLong,
             ScriptFault::TooManyLines => StoreFault::TooManyLines,
             ScriptFault::Memory => StoreFault::Memory,
+        }
+    }
+}
+
+impl From<TalkFault> for StoreFault {
+    ghost use Rattle.std.specs.Prelude.{◌≡◌};
+    ghost use Rattle.operator_cli.specs.Session.{of_talk_fault};
+
+    ghost from_gives = { λ talk fault. fault ≡ of_talk_fault talk };
+
+    fn from(fault: TalkFault) -> StoreFault {
+        match fault {
+            TalkFault::Read => StoreFault::Read,
+            TalkFault::Write => StoreFault::Write,
+            TalkFault::TooLong => StoreFault::TooManyLines,
+            TalkFault::LineTooLong => StoreFault::LineTooLong,
+            TalkFault::Memory => StoreFault::Memory,
         }
     }
 }

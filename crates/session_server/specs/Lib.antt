@@ -1,0 +1,2 @@
+pub mod BookStep
+pub mod Session
