@@ -9,6 +9,7 @@ mod blocks;
 pub mod cell;
 pub mod event;
 pub mod laws;
+mod limits;
 pub mod mark;
 pub mod merge;
 pub mod rights;
@@ -16,6 +17,7 @@ pub mod site;
 
 pub use cell::{Cell, owner};
 pub use event::Event;
+pub use limits::{GREATEST_SITE, MOST_SITES};
 pub use mark::{MAX_VALUE, Mark};
 pub use merge::{key_order, merge_marks, merge_names};
 pub use rights::Rights;
