@@ -1,4 +1,5 @@
 pub mod Names
+pub mod FieldLaws
 pub mod Pieces
 pub mod Steps
 pub mod LineLaws

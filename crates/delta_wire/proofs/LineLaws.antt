@@ -11,19 +11,19 @@ use Rattle.rights_lattice.specs.declared.cell.Cell.TheVariants.{Gave, Used, Back
 use Rattle.delta_mutators.specs.declared.delta.Item.{Item}
 use Rattle.delta_mutators.specs.declared.delta.Item.TheVariants as item
 use Rattle.rights_lattice.specs.EventName.{IsEventName}
-use Rattle.rights_lattice.specs.EventName.{name_of}
+use Rattle.book_core.specs.Limits.{greatest_limit}
 use Rattle.plain_words.specs.Words.{is_space, first_word, ended, ◌>>=◌}
-use Rattle.plain_words.specs.Number.{number_at}
 use Rattle.delta_wire.specs.declared.items.Kind.{Kind}
 use Rattle.delta_wire.specs.declared.items.Kind.TheVariants as kind
 use Rattle.delta_wire.specs.declared.header.Header.{Header}
 use Rattle.delta_wire.specs.declared.header.Purpose.{Purpose}
 use Rattle.delta_wire.specs.declared.header.Purpose.TheVariants as purpose
 use Rattle.delta_wire.specs.Grammar.{cell_words, item_words, item_line, header_words, header_line, IsSite, IsCell, IsValue, IsUpto, IsItem}
-use Rattle.delta_wire.specs.Reading.{name_at, site_at, value_at, kind_text, kind_of, kind_at, name_item, mark_item, gave_item, used_item, back_item, after_kind, item_of_words, item_of, purpose_text, purpose_of, purpose_at, upto_at, header_of_words, header_of}
+use Rattle.delta_wire.specs.Fields.{event_at, site_at, value_at}
+use Rattle.delta_wire.specs.Reading.{kind_text, kind_of, kind_at, name_item, mark_item, gave_item, used_item, back_item, after_kind, item_of_words, item_of, purpose_text, purpose_of, purpose_at, upto_at, header_of_words, header_of}
 use Rattle.plain_words.proofs.NumberLaws.{number_at_found, number_at_again, decimal_lacks_space}
 use Rattle.plain_words.proofs.WordLaws.{lacks_space, split_join, bind_some, some_is, word_found, ended_found}
-use Rattle.rights_lattice.proofs.EventLaws.{name_of_found, name_of_again}
+use Rattle.delta_wire.proofs.FieldLaws.{event_at_found, event_again, site_at_found, site_again, value_at_found, value_again}
 use Rattle.delta_wire.proofs.Names.{name_lacks_space}
 
 -- ---- first words
@@ -70,29 +70,8 @@ purpose_at_found words x e =
     let b = bind_some (purpose_of a.0.0) (λ v. Some (v, a.0.1)) x a.2 in
     word_found words a.0 a.1 ∙ ap (λ (w : List ℕ). w ∷ a.0.1) (purpose_found a.0.0 b.0 b.1) ∙ ap (λ (p : Purpose × List (List ℕ)). purpose_text p.0 ∷ p.1) (some_is (b.0, a.0.1) x b.2)
 
-kept : (o : Option (ℕ × List (List ℕ))) (x : ℕ × List (List ℕ)) → (o >>= λ n. Some (n.0, n.1)) ≡ Some x → o ≡ Some x
-kept o x e = let a = bind_some o (λ n. Some (n.0, n.1)) x e in a.1 ∙ a.2
-
-site_at_found : (words : List (List ℕ)) (x : ℕ × List (List ℕ)) → site_at words ≡ Some x → (words ≡ decimal x.0 ∷ x.1) × IsSite x.0
-unfolding site_at
-site_at_found words x e = let f = number_at_found 0 63 words x (lit< tt) (kept (number_at 0 63 words) x e) in (f.0, f.2)
-
-value_at_found : (words : List (List ℕ)) (x : ℕ × List (List ℕ)) → value_at words ≡ Some x → (words ≡ decimal x.0 ∷ x.1) × IsValue x.0
-unfolding value_at
-value_at_found words x e = let f = number_at_found 1 1000000000000 words x (lit< tt) (kept (number_at 1 1000000000000 words) x e) in (f.0, (f.1, f.2))
-
 upto_at_found : (words : List (List ℕ)) (x : ℕ × List (List ℕ)) → upto_at words ≡ Some x → (words ≡ decimal x.0 ∷ x.1) × IsUpto x.0
-unfolding upto_at
-upto_at_found words x e = let f = number_at_found 1 1000000 words x (lit< tt) (kept (number_at 1 1000000 words) x e) in (f.0, (f.1, f.2))
-
-name_at_found : (words : List (List ℕ)) (x : List ℕ × List (List ℕ)) → name_at words ≡ Some x → (words ≡ x.0 ∷ x.1) × IsEventName x.0
-unfolding name_at
-name_at_found words x e =
-    let a = bind_some (first_word words) (λ w. name_of w.0 >>= λ n. Some (n, w.1)) x e in
-    let b = bind_some (name_of a.0.0) (λ n. Some (n, a.0.1)) x a.2 in
-    let f = name_of_found a.0.0 b.0 b.1 in
-    let same : (b.0, a.0.1) ≡ x = some_is (b.0, a.0.1) x b.2 in
-    (word_found words a.0 a.1 ∙ ap (λ (w : List ℕ). w ∷ a.0.1) f.0 ∙ ap (λ (p : List ℕ × List (List ℕ)). p.0 ∷ p.1) same, subst (λ (p : List ℕ × List (List ℕ)). IsEventName p.0) same f.1)
+upto_at_found words x e = let f = number_at_found 1 greatest_limit words x (lit< tt) e in (f.0, (f.1, f.2))
 
 -- ---- items
 
@@ -102,8 +81,8 @@ Spells words i = (words ≡ item_words i) × IsItem i
 name_item_found : (words : List (List ℕ)) (i : Item) → name_item words ≡ Some i → Spells (codes "name" ∷ words) i
 unfolding name_item
 name_item_found words i e =
-    let a = bind_some (name_at words) (λ n. ended (item.Name n.0) n.1) i e in
-    let f = name_at_found words a.0 a.1 in
+    let a = bind_some (event_at words) (λ n. ended (item.Name n.0) n.1) i e in
+    let f = event_at_found words a.0 a.1 in
     let z = ended_found (item.Name a.0.0) i a.0.1 a.2 in
     subst (Spells (codes "name" ∷ words)) z.1 (ap (λ (t : List (List ℕ)). codes "name" ∷ t) (f.0 ∙ ap (λ (t : List (List ℕ)). a.0.0 ∷ t) z.0), f.1)
 
@@ -123,11 +102,11 @@ mark_item_found event cell words i e =
 gave_item_found : (words : List (List ℕ)) (i : Item) → gave_item words ≡ Some i → Spells (codes "gave" ∷ words) i
 unfolding gave_item
 gave_item_found words i e =
-    let a = bind_some (name_at words) (λ n. site_at n.1 >>= λ s. site_at s.1 >>= λ t. mark_item n.0 (Gave s.0 t.0) t.1) i e in
+    let a = bind_some (event_at words) (λ n. site_at n.1 >>= λ s. site_at s.1 >>= λ t. mark_item n.0 (Gave s.0 t.0) t.1) i e in
     let b = bind_some (site_at a.0.1) (λ s. site_at s.1 >>= λ t. mark_item a.0.0 (Gave s.0 t.0) t.1) i a.2 in
     let d = bind_some (site_at b.0.1) (λ t. mark_item a.0.0 (Gave b.0.0 t.0) t.1) i b.2 in
     let m = mark_item_found a.0.0 (Gave b.0.0 d.0.0) d.0.1 i d.2 in
-    let f = name_at_found words a.0 a.1 in
+    let f = event_at_found words a.0 a.1 in
     let g = site_at_found a.0.1 b.0 b.1 in
     let h = site_at_found b.0.1 d.0 d.1 in
     subst (Spells (codes "gave" ∷ words)) m.3
@@ -136,10 +115,10 @@ gave_item_found words i e =
 used_item_found : (words : List (List ℕ)) (i : Item) → used_item words ≡ Some i → Spells (codes "used" ∷ words) i
 unfolding used_item
 used_item_found words i e =
-    let a = bind_some (name_at words) (λ n. site_at n.1 >>= λ s. mark_item n.0 (Used s.0) s.1) i e in
+    let a = bind_some (event_at words) (λ n. site_at n.1 >>= λ s. mark_item n.0 (Used s.0) s.1) i e in
     let b = bind_some (site_at a.0.1) (λ s. mark_item a.0.0 (Used s.0) s.1) i a.2 in
     let m = mark_item_found a.0.0 (Used b.0.0) b.0.1 i b.2 in
-    let f = name_at_found words a.0 a.1 in
+    let f = event_at_found words a.0 a.1 in
     let g = site_at_found a.0.1 b.0 b.1 in
     subst (Spells (codes "used" ∷ words)) m.3
     (ap (λ (t : List (List ℕ)). codes "used" ∷ t) (f.0 ∙ ap (λ (t : List (List ℕ)). a.0.0 ∷ t) (g.0 ∙ ap (λ (t : List (List ℕ)). decimal b.0.0 ∷ t) m.1)), (f.1, g.1, m.2))
@@ -147,10 +126,10 @@ used_item_found words i e =
 back_item_found : (words : List (List ℕ)) (i : Item) → back_item words ≡ Some i → Spells (codes "back" ∷ words) i
 unfolding back_item
 back_item_found words i e =
-    let a = bind_some (name_at words) (λ n. site_at n.1 >>= λ s. mark_item n.0 (Back s.0) s.1) i e in
+    let a = bind_some (event_at words) (λ n. site_at n.1 >>= λ s. mark_item n.0 (Back s.0) s.1) i e in
     let b = bind_some (site_at a.0.1) (λ s. mark_item a.0.0 (Back s.0) s.1) i a.2 in
     let m = mark_item_found a.0.0 (Back b.0.0) b.0.1 i b.2 in
-    let f = name_at_found words a.0 a.1 in
+    let f = event_at_found words a.0 a.1 in
     let g = site_at_found a.0.1 b.0 b.1 in
     subst (Spells (codes "back" ∷ words)) m.3
     (ap (λ (t : List (List ℕ)). codes "back" ∷ t) (f.0 ∙ ap (λ (t : List (List ℕ)). a.0.0 ∷ t) (g.0 ∙ ap (λ (t : List (List ℕ)). decimal b.0.0 ∷ t) m.1)), (f.1, g.1, m.2))
@@ -211,31 +190,18 @@ purpose_at_again : (v : Purpose) (ws : List (List ℕ)) → purpose_at (purpose_
 unfolding purpose_at
 purpose_at_again v ws = rw (purpose_again v) refl
 
-site_again : (n : ℕ) (ws : List (List ℕ)) → IsSite n → site_at (decimal n ∷ ws) ≡ Some (n, ws)
-unfolding site_at
-site_again n ws h = rw (number_at_again 0 63 n ws (lit< tt) (omega arith) h) refl
-
-value_again : (n : ℕ) (ws : List (List ℕ)) → IsValue n → value_at (decimal n ∷ ws) ≡ Some (n, ws)
-unfolding value_at
-value_again n ws h = rw (number_at_again 1 1000000000000 n ws (lit< tt) h.0 h.1) refl
-
 upto_again : (n : ℕ) (ws : List (List ℕ)) → IsUpto n → upto_at (decimal n ∷ ws) ≡ Some (n, ws)
-unfolding upto_at
-upto_again n ws h = rw (number_at_again 1 1000000 n ws (lit< tt) h.0 h.1) refl
-
-name_again : (e : List ℕ) (ws : List (List ℕ)) → IsEventName e → name_at (e ∷ ws) ≡ Some (e, ws)
-unfolding name_at
-name_again e ws h = rw (name_of_again e h) refl
+upto_again n ws h = number_at_again 1 greatest_limit n ws (lit< tt) h.0 h.1
 
 cell_again : (e : List ℕ) (c : Cell) (v : ℕ) → IsEventName e → IsCell c → IsValue v → item_of_words (cell_words e v c) ≡ Some (item.Cell (record { event = e; cell = c; value = v }))
 unfolding item_of_words gave_item used_item back_item mark_item
-cell_again e (Gave i j) v h k w = rw (kind_at_again kind.Gave (e ∷ decimal i ∷ decimal j ∷ decimal v ∷ []), name_again e (decimal i ∷ decimal j ∷ decimal v ∷ []) h, site_again i (decimal j ∷ decimal v ∷ []) k.0, site_again j (decimal v ∷ []) k.1, value_again v [] w) refl
-cell_again e (Used i) v h k w = rw (kind_at_again kind.Used (e ∷ decimal i ∷ decimal v ∷ []), name_again e (decimal i ∷ decimal v ∷ []) h, site_again i (decimal v ∷ []) k, value_again v [] w) refl
-cell_again e (Back i) v h k w = rw (kind_at_again kind.Back (e ∷ decimal i ∷ decimal v ∷ []), name_again e (decimal i ∷ decimal v ∷ []) h, site_again i (decimal v ∷ []) k, value_again v [] w) refl
+cell_again e (Gave i j) v h k w = rw (kind_at_again kind.Gave (e ∷ decimal i ∷ decimal j ∷ decimal v ∷ []), event_again e (decimal i ∷ decimal j ∷ decimal v ∷ []) h, site_again i (decimal j ∷ decimal v ∷ []) k.0, site_again j (decimal v ∷ []) k.1, value_again v [] w) refl
+cell_again e (Used i) v h k w = rw (kind_at_again kind.Used (e ∷ decimal i ∷ decimal v ∷ []), event_again e (decimal i ∷ decimal v ∷ []) h, site_again i (decimal v ∷ []) k, value_again v [] w) refl
+cell_again e (Back i) v h k w = rw (kind_at_again kind.Back (e ∷ decimal i ∷ decimal v ∷ []), event_again e (decimal i ∷ decimal v ∷ []) h, site_again i (decimal v ∷ []) k, value_again v [] w) refl
 
 item_words_again : (i : Item) → IsItem i → item_of_words (item_words i) ≡ Some i
 unfolding item_of_words name_item
-item_words_again (item.Name e) h = rw (kind_at_again kind.Name (e ∷ []), name_again e [] h) refl
+item_words_again (item.Name e) h = rw (kind_at_again kind.Name (e ∷ []), event_again e [] h) refl
 item_words_again (item.Cell m) h = cell_again m.event m.cell m.value h.0 h.1 h.2
 
 cell_splits : (e : List ℕ) (c : Cell) (v : ℕ) → IsEventName e → IsCell c → IsValue v → slice_split is_space (join_with_byte 32 (cell_words e v c)) ≡ cell_words e v c

@@ -4,10 +4,12 @@ use Rattle.std.specs.List.{join_with_byte, flat_map, AllByRecursion}
 use Rattle.std.specs.Fmt.{decimal}
 use Rattle.rights_lattice.specs.declared.cell.Cell.{Cell}
 use Rattle.rights_lattice.specs.declared.cell.Cell.TheVariants.{Gave, Used, Back}
-use Rattle.rights_lattice.specs.Cells.{marks_of}
+use Rattle.rights_lattice.specs.Cells.{max_value, marks_of}
+use Rattle.rights_lattice.specs.Limits.{greatest_site}
 use Rattle.rights_lattice.specs.State.{State, names_in_order}
 use Rattle.delta_mutators.specs.declared.delta.Item.{Item}
 use Rattle.delta_mutators.specs.declared.delta.Item.TheVariants as item
+use Rattle.book_core.specs.Limits.{greatest_limit}
 use Rattle.site_exchange.specs.declared.message.Message.{Message}
 use Rattle.site_exchange.specs.declared.message.Message.TheVariants.{Delta, Ack}
 use Rattle.rights_lattice.specs.EventName.{IsEventName}
@@ -53,10 +55,14 @@ message_lines (Ack by to upto) = header_line (codes "ack") by to upto ∷ codes 
 abbrev pub message_text : Message → List ℕ
 message_text m = lines_text (message_lines m)
 
+-- the most bytes of a text that comes from outside, and of the text of a delta that records keep
+abbrev pub most_bytes : ℕ
+most_bytes = 4294967296
+
 -- what has a text
 
 abbrev pub IsSite : ℕ → Type 0
-IsSite n = n ≤ 63
+IsSite n = n ≤ greatest_site
 
 abbrev pub IsCell : Cell → Type 0
 IsCell (Gave by to) = IsSite by × IsSite to
@@ -64,10 +70,10 @@ IsCell (Used by) = IsSite by
 IsCell (Back by) = IsSite by
 
 abbrev pub IsValue : ℕ → Type 0
-IsValue n = (1 ≤ n) × (n ≤ 1000000000000)
+IsValue n = (1 ≤ n) × (n ≤ max_value)
 
 abbrev pub IsUpto : ℕ → Type 0
-IsUpto n = (1 ≤ n) × (n ≤ 1000000)
+IsUpto n = (1 ≤ n) × (n ≤ greatest_limit)
 
 abbrev pub IsItem : Item → Type 0
 IsItem (item.Name name) = IsEventName name

@@ -1,4 +1,5 @@
 pub mod Grammar
+pub mod Fields
 pub mod Reading
 pub mod Wire
 pub mod Items

@@ -6,30 +6,15 @@ use Rattle.rights_lattice.specs.declared.cell.Cell.{Cell}
 use Rattle.rights_lattice.specs.declared.cell.Cell.TheVariants.{Gave, Used, Back}
 use Rattle.delta_mutators.specs.declared.delta.Item.{Item}
 use Rattle.delta_mutators.specs.declared.delta.Item.TheVariants as item
-use Rattle.rights_lattice.specs.EventName.{name_of}
+use Rattle.book_core.specs.Limits.{greatest_limit}
 use Rattle.plain_words.specs.Number.{number_at}
 use Rattle.plain_words.specs.Words.{first_word, is_space, ended, ◌>>=◌}
+use Rattle.delta_wire.specs.Fields.{event_at, site_at, value_at}
 use Rattle.delta_wire.specs.declared.items.Kind.{Kind}
 use Rattle.delta_wire.specs.declared.items.Kind.TheVariants as kind
 use Rattle.delta_wire.specs.declared.header.Header.{Header}
 use Rattle.delta_wire.specs.declared.header.Purpose.{Purpose}
 use Rattle.delta_wire.specs.declared.header.Purpose.TheVariants as purpose
-
-unfoldable pub name_at : List (List ℕ) → Option (List ℕ × List (List ℕ))
-name_at words = do
-  w ← first_word words
-  e ← name_of w.0
-  Some (e, w.1)
-
-unfoldable pub site_at : List (List ℕ) → Option (ℕ × List (List ℕ))
-site_at words = do
-  n ← number_at 0 63 words
-  Some (n.0, n.1)
-
-unfoldable pub value_at : List (List ℕ) → Option (ℕ × List (List ℕ))
-value_at words = do
-  n ← number_at 1 1000000000000 words
-  Some (n.0, n.1)
 
 -- ---- items
 
@@ -54,7 +39,7 @@ kind_at words = do
 
 unfoldable pub name_item : List (List ℕ) → Option Item
 name_item words = do
-  e ← name_at words
+  e ← event_at words
   ended (item.Name e.0) e.1
 
 -- the value of a cell of an event, which ends the line
@@ -65,20 +50,20 @@ mark_item event cell words = do
 
 unfoldable pub gave_item : List (List ℕ) → Option Item
 gave_item words = do
-  e ← name_at words
+  e ← event_at words
   i ← site_at e.1
   j ← site_at i.1
   mark_item e.0 (Gave i.0 j.0) j.1
 
 unfoldable pub used_item : List (List ℕ) → Option Item
 used_item words = do
-  e ← name_at words
+  e ← event_at words
   i ← site_at e.1
   mark_item e.0 (Used i.0) i.1
 
 unfoldable pub back_item : List (List ℕ) → Option Item
 back_item words = do
-  e ← name_at words
+  e ← event_at words
   i ← site_at e.1
   mark_item e.0 (Back i.0) i.1
 
@@ -114,10 +99,8 @@ purpose_at words = do
   k ← purpose_of w.0
   Some (k, w.1)
 
-unfoldable pub upto_at : List (List ℕ) → Option (ℕ × List (List ℕ))
-upto_at words = do
-  n ← number_at 1 1000000 words
-  Some (n.0, n.1)
+abbrev pub upto_at : List (List ℕ) → Option (ℕ × List (List ℕ))
+upto_at words = number_at 1 greatest_limit words
 
 unfoldable pub header_of_words : List (List ℕ) → Option Header
 header_of_words words = do

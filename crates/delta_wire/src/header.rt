@@ -3,7 +3,8 @@ ghost use Rattle.std.specs.Prelude.{◌≡◌, ℕ};
 ghost use Rattle.std.specs.Option.{option_map};
 ghost use Rattle.delta_wire.specs.Reading.{purpose_of, purpose_at, upto_at, header_of};
 
-use crate::items::site_at;
+use crate::fields::site_at;
+use book_core::Limit;
 use plain_words::{Words, number_at};
 use rights_lattice::SiteId;
 use site_exchange::Upto;
@@ -46,11 +47,10 @@ fn purpose_at(words: &mut Words<'_>) -> Option<Purpose>
     Some(purpose)
 }
 
-#[tactic(auto, unfolding(crate::specs::Reading::upto_at))]
 fn upto_at(words: &mut Words<'_>) -> Option<Upto>
     ensures { option_map (λ x. (x, words.new)) result ≡ upto_at words.old }
 {
-    let number = number_at(words, 1, 1_000_000)?;
+    let number = number_at(words, 1, Limit::MAX)?;
     let upto = Upto::of(number)?;
     Some(upto)
 }

@@ -1,11 +1,12 @@
 //! Reading the line of an item.
-ghost use Rattle.std.specs.Prelude.{◌≡◌, ◌<◌, ◌^◌, ◌≤◌, ℕ, IfSome};
+ghost use Rattle.std.specs.Prelude.{◌≡◌};
 ghost use Rattle.std.specs.Option.{option_map};
-ghost use Rattle.delta_wire.specs.Reading.{kind_of, kind_at, name_at, site_at, value_at, name_item, mark_item, gave_item, used_item, back_item, after_kind, item_of};
+ghost use Rattle.delta_wire.specs.Reading.{kind_of, kind_at, name_item, mark_item, gave_item, used_item, back_item, after_kind, item_of};
 
+use crate::fields::{event_at, site_at, value_at};
 use delta_mutators::Item;
-use plain_words::{Words, number_at};
-use rights_lattice::{Cell, Event, MAX_VALUE, Mark, SiteId};
+use plain_words::Words;
+use rights_lattice::{Cell, Event, Mark};
 
 /// The first word of an item's line.
 #[derive(Clone, Copy, Debug, PartialEq, Eq)]
@@ -42,38 +43,11 @@ fn kind_at(words: &mut Words<'_>) -> Option<Kind>
     Some(kind)
 }
 
-#[tactic(auto, unfolding(crate::specs::Reading::name_at))]
-fn name_at(words: &mut Words<'_>) -> Option<Event>
-    ensures { option_map (λ x. (x, words.new)) result ≡ name_at words.old }
-{
-    let word = words.next()?;
-    let event = Event::read(word)?;
-    Some(event)
-}
-
-#[tactic(auto, unfolding(crate::specs::Reading::site_at))]
-pub fn site_at(words: &mut Words<'_>) -> Option<SiteId>
-    ensures { option_map (λ x. (x, words.new)) result ≡ site_at words.old }
-{
-    let number = number_at(words, 0, 63)?;
-    let site = SiteId::of(number)?;
-    Some(site)
-}
-
-#[tactic(auto, unfolding(crate::specs::Reading::value_at))]
-fn value_at(words: &mut Words<'_>) -> Option<u64>
-    ensures value { option_map (λ x. (x, words.new)) result ≡ value_at words.old }
-    ensures within { IfSome result (λ n. (1 ≤ n) × (n ≤ 1000000000000)) }
-{
-    let number = number_at(words, 1, MAX_VALUE)?;
-    Some(number)
-}
-
 #[tactic(auto, unfolding(crate::specs::Reading::name_item))]
 fn name_item(words: &mut Words<'_>) -> Option<Item>
     ensures { result ≡ name_item words.old }
 {
-    let event = name_at(words)?;
+    let event = event_at(words)?;
     if words.is_empty() {
         Some(Item::Name(event))
     } else {
@@ -101,7 +75,7 @@ fn mark_item(event: Event, cell: &Cell, words: &mut Words<'_>) -> Option<Item>
 fn gave_item(words: &mut Words<'_>) -> Option<Item>
     ensures { result ≡ gave_item words.old }
 {
-    let event = name_at(words)?;
+    let event = event_at(words)?;
     let by = site_at(words)?;
     let to = site_at(words)?;
     mark_item(event, &Cell::Gave { by, to }, words)
@@ -111,7 +85,7 @@ fn gave_item(words: &mut Words<'_>) -> Option<Item>
 fn used_item(words: &mut Words<'_>) -> Option<Item>
     ensures { result ≡ used_item words.old }
 {
-    let event = name_at(words)?;
+    let event = event_at(words)?;
     let by = site_at(words)?;
     mark_item(event, &Cell::Used { by }, words)
 }
@@ -120,7 +94,7 @@ fn used_item(words: &mut Words<'_>) -> Option<Item>
 fn back_item(words: &mut Words<'_>) -> Option<Item>
     ensures { result ≡ back_item words.old }
 {
-    let event = name_at(words)?;
+    let event = event_at(words)?;
     let by = site_at(words)?;
     mark_item(event, &Cell::Back { by }, words)
 }

@@ -7,6 +7,7 @@
 
 mod ending;
 mod fault;
+mod fields;
 mod header;
 mod items;
 pub mod laws;
@@ -15,6 +16,10 @@ mod reading;
 mod text;
 mod writing;
 
+/// The most bytes of a text that comes from outside, and of the text of a delta that records keep.
+pub const MOST_BYTES: usize = 4_294_967_296;
+
 pub use fault::WireFault;
+pub use fields::{event_at, site_at, value_at};
 pub use reading::{read_delta, read_message};
 pub use writing::{delta_text, write_message};

@@ -1,3 +1,4 @@
 pub mod GivenBack
 pub mod Ledger
 pub mod Requests
+pub mod Words

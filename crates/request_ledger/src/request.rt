@@ -1,5 +1,9 @@
 //! What is asked of a site.
+ghost use Rattle.std.specs.Prelude.{◌≡◌};
+ghost use Rattle.request_ledger.specs.Words.{request_verb};
+
 use crate::number::RequestNumber;
+use crate::verb::Verb;
 use rights_lattice::{Amount, Event, SiteId};
 
 /// A request to one site, which decides it from its own rights.
@@ -29,4 +33,19 @@ pub enum Request {
         amount: Amount,
         to: SiteId,
     },
+}
+
+impl Request {
+    /// What it asks.
+    pub fn verb(&self) -> Verb
+        ensures { result ≡ request_verb self.now }
+    {
+        match self {
+            Request::Announce { .. } => Verb::Announce,
+            Request::Release { .. } => Verb::Release,
+            Request::Sell { .. } => Verb::Sell,
+            Request::Refund { .. } => Verb::Refund,
+            Request::Cede { .. } => Verb::Cede,
+        }
+    }
 }

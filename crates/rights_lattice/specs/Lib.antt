@@ -4,6 +4,7 @@ pub mod Cells
 pub mod Dense
 pub mod EventName
 pub mod JoinLaws
+pub mod Limits
 pub mod Marks
 pub mod Merging
 pub mod RightsView

@@ -1,53 +1,55 @@
 -- An entry is read back from its columns.
-use Rattle.std.proofs.Common.{◌≡◌, ℕ, ◌≤◌, pos, List, length, Some, refl, ap, ◌∙◌, arith}
+use Rattle.std.proofs.Common.{◌≡◌, ℕ, ◌≤◌, ◌<◌, ◌^◌, pos, List, length, Option, Some, None, refl, ap, ◌∙◌, arith}
+use Rattle.std.specs.Prelude.{IfSome}
 use Rattle.std.specs.Result.{result_ok}
 use Rattle.std.proofs.lemmas.Bool.{and_from, le-leb, cond-true}
 use Rattle.sqlite.specs.declared.types.Value.TheVariants.{Int, Text}
+use Rattle.rights_lattice.specs.Cells.{max_value}
+use Rattle.rights_lattice.specs.Limits.{greatest_site}
 use Rattle.rights_lattice.specs.State.{State}
 use Rattle.rights_lattice.specs.EventName.{IsEventName}
 use Rattle.request_ledger.specs.declared.request.Request.{Request}
 use Rattle.request_ledger.specs.declared.request.Request.TheVariants.{Announce, Release, Sell, Refund, Cede}
 use Rattle.request_ledger.specs.declared.reply.Reply.{Reply}
-use Rattle.request_ledger.specs.declared.reply.Reply.TheVariants.{Done, Known, Unknown, Short, CellFull, NoSale, Refunded, ToSelf, NoSite}
+use Rattle.request_ledger.specs.declared.verb.Verb.TheVariants as verb
+use Rattle.request_ledger.specs.Words.{verb_word, request_verb, reply_word, reply_number}
+use Rattle.request_ledger.proofs.WordLaws.{verb_again, reply_again}
 use Rattle.book_core.specs.declared.entry.Entry.{Entry}
 use Rattle.book_core.specs.declared.entry.Entry.TheVariants.{Asked, Joined}
 use Rattle.delta_wire.specs.Grammar.{IsSite, IsValue, IsDelta, delta_text}
 use Rattle.rights_lattice.proofs.EventLaws.{name_of_again}
 use Rattle.delta_wire.proofs.Texts.{delta_again}
-use Rattle.sql_records.specs.Rows.{verb_word, event_column, amount_column, target_column, reply_word, rest_column, columns_of, HasRequestColumns, HasReplyColumns, longest, IsStorable, number_within, value_in, site_in, event_in, verb_named, verb_in, announce_of, release_of, sell_of, refund_of, cede_of, request_in, reply_named, short_of, reply_in, delta_in, asked_of, joined_of, entry_of}
+use Rattle.sql_records.specs.Rows.{event_column, amount_column, target_column, number_column, rest_column, columns_of, HasRequestColumns, HasReplyColumns, longest, IsStorable, number_within, value_in, site_in, event_in, verb_in, announce_of, release_of, sell_of, refund_of, cede_of, request_in, rest_in, reply_in, delta_in, asked_of, joined_of, entry_of}
 
 pub within_back : (low high n : ℕ) → low ≤ n → n ≤ high → number_within low high (Int (pos n)) ≡ Some n
 within_back low high n p q = cond-true _ _ _ (and_from _ _ (le-leb _ _ p) (le-leb _ _ q))
 
 pub value_back : (n : ℕ) → IsValue n → value_in (Int (pos n)) ≡ Some n
-value_back n h = within_back 1 1000000000000 n h.0 h.1
+value_back n h = within_back 1 max_value n h.0 h.1
 
 pub site_back : (n : ℕ) → IsSite n → site_in (Int (pos n)) ≡ Some n
-site_back n h = within_back 0 63 n (omega arith) h
+site_back n h = within_back 0 greatest_site n (omega arith) h
 
 event_back : (e : List ℕ) → IsEventName e → event_in (Text e) ≡ Some e
 unfolding event_in
 event_back e h = name_of_again e h
 
-pub request_back : (r : Request) → HasRequestColumns r → request_in (Text (verb_word r)) (event_column r) (amount_column r) (target_column r) ≡ Some r
-unfolding request_in verb_in verb_named announce_of release_of sell_of refund_of cede_of
-request_back (Announce e) h = rw (event_back e h) refl
-request_back (Release e n) h = rw (event_back e h.0, value_back n h.1) refl
-request_back (Sell e n) h = rw (event_back e h.0, value_back n h.1) refl
-request_back (Refund sale) h = rw (value_back sale h) refl
-request_back (Cede e n to) h = rw (event_back e h.0, value_back n h.1, site_back to h.2) refl
+pub request_back : (r : Request) → HasRequestColumns r → request_in (Text (verb_word (request_verb r))) (event_column r) (amount_column r) (target_column r) ≡ Some r
+unfolding request_in verb_in announce_of release_of sell_of refund_of cede_of
+request_back (Announce e) h = rw (verb_again verb.Announce, event_back e h) refl
+request_back (Release e n) h = rw (verb_again verb.Release, event_back e h.0, value_back n h.1) refl
+request_back (Sell e n) h = rw (verb_again verb.Sell, event_back e h.0, value_back n h.1) refl
+request_back (Refund sale) h = rw (verb_again verb.Refund, value_back sale h) refl
+request_back (Cede e n to) h = rw (verb_again verb.Cede, event_back e h.0, value_back n h.1, site_back to h.2) refl
+
+rest_back : (number : Option ℕ) → IfSome number (λ n. n < 2 ^ 63) → rest_in (number_column number) ≡ Some number
+unfolding rest_in
+rest_back None h = refl
+rest_back (Some n) h = rw (within_back 0 9223372036854775807 n (omega arith) (omega (arith, h))) refl
 
 pub reply_back : (r : Reply) → HasReplyColumns r → reply_in (Text (reply_word r)) (rest_column r) ≡ Some r
-unfolding reply_in reply_named short_of
-reply_back Done h = refl
-reply_back Known h = refl
-reply_back Unknown h = refl
-reply_back (Short left) h = rw (within_back 0 9223372036854775807 left (omega arith) (omega (arith, h))) refl
-reply_back CellFull h = refl
-reply_back NoSale h = refl
-reply_back Refunded h = refl
-reply_back ToSelf h = refl
-reply_back NoSite h = refl
+unfolding reply_in
+reply_back r h = rw (rest_back (reply_number r) h) (reply_again r)
 
 delta_back : (S : State) → IsDelta S → length (delta_text S) ≤ longest → delta_in (Text (delta_text S)) ≡ Some S
 unfolding delta_in

@@ -16,6 +16,7 @@ use Rattle.sqlite_value.proofs.OrderLemmas.{value_cmp-Int, value_cmp-Text}
 use Rattle.sqlite_sql.specs.declared.ops.BinaryOp.TheVariants.{Compare}
 use Rattle.sqlite_sql.specs.declared.ops.CompareOp.TheVariants.{Eq}
 use Rattle.sqlite_sql.specs.Ops.{binary, is_true, from_truth}
+use Rattle.rights_lattice.specs.Cells.{max_value}
 use Rattle.rights_lattice.specs.Cell.{same_event}
 use Rattle.rights_lattice.specs.State.{State}
 use Rattle.request_ledger.specs.declared.request.Request.{Request}
@@ -34,8 +35,8 @@ use Rattle.sql_records.specs.declared.lookup.FindFault.{FindFault}
 use Rattle.sql_records.specs.declared.lookup.FindFault.TheVariants as fault
 use Rattle.sql_records.specs.declared.lookup.Found.{Found}
 use Rattle.sql_records.specs.declared.lookup.Listed.{Listed}
-use Rattle.sql_records.specs.declared.verb.Verb.{Verb}
-use Rattle.sql_records.specs.declared.verb.Verb.TheVariants as verb
+use Rattle.request_ledger.specs.declared.verb.Verb.{Verb}
+use Rattle.request_ledger.specs.declared.verb.Verb.TheVariants as verb
 use Rattle.sql_records.specs.Rows.{is_null, text_in, number_within, value_in, site_in, event_in, verb_in, event_column, announce_of, release_of, sell_of, refund_of, cede_of, request_of, request_in, reply_in, delta_in, asks_nothing, asked_of, joined_of, entry_with, entry_of, AreWhole}
 use Rattle.sql_records.specs.Lookups.{IsFirstUnread, found_in, listed_in, names_event, listing, has_number, has_event, found_columns, listed_columns, found_of, listed_of, first_found}
 
@@ -115,7 +116,7 @@ asked_parts values delta e h =
     let n = bind_some (value_in (column values 2)) (λ n. request_in (column values 3) (column values 4) (column values 5) (column values 6) >>= λ q. reply_in (column values 7) (column values 8) >>= λ r. Some (Asked n q r delta)) e h in
     let q = bind_some (request_in (column values 3) (column values 4) (column values 5) (column values 6)) (λ q. reply_in (column values 7) (column values 8) >>= λ r. Some (Asked n.0 q r delta)) e n.2 in
     let r = bind_some (reply_in (column values 7) (column values 8)) (λ r. Some (Asked n.0 q.0 r delta)) e q.2 in
-    subst (HasParts values) (some_is (Asked n.0 q.0 r.0 delta) e r.2) (within_found 1 1000000000000 n.0 (column values 2) n.1, n.1, q.1, r.1)
+    subst (HasParts values) (some_is (Asked n.0 q.0 r.0 delta) e r.2) (within_found 1 max_value n.0 (column values 2) n.1, n.1, q.1, r.1)
 
 joined_parts : (values : Row) (delta : State) (e : Entry) → joined_of values delta ≡ Some e → HasParts values e
 unfolding joined_of

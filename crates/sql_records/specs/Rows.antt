@@ -1,36 +1,31 @@
 -- The rows of the entries: the ten columns of each, and the entry that a row stands for. (Our own.)
-use Rattle.std.specs.Prelude.{ℕ, ◌+◌, ◌≤◌, ◌<◌, ◌^◌, ◌≡◌, nat_le, ◌&&◌, ◌==◌, if◌then◌else◌, Bool, true, false, List, [], ◌∷◌, ◌++◌, codes, Option, Some, None, pos, map, length, take, slice_get, IsSome, IsSorted, IsPermutation}
-use Rattle.std.specs.List.{filter_map}
-use Rattle.std.specs.Str.{bytes_eq}
+use Rattle.std.specs.Prelude.{ℕ, ◌+◌, ◌≤◌, ◌<◌, ◌^◌, ◌≡◌, nat_le, ◌&&◌, ◌==◌, if◌then◌else◌, Bool, true, false, List, [], ◌∷◌, ◌++◌, Option, Some, None, pos, negsuc, map, length, take, drop, slice_get, IsSome, IfSome, IsSorted, IsPermutation}
+use Rattle.std.specs.List.{filter_map, prefix_len}
+use Rattle.std.specs.Option.{option_map}
 use Rattle.std.specs.Result.{result_ok}
 use Rattle.std.specs.declared.cmp.Ordering.{Ordering}
 use Rattle.sqlite.specs.declared.types.Value.{Value}
 use Rattle.sqlite.specs.declared.types.Value.TheVariants.{Null, Int, Text}
 use Rattle.sqlite.specs.Order.{Row, column, value_cmp}
 use Rattle.sqlite_keyed.specs.Lists.{sort_by}
+use Rattle.rights_lattice.specs.Cells.{max_value}
+use Rattle.rights_lattice.specs.Limits.{greatest_site}
 use Rattle.rights_lattice.specs.State.{State}
 use Rattle.rights_lattice.specs.EventName.{IsEventName}
 use Rattle.request_ledger.specs.declared.request.Request.{Request}
 use Rattle.request_ledger.specs.declared.request.Request.TheVariants.{Announce, Release, Sell, Refund, Cede}
 use Rattle.request_ledger.specs.declared.reply.Reply.{Reply}
-use Rattle.request_ledger.specs.declared.reply.Reply.TheVariants.{Done, Known, Unknown, Short, CellFull, NoSale, Refunded, ToSelf, NoSite}
+use Rattle.request_ledger.specs.declared.verb.Verb.{Verb}
+use Rattle.request_ledger.specs.declared.verb.Verb.TheVariants as verb
+use Rattle.request_ledger.specs.Words.{verb_word, verb_of, request_verb, reply_word, reply_number, reply_of}
 use Rattle.book_core.specs.declared.entry.Entry.{Entry}
 use Rattle.book_core.specs.declared.entry.Entry.TheVariants.{Asked, Joined}
 use Rattle.plain_words.specs.Words.{◌>>=◌}
 use Rattle.delta_wire.specs.Grammar.{IsSite, IsValue, IsDelta, delta_text}
 use Rattle.rights_lattice.specs.EventName.{name_of}
 use Rattle.delta_wire.specs.Wire.{delta_of}
-use Rattle.sql_records.specs.declared.verb.Verb.{Verb}
-use Rattle.sql_records.specs.declared.verb.Verb.TheVariants as verb
 
 -- ---- the columns of an entry
-
-abbrev pub verb_word : Request → List ℕ
-verb_word (Announce event) = codes "announce"
-verb_word (Release event amount) = codes "release"
-verb_word (Sell event amount) = codes "sell"
-verb_word (Refund sale) = codes "refund"
-verb_word (Cede event amount to) = codes "cede"
 
 abbrev pub event_column : Request → Value
 event_column (Announce event) = Text event
@@ -54,23 +49,16 @@ target_column (Sell event amount) = Null
 target_column (Refund sale) = Int (pos sale)
 target_column (Cede event amount to) = Int (pos to)
 
-abbrev pub reply_word : Reply → List ℕ
-reply_word Done = codes "done"
-reply_word Known = codes "known"
-reply_word Unknown = codes "unknown"
-reply_word (Short left) = codes "short"
-reply_word CellFull = codes "full-cell"
-reply_word NoSale = codes "no-sale"
-reply_word Refunded = codes "refunded"
-reply_word ToSelf = codes "to-self"
-reply_word NoSite = codes "no-site"
+-- the number of a reply, where it has one
+abbrev pub number_column : Option ℕ → Value
+number_column None = Null
+number_column (Some n) = Int (pos n)
 
 abbrev pub rest_column : Reply → Value
-rest_column (Short left) = Int (pos left)
-rest_column _ = Null
+rest_column reply = number_column (reply_number reply)
 
 abbrev pub request_columns : Request → Row
-request_columns request = Text (verb_word request) ∷ event_column request ∷ amount_column request ∷ target_column request ∷ []
+request_columns request = Text (verb_word (request_verb request)) ∷ event_column request ∷ amount_column request ∷ target_column request ∷ []
 
 abbrev pub reply_columns : Reply → Row
 reply_columns reply = Text (reply_word reply) ∷ rest_column reply ∷ []
@@ -102,8 +90,7 @@ HasRequestColumns (Cede event amount to) = IsEventName event × IsValue amount �
 
 -- a number of a column is below 2^63
 abbrev pub HasReplyColumns : Reply → Type 0
-HasReplyColumns (Short left) = left < 2 ^ 63
-HasReplyColumns _ = Unit {0}
+HasReplyColumns reply = IfSome (reply_number reply) (λ n. n < 2 ^ 63)
 
 -- the most bytes of a delta's text that is read
 abbrev pub longest : ℕ
@@ -137,28 +124,20 @@ number_within low high _ = None
 
 -- a request number or an amount
 abbrev pub value_in : Value → Option ℕ
-value_in v = number_within 1 1000000000000 v
+value_in v = number_within 1 max_value v
 
 abbrev pub site_in : Value → Option ℕ
-site_in v = number_within 0 63 v
+site_in v = number_within 0 greatest_site v
 
 unfoldable pub event_in : Value → Option (List ℕ)
 event_in v = do
   text ← text_in v
   name_of text
 
-unfoldable pub verb_named : List ℕ → Option Verb
-verb_named word =
-    if bytes_eq word (codes "announce") then Some verb.Announce else (
-    if bytes_eq word (codes "release") then Some verb.Release else (
-    if bytes_eq word (codes "sell") then Some verb.Sell else (
-    if bytes_eq word (codes "refund") then Some verb.Refund else (
-    if bytes_eq word (codes "cede") then Some verb.Cede else None))))
-
 unfoldable pub verb_in : Value → Option Verb
 verb_in v = do
   word ← text_in v
-  verb_named word
+  verb_of word
 
 unfoldable pub announce_of : Value → Value → Value → Option Request
 announce_of event amount target = do
@@ -202,33 +181,16 @@ request_in word event amount target = do
   v ← verb_in word
   request_of v event amount target
 
--- the replies without a number
-unfoldable pub reply_named : List ℕ → Option Reply
-reply_named word =
-    if bytes_eq word (codes "done") then Some Done else (
-    if bytes_eq word (codes "known") then Some Known else (
-    if bytes_eq word (codes "unknown") then Some Unknown else (
-    if bytes_eq word (codes "full-cell") then Some CellFull else (
-    if bytes_eq word (codes "no-sale") then Some NoSale else (
-    if bytes_eq word (codes "refunded") then Some Refunded else (
-    if bytes_eq word (codes "to-self") then Some ToSelf else (
-    if bytes_eq word (codes "no-site") then Some NoSite else None)))))))
-
-unfoldable pub short_of : Value → Option Reply
-short_of rest = do
-  left ← number_within 0 9223372036854775807 rest
-  Some (Short left)
-
-abbrev pub reply_of : List ℕ → Value → Option Reply
-reply_of word rest =
-    if bytes_eq word (codes "short") then short_of rest else (
-    if is_null rest then reply_named word else None)
+-- the number of a reply, or none where the column is null
+unfoldable pub rest_in : Value → Option (Option ℕ)
+rest_in rest = if is_null rest then Some None else option_map (λ n. Some n) (number_within 0 9223372036854775807 rest)
 
 -- the reply of these two columns
 unfoldable pub reply_in : Value → Value → Option Reply
 reply_in word rest = do
   w ← text_in word
-  reply_of w rest
+  number ← rest_in rest
+  reply_of w number
 
 -- the delta that a text spells, where it is not too long
 abbrev pub delta_named : List ℕ → Option State
@@ -311,6 +273,27 @@ abbrev pub AreWhole : ℕ → List Row → Type 0
 AreWhole from [] = Unit {0}
 AreWhole from (values ∷ rows) = IsEntryAt from values × AreWhole (from + 1) rows
 
--- the first row that is not the entry of its place
-abbrev pub IsDamagedAt : ℕ → List Row → Type 0
-IsDamagedAt place rows = AreWhole 0 (take place rows) × ((values : Row) × (slice_get rows place ≡ Some values) × ¬ IsEntryAt place values)
+-- the first of these rows that is not the entry of its place
+abbrev pub IsFirstDamaged : ℕ → List Row → Type 0
+IsFirstDamaged place rows = AreWhole 0 (take place rows) × ((values : Row) × (slice_get rows place ≡ Some values) × ¬ IsEntryAt place values)
+
+-- ---- what is at fault in rows that are in an order of their places
+
+abbrev pub is_below : Value → Bool
+is_below (Int (negsuc n)) = true
+is_below _ = false
+
+-- how many rows stand in front of the place 0
+abbrev pub rows_below : List Row → ℕ
+rows_below rows = prefix_len (λ (values : Row). is_below (column values 0)) rows
+
+-- the rows from the place 0 on
+abbrev pub rows_from_0 : List Row → List Row
+rows_from_0 rows = drop (rows_below rows) rows
+
+-- the least place below the number of rows that is missing, or whose row does not read as an entry
+pub record IsDamagedAt (place : ℕ) (rows : List Row) : Type 0 where
+  pub low : place < length rows
+  pub before : AreWhole 0 (take place (rows_from_0 rows))
+  pub reached : place ≤ length (rows_from_0 rows)
+  pub missing : (values : Row) → slice_get (rows_from_0 rows) place ≡ Some values → ¬ IsEntryAt place values

@@ -1,6 +1,7 @@
 //! The columns that an entry is written as.
 ghost use Rattle.std.specs.Prelude.{◌≡◌, ◌↔◌, ◌<◌, ◌^◌, length, IsTrue};
 ghost use Rattle.sqlite.specs.Values.{bound};
+ghost use Rattle.request_ledger.specs.Words.{verb_word, request_verb};
 ghost use Rattle.book_core.specs.History.{delta_of};
 ghost use Rattle.delta_wire.specs.Grammar.{IsDelta, delta_text};
 ghost use Rattle.sql_records.specs.Rows.{request_columns, reply_columns, columns_of, HasRequestColumns, HasReplyColumns, HasRoom, IsStorable};
@@ -12,38 +13,46 @@ use sqlite::types::ValueRef;
 /// The most bytes of a delta's text that is read back.
 pub const LONGEST: usize = 4_294_967_296;
 
+// The word of the request's verb.
+fn verb_word(request: &Request) -> &[u8]
+    ensures { result.now ≡ verb_word (request_verb request.now) }
+{
+    request.verb().word()
+}
+
 // The verb, the event, the amount and the target.
 fn request_columns(request: &Request) -> [ValueRef<'_>; 4]
     ensures columns { bound result ≡ request_columns request.now }
     ensures fits { HasRequestColumns request.now }
 {
+    let verb = verb_word(request);
     match request {
         Request::Announce { event } => [
-            ValueRef::Text(b"announce"),
+            ValueRef::Text(verb),
             ValueRef::Text(event.bytes()),
             ValueRef::Null,
             ValueRef::Null,
         ],
         Request::Release { event, amount } => [
-            ValueRef::Text(b"release"),
+            ValueRef::Text(verb),
             ValueRef::Text(event.bytes()),
             ValueRef::Int(amount.seats() as i64),
             ValueRef::Null,
         ],
         Request::Sell { event, amount } => [
-            ValueRef::Text(b"sell"),
+            ValueRef::Text(verb),
             ValueRef::Text(event.bytes()),
             ValueRef::Int(amount.seats() as i64),
             ValueRef::Null,
         ],
         Request::Refund { sale } => [
-            ValueRef::Text(b"refund"),
+            ValueRef::Text(verb),
             ValueRef::Null,
             ValueRef::Null,
             ValueRef::Int(sale.get() as i64),
         ],
         Request::Cede { event, amount, to } => [
-            ValueRef::Text(b"cede"),
+            ValueRef::Text(verb),
             ValueRef::Text(event.bytes()),
             ValueRef::Int(amount.seats() as i64),
             ValueRef::Int(to.number() as i64),
@@ -56,17 +65,11 @@ fn reply_columns(reply: &Reply) -> [ValueRef<'static>; 2]
     requires { HasReplyColumns reply.now }
     ensures { bound result ≡ reply_columns reply.now }
 {
-    match reply {
-        Reply::Done => [ValueRef::Text(b"done"), ValueRef::Null],
-        Reply::Known => [ValueRef::Text(b"known"), ValueRef::Null],
-        Reply::Unknown => [ValueRef::Text(b"unknown"), ValueRef::Null],
-        Reply::Short { left } => [ValueRef::Text(b"short"), ValueRef::Int(*left as i64)],
-        Reply::CellFull => [ValueRef::Text(b"full-cell"), ValueRef::Null],
-        Reply::NoSale => [ValueRef::Text(b"no-sale"), ValueRef::Null],
-        Reply::Refunded => [ValueRef::Text(b"refunded"), ValueRef::Null],
-        Reply::ToSelf => [ValueRef::Text(b"to-self"), ValueRef::Null],
-        Reply::NoSite => [ValueRef::Text(b"no-site"), ValueRef::Null],
-    }
+    let rest = match reply.number() {
+        None => ValueRef::Null,
+        Some(number) => ValueRef::Int(number as i64),
+    };
+    [ValueRef::Text(reply.word()), rest]
 }
 
 /// Whether the columns have room for the entry with this text of its delta.
@@ -74,11 +77,11 @@ pub fn fits(entry: &Entry, text: &str) -> bool
     ensures { IsTrue result ↔ HasRoom entry.now (length text.now) }
 {
     match entry {
-        Entry::Asked {
-            reply: Reply::Short { left },
-            ..
-        } => *left <= i64::MAX as u64 && text.len() <= LONGEST,
-        _ => text.len() <= LONGEST,
+        Entry::Asked { reply, .. } => {
+            let number = reply.number().unwrap_or(0);
+            number <= i64::MAX as u64 && text.len() <= LONGEST
+        }
+        Entry::Joined { .. } => text.len() <= LONGEST,
     }
 }
 

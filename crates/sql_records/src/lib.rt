@@ -16,7 +16,6 @@ mod opening;
 mod reading;
 mod records;
 mod shape;
-mod verb;
 
 pub use fault::{InitFault, OpenFault};
 pub use keeper::{KeepFault, Keeper};

@@ -3,15 +3,14 @@ ghost use Rattle.std.specs.Prelude.{◌≡◌, IfOk, IsTrue, true};
 ghost use Rattle.std.specs.Option.{option_map};
 ghost use Rattle.sqlite.specs.Order.{column};
 ghost use Rattle.sqlite_value.specs.Value.{owned};
-ghost use Rattle.sql_records.specs.Rows.{is_null, text_in, number_within, value_in, site_in, event_in, verb_in, announce_of, release_of, sell_of, refund_of, cede_of, request_of, request_in, reply_named, short_of, reply_of, reply_in, delta_in, asks_nothing, asked_of, joined_of, entry_with, entry_of};
+ghost use Rattle.sql_records.specs.Rows.{is_null, text_in, number_within, value_in, site_in, event_in, verb_in, announce_of, release_of, sell_of, refund_of, cede_of, request_of, request_in, rest_in, reply_in, delta_in, asks_nothing, asked_of, joined_of, entry_with, entry_of};
 
 use crate::columns::LONGEST;
-use crate::verb::Verb;
 use book_core::Entry;
 use delta_mutators::Delta;
 use delta_wire::{WireFault, read_delta};
-use request_ledger::{Reply, Request, RequestNumber};
-use rights_lattice::{Amount, Event, SiteId};
+use request_ledger::{Reply, Request, RequestNumber, Verb};
+use rights_lattice::{Amount, Event, GREATEST_SITE, MAX_VALUE, SiteId};
 use sqlite::Row;
 use sqlite::types::ValueRef;
 use std::alloc::{AllocError, Global};
@@ -58,14 +57,14 @@ pub fn number_within(low: u64, high: u64, value: ValueRef<'_>) -> Option<u64>
 pub fn request_number_in(value: ValueRef<'_>) -> Option<RequestNumber>
     ensures { result ≡ value_in (owned value.entry) }
 {
-    let number = number_within(1, 1_000_000_000_000, value)?;
+    let number = number_within(1, MAX_VALUE, value)?;
     RequestNumber::of(number)
 }
 
 fn amount_in(value: ValueRef<'_>) -> Option<Amount>
     ensures { result ≡ value_in (owned value.entry) }
 {
-    let seats = number_within(1, 1_000_000_000_000, value)?;
+    let seats = number_within(1, MAX_VALUE, value)?;
     Amount::of(seats)
 }
 
@@ -73,7 +72,7 @@ fn amount_in(value: ValueRef<'_>) -> Option<Amount>
 pub fn site_in(value: ValueRef<'_>) -> Option<SiteId>
     ensures { result ≡ site_in (owned value.entry) }
 {
-    let number = number_within(0, 63, value)?;
+    let number = number_within(0, GREATEST_SITE, value)?;
     SiteId::of(number)
 }
 
@@ -90,7 +89,7 @@ fn verb_in(value: ValueRef<'_>) -> Option<Verb>
     ensures { result ≡ verb_in (owned value.entry) }
 {
     let word = text_in(value)?;
-    Verb::named(word)
+    Verb::read(word)
 }
 
 #[tactic(auto, unfolding(crate::specs::Rows::announce_of))]
@@ -184,49 +183,15 @@ pub fn request_in(
     request_of(verb, event, amount, target)
 }
 
-#[tactic(auto, unfolding(crate::specs::Rows::reply_named))]
-fn reply_named(word: &[u8]) -> Option<Reply>
-    ensures { result ≡ reply_named word.now }
+#[tactic(auto, unfolding(crate::specs::Rows::rest_in))]
+fn rest_in(rest: ValueRef<'_>) -> Option<Option<u64>>
+    ensures { result ≡ rest_in (owned rest.entry) }
 {
-    if word == b"done".as_slice() {
-        Some(Reply::Done)
-    } else if word == b"known".as_slice() {
-        Some(Reply::Known)
-    } else if word == b"unknown".as_slice() {
-        Some(Reply::Unknown)
-    } else if word == b"full-cell".as_slice() {
-        Some(Reply::CellFull)
-    } else if word == b"no-sale".as_slice() {
-        Some(Reply::NoSale)
-    } else if word == b"refunded".as_slice() {
-        Some(Reply::Refunded)
-    } else if word == b"to-self".as_slice() {
-        Some(Reply::ToSelf)
-    } else if word == b"no-site".as_slice() {
-        Some(Reply::NoSite)
-    } else {
-        None
+    if is_null(rest) {
+        return Some(None);
     }
-}
-
-#[tactic(auto, unfolding(crate::specs::Rows::short_of))]
-fn short_of(rest: ValueRef<'_>) -> Option<Reply>
-    ensures { result ≡ short_of (owned rest.entry) }
-{
-    let left = number_within(0, 9_223_372_036_854_775_807, rest)?;
-    Some(Reply::Short { left })
-}
-
-fn reply_of(word: &[u8], rest: ValueRef<'_>) -> Option<Reply>
-    ensures { result ≡ reply_of word.now (owned rest.entry) }
-{
-    if word == b"short".as_slice() {
-        short_of(rest)
-    } else if is_null(rest) {
-        reply_named(word)
-    } else {
-        None
-    }
+    let number = number_within(0, 9_223_372_036_854_775_807, rest)?;
+    Some(Some(number))
 }
 
 /// The reply of these two columns.
@@ -235,7 +200,8 @@ pub fn reply_in(word: ValueRef<'_>, rest: ValueRef<'_>) -> Option<Reply>
     ensures { result ≡ reply_in (owned word.entry) (owned rest.entry) }
 {
     let word = text_in(word)?;
-    reply_of(word, rest)
+    let number = rest_in(rest)?;
+    Reply::read(word, number)
 }
 
 #[tactic(auto, unfolding(crate::specs::Rows::delta_in))]
