@@ -16,6 +16,7 @@ use std::alloc::{AllocError, Global};
 use std::env;
 use std::io::{BufWriter, ErrorKind, Stdout};
 use std::process::ExitCode;
+use std::sync::Wait;
 
 fn out_of_memory(rt: &HostRuntime) -> Status {
     let _ = eprintln!(rt; "memory");
@@ -57,10 +58,15 @@ fn run_init<S: Start>(
     Ok(close(rt, (status, Some(conn))))
 }
 
-fn run_ask<S: Start>(rt: &HostRuntime, file: &str, start: S) -> Result<Status, Status> {
+fn run_ask<S: Start>(
+    rt: &HostRuntime,
+    waiter: &impl Wait,
+    file: &str,
+    start: S,
+) -> Result<Status, Status> {
     let conn = open_there(rt, file, start)?;
     let came = ask_store(
-        rt,
+        waiter,
         rt.alloc(),
         conn,
         rt.stdin(),
@@ -118,7 +124,12 @@ fn run_import<S: Start>(rt: &HostRuntime, file: &str, start: S) -> Result<Status
 }
 
 // An error is the status of a command that could not begin, and whose fault was told.
-fn run_order<S: Start>(rt: &HostRuntime, order: Order<'_>, start: S) -> Result<Status, Status> {
+fn run_order<S: Start>(
+    rt: &HostRuntime,
+    waiter: &impl Wait,
+    order: Order<'_>,
+    start: S,
+) -> Result<Status, Status> {
     match order {
         Order::World => run_world(rt),
         Order::Init {
@@ -127,7 +138,7 @@ fn run_order<S: Start>(rt: &HostRuntime, order: Order<'_>, start: S) -> Result<S
             sites,
             limit,
         } => run_init(rt, file, me, sites, limit, start),
-        Order::Ask { file } => run_ask(rt, file, start),
+        Order::Ask { file } => run_ask(rt, waiter, file, start),
         Order::Find { file, number } => run_find(rt, file, number, start),
         Order::List { file, event } => run_list(rt, file, event, start),
         Order::Export { file, to } => run_export(rt, file, to, start),
@@ -135,9 +146,9 @@ fn run_order<S: Start>(rt: &HostRuntime, order: Order<'_>, start: S) -> Result<S
     }
 }
 
-fn run<S: Start>(rt: &HostRuntime, words: &[&str], start: S) -> Status {
+fn run<S: Start>(rt: &HostRuntime, waiter: &impl Wait, words: &[&str], start: S) -> Status {
     match read_words(rt.alloc(), words) {
-        Ok(order) => match run_order(rt, order, start) {
+        Ok(order) => match run_order(rt, waiter, order, start) {
             Ok(status) | Err(status) => status,
         },
         Err(WordsFault::NotUnderstood { text }) => {
@@ -152,15 +163,16 @@ fn texts(alloc: Global, words: &[String]) -> Result<Vec<&str>, AllocError> {
     words.iter().map(|word| word.as_str()).collect(alloc)
 }
 
-fn started<S: Start>(rt: &HostRuntime, start: S) -> std::io::Result<Status> {
+fn started<S: Start>(rt: &HostRuntime, waiter: &impl Wait, start: S) -> std::io::Result<Status> {
     let words: Vec<String> = env::args(rt)?.collect(rt.alloc())?;
     let texts = texts(rt.alloc(), &words)?;
-    Ok(run(rt, texts.as_slice(), start))
+    Ok(run(rt, waiter, texts.as_slice(), start))
 }
 
-// What the file holds is nobody's to know here, so the rest is proved for any first contents.
+// What the file holds is nobody's to know here, so the rest is proved for any first contents. Only here is the runtime
+// a handle that may wait.
 fn main(rt: HostRuntime) -> ExitCode {
-    let status = match started(&rt, Unknown) {
+    let status = match started(&rt, &rt, Unknown) {
         Ok(status) => status,
         Err(error) => match error.kind() {
             ErrorKind::OutOfMemory => out_of_memory(&rt),

@@ -45,7 +45,6 @@ pub record SessionRan {S : Type 0} (g : Ghosts S) (conn : Held S) (input old_out
   pub book : SiteView (Kept S)
   pub behind : SiteView (Kept S)
   pub opened : IsBookOf (state g conn).now.trees book
-  pub open : book.closed ≡ false
   pub came : Result Ended TalkFault
   pub talked : Talked (BookStep (records g)) input old_out new_out book behind came
   pub told : IsToldAs (status_of came) old_err new_err status

@@ -2,28 +2,32 @@
 #![tactic(auto)]
 
 mod answering;
-mod asking;
+mod ask;
 mod ending;
-mod exchanging;
+mod export;
 mod fault;
+mod find;
+mod import;
+mod init;
 pub mod laws;
-mod looking;
-mod making;
+mod list;
 mod opening;
 mod orders;
 mod record_lines;
-mod scripting;
 mod status;
 mod store_fault;
 mod told;
 mod totals;
 mod words;
+mod world;
 
-pub use asking::ask_store;
-pub use exchanging::{export_store, import_store};
+pub use ask::ask_store;
+pub use export::export_store;
 pub use fault::ScriptFault;
-pub use looking::{find_store, list_store};
-pub use making::{init_store, refuse_site};
+pub use find::find_store;
+pub use import::import_store;
+pub use init::{init_store, refuse_site};
+pub use list::list_store;
 pub use orders::{Order, WordsFault, read_words};
-pub use scripting::{run_script, world_script};
 pub use status::Status;
+pub use world::{run_script, world_script};

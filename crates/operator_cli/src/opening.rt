@@ -1,6 +1,6 @@
 //! Opening the records of a site.
 
-ghost use Rattle.std.specs.Prelude.{◌≡◌, false, IfOk, IfErr, MatchOption};
+ghost use Rattle.std.specs.Prelude.{◌≡◌, IfOk, IfErr, MatchOption};
 ghost use Rattle.sqlite.specs.Held.{state};
 ghost use Rattle.sqlite.specs.State.{HasCleanDisk};
 ghost use Rattle.sql_records.specs.Held.{IsTrusted, kept_in, history_in};
@@ -48,7 +48,6 @@ pub(crate) fn open_book<S: Alter + Drop>(
     ensures kept { IfOk result (λ book. IsTrusted S.Store book.keeper
         → kept_in S.Store book.keeper ≡ history_in (state S.Store conn).now.trees) }
     ensures open { IfOk result (λ book. book.keeper.failures ≡ 0) }
-    ensures unclosed { IfOk result (λ book. book.closed ≡ false) }
     ensures book { IfOk result (λ book. IsTrusted S.Store book.keeper → IsBookOf (state S.Store conn).now.trees book) }
     ensures same { IfOk result (λ book. IsTrusted S.Store book.keeper
         → (state S.Store book.keeper.conn).now ≡ (state S.Store conn).now) }

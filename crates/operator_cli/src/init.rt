@@ -1,0 +1,102 @@
+//! The command `init`: new records of a site.
+
+ghost use Rattle.std.specs.Prelude.{◌≡◌, ◌≢◌, ◌<◌, true, false, Err, IfOk, IfErr};
+ghost use Rattle.sqlite.specs.State.{HasCleanDisk};
+ghost use Rattle.sqlite.specs.Held.{state};
+ghost use Rattle.sql_records.specs.Held.{IsNew};
+ghost use Rattle.operator_cli.specs.Told.{FaultTold, told_status};
+ghost use Rattle.operator_cli.specs.Opened.{IsMakeEnd, FailsFor};
+ghost use Rattle.operator_cli.specs.Printed.{Printed, IsTellingOf, IsMadeText, told_of_making};
+ghost use Rattle.sql_records.specs.Layout.{has_our_table};
+ghost use Rattle.operator_cli.specs.declared.store_fault.StoreFault.TheVariants.{Disk};
+ghost use Rattle.operator_cli.specs.declared.status.Status.TheVariants.{Done, Refused, Failed};
+ghost use Rattle.operator_cli.specs.declared.told.Told.TheVariants.{NoSite};
+
+use crate::ending::ended;
+use crate::status::Status;
+use crate::store_fault::StoreFault;
+use crate::told::{Told, tell};
+use book_core::Limit;
+use rights_lattice::{SiteId, Sites};
+use sql_records::{InitFault, Records};
+use sqlite::{Alter, Connection};
+use std::io::Write;
+
+/// Tells that there is no such site among so many, which needs no file: `no-site`, status 1.
+pub fn refuse_site<W: Write, E: Write>(out: &mut W, err: &mut E) -> Status
+    ensures out { Printed (IsTellingOf (λ told. told ≡ NoSite)) (W.contents out.old) (W.contents out.new) result }
+    ensures err { FaultTold (E.contents err.old) (E.contents err.new) result }
+{
+    let came = tell(&Told::NoSite, out);
+    ended(came, out, err)
+}
+
+fn make<S: Alter>(
+    conn: &mut Connection<S>,
+    me: SiteId,
+    sites: Sites,
+    limit: Limit,
+) -> Result<Told, StoreFault>
+    ensures told { IfOk result (λ told. told ≡ told_of_making me sites (has_our_table conn.old.schema)) }
+    ensures busy { me < sites → has_our_table conn.old.schema ≡ false → conn.old.in_transaction ≡ true
+        → result ≡ Err Disk }
+    ensures made { HasCleanDisk (state S.Store conn.new) → IfOk result (λ told. told_status told ≡ Done
+        → IsNew (record { me = me; sites = sites; limit = limit }) (state S.Store conn.new).now) }
+    ensures kept { IfOk result (λ told. told_status told ≡ Refused → conn.new ≡ conn.old) }
+    ensures fault { HasCleanDisk (state S.Store conn.new) → IfErr result (IsMakeEnd S.Store conn.old (record { me = me; sites = sites; limit = limit })) }
+{
+    if me.number() >= sites.count() {
+        return Ok(Told::NoSite);
+    }
+    match Records::init(conn, me, sites, limit) {
+        Ok(()) => Ok(Told::Made),
+        Err(InitFault::AlreadyThere) => Ok(Told::AlreadyThere),
+        Err(InitFault::Memory) => Err(StoreFault::Memory),
+        Err(InitFault::Disk) => Err(StoreFault::Disk),
+    }
+}
+
+fn write_made<S: Alter, W: Write>(
+    conn: &mut Connection<S>,
+    me: SiteId,
+    sites: Sites,
+    limit: Limit,
+    out: &mut W,
+) -> Result<Status, StoreFault>
+    ensures out { IfOk result (Printed (IsMadeText me sites (has_our_table conn.old.schema)) (W.contents out.old) (W.contents out.new)) }
+    ensures made { HasCleanDisk (state S.Store conn.new) → IfOk result (λ status. status ≡ Done
+        → IsNew (record { me = me; sites = sites; limit = limit }) (state S.Store conn.new).now) }
+    ensures kept { IfOk result (λ status. status ≡ Refused → conn.new ≡ conn.old) }
+    ensures fault { HasCleanDisk (state S.Store conn.new) → IfErr result (IsMakeEnd S.Store conn.old (record { me = me; sites = sites; limit = limit })) }
+    ensures ends { IfOk result (λ status. status ≢ Failed) }
+{
+    match make(conn, me, sites, limit) {
+        Ok(told) => tell(&told, out),
+        Err(fault) => Err(fault),
+    }
+}
+
+/// Makes the records of a site with no entries, and prints `done`; or `already-there` where a table
+/// of ours is there, or `no-site` where `me` is not below `sites`, with status 1.
+///
+/// `memory` and `disk` are told on `err`, with status 3. Only `done` changes the database, save
+/// that after a fault the records may be there.
+pub fn init_store<S: Alter, W: Write, E: Write>(
+    conn: &mut Connection<S>,
+    me: SiteId,
+    sites: Sites,
+    limit: Limit,
+    out: &mut W,
+    err: &mut E,
+) -> Status
+    ensures out { Printed (IsMadeText me sites (has_our_table conn.old.schema)) (W.contents out.old) (W.contents out.new) result }
+    ensures err { FaultTold (E.contents err.old) (E.contents err.new) result }
+    ensures made { HasCleanDisk (state S.Store conn.new) → result ≡ Done
+        → IsNew (record { me = me; sites = sites; limit = limit }) (state S.Store conn.new).now }
+    ensures kept { result ≡ Refused → conn.new ≡ conn.old }
+    ensures cause { HasCleanDisk (state S.Store conn.new)
+        → FailsFor (IsMakeEnd S.Store conn.old (record { me = me; sites = sites; limit = limit })) (E.contents err.old) (E.contents err.new) result }
+{
+    let came = write_made(conn, me, sites, limit, out);
+    ended(came, out, err)
+}
