@@ -1,2 +1,4 @@
 pub mod Acknowledged
+pub mod EventTables
 pub mod Growth
+pub mod Shown

@@ -1,4 +1,6 @@
 pub mod Answers
 pub mod Count
+pub mod EventCells
+pub mod Finish
 pub mod Seats
 pub mod SiteView

@@ -1,9 +1,15 @@
 //! A site's book that threads share.
-ghost use Rattle.std.specs.Prelude.{◌≡◌, ℕ, ◌+◌, ◌<◌, ◌≤◌, true, length, IfOk, OnErr, if◌then◌else◌};
-ghost use Rattle.site_desk.specs.Seats.{held};
+ghost use Rattle.std.specs.Prelude.{◌≡◌, ◌≢◌, ℕ, ◌+◌, ◌<◌, ◌≤◌, true, false, length, IfOk, IfErr, OnErr, if◌then◌else◌};
+ghost use Rattle.book_core.specs.Legal.{IsLegal};
+ghost use Rattle.book_core.specs.OwnRow.{HasOwnRights};
+ghost use Rattle.sql_records.specs.Keeping.{LeavesOnly};
+ghost use Rattle.site_desk.specs.Count.{asked_since};
+ghost use Rattle.site_desk.specs.Finish.{Each, FindsFirst, StandsIn, WasSeen, given_back};
+ghost use Rattle.site_desk.specs.Seats.{held, parts_of, shares_of};
 
 use crate::answer::{Answer, Seen, Taken};
 use crate::fault::{AskFault, LookFault, NextFault};
+use crate::finish::FinishFault;
 use crate::gate::{Gate, Place};
 use crate::locked::Locked;
 use crate::receipt::Receipt;
@@ -92,5 +98,31 @@ impl<K: Keeper, L: Opens> Desk<K, L> {
         to: SiteId,
     ) -> Result<Option<Message>, NextFault> {
         self.lock.lock(rt).next(alloc, to)
+    }
+
+    /// Gives the book back, and compares its history with what the sessions were given. It waits for nobody and takes no
+    /// memory.
+    ///
+    /// The first of these is the fault: the seats do not have all that was newly entered; a receipt is not the entry that
+    /// it names; a look does not show what the entries that it names say. The book comes back with a fault too.
+    pub fn finish(
+        self,
+        seats: Vec<Seat<L>>,
+        receipts: &[Receipt],
+        looks: &[Seen],
+    ) -> Result<SiteBook<K>, (SiteBook<K>, FinishFault)>
+        ensures counted { IfOk result (λ book. shares_of seats.items ≡ asked_since L.opening book.book.history) }
+        ensures receipts { IfOk result (λ book. Each (StandsIn book.book.history) receipts.now) }
+        ensures looks { IfOk result (λ book. Each (WasSeen book.book.office book.book.history) looks.now) }
+        ensures fault { IfErr result (λ e. FindsFirst e.0.book.office e.0.book.history (asked_since L.opening e.0.book.history) (shares_of seats.items) receipts.now looks.now e.1) }
+        ensures whole { parts_of seats.items ≡ L.parts → IfErr result (λ e. e.1 ≢ FinishFault.SeatsOut) }
+
+        // What the book kept, whenever the lock was free.
+        ensures legal { IsLegal (given_back result).book.office (given_back result).book.history }
+        ensures has_rights { HasOwnRights (given_back result).book }
+        ensures same { (given_back result).closed ≡ false → K.is_trusted (given_back result).keeper → (given_back result).book.history ≡ K.kept (given_back result).keeper }
+        ensures rests { (given_back result).closed ≡ false → K.is_trusted (given_back result).keeper → LeavesOnly (given_back result).book.history (K.may_leave (given_back result).keeper) }
+    {
+        self.lock.into_inner().finish(seats, receipts, looks)
     }
 }

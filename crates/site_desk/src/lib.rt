@@ -8,7 +8,9 @@
 mod answer;
 mod asking;
 mod desk;
+mod event_cells;
 mod fault;
+mod finish;
 mod gate;
 mod joining;
 mod locked;
@@ -20,6 +22,7 @@ mod storing;
 pub use answer::{Answer, Seen, Taken};
 pub use desk::Desk;
 pub use fault::{AskFault, LookFault, NextFault};
+pub use finish::FinishFault;
 pub use gate::{Gate, NoGate, Place};
 pub use receipt::Receipt;
 pub use seat::{Opens, Seat};

@@ -1,14 +1,19 @@
 //! What lies under a desk's lock.
-ghost use Rattle.std.specs.Prelude.{◌≡◌, ℕ, ◌+◌, ◌<◌, ◌≤◌, true, length, IsTrue, IfOk, OnErr, OnOk, if◌then◌else◌};
+ghost use Rattle.std.specs.Prelude.{◌≡◌, IfErr, ℕ, ◌+◌, ◌<◌, ◌≤◌, true, false, length, IsTrue, IfOk, OnErr, OnOk, if◌then◌else◌};
+ghost use Rattle.book_core.specs.Legal.{IsLegal};
+ghost use Rattle.book_core.specs.OwnRow.{HasOwnRights};
 ghost use Rattle.site_exchange.specs.Exchange.{ack_for, next};
 ghost use Rattle.site_exchange.specs.Taking.{site_after};
+ghost use Rattle.sql_records.specs.Keeping.{LeavesOnly};
 ghost use Rattle.site_desk.specs.Answers.{IsSeenAt, IsTaken};
 ghost use Rattle.site_desk.specs.SiteView.{site_of, verdict_in};
 ghost use Rattle.site_desk.specs.Count.{asked_since, Grows};
-ghost use Rattle.site_desk.specs.Seats.{held};
+ghost use Rattle.site_desk.specs.Finish.{Each, FindsFirst, StandsIn, WasSeen, given_back};
+ghost use Rattle.site_desk.specs.Seats.{held, parts_of, shares_of};
 
 use crate::answer::{Answer, Seen, Taken};
 use crate::fault::{AskFault, LookFault, NextFault};
+use crate::finish::{FinishFault, first_stranger, first_stranger_seen, gather};
 use crate::receipt::Receipt;
 use crate::seat::{Opens, Seat};
 use crate::site_book::SiteBook;
@@ -133,5 +138,47 @@ impl<K: Keeper, L: Opens> Locked<K, L> {
         ensures { IfOk result (λ message. message ≡ next self.now.book.office.me (site_of self.now) to) }
     {
         self.book.next(alloc, to)
+    }
+
+    /// The book, where the seats have all that was entered, and each receipt and look is of its history.
+    pub fn finish(
+        self,
+        seats: Vec<Seat<L>>,
+        receipts: &[Receipt],
+        looks: &[Seen],
+    ) -> Result<SiteBook<K>, (SiteBook<K>, FinishFault)>
+        ensures book { given_back result ≡ self }
+        ensures counted { OnOk result (shares_of seats.items ≡ asked_since L.opening self.book.history) }
+        ensures receipts { OnOk result (Each (StandsIn self.book.history) receipts.now) }
+        ensures looks { OnOk result (Each (WasSeen self.book.office self.book.history) looks.now) }
+        ensures fault { IfErr result (λ e. FindsFirst self.book.office self.book.history (asked_since L.opening self.book.history) (shares_of seats.items) receipts.now looks.now e.1) }
+        ensures whole { parts_of seats.items ≡ L.parts → shares_of seats.items ≡ asked_since L.opening self.book.history }
+
+        // What the types of the book and its keeper keep.
+        ensures legal { IsLegal self.book.office self.book.history }
+        ensures has_rights { HasOwnRights self.book }
+        ensures same { self.closed ≡ false → K.is_trusted self.keeper → self.book.history ≡ K.kept self.keeper }
+        ensures rests { self.closed ≡ false → K.is_trusted self.keeper → LeavesOnly self.book.history (K.may_leave self.keeper) }
+    {
+        let Locked {
+            book,
+            total,
+            mut tally,
+            nothing,
+            ..
+        } = self;
+        // What the book says of itself.
+        let _book = book.book();
+        let _is_closed = book.is_closed();
+        if gather(&mut tally, nothing, seats) != total {
+            return Err((book, FinishFault::SeatsOut));
+        }
+        if let Some(at) = first_stranger(book.book(), receipts) {
+            return Err((book, FinishFault::Stranger { at }));
+        }
+        if let Some(at) = first_stranger_seen(book.book(), looks) {
+            return Err((book, FinishFault::StrangerSeen { at }));
+        }
+        Ok(book)
     }
 }

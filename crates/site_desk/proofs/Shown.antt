@@ -1,0 +1,112 @@
+-- What the first entries of a history say of one event, an entry at a time.
+use Rattle.std.proofs.Common.{◌≡◌, ℕ, zero, suc, ◌+◌, ◌≤◌, ◌<◌, Bool, true, false, ◌||◌, List, [], ◌∷◌, ◌++◌, length, take, drop, get_or, Some, None, slice_get, inl, inr, subst, refl, sym, ap, ◌∙◌, arith}
+use Rattle.std.specs.Prelude.{max, IsTrue, ◌↔◌, ◌==◌}
+use Rattle.std.specs.List.{list_any}
+use Rattle.std.specs.Ordering.{nat_cmp, eq_by_cmp}
+use Rattle.std.specs.Cmp.Lexicographic.{slice_cmp, texts_ties}
+use Rattle.std.specs.FinMap as finite
+use Rattle.std.proofs.lemmas.List.{take-append-drop, take-take, take_more, get_or_default}
+use Rattle.std.proofs.lemmas.Bool.{cases_lt}
+use Rattle.std.proofs.lemmas.Bool.Decides.{nat_tests}
+use Rattle.rights_lattice.specs.declared.cell.Cell.{Cell}
+use Rattle.rights_lattice.specs.Cell.{same_event}
+use Rattle.rights_lattice.specs.Cells.{Valued, value_at, greatest, marks_of}
+use Rattle.rights_lattice.specs.RightsView.{IsCellOf}
+use Rattle.rights_lattice.specs.State.{State, Names, At, knows, names_in_order}
+use Rattle.rights_lattice.specs.Sums.{max_sites}
+use Rattle.rights_lattice.proofs.CellLaws.{greatest-marks_of}
+use Rattle.rights_lattice.proofs.StateLaws.{contains-union}
+use Rattle.request_ledger.specs.declared.reply.Reply.{Reply}
+use Rattle.request_ledger.specs.declared.request.Request.{Request}
+use Rattle.book_core.specs.declared.entry.Entry.{Entry}
+use Rattle.book_core.specs.declared.entry.Entry.TheVariants.{Asked}
+use Rattle.book_core.specs.History.{delta_of, state_of}
+use Rattle.book_core.proofs.Histories.{state_of-append, state_of-push, at-push}
+use Rattle.site_desk.specs.EventCells.{number_at, Shows}
+use Rattle.site_desk.specs.declared.receipt.Receipt.{Receipt}
+use Rattle.site_desk.specs.Finish.{EachOf, StandsIn}
+
+got : {X : Type 0} (xs : List X) (k : ℕ) (x : X) → slice_get xs k ≡ Some x → (k < length xs) × (get_or xs k x ≡ x)
+got [] zero x is = cc
+got [] (suc k) x is = cc
+got (y ∷ ys) zero x is = (omega arith, cc)
+got (y ∷ ys) (suc k) x is = let more = got ys k x is in (omega (arith, more.0), more.1)
+
+-- a place of a list is not empty
+pub not_none : {X : Type 0} (xs : List X) (k : ℕ) → k < length xs → slice_get xs k ≡ None → ⊥
+not_none [] k lt none = omega (arith, lt)
+not_none (y ∷ ys) zero lt none = cc
+not_none (y ∷ ys) (suc k) lt none = not_none ys k (omega (arith, lt)) none
+
+-- one element more of which the fact holds
+pub each_more : {X : Type 0} (P : X → Type 0) (xs : List X) (n : ℕ) (x : X) → EachOf n P xs → n < length xs → x ≡ get_or xs n x → P x → EachOf (n + 1) P xs
+each_more P xs n x before lt is holds k y le at = elim (cases_lt k n) [
+  | inl l ↦ before k y l at
+  | inr l ↦
+      let same : n ≡ k = omega (arith, l, le) in
+      subst P (is ∙ get_or_default xs n x y lt ∙ ap (λ j. get_or xs j y) same ∙ (got xs k y at).1) holds
+]
+
+take_next : {X : Type 0} (xs : List X) (k : ℕ) (x : X) → slice_get xs k ≡ Some x → take (k + 1) xs ≡ take k xs ++ x ∷ []
+take_next xs k x is = let at = got xs k x is in take_more xs k x at.0 ∙ ap (λ y. take k xs ++ y ∷ []) at.1
+
+-- one entry more raises the cells to its marks
+pub shows_more : (h : List Entry) (k : ℕ) (entry : Entry) (marks : List Valued) (old new event : List ℕ) → slice_get h k ≡ Some entry → marks ≡ marks_of (delta_of entry).cells
+    → Shows old (state_of (take k h)).cells event → ((cell : Cell) → IsCellOf max_sites cell → number_at new cell ≡ max (number_at old cell) (greatest marks event cell))
+    → Shows new (state_of (take (k + 1) h)).cells event
+shows_more h k entry marks old new event is all before raised cell of =
+    raised cell of
+    ∙ (λ i. max (before cell of i) ((ap (λ ms. greatest ms event cell) all ∙ greatest-marks_of (delta_of entry).cells event cell) i))
+    ∙ sym (at-push (take k h) entry (At event cell))
+    ∙ ap (λ (g : List Entry). value_at (state_of g).cells event cell) (sym (take_next h k entry is))
+
+knows_more : (h : List Entry) (k : ℕ) (entry : Entry) (event : List ℕ) → slice_get h k ≡ Some entry
+    → knows (state_of (take (k + 1) h)).names event ≡ (knows (state_of (take k h)).names event || knows (delta_of entry).names event)
+knows_more h k entry event is =
+    ap (λ (g : List Entry). knows (state_of g).names event) (take_next h k entry is)
+    ∙ ap (λ (s : State). knows s.names event) (state_of-push (take k h) entry)
+    ∙ contains-union (state_of (take k h)).names (delta_of entry).names event
+
+knows_later : (h : List Entry) (j k : ℕ) (event : List ℕ) → j ≤ k → knows (state_of (take j h)).names event ≡ true → knows (state_of (take k h)).names event ≡ true
+knows_later h j k event le known =
+    ap (λ (g : List Entry). knows (state_of g).names event) (sym (take-append-drop j (take k h)))
+    ∙ ap (λ (s : State). knows s.names event) (state_of-append (take j (take k h)) (drop j (take k h)))
+    ∙ contains-union (state_of (take j (take k h))).names (state_of (drop j (take k h))).names event
+    ∙ ap (λ b. b || knows (state_of (drop j (take k h))).names event) (ap (λ (g : List Entry). knows (state_of g).names event) (take-take j k h le) ∙ known)
+
+either_true : (a b : Bool) → b ≡ true → (a || b) ≡ true
+either_true true b h = refl
+either_true false b h = h
+
+-- an entry that names the event, and one that does not
+pub names_it : (h : List Entry) (k at : ℕ) (entry : Entry) (event : List ℕ) → slice_get h k ≡ Some entry → k < at
+    → knows (delta_of entry).names event ≡ true → knows (state_of (take at h)).names event ≡ true
+names_it h k at entry event is lt named = knows_later h (k + 1) at event (omega (arith, lt)) (knows_more h k entry event is ∙ either_true (knows (state_of (take k h)).names event) _ named)
+
+pub names_not : (h : List Entry) (k : ℕ) (entry : Entry) (event : List ℕ) → slice_get h k ≡ Some entry → knows (state_of (take k h)).names event ≡ false
+    → knows (delta_of entry).names event ≡ false → knows (state_of (take (k + 1) h)).names event ≡ false
+names_not h k entry event is before named = knows_more h k entry event is ∙ (λ i. before i || named i)
+
+any_by_order : (name : List ℕ) (names : List (List ℕ)) → list_any (same_event name) names ≡ list_any (eq_by_cmp (slice_cmp nat_cmp) name) names
+any_by_order name [] = refl
+any_by_order name (n ∷ ns) = let rest = any_by_order name ns in let first = texts_ties name n in λ i. first i || rest i
+
+any_in_order : (name : List ℕ) (known : Names) → list_any (same_event name) (names_in_order known) ≡ knows known name
+any_in_order name known = any_by_order name (names_in_order known) ∙ sym (finite.contains_key-keys known name)
+
+-- a look through the names of an entry's delta
+pub any_of : (found : Bool) (names : List (List ℕ)) (delta : State) (entry : Entry) (event : List ℕ) → found ≡ list_any (same_event event) names → names ≡ names_in_order delta.names → delta ≡ delta_of entry
+    → found ≡ knows (delta_of entry).names event
+any_of found names delta entry event is all of =
+    is ∙ ap (list_any (same_event event)) all ∙ any_in_order event delta.names ∙ ap (λ (d : State). knows d.names event) of
+
+pub same_number : (a b : ℕ) (same : Bool) → same ≡ (a == b) → same ≡ true → a ≡ b
+same_number a b same is t = let e : (a == b) ≡ true = sym is ∙ t in grind (arith, nat_tests)
+
+-- the entry at the receipt's place has its number and its request, and what is left to compare are the replies
+pub stands : (h : List Entry) (r : Receipt) (number : ℕ) (request : Request) (reply : Reply) (delta : State) (same : Bool) → slice_get h r.place ≡ Some (Asked number request reply delta)
+    → number ≡ r.number → request ≡ r.request → (IsTrue same ↔ (reply ≡ r.reply)) → IsTrue same ↔ StandsIn h r
+stands h r number request reply delta same at p q both = (
+  (λ t. (delta, at ∙ (λ i. Some (Asked (p i) (q i) (both.0 t i) delta)))),
+  (λ s. let found : Some (Asked number request reply delta) ≡ Some (Asked r.number r.request r.reply s.0) = sym at ∙ s.1 in let u : reply ≡ r.reply = cc in both.1 u),
+)

@@ -1,0 +1,8 @@
+use Rattle.std.proofs.Common.{take}
+use Rattle.book_core.specs.History.{state_of}
+use Rattle.site_desk.specs.EventCells.{Shows}
+use Rattle.site_desk.proofs.event_cells.EventCells.by_first.Given as goal
+
+-- the cells are those of the entries so far
+abbrev pub invariant-loop-place : goal.invariant-loop-place
+invariant-loop-place l = Shows l.cells (state_of (take l.place l.book.history)).cells l.event

@@ -1,0 +1,148 @@
+//! The cells of one event, without memory.
+ghost use Rattle.std.specs.Prelude.{◌≡◌, ℕ, List, length, take, ◌<◌, ◌≤◌, max, if◌then◌else◌};
+ghost use Rattle.rights_lattice.specs.declared.cell.Cell.{Cell as TheCell};
+ghost use Rattle.rights_lattice.specs.Cell.{same_cell};
+ghost use Rattle.rights_lattice.specs.Cells.{Cells, greatest, max_value};
+ghost use Rattle.rights_lattice.specs.Dense.{offset_of};
+ghost use Rattle.rights_lattice.specs.RightsView.{IsCellOf};
+ghost use Rattle.rights_lattice.specs.Sums.{max_sites};
+ghost use Rattle.book_core.specs.History.{state_of};
+ghost use Rattle.local_rights.specs.Rights.{left_of, released_in, sold_in, refunded_in};
+ghost use Rattle.site_desk.specs.EventCells.{number_at, Shows};
+
+use book_core::Book;
+use local_rights::Totals;
+use rights_lattice::{Cell, Event, Mark, SiteId};
+use std::marker::Model;
+
+/// The values of the cells of one event, for every number that a site may have. They are in place and take no memory.
+#[derive(Drop)]
+pub struct EventCells {
+    values: [u64; 4224],
+}
+
+impl Model for EventCells {
+    ghost use Rattle.std.specs.Prelude.{ℕ, ◌≤◌, List, get_or};
+    ghost use Rattle.rights_lattice.specs.Cells.{max_value};
+
+    ghost Value = { List ℕ };
+
+    ghost view = { λ c. c.values };
+
+    ghost invariant = { λ c. (place : ℕ) → get_or c.values place 0 ≤ max_value };
+}
+
+impl EventCells {
+    /// All cells are 0.
+    pub fn new() -> EventCells
+        ensures { (cell : TheCell) → number_at result cell ≡ 0 }
+    {
+        EventCells { values: [0; 4224] }
+    }
+
+    /// The cells of an event by the first `at` entries of a history.
+    pub fn by_first(book: &Book, at: usize, event: &Event) -> EventCells
+        requires { at ≤ length book.now.history }
+        ensures { Shows result (state_of (take at book.now.history)).cells event.now }
+    {
+        let mut cells = EventCells::new();
+        for place in 0..at {
+            if let Some(entry) = book.entry(place) {
+                cells.raise_all(event, entry.delta().marks());
+            }
+        }
+        cells
+    }
+
+    /// Raises the cells of an event to the greatest value that the marks say.
+    pub fn raise_all(&mut self, event: &Event, marks: &[Mark])
+        ensures { (cell : TheCell) → IsCellOf max_sites cell → number_at self.new cell ≡ max (number_at self.old cell) (greatest marks.now event.now cell) }
+    {
+        for mark in marks {
+            if mark.event == *event {
+                mark.bounds();
+                self.raise(&mark.cell, mark.value);
+            }
+        }
+    }
+
+    /// The seats that the site may still sell.
+    pub fn left(&self, me: SiteId) -> u64
+        ensures { (X : Cells) (event : List ℕ) → Shows self.now X event → result ≡ left_of X event me }
+    {
+        let mut gained = self.get(&Cell::Gave { by: me, to: me });
+        gained += self.get(&Cell::Back { by: me });
+        let mut spent = self.get(&Cell::Used { by: me });
+        for number in 0..64 {
+            let other = site(number);
+            if other != me {
+                gained += self.get(&Cell::Gave { by: other, to: me });
+                spent += self.get(&Cell::Gave { by: me, to: other });
+            }
+        }
+        gained.saturating_sub(spent)
+    }
+
+    /// The seats that all sites released, sold and took back.
+    pub fn totals(&self) -> Totals
+        ensures released { (X : Cells) (event : List ℕ) → Shows self.now X event → result.released ≡ released_in X event }
+        ensures sold { (X : Cells) (event : List ℕ) → Shows self.now X event → result.sold ≡ sold_in X event }
+        ensures refunded { (X : Cells) (event : List ℕ) → Shows self.now X event → result.refunded ≡ refunded_in X event }
+    {
+        let mut released = 0;
+        let mut sold = 0;
+        let mut refunded = 0;
+        for number in 0..64 {
+            let by = site(number);
+            released += self.get(&Cell::Gave { by, to: by });
+            sold += self.get(&Cell::Used { by });
+            refunded += self.get(&Cell::Back { by });
+        }
+        Totals {
+            released,
+            sold,
+            refunded,
+        }
+    }
+
+    fn get(&self, cell: &Cell) -> u64
+        ensures of_sites { IsCellOf max_sites cell.now }
+        ensures value { result ≡ number_at self.now cell.now }
+        ensures at_most_max { result ≤ max_value }
+    {
+        self.values[offset(cell)]
+    }
+
+    fn raise(&mut self, cell: &Cell, value: u64)
+        requires { value ≤ max_value }
+        ensures { (other : TheCell) → IsCellOf max_sites other → number_at self.new other ≡ max (number_at self.old other) (if same_cell other cell.now then value else 0) }
+    {
+        let place = offset(cell);
+        self.values[place] = self.values[place].max(value);
+    }
+}
+
+// Where the number of a cell is.
+#[tactic(auto, unfolding(rights_lattice::specs::Sums::max_sites))]
+fn offset(cell: &Cell) -> usize
+    ensures of_sites { IsCellOf max_sites cell.now }
+    ensures place { result ≡ offset_of max_sites cell.now }
+    ensures within { result < 4224 }
+{
+    match cell {
+        Cell::Gave { by, to } => by.number() as usize * 64 + to.number() as usize,
+        Cell::Used { by } => 4096 + by.number() as usize,
+        Cell::Back { by } => 4160 + by.number() as usize,
+    }
+}
+
+// The site with this number.
+fn site(number: u64) -> SiteId
+    requires { number < 64 }
+    ensures { result ≡ number }
+{
+    match SiteId::of(number) {
+        Some(site) => site,
+        None => unreachable!(),
+    }
+}

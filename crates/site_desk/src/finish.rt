@@ -1,0 +1,142 @@
+//! What a desk's sessions were given is compared with its history.
+ghost use Rattle.std.specs.Prelude.{◌≡◌, ◌+◌, ◌<◌, ◌≤◌, ◌^◌, ◌↔◌, length, take, IsTrue, MatchOption};
+ghost use Rattle.std.specs.List.{list_any};
+ghost use Rattle.rights_lattice.specs.Cell.{same_event};
+ghost use Rattle.rights_lattice.specs.State.{knows};
+ghost use Rattle.book_core.specs.History.{state_of};
+ghost use Rattle.site_desk.specs.Finish.{Each, FirstNot, StandsIn, WasSeen};
+ghost use Rattle.site_desk.specs.Seats.{parts_of, shares_of};
+
+use crate::answer::Seen;
+use crate::event_cells::EventCells;
+use crate::receipt::Receipt;
+use crate::seat::{Opens, Seat};
+use book_core::{Book, Entry};
+use request_ledger::{Reply, Request};
+use rights_lattice::Event;
+use std::sync::ledger::{Book as Tally, Share};
+use thiserror::Error;
+
+/// Why a desk's book is not what its sessions were given, or not known to be. Places are counted from 0.
+#[derive(Clone, Copy, PartialEq, Eq, Debug, Error)]
+pub enum FinishFault {
+    /// The seats handed in do not have all that was entered.
+    #[error("seats are out")]
+    SeatsOut,
+    /// The receipt at this place is the first that is not the entry that it names.
+    #[error("receipt {at} is not in the history")]
+    Stranger { at: usize },
+    /// The look at this place is the first that does not show what the entries that it names say.
+    #[error("look {at} is not of the history")]
+    StrangerSeen { at: usize },
+}
+
+// Adds up the shares of these seats.
+pub(crate) fn gather<L: Opens>(tally: &mut Tally<L>, nothing: Share<L>, seats: Vec<Seat<L>>) -> u64
+    requires nothing { nothing.parts ≡ 0 }
+    requires fits { tally.old.total < 2 ^ 64 }
+    ensures sum { result ≡ shares_of seats.items }
+    ensures whole { parts_of seats.items ≡ L.parts → result ≡ tally.old.total }
+{
+    let mut all = nothing;
+    let mut sum: u64 = 0;
+    tally.audit(&mut all);
+    for seat in seats {
+        let Seat { share, count } = seat;
+        all.merge(share);
+        tally.audit(&mut all);
+        sum += count;
+    }
+    tally.audit(&mut all);
+    sum
+}
+
+// The first receipt that is not the entry that it names.
+pub(crate) fn first_stranger(book: &Book, receipts: &[Receipt]) -> Option<usize>
+    ensures { MatchOption result (Each (StandsIn book.now.history) receipts.now) (λ k. FirstNot (StandsIn book.now.history) receipts.now k) }
+{
+    for (at, receipt) in receipts.iter().enumerate() {
+        if !stands_in(book, receipt) {
+            return Some(at);
+        }
+    }
+    None
+}
+
+// The first look that does not show what the entries that it names say.
+pub(crate) fn first_stranger_seen(book: &Book, looks: &[Seen]) -> Option<usize>
+    ensures { MatchOption result (Each (WasSeen book.now.office book.now.history) looks.now) (λ k. FirstNot (WasSeen book.now.office book.now.history) looks.now k) }
+{
+    for (at, seen) in looks.iter().enumerate() {
+        if !was_seen(book, seen) {
+            return Some(at);
+        }
+    }
+    None
+}
+
+// Whether the entry at the receipt's place is its request, under its number and with its reply.
+fn stands_in(book: &Book, receipt: &Receipt) -> bool
+    ensures { IsTrue result ↔ StandsIn book.now.history receipt.now }
+{
+    match book.entry(receipt.place) {
+        Some(
+            Entry::Asked {
+                number,
+                request,
+                reply,
+                ..
+            },
+        ) => {
+            *number == receipt.number
+                && is_same_request(request, &receipt.request)
+                && is_same_reply(reply, &receipt.reply)
+        }
+        _ => false,
+    }
+}
+
+fn is_same_request(request: &Request, other: &Request) -> bool
+    ensures { IsTrue result ↔ (request.now ≡ other.now) }
+{
+    request == other
+}
+
+fn is_same_reply(reply: &Reply, other: &Reply) -> bool
+    ensures { IsTrue result ↔ (reply.now ≡ other.now) }
+{
+    reply == other
+}
+
+// Whether the look shows what the first entries that it names say of its event.
+fn was_seen(book: &Book, seen: &Seen) -> bool
+    ensures { IsTrue result ↔ WasSeen book.now.office book.now.history seen.now }
+{
+    if seen.at > book.len() || !is_named(book, seen.at, &seen.event) {
+        return false;
+    }
+    let cells = EventCells::by_first(book, seen.at, &seen.event);
+    seen.left == cells.left(book.me()) && seen.totals == cells.totals()
+}
+
+// Whether one of the first `at` entries names the event.
+fn is_named(book: &Book, at: usize, event: &Event) -> bool
+    requires { at ≤ length book.now.history }
+    ensures { result ≡ knows (state_of (take at book.now.history)).names event.now }
+{
+    for place in 0..at {
+        if let Some(entry) = book.entry(place) {
+            if has(entry.delta().names(), event) {
+                return true;
+            }
+        }
+    }
+    false
+}
+
+// Whether the event is among the names.
+fn has(names: &[Event], event: &Event) -> bool
+    ensures { result ≡ list_any (same_event event.now) names.now }
+{
+    names.iter().any(|name| event == name)
+}
