@@ -1,15 +1,20 @@
 -- The same laws for a line that begins with a command.
-use Rattle.std.proofs.Common.{◌≡◌, ℕ, Bool, true, false, cond, List, [], ◌∷◌, Some, None, refl, sym, ap, subst, ◌∙◌, arith, inl, inr, codes, lit<}
+use Rattle.std.proofs.Common.{◌≡◌, ℕ, Bool, true, false, cond, List, [], ◌∷◌, Option, Some, None, refl, sym, ap, subst, ◌∙◌, arith, inl, inr, codes, lit<}
 use Rattle.std.specs.Str.{bytes_eq}
 use Rattle.std.specs.Fmt.{decimal}
 use Rattle.std.proofs.lemmas.Bool.{cases_Bool}
 use Rattle.std.proofs.lemmas.Slice.Eq.{bytes_eq-Decides}
-use Rattle.request_ledger.specs.declared.request.Request.{Request}
-use Rattle.request_ledger.specs.declared.request.Request.TheVariants.{Announce, Release, Sell, Refund, Cede}
+use Rattle.rights_lattice.specs.Limits.{greatest_site}
+use Rattle.request_ledger.specs.declared.verb.Verb.{Verb}
+use Rattle.request_ledger.specs.declared.verb.Verb.TheVariants as verb
+use Rattle.request_ledger.specs.Words.{verb_word, request_verb}
 use Rattle.plain_words.specs.Words.{first_word, ended, ◌>>=◌}
 use Rattle.plain_words.specs.Number.{number_of}
 use Rattle.plain_words.proofs.WordLaws.{lacks_space, some_is, bind_some, word_found, ended_found}
 use Rattle.plain_words.proofs.NumberLaws.{number_at_found, number_at_again, decimal_lacks_space}
+use Rattle.delta_wire.specs.Fields.{site_at}
+use Rattle.delta_wire.specs.Grammar.{IsSite}
+use Rattle.delta_wire.proofs.FieldLaws.{site_at_found, site_again}
 use Rattle.world_steps.specs.declared.step.Input.{Input}
 use Rattle.world_steps.specs.declared.step.Input.TheVariants as input
 use Rattle.world_steps.specs.declared.step.Step.TheVariants as step
@@ -17,12 +22,19 @@ use Rattle.desk_lines.specs.declared.script_line.ScriptLine.{ScriptLine}
 use Rattle.desk_lines.specs.declared.script_line.ScriptLine.TheVariants.{Make}
 use Rattle.desk_lines.specs.declared.commands.Command.{Command}
 use Rattle.desk_lines.specs.declared.commands.Command.TheVariants as command
-use Rattle.desk_lines.specs.Grammar.{input_words, stored_text, script_words, IsSiteNumber, IsIndex, IsInput, IsScriptLine}
-use Rattle.desk_lines.specs.Requests.{verb_text, verb_of, site_at, numbered_at}
+use Rattle.desk_lines.specs.Grammar.{greatest_index, input_words, stored_text, script_words, IsIndex, IsInput, IsScriptLine}
+use Rattle.desk_lines.specs.Requests.{request_from}
 use Rattle.desk_lines.specs.Commands.{command_text, command_of, index_at, stored_of, stored_at, take_at, request_input_of, input_at, send_at, deliver_at, restart_at, stop_at, after_command, commanded}
-use Rattle.desk_lines.proofs.RequestLaws.{test_found, verb_found, numbered_found, verb_again, site_again, verb_of_request, request_spelled, numbered_again, LackSpaces, request_lacks}
+use Rattle.desk_lines.proofs.RequestLaws.{request_from_found, request_from_again, LackSpaces, request_lacks}
 
 -- ---- commands
+
+-- one test in a chain of tests of a word
+test_found : {V : Type 0} (text : V → List ℕ) (w : List ℕ) (u v : V) (rest : Option V) → (rest ≡ Some v → w ≡ text v) → cond (bytes_eq w (text u)) (Some u) rest ≡ Some v → w ≡ text v
+test_found text w u v rest next e = elim (cases_Bool (bytes_eq w (text u))) [
+  | inl same ↦ let chosen : Some u ≡ Some v = rw same at e in (bytes_eq-Decides w (text u)).0 same ∙ ap text (some_is u v chosen)
+  | inr other ↦ let chosen : rest ≡ Some v = rw other at e in next chosen
+]
 
 pub command_again : (c : Command) → command_of (command_text c) ≡ Some c
 unfolding command_of
@@ -32,7 +44,7 @@ command_again command.Restart = refl
 command_again command.Stop = refl
 
 -- no command is a number
-pub command_is_no_number : (c : Command) → number_of 0 63 (command_text c) ≡ None
+pub command_is_no_number : (c : Command) → number_of 0 greatest_site (command_text c) ≡ None
 unfolding number_of
 command_is_no_number command.Send = refl
 command_is_no_number command.Deliver = refl
@@ -68,17 +80,16 @@ take_found : (words : List (List ℕ)) (x : Input) → take_at words ≡ Some x 
 unfolding take_at
 take_found words x e =
     let a = bind_some (index_at words) (λ k. ended (input.Take k.0) k.1) x e in
-    let p = number_at_found 0 1000000000 words a.0 (lit< tt) a.1 in
+    let p = number_at_found 0 greatest_index words a.0 (lit< tt) a.1 in
     let z = ended_found (input.Take a.0.0) x a.0.1 a.2 in
     subst (SpellsInput (codes "deliver" ∷ words)) z.1 (ap (λ (t : List (List ℕ)). codes "deliver" ∷ t) (p.0 ∙ ap (λ (t : List (List ℕ)). decimal a.0.0 ∷ t) z.0), p.2)
 
 request_input_found : (word : List ℕ) (words : List (List ℕ)) (x : Input) → request_input_of word words ≡ Some x → SpellsInput (word ∷ words) x
 unfolding request_input_of
 request_input_found word words x e =
-    let a = bind_some (verb_of word) (λ v. numbered_at v words >>= λ n. Some (input.Request n.0 n.1)) x e in
-    let b = bind_some (numbered_at a.0 words) (λ n. Some (input.Request n.0 n.1)) x a.2 in
-    let p = numbered_found a.0 words b.0 b.1 in
-    subst (SpellsInput (word ∷ words)) (some_is (input.Request b.0.0 b.0.1) x b.2) (ap (λ (w : List ℕ). w ∷ words) (verb_found word a.0 a.1) ∙ p.0, (p.1, p.2))
+    let a = bind_some (request_from word words) (λ n. Some (input.Request n.0 n.1)) x e in
+    let p = request_from_found word words a.0 a.1 in
+    subst (SpellsInput (word ∷ words)) (some_is (input.Request a.0.0 a.0.1) x a.2) (p.0, (p.1, p.2))
 
 input_found : (words : List (List ℕ)) (x : Input) → input_at words ≡ Some x → SpellsInput words x
 unfolding input_at
@@ -103,17 +114,17 @@ unfolding send_at
 send_found words l e =
     let a = bind_some (site_at words) (λ i. site_at i.1 >>= λ j. ended (Make (step.Send i.0 j.0)) j.1) l e in
     let b = bind_some (site_at a.0.1) (λ j. ended (Make (step.Send a.0.0 j.0)) j.1) l a.2 in
-    let p = number_at_found 0 63 words a.0 (lit< tt) a.1 in
-    let q = number_at_found 0 63 a.0.1 b.0 (lit< tt) b.1 in
+    let p = site_at_found words a.0 a.1 in
+    let q = site_at_found a.0.1 b.0 b.1 in
     let z = ended_found (Make (step.Send a.0.0 b.0.0)) l b.0.1 b.2 in
     subst (SpellsWhole (codes "send" ∷ words)) z.1
-    (ap (λ (t : List (List ℕ)). codes "send" ∷ t) (p.0 ∙ ap (λ (t : List (List ℕ)). decimal a.0.0 ∷ t) (q.0 ∙ ap (λ (t : List (List ℕ)). decimal b.0.0 ∷ t) z.0)), (p.2, q.2))
+    (ap (λ (t : List (List ℕ)). codes "send" ∷ t) (p.0 ∙ ap (λ (t : List (List ℕ)). decimal a.0.0 ∷ t) (q.0 ∙ ap (λ (t : List (List ℕ)). decimal b.0.0 ∷ t) z.0)), (p.1, q.1))
 
 deliver_found : (words : List (List ℕ)) (l : ScriptLine) → deliver_at words ≡ Some l → SpellsWhole (codes "deliver" ∷ words) l
 unfolding deliver_at
 deliver_found words l e =
     let a = bind_some (index_at words) (λ k. ended (Make (step.Deliver k.0)) k.1) l e in
-    let p = number_at_found 0 1000000000 words a.0 (lit< tt) a.1 in
+    let p = number_at_found 0 greatest_index words a.0 (lit< tt) a.1 in
     let z = ended_found (Make (step.Deliver a.0.0)) l a.0.1 a.2 in
     subst (SpellsWhole (codes "deliver" ∷ words)) z.1 (ap (λ (t : List (List ℕ)). codes "deliver" ∷ t) (p.0 ∙ ap (λ (t : List (List ℕ)). decimal a.0.0 ∷ t) z.0), p.2)
 
@@ -121,9 +132,9 @@ restart_found : (words : List (List ℕ)) (l : ScriptLine) → restart_at words 
 unfolding restart_at
 restart_found words l e =
     let a = bind_some (site_at words) (λ i. ended (Make (step.Restart i.0)) i.1) l e in
-    let p = number_at_found 0 63 words a.0 (lit< tt) a.1 in
+    let p = site_at_found words a.0 a.1 in
     let z = ended_found (Make (step.Restart a.0.0)) l a.0.1 a.2 in
-    subst (SpellsWhole (codes "restart" ∷ words)) z.1 (ap (λ (t : List (List ℕ)). codes "restart" ∷ t) (p.0 ∙ ap (λ (t : List (List ℕ)). decimal a.0.0 ∷ t) z.0), p.2)
+    subst (SpellsWhole (codes "restart" ∷ words)) z.1 (ap (λ (t : List (List ℕ)). codes "restart" ∷ t) (p.0 ∙ ap (λ (t : List (List ℕ)). decimal a.0.0 ∷ t) z.0), p.1)
 
 stop_found : (words : List (List ℕ)) (l : ScriptLine) → stop_at words ≡ Some l → SpellsWhole (codes "stop" ∷ words) l
 unfolding stop_at
@@ -131,11 +142,11 @@ stop_found words l e =
     let a = bind_some (site_at words) (λ i. stored_at i.1 >>= λ b. input_at b.1 >>= λ x. Some (Make (step.Stop i.0 x b.0))) l e in
     let b = bind_some (stored_at a.0.1) (λ b. input_at b.1 >>= λ x. Some (Make (step.Stop a.0.0 x b.0))) l a.2 in
     let d = bind_some (input_at b.0.1) (λ x. Some (Make (step.Stop a.0.0 x b.0.0))) l b.2 in
-    let p = number_at_found 0 63 words a.0 (lit< tt) a.1 in
+    let p = site_at_found words a.0 a.1 in
     let q = stored_at_found a.0.1 b.0 b.1 in
     let r = input_found b.0.1 d.0 d.1 in
     subst (SpellsWhole (codes "stop" ∷ words)) (some_is (Make (step.Stop a.0.0 d.0 b.0.0)) l d.2)
-    (ap (λ (t : List (List ℕ)). codes "stop" ∷ t) (p.0 ∙ ap (λ (t : List (List ℕ)). decimal a.0.0 ∷ t) (q ∙ ap (λ (t : List (List ℕ)). stored_text b.0.0 ∷ t) r.0)), (p.2, r.1))
+    (ap (λ (t : List (List ℕ)). codes "stop" ∷ t) (p.0 ∙ ap (λ (t : List (List ℕ)). decimal a.0.0 ∷ t) (q ∙ ap (λ (t : List (List ℕ)). stored_text b.0.0 ∷ t) r.0)), (p.1, r.1))
 
 after_command_found : (c : Command) (words : List (List ℕ)) (l : ScriptLine) → after_command c words ≡ Some l → SpellsWhole (command_text c ∷ words) l
 after_command_found command.Send words l e = send_found words l e
@@ -153,27 +164,26 @@ commanded_found word words l e =
 -- ---- back
 
 pub index_again : (k : ℕ) (ws : List (List ℕ)) → IsIndex k → index_at (decimal k ∷ ws) ≡ Some (k, ws)
-index_again k ws h = number_at_again 0 1000000000 k ws (lit< tt) (omega arith) h
+index_again k ws h = number_at_again 0 greatest_index k ws (lit< tt) (omega arith) h
 
 -- no verb of a request is `deliver`
-verb_is_no_deliver : (q : Request) → bytes_eq (verb_text (verb_of_request q)) (codes "deliver") ≡ false
-verb_is_no_deliver (Announce e) = refl
-verb_is_no_deliver (Release e a) = refl
-verb_is_no_deliver (Sell e a) = refl
-verb_is_no_deliver (Refund s) = refl
-verb_is_no_deliver (Cede e a to) = refl
+verb_is_no_deliver : (v : Verb) → bytes_eq (verb_word v) (codes "deliver") ≡ false
+verb_is_no_deliver verb.Announce = refl
+verb_is_no_deliver verb.Release = refl
+verb_is_no_deliver verb.Sell = refl
+verb_is_no_deliver verb.Refund = refl
+verb_is_no_deliver verb.Cede = refl
 
 input_again : (x : Input) → IsInput x → input_at (input_words x) ≡ Some x
 unfolding input_at take_at request_input_of
 input_again (input.Take k) h = rw (index_again k [] h) refl
-input_again (input.Request n q) h =
-    rw (request_spelled n q, verb_is_no_deliver q, verb_again (verb_of_request q), numbered_again n q h.0 h.1) refl
+input_again (input.Request n q) h = rw (verb_is_no_deliver (request_verb q), request_from_again n q h.0 h.1) refl
 
 stored_at_again : (b : Bool) (ws : List (List ℕ)) → stored_at (stored_text b ∷ ws) ≡ Some (b, ws)
 unfolding stored_at
 stored_at_again b ws = rw (stored_again b) refl
 
-pub stop_again : (i : ℕ) (x : Input) (b : Bool) → IsSiteNumber i → IsInput x → stop_at (decimal i ∷ stored_text b ∷ input_words x) ≡ Some (Make (step.Stop i x b))
+pub stop_again : (i : ℕ) (x : Input) (b : Bool) → IsSite i → IsInput x → stop_at (decimal i ∷ stored_text b ∷ input_words x) ≡ Some (Make (step.Stop i x b))
 unfolding stop_at
 stop_again i x b h g = rw (site_again i (stored_text b ∷ input_words x) h, stored_at_again b (input_words x), input_again x g) refl
 

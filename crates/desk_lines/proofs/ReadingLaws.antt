@@ -1,5 +1,6 @@
 -- The two laws of a script line: what is read is spelled so, and what is spelled so is read.
 use Rattle.std.proofs.Common.{◌≡◌, ℕ, ◌≤◌, ◌<◌, ◌^◌, Bool, true, false, cond, List, [], ◌∷◌, Option, Some, None, refl, sym, ap, subst, ◌∙◌, arith, codes, lit<}
+use Rattle.std.specs.Prelude.{IfSome}
 use Rattle.std.specs.Str.{bytes_eq}
 use Rattle.std.specs.Fmt.{decimal}
 use Rattle.std.specs.List.{slice_split, join_with_byte}
@@ -9,6 +10,9 @@ use Rattle.plain_words.specs.Words.{first_word, is_space, ended, ◌>>=◌}
 use Rattle.plain_words.specs.Number.{number_of, number_at}
 use Rattle.plain_words.proofs.WordLaws.{lacks_space, split_join, some_is, bind_some, word_found, ended_found}
 use Rattle.plain_words.proofs.NumberLaws.{number_found, number_again, number_at_found, number_at_again, decimal_lacks_space}
+use Rattle.rights_lattice.specs.Limits.{greatest_site}
+use Rattle.delta_wire.specs.Grammar.{IsSite}
+use Rattle.delta_wire.proofs.FieldLaws.{site_again, site_lacks_space}
 use Rattle.delta_wire.proofs.Names.{name_lacks_space}
 use Rattle.world_steps.specs.declared.step.Step.TheVariants as step
 use Rattle.desk_lines.specs.declared.script_line.ScriptLine.{ScriptLine}
@@ -17,23 +21,23 @@ use Rattle.desk_lines.specs.declared.line.Line.{Line}
 use Rattle.desk_lines.specs.declared.line.Line.TheVariants as line
 use Rattle.desk_lines.specs.declared.commands.Command.{Command}
 use Rattle.desk_lines.specs.declared.commands.Command.TheVariants as command
-use Rattle.desk_lines.specs.Grammar.{request_words, session_words, input_words, stored_text, script_words, script_text, IsSiteNumber, IsSessionLine, IsScriptLine}
+use Rattle.desk_lines.specs.Grammar.{request_words, session_words, input_words, stored_text, script_words, script_text, IsSessionLine, IsScriptLine}
 use Rattle.desk_lines.specs.Commands.{command_text, send_at, deliver_at, restart_at, after_command, commanded}
 use Rattle.desk_lines.specs.Reading.{asked_in, at_a_site, at_site, after_first, line_of_words, line_of, named_number}
-use Rattle.desk_lines.proofs.RequestLaws.{site_again, site_lacks, request_lacks}
+use Rattle.desk_lines.proofs.RequestLaws.{request_lacks}
 use Rattle.desk_lines.proofs.SessionLaws.{asked_found, ask_again, left_again, totals_again}
 use Rattle.desk_lines.proofs.CommandLaws.{SpellsWhole, command_again, command_is_no_number, commanded_found, index_again, stop_again, index_lacks, stored_lacks, input_lacks}
 
 -- ---- lines to a site
 
 -- what a session line asks, asked of a site
-asked_at_found : (i : ℕ) (l : Line) (s : ScriptLine) → IsSiteNumber i → at_a_site i l ≡ Some s → IsSessionLine l → SpellsWhole (decimal i ∷ session_words l) s
+asked_at_found : (i : ℕ) (l : Line) (s : ScriptLine) → IsSite i → at_a_site i l ≡ Some s → IsSessionLine l → SpellsWhole (decimal i ∷ session_words l) s
 asked_at_found i (line.Ask n q) s site e fits = subst (SpellsWhole (decimal i ∷ request_words n q)) (some_is (Make (step.Ask i n q)) s e) (refl, (site, fits.0, fits.1))
 asked_at_found i (line.Left v) s site e fits = subst (SpellsWhole (decimal i ∷ codes "left" ∷ v ∷ [])) (some_is (Left i v) s e) (refl, (site, fits))
 asked_at_found i (line.Totals v) s site e fits = subst (SpellsWhole (decimal i ∷ codes "totals" ∷ v ∷ [])) (some_is (Totals i v) s e) (refl, (site, fits))
 asked_at_found i line.Quit s site e fits = absurd cc
 
-at_site_found : (i : ℕ) (words : List (List ℕ)) (s : ScriptLine) → IsSiteNumber i → at_site i words ≡ Some s → SpellsWhole (decimal i ∷ words) s
+at_site_found : (i : ℕ) (words : List (List ℕ)) (s : ScriptLine) → IsSite i → at_site i words ≡ Some s → SpellsWhole (decimal i ∷ words) s
 unfolding at_site
 at_site_found i words s site e =
     let a = bind_some (asked_in words) (λ l. at_a_site i l) s e in
@@ -43,18 +47,18 @@ at_site_found i words s site e =
 
 -- ---- lines
 
-after_first_found : (o : Option ℕ) (word : List ℕ) (words : List (List ℕ)) (l : ScriptLine) → number_of 0 63 word ≡ o → after_first o word words ≡ Some l → SpellsWhole (word ∷ words) l
+after_first_found : (o : Option ℕ) (word : List ℕ) (words : List (List ℕ)) (l : ScriptLine) → number_of 0 greatest_site word ≡ o → after_first o word words ≡ Some l → SpellsWhole (word ∷ words) l
 after_first_found None word words l given e = commanded_found word words l e
 after_first_found (Some i) word words l given e =
-    let p = number_found 0 63 word i (lit< tt) given in
+    let p = number_found 0 greatest_site word i (lit< tt) given in
     let r = at_site_found i words l p.2 e in
     (ap (λ (w : List ℕ). w ∷ words) p.0 ∙ r.0, r.1)
 
 line_found : (words : List (List ℕ)) (l : ScriptLine) → line_of_words words ≡ Some l → SpellsWhole words l
 unfolding line_of_words
 line_found words l e =
-    let a = bind_some (first_word words) (λ w. after_first (number_of 0 63 w.0) w.0 w.1) l e in
-    let r = after_first_found (number_of 0 63 a.0.0) a.0.0 a.0.1 l refl a.2 in
+    let a = bind_some (first_word words) (λ w. after_first (number_of 0 greatest_site w.0) w.0 w.1) l e in
+    let r = after_first_found (number_of 0 greatest_site a.0.0) a.0.0 a.0.1 l refl a.2 in
     (word_found words a.0 a.1 ∙ r.0, r.1)
 
 -- what is read is spelled so
@@ -66,8 +70,8 @@ line_takes bytes l e =
 
 -- ---- back
 
-first_again : (i : ℕ) → IsSiteNumber i → number_of 0 63 (decimal i) ≡ Some i
-first_again i h = number_again 0 63 i (lit< tt) (omega arith) h
+first_again : (i : ℕ) → IsSite i → number_of 0 greatest_site (decimal i) ≡ Some i
+first_again i h = number_again 0 greatest_site i (lit< tt) (omega arith) h
 
 -- after a command come the words of its line
 command_line_again : (c : Command) (words : List (List ℕ)) → line_of_words (command_text c ∷ words) ≡ after_command c words
@@ -85,13 +89,13 @@ line_again (Left i e) h = rw (first_again i h.0, left_again e h.1) refl
 line_again (Totals i e) h = rw (first_again i h.0, totals_again e h.1) refl
 
 line_splits : (l : ScriptLine) → IsScriptLine l → slice_split is_space (join_with_byte 32 (script_words l)) ≡ script_words l
-line_splits (Make (step.Ask i n q)) h = split_join _ (request_words n q) (site_lacks i h.0) (request_lacks n q h.1 h.2)
-line_splits (Make (step.Send i j)) h = split_join _ (decimal i ∷ decimal j ∷ []) refl (site_lacks i h.0, (site_lacks j h.1, tt))
+line_splits (Make (step.Ask i n q)) h = split_join _ (request_words n q) (site_lacks_space i h.0) (request_lacks n q h.1 h.2)
+line_splits (Make (step.Send i j)) h = split_join _ (decimal i ∷ decimal j ∷ []) refl (site_lacks_space i h.0, (site_lacks_space j h.1, tt))
 line_splits (Make (step.Deliver k)) h = split_join _ (decimal k ∷ []) refl (index_lacks k h, tt)
-line_splits (Make (step.Restart i)) h = split_join _ (decimal i ∷ []) refl (site_lacks i h, tt)
-line_splits (Make (step.Stop i x b)) h = split_join _ (decimal i ∷ stored_text b ∷ input_words x) refl (site_lacks i h.0, (stored_lacks b, input_lacks x h.1))
-line_splits (Left i e) h = split_join _ (codes "left" ∷ e ∷ []) (site_lacks i h.0) (refl, (name_lacks_space e h.1, tt))
-line_splits (Totals i e) h = split_join _ (codes "totals" ∷ e ∷ []) (site_lacks i h.0) (refl, (name_lacks_space e h.1, tt))
+line_splits (Make (step.Restart i)) h = split_join _ (decimal i ∷ []) refl (site_lacks_space i h, tt)
+line_splits (Make (step.Stop i x b)) h = split_join _ (decimal i ∷ stored_text b ∷ input_words x) refl (site_lacks_space i h.0, (stored_lacks b, input_lacks x h.1))
+line_splits (Left i e) h = split_join _ (codes "left" ∷ e ∷ []) (site_lacks_space i h.0) (refl, (name_lacks_space e h.1, tt))
+line_splits (Totals i e) h = split_join _ (codes "totals" ∷ e ∷ []) (site_lacks_space i h.0) (refl, (name_lacks_space e h.1, tt))
 
 -- what is spelled so is read
 pub line_reads : (l : ScriptLine) → IsScriptLine l → line_of (script_text l) ≡ Some l
@@ -124,3 +128,13 @@ unfolding named_number
 named_reads name high n bound lacks low fits =
     let itself : bytes_eq name name ≡ true = (bytes_eq-Decides name name).1 refl in
     rw (split_join name (decimal n ∷ []) lacks (decimal_lacks_space n (omega arith), tt), itself, number_at_again 1 high n [] bound low fits) refl
+
+-- both, of whatever read it
+pub named_exactly : (name : List ℕ) (high : ℕ) (bytes : List ℕ) (r : Option ℕ) → high < 2 ^ 64 → lacks_space name ≡ true → r ≡ named_number name high (slice_split is_space bytes)
+    → IfSome r (λ n. ((1 ≤ n) × (n ≤ high)) × (bytes ≡ join_with_byte 32 (name ∷ decimal n ∷ [])))
+    × ((n : ℕ) → (1 ≤ n) × (n ≤ high) → bytes ≡ join_with_byte 32 (name ∷ decimal n ∷ []) → r ≡ Some n)
+named_exactly name high bytes r bound lacks e = (found r e, λ n fits spelled. e ∙ ap (λ (t : List ℕ). named_number name high (slice_split is_space t)) spelled ∙ named_reads name high n bound lacks fits.0 fits.1)
+  where
+    found : (r : Option ℕ) → r ≡ named_number name high (slice_split is_space bytes) → IfSome r (λ n. ((1 ≤ n) × (n ≤ high)) × (bytes ≡ join_with_byte 32 (name ∷ decimal n ∷ [])))
+    found None e = tt
+    found (Some n) e = named_takes name high bytes n bound (sym e)

@@ -1,5 +1,5 @@
 -- The two laws of a session line: what is read is spelled so, and what is spelled so is read.
-use Rattle.std.proofs.Common.{◌≡◌, ℕ, true, false, List, [], ◌∷◌, Some, refl, sym, ap, subst, ◌∙◌, inl, inr, codes}
+use Rattle.std.proofs.Common.{◌≡◌, ℕ, true, false, cond, List, [], ◌∷◌, Option, Some, refl, sym, ap, subst, ◌∙◌, inl, inr, codes}
 use Rattle.std.specs.Str.{bytes_eq}
 use Rattle.std.specs.Fmt.{decimal}
 use Rattle.std.specs.List.{slice_split, join_with_byte}
@@ -9,28 +9,32 @@ use Rattle.std.proofs.lemmas.List.Splits.{join_with_byte-slice_split}
 use Rattle.rights_lattice.specs.EventName.{IsEventName}
 use Rattle.request_ledger.specs.declared.request.Request.{Request}
 use Rattle.request_ledger.specs.declared.request.Request.TheVariants.{Announce, Release, Sell, Refund, Cede}
-use Rattle.plain_words.specs.Words.{is_space, ended}
-use Rattle.plain_words.proofs.WordLaws.{lacks_space, split_join, some_is, bind_some, ended_found}
+use Rattle.request_ledger.specs.declared.verb.Verb.{Verb}
+use Rattle.request_ledger.specs.declared.verb.Verb.TheVariants as verb
+use Rattle.request_ledger.specs.Words.{verb_word, request_verb}
+use Rattle.plain_words.specs.Words.{first_word, is_space, ended}
+use Rattle.plain_words.proofs.WordLaws.{lacks_space, split_join, some_is, bind_some, word_found, ended_found}
+use Rattle.delta_wire.specs.Fields.{event_at}
+use Rattle.delta_wire.specs.Grammar.{IsValue}
+use Rattle.delta_wire.proofs.FieldLaws.{event_at_found, event_again}
 use Rattle.delta_wire.proofs.Names.{name_lacks_space}
 use Rattle.desk_lines.specs.declared.line.Line.{Line}
 use Rattle.desk_lines.specs.declared.line.Line.TheVariants.{Ask, Left, Totals, Quit}
-use Rattle.desk_lines.specs.declared.requests.Verb.{Verb}
-use Rattle.desk_lines.specs.declared.requests.Verb.TheVariants as verb
-use Rattle.desk_lines.specs.Grammar.{request_words, session_words, session_text, request_line, IsAmount, IsRequest, IsSessionLine}
-use Rattle.desk_lines.specs.Requests.{verb_text, verb_at, event_at, numbered_at}
+use Rattle.desk_lines.specs.Grammar.{request_words, operands, session_words, session_text, request_line, IsRequest, IsSessionLine}
+use Rattle.desk_lines.specs.Requests.{request_from}
 use Rattle.desk_lines.specs.Reading.{left_in, totals_in, ask_in, asked_after, asked_in, session_line_of}
-use Rattle.desk_lines.proofs.RequestLaws.{verb_at_found, event_at_found, numbered_found, verb_at_again, name_again, verb_of_request, request_rest, request_spelled, numbered_again, request_lacks}
+use Rattle.desk_lines.proofs.RequestLaws.{request_from_found, request_from_again, request_lacks}
 
 -- the words are those of the line
 abbrev pub SpellsSession : List (List ℕ) → Line → Type 0
 SpellsSession words l = (words ≡ session_words l) × IsSessionLine l
 
-ask_found : (v : Verb) (words : List (List ℕ)) (l : Line) → ask_in v words ≡ Some l → SpellsSession (verb_text v ∷ words) l
+ask_found : (word : List ℕ) (words : List (List ℕ)) (l : Line) → ask_in word words ≡ Some l → SpellsSession (word ∷ words) l
 unfolding ask_in
-ask_found v words l e =
-    let a = bind_some (numbered_at v words) (λ n. Some (Ask n.0 n.1)) l e in
-    let p = numbered_found v words a.0 a.1 in
-    subst (SpellsSession (verb_text v ∷ words)) (some_is (Ask a.0.0 a.0.1) l a.2) (p.0, (p.1, p.2))
+ask_found word words l e =
+    let a = bind_some (request_from word words) (λ n. Some (Ask n.0 n.1)) l e in
+    let p = request_from_found word words a.0 a.1 in
+    subst (SpellsSession (word ∷ words)) (some_is (Ask a.0.0 a.0.1) l a.2) (p.0, (p.1, p.2))
 
 left_found : (words : List (List ℕ)) (l : Line) → left_in words ≡ Some l → SpellsSession (codes "left" ∷ words) l
 unfolding left_in
@@ -48,22 +52,25 @@ totals_found words l e =
     let z = ended_found (Totals a.0.0) l a.0.1 a.2 in
     subst (SpellsSession (codes "totals" ∷ words)) z.1 (ap (λ (t : List (List ℕ)). codes "totals" ∷ t) (p.0 ∙ ap (λ (t : List (List ℕ)). a.0.0 ∷ t) z.0), p.1)
 
-after_found : (v : Verb) (words : List (List ℕ)) (l : Line) → asked_after v words ≡ Some l → SpellsSession (verb_text v ∷ words) l
-after_found verb.Announce words l e = ask_found verb.Announce words l e
-after_found verb.Release words l e = ask_found verb.Release words l e
-after_found verb.Sell words l e = ask_found verb.Sell words l e
-after_found verb.Refund words l e = ask_found verb.Refund words l e
-after_found verb.Cede words l e = ask_found verb.Cede words l e
-after_found verb.Left words l e = left_found words l e
-after_found verb.Totals words l e = totals_found words l e
+-- a line whose first word is one of the two that look, and else one that asks
+look_or : (look : List ℕ) (word : List ℕ) (words : List (List ℕ)) (here other : Option Line) (l : Line) → (here ≡ Some l → SpellsSession (look ∷ words) l) → (other ≡ Some l → SpellsSession (word ∷ words) l)
+    → cond (bytes_eq word look) here other ≡ Some l → SpellsSession (word ∷ words) l
+look_or look word words here other l f g e = elim (cases_Bool (bytes_eq word look)) [
+  | inl same ↦ let chosen : here ≡ Some l = rw same at e in subst (λ (w : List ℕ). SpellsSession (w ∷ words) l) (sym ((bytes_eq-Decides word look).0 same)) (f chosen)
+  | inr differs ↦ let chosen : other ≡ Some l = rw differs at e in g chosen
+]
+
+after_found : (word : List ℕ) (words : List (List ℕ)) (l : Line) → asked_after word words ≡ Some l → SpellsSession (word ∷ words) l
+after_found word words l e =
+    look_or (codes "left") word words (left_in words) _ l (left_found words l)
+    (look_or (codes "totals") word words (totals_in words) (ask_in word words) l (totals_found words l) (ask_found word words l)) e
 
 pub asked_found : (words : List (List ℕ)) (l : Line) → asked_in words ≡ Some l → SpellsSession words l
 unfolding asked_in
 asked_found words l e =
-    let a = bind_some (verb_at words) (λ v. asked_after v.0 v.1) l e in
-    let q = verb_at_found words a.0 a.1 in
+    let a = bind_some (first_word words) (λ w. asked_after w.0 w.1) l e in
     let r = after_found a.0.0 a.0.1 l a.2 in
-    (q ∙ r.0, r.1)
+    (word_found words a.0 a.1 ∙ r.0, r.1)
 
 -- what is read is spelled so
 pub session_takes : (bytes : List ℕ) (l : Line) → session_line_of bytes ≡ Some l → IsSessionLine l × (bytes ≡ session_text l)
@@ -78,33 +85,28 @@ session_takes bytes l e = elim (cases_Bool (bytes_eq bytes (codes "quit"))) [
 
 -- ---- back
 
--- every request's verb is one that asks
-ask_follows : (q : Request) (words : List (List ℕ)) → asked_after (verb_of_request q) words ≡ ask_in (verb_of_request q) words
-ask_follows (Announce e) words = refl
-ask_follows (Release e a) words = refl
-ask_follows (Sell e a) words = refl
-ask_follows (Refund s) words = refl
-ask_follows (Cede e a to) words = refl
+-- no verb of a request is a word that looks
+ask_follows : (v : Verb) (words : List (List ℕ)) → asked_after (verb_word v) words ≡ ask_in (verb_word v) words
+ask_follows verb.Announce words = refl
+ask_follows verb.Release words = refl
+ask_follows verb.Sell words = refl
+ask_follows verb.Refund words = refl
+ask_follows verb.Cede words = refl
 
-pub ask_again : (n : ℕ) (q : Request) → IsAmount n → IsRequest q → asked_in (request_words n q) ≡ Some (Ask n q)
+pub ask_again : (n : ℕ) (q : Request) → IsValue n → IsRequest q → asked_in (request_words n q) ≡ Some (Ask n q)
 unfolding asked_in ask_in
-ask_again n q h g =
-    rw (request_spelled n q, verb_at_again (verb_of_request q) (decimal n ∷ request_rest q), ask_follows q (decimal n ∷ request_rest q), numbered_again n q h g) refl
+ask_again n q h g = rw (ask_follows (request_verb q) (decimal n ∷ operands q), request_from_again n q h g) refl
 
 pub left_again : (e : List ℕ) → IsEventName e → asked_in (codes "left" ∷ e ∷ []) ≡ Some (Left e)
 unfolding asked_in left_in
-left_again e h = rw (verb_at_again verb.Left (e ∷ []), name_again e [] h) refl
+left_again e h = rw (event_again e [] h) refl
 
 pub totals_again : (e : List ℕ) → IsEventName e → asked_in (codes "totals" ∷ e ∷ []) ≡ Some (Totals e)
 unfolding asked_in totals_in
-totals_again e h = rw (verb_at_again verb.Totals (e ∷ []), name_again e [] h) refl
+totals_again e h = rw (event_again e [] h) refl
 
-request_splits : (n : ℕ) (q : Request) → IsAmount n → IsRequest q → slice_split is_space (join_with_byte 32 (request_words n q)) ≡ request_words n q
-request_splits n (Announce e) h g = let l = request_lacks n (Announce e) h g in split_join _ (decimal n ∷ e ∷ []) l.0 l.1
-request_splits n (Release e a) h g = let l = request_lacks n (Release e a) h g in split_join _ (decimal n ∷ e ∷ decimal a ∷ []) l.0 l.1
-request_splits n (Sell e a) h g = let l = request_lacks n (Sell e a) h g in split_join _ (decimal n ∷ e ∷ decimal a ∷ []) l.0 l.1
-request_splits n (Refund s) h g = let l = request_lacks n (Refund s) h g in split_join _ (decimal n ∷ decimal s ∷ []) l.0 l.1
-request_splits n (Cede e a to) h g = let l = request_lacks n (Cede e a to) h g in split_join _ (decimal n ∷ e ∷ decimal a ∷ decimal to ∷ []) l.0 l.1
+request_splits : (n : ℕ) (q : Request) → IsValue n → IsRequest q → slice_split is_space (join_with_byte 32 (request_words n q)) ≡ request_words n q
+request_splits n q h g = let l = request_lacks n q h g in split_join (verb_word (request_verb q)) (decimal n ∷ operands q) l.0 l.1
 
 look_splits : (word e : List ℕ) → lacks_space word ≡ true → IsEventName e → slice_split is_space (join_with_byte 32 (word ∷ e ∷ [])) ≡ word ∷ e ∷ []
 look_splits word e lacks h = split_join word (e ∷ []) lacks (name_lacks_space e h, tt)
@@ -126,6 +128,6 @@ session_reads (Totals e) h = ap asked_in (look_splits (codes "totals") e refl h)
 session_reads Quit h = refl
 
 -- so is the line of a request
-pub request_reads : (n : ℕ) (q : Request) → IsAmount n → IsRequest q → session_line_of (request_line n q) ≡ Some (Ask n q)
+pub request_reads : (n : ℕ) (q : Request) → IsValue n → IsRequest q → session_line_of (request_line n q) ≡ Some (Ask n q)
 unfolding request_line
 request_reads n q h g = session_reads (Ask n q) (h, g)

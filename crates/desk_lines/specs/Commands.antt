@@ -3,6 +3,7 @@ use Rattle.std.specs.Prelude.{ℕ, Bool, true, false, List, Option, Some, None, 
 use Rattle.std.specs.Str.{bytes_eq}
 use Rattle.plain_words.specs.Words.{first_word, ended, ◌>>=◌}
 use Rattle.plain_words.specs.Number.{number_at}
+use Rattle.delta_wire.specs.Fields.{site_at}
 use Rattle.world_steps.specs.declared.step.Input.{Input}
 use Rattle.world_steps.specs.declared.step.Input.TheVariants as input
 use Rattle.world_steps.specs.declared.step.Step.TheVariants as step
@@ -10,7 +11,8 @@ use Rattle.desk_lines.specs.declared.script_line.ScriptLine.{ScriptLine}
 use Rattle.desk_lines.specs.declared.script_line.ScriptLine.TheVariants.{Make}
 use Rattle.desk_lines.specs.declared.commands.Command.{Command}
 use Rattle.desk_lines.specs.declared.commands.Command.TheVariants as command
-use Rattle.desk_lines.specs.Requests.{verb_of, site_at, numbered_at}
+use Rattle.desk_lines.specs.Grammar.{greatest_index}
+use Rattle.desk_lines.specs.Requests.{request_from}
 
 abbrev pub command_text : Command → List ℕ
 command_text command.Send = codes "send"
@@ -27,7 +29,7 @@ command_of w =
 
 -- the index of a message
 abbrev pub index_at : List (List ℕ) → Option (ℕ × List (List ℕ))
-index_at words = number_at 0 1000000000 words
+index_at words = number_at 0 greatest_index words
 
 -- whether what a stopped site had in hand was stored
 unfoldable pub stored_of : List ℕ → Option Bool
@@ -47,8 +49,7 @@ take_at words = do
 
 unfoldable pub request_input_of : List ℕ → List (List ℕ) → Option Input
 request_input_of word words = do
-  v ← verb_of word
-  a ← numbered_at v words
+  a ← request_from word words
   Some (input.Request a.0 a.1)
 
 unfoldable pub input_at : List (List ℕ) → Option Input

@@ -2,10 +2,13 @@
 use Rattle.std.specs.Prelude.{ℕ, ◌≤◌, Bool, true, false, ⊤, List, [], ◌∷◌, codes}
 use Rattle.std.specs.List.{join_with_byte}
 use Rattle.std.specs.Fmt.{decimal}
-use Rattle.rights_lattice.specs.Cells.{max_value}
+use Rattle.rights_lattice.specs.Limits.{most_sites}
 use Rattle.rights_lattice.specs.EventName.{IsEventName}
 use Rattle.request_ledger.specs.declared.request.Request.{Request}
 use Rattle.request_ledger.specs.declared.request.Request.TheVariants.{Announce, Release, Sell, Refund, Cede}
+use Rattle.request_ledger.specs.Words.{verb_word, request_verb}
+use Rattle.book_core.specs.Limits.{greatest_limit}
+use Rattle.delta_wire.specs.Grammar.{IsSite, IsValue}
 use Rattle.world_steps.specs.declared.step.Input.{Input}
 use Rattle.world_steps.specs.declared.step.Input.TheVariants as input
 use Rattle.world_steps.specs.declared.step.Step.{Step}
@@ -15,13 +18,17 @@ use Rattle.desk_lines.specs.declared.line.Line.TheVariants as line
 use Rattle.desk_lines.specs.declared.script_line.ScriptLine.{ScriptLine}
 use Rattle.desk_lines.specs.declared.script_line.ScriptLine.TheVariants.{Make, Left, Totals}
 
+-- what stands behind the number of a request
+abbrev pub operands : Request → List (List ℕ)
+operands (Announce e) = e ∷ []
+operands (Release e a) = e ∷ decimal a ∷ []
+operands (Sell e a) = e ∷ decimal a ∷ []
+operands (Refund s) = decimal s ∷ []
+operands (Cede e a to) = e ∷ decimal a ∷ decimal to ∷ []
+
 -- the words of a request under its number
 abbrev pub request_words : ℕ → Request → List (List ℕ)
-request_words n (Announce e) = codes "announce" ∷ decimal n ∷ e ∷ []
-request_words n (Release e a) = codes "release" ∷ decimal n ∷ e ∷ decimal a ∷ []
-request_words n (Sell e a) = codes "sell" ∷ decimal n ∷ e ∷ decimal a ∷ []
-request_words n (Refund s) = codes "refund" ∷ decimal n ∷ decimal s ∷ []
-request_words n (Cede e a to) = codes "cede" ∷ decimal n ∷ e ∷ decimal a ∷ decimal to ∷ []
+request_words n q = verb_word (request_verb q) ∷ decimal n ∷ operands q
 
 -- the words of a line of a session
 abbrev pub session_words : Line → List (List ℕ)
@@ -72,53 +79,53 @@ sites_words n = codes "sites" ∷ decimal n ∷ []
 abbrev pub limit_words : ℕ → List (List ℕ)
 limit_words n = codes "limit" ∷ decimal n ∷ []
 
+-- the most lines of a session or of a script
+abbrev pub most_lines : ℕ
+most_lines = 1000000
+
 -- what has a text
-
--- a request number or an amount
-abbrev pub IsAmount : ℕ → Type 0
-IsAmount n = (1 ≤ n) × (n ≤ max_value)
-
--- a site's number, whether the site is there or not
-abbrev pub IsSiteNumber : ℕ → Type 0
-IsSiteNumber i = i ≤ 63
 
 abbrev pub IsRequest : Request → Type 0
 IsRequest (Announce e) = IsEventName e
-IsRequest (Release e a) = IsEventName e × IsAmount a
-IsRequest (Sell e a) = IsEventName e × IsAmount a
-IsRequest (Refund s) = IsAmount s
-IsRequest (Cede e a to) = IsEventName e × IsAmount a × IsSiteNumber to
+IsRequest (Release e a) = IsEventName e × IsValue a
+IsRequest (Sell e a) = IsEventName e × IsValue a
+IsRequest (Refund s) = IsValue s
+IsRequest (Cede e a to) = IsEventName e × IsValue a × IsSite to
 
 abbrev pub IsSessionLine : Line → Type 0
-IsSessionLine (line.Ask n q) = IsAmount n × IsRequest q
+IsSessionLine (line.Ask n q) = IsValue n × IsRequest q
 IsSessionLine (line.Left e) = IsEventName e
 IsSessionLine (line.Totals e) = IsEventName e
 IsSessionLine line.Quit = ⊤
 
+-- the greatest index of a message that a line can name
+abbrev pub greatest_index : ℕ
+greatest_index = 1000000000
+
 -- the index of a message, whether the message is there or not
 abbrev pub IsIndex : ℕ → Type 0
-IsIndex k = k ≤ 1000000000
+IsIndex k = k ≤ greatest_index
 
 abbrev pub IsInput : Input → Type 0
-IsInput (input.Request n q) = IsAmount n × IsRequest q
+IsInput (input.Request n q) = IsValue n × IsRequest q
 IsInput (input.Take k) = IsIndex k
 
 abbrev pub IsStep : Step → Type 0
-IsStep (Ask i n q) = IsSiteNumber i × IsAmount n × IsRequest q
-IsStep (Send i j) = IsSiteNumber i × IsSiteNumber j
+IsStep (Ask i n q) = IsSite i × IsValue n × IsRequest q
+IsStep (Send i j) = IsSite i × IsSite j
 IsStep (Deliver k) = IsIndex k
-IsStep (Restart i) = IsSiteNumber i
-IsStep (Stop i x stored) = IsSiteNumber i × IsInput x
+IsStep (Restart i) = IsSite i
+IsStep (Stop i x stored) = IsSite i × IsInput x
 
 abbrev pub IsScriptLine : ScriptLine → Type 0
 IsScriptLine (Make s) = IsStep s
-IsScriptLine (Left i e) = IsSiteNumber i × IsEventName e
-IsScriptLine (Totals i e) = IsSiteNumber i × IsEventName e
+IsScriptLine (Left i e) = IsSite i × IsEventName e
+IsScriptLine (Totals i e) = IsSite i × IsEventName e
 
 -- a count of sites
 abbrev pub IsSites : ℕ → Type 0
-IsSites n = (1 ≤ n) × (n ≤ 16)
+IsSites n = (1 ≤ n) × (n ≤ most_sites)
 
 -- a limit of a history
 abbrev pub IsLimit : ℕ → Type 0
-IsLimit n = (1 ≤ n) × (n ≤ 1000000)
+IsLimit n = (1 ≤ n) × (n ≤ greatest_limit)

@@ -4,14 +4,15 @@ use Rattle.std.specs.Str.{bytes_eq}
 use Rattle.std.specs.List.{slice_split}
 use Rattle.plain_words.specs.Words.{first_word, is_space, ended, ◌>>=◌}
 use Rattle.plain_words.specs.Number.{number_of, number_at}
+use Rattle.rights_lattice.specs.Limits.{greatest_site, most_sites}
+use Rattle.book_core.specs.Limits.{greatest_limit}
+use Rattle.delta_wire.specs.Fields.{event_at}
 use Rattle.world_steps.specs.declared.step.Step.TheVariants as step
 use Rattle.desk_lines.specs.declared.line.Line.{Line}
 use Rattle.desk_lines.specs.declared.line.Line.TheVariants.{Ask, Left, Totals, Quit}
 use Rattle.desk_lines.specs.declared.script_line.ScriptLine.{ScriptLine}
 use Rattle.desk_lines.specs.declared.script_line.ScriptLine.TheVariants as script
-use Rattle.desk_lines.specs.declared.requests.Verb.{Verb}
-use Rattle.desk_lines.specs.declared.requests.Verb.TheVariants as verb
-use Rattle.desk_lines.specs.Requests.{verb_at, event_at, numbered_at}
+use Rattle.desk_lines.specs.Requests.{request_from}
 use Rattle.desk_lines.specs.Commands.{commanded}
 
 unfoldable pub left_in : List (List ℕ) → Option Line
@@ -24,25 +25,22 @@ totals_in words = do
   e ← event_at words
   ended (Totals e.0) e.1
 
-unfoldable pub ask_in : Verb → List (List ℕ) → Option Line
-ask_in v words = do
-  a ← numbered_at v words
+unfoldable pub ask_in : List ℕ → List (List ℕ) → Option Line
+ask_in word words = do
+  a ← request_from word words
   Some (Ask a.0 a.1)
 
-abbrev pub asked_after : Verb → List (List ℕ) → Option Line
-asked_after verb.Left words = left_in words
-asked_after verb.Totals words = totals_in words
-asked_after verb.Announce words = ask_in verb.Announce words
-asked_after verb.Release words = ask_in verb.Release words
-asked_after verb.Sell words = ask_in verb.Sell words
-asked_after verb.Refund words = ask_in verb.Refund words
-asked_after verb.Cede words = ask_in verb.Cede words
+-- a line with this first word
+abbrev pub asked_after : List ℕ → List (List ℕ) → Option Line
+asked_after word words =
+    if bytes_eq word (codes "left") then left_in words else (
+    if bytes_eq word (codes "totals") then totals_in words else ask_in word words)
 
 -- a line that asks or looks
 unfoldable pub asked_in : List (List ℕ) → Option Line
 asked_in words = do
-  v ← verb_at words
-  asked_after v.0 v.1
+  w ← first_word words
+  asked_after w.0 w.1
 
 -- the line of a session that the bytes spell, if they spell one
 abbrev pub session_line_of : List ℕ → Option Line
@@ -69,7 +67,7 @@ after_first None word words = commanded word words
 unfoldable pub line_of_words : List (List ℕ) → Option ScriptLine
 line_of_words words = do
   w ← first_word words
-  after_first (number_of 0 63 w.0) w.0 w.1
+  after_first (number_of 0 greatest_site w.0) w.0 w.1
 
 -- the line of a script that the bytes spell, if they spell one
 abbrev pub line_of : List ℕ → Option ScriptLine
@@ -84,8 +82,8 @@ named_number name high words = do
 
 -- the count of sites, where the line gives it
 abbrev pub sites_of : List ℕ → Option ℕ
-sites_of bytes = named_number (codes "sites") 16 (slice_split is_space bytes)
+sites_of bytes = named_number (codes "sites") most_sites (slice_split is_space bytes)
 
 -- the limit of a history, where the line gives it
 abbrev pub limit_of : List ℕ → Option ℕ
-limit_of bytes = named_number (codes "limit") 1000000 (slice_split is_space bytes)
+limit_of bytes = named_number (codes "limit") greatest_limit (slice_split is_space bytes)

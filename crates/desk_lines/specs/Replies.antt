@@ -1,8 +1,8 @@
 -- What each answer of a session is written as, and what scripts and sessions both say.
-use Rattle.std.specs.Prelude.{ℕ, List, [], ◌∷◌, ◌++◌, codes}
+use Rattle.std.specs.Prelude.{ℕ, List, [], ◌∷◌, ◌++◌, Option, Some, None, codes}
 use Rattle.std.specs.Fmt.{decimal}
 use Rattle.request_ledger.specs.declared.reply.Reply.{Reply}
-use Rattle.request_ledger.specs.declared.reply.Reply.TheVariants.{Done, Known, Unknown, Short, CellFull, NoSale, Refunded, ToSelf, NoSite}
+use Rattle.request_ledger.specs.Words.{reply_word, reply_number}
 use Rattle.site_desk.specs.declared.fault.AskFault.{AskFault}
 use Rattle.site_desk.specs.declared.fault.AskFault.TheVariants as ask
 use Rattle.site_exchange.specs.declared.message.TakeFault.{TakeFault}
@@ -11,16 +11,13 @@ use Rattle.local_rights.specs.declared.report.Totals.{Totals}
 use Rattle.desk_lines.specs.declared.answered.Answered.{Answered}
 use Rattle.desk_lines.specs.declared.answered.Answered.TheVariants.{Kept, LeftIs, TotalsAre, NotKnown, Refused, Unread}
 
+-- a word, and the number behind it where there is one
+abbrev pub word_numbered : List ℕ → Option ℕ → List ℕ
+word_numbered word None = word
+word_numbered word (Some n) = word ++ 32 ∷ decimal n
+
 abbrev pub reply_text : Reply → List ℕ
-reply_text Done = codes "done"
-reply_text Known = codes "known"
-reply_text Unknown = codes "unknown"
-reply_text (Short left) = codes "short " ++ decimal left
-reply_text CellFull = codes "full-cell"
-reply_text NoSale = codes "no-sale"
-reply_text Refunded = codes "refunded"
-reply_text ToSelf = codes "to-self"
-reply_text NoSite = codes "no-site"
+reply_text reply = word_numbered (reply_word reply) (reply_number reply)
 
 -- why a request is not answered
 abbrev pub ask_fault_text : AskFault → List ℕ

@@ -5,9 +5,9 @@ ghost use Rattle.arrayvec.specs.ArrayVec.{array_vec_len};
 ghost use Rattle.plain_words.specs.Writing.{Writes};
 ghost use Rattle.desk_lines.specs.Replies.{answered_text, reply_line};
 
-use crate::texts::{ask_fault_text, numbered, reply_text, totals_text, word};
+use crate::texts::{ask_fault_text, reply_text, totals_text};
 use local_rights::Totals;
-use plain_words::{Text, WriteFault, put, write_bytes};
+use plain_words::{Text, WriteFault, numbered, put, word, write_bytes};
 use request_ledger::Reply;
 use site_desk::AskFault;
 use std::io::Write;

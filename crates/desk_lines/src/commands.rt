@@ -4,13 +4,14 @@ ghost use Rattle.std.specs.Prelude.{◌≡◌};
 ghost use Rattle.std.specs.Option.{option_map};
 ghost use Rattle.desk_lines.specs.Commands.{command_of, index_at, stored_of, stored_at, take_at, request_input_of, input_at, send_at, deliver_at, restart_at, stop_at, after_command, commanded};
 
-use crate::requests::{numbered_at, site_at, verb_of};
+use crate::requests::request_from;
 use crate::script_line::ScriptLine;
+use delta_wire::site_at;
 use plain_words::{Words, number_at};
 use world_steps::{Input, Step};
 
 // The greatest index of a message that a line can name.
-const MOST_INDEX: u64 = 1_000_000_000;
+const GREATEST_INDEX: u64 = 1_000_000_000;
 
 // The word at the head of a line that is to no site alone.
 #[derive(Clone, Copy, Debug, PartialEq, Eq)]
@@ -41,7 +42,7 @@ fn command_of(word: &[u8]) -> Option<Command>
 fn index_at(words: &mut Words<'_>) -> Option<usize>
     ensures { option_map (λ k. (k, words.new)) result ≡ index_at words.old }
 {
-    let index = number_at(words, 0, MOST_INDEX)?;
+    let index = number_at(words, 0, GREATEST_INDEX)?;
     Some(index as usize)
 }
 
@@ -83,8 +84,7 @@ fn take_at(words: &mut Words<'_>) -> Option<Input>
 fn request_input_of(word: &[u8], words: &mut Words<'_>) -> Option<Input>
     ensures { result ≡ request_input_of word.now words.old }
 {
-    let verb = verb_of(word)?;
-    let (number, request) = numbered_at(verb, words)?;
+    let (number, request) = request_from(word, words)?;
     Some(Input::Request { number, request })
 }
 

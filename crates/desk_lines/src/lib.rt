@@ -16,6 +16,9 @@ mod script_line;
 mod session_lines;
 mod texts;
 
+/// The most lines of a session or of a script.
+pub const MOST_LINES: u32 = 1_000_000;
+
 pub use answered::{Answered, reply_line};
 pub use line::{BadLine, Line};
 pub use reading::{read_limit, read_sites, read_step};
@@ -23,4 +26,4 @@ pub use request_lines::{request_line, request_text};
 pub use script_answer::{ScriptAnswer, write_answer};
 pub use script_line::ScriptLine;
 pub use session_lines::read_line;
-pub use texts::{numbered, reply_text, take_fault_text, word};
+pub use texts::{reply_text, take_fault_text};

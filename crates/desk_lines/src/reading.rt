@@ -3,6 +3,7 @@
 ghost use Rattle.std.specs.Prelude.{◌≡◌, ◌<◌, ◌≤◌, ◌^◌, ℕ, Ok, Some, IfOk, IfSome};
 ghost use Rattle.std.specs.Result.{result_ok};
 ghost use Rattle.std.specs.List.{join_with_byte, slice_split};
+ghost use Rattle.rights_lattice.specs.Limits.{greatest_site};
 ghost use Rattle.plain_words.specs.Words.{is_space};
 ghost use Rattle.plain_words.specs.Number.{number_of};
 ghost use Rattle.desk_lines.specs.declared.script_line.ScriptLine.{ScriptLine};
@@ -15,7 +16,7 @@ use crate::script_line::ScriptLine;
 use crate::session_lines::asked_in;
 use book_core::Limit;
 use plain_words::{Words, number_at, read_number};
-use rights_lattice::{SiteId, Sites};
+use rights_lattice::{GREATEST_SITE, MOST_SITES, SiteId, Sites};
 use world_steps::Step;
 
 #[tactic(auto, unfolding(crate::specs::Reading::at_site))]
@@ -35,9 +36,9 @@ fn at_site(site: SiteId, words: &mut Words<'_>) -> Option<ScriptLine>
 }
 
 fn site_of(word: &[u8]) -> Option<SiteId>
-    ensures { result ≡ number_of 0 63 word.now }
+    ensures { result ≡ number_of 0 greatest_site word.now }
 {
-    let number = read_number(word, 0, 63)?;
+    let number = read_number(word, 0, GREATEST_SITE)?;
     let site = SiteId::of(number)?;
     Some(site)
 }
@@ -89,7 +90,7 @@ pub fn read_sites(bytes: &[u8]) -> Option<Sites>
     ensures only { (n : ℕ) → IsSites n → bytes.now ≡ join_with_byte 32 (sites_words n) → result ≡ Some n }
     ensures exact { result ≡ sites_of bytes.now }
 {
-    let count = named_number(b"sites", 16, bytes)?;
+    let count = named_number(b"sites", MOST_SITES, bytes)?;
     let sites = Sites::of(count)?;
     Some(sites)
 }
@@ -100,7 +101,7 @@ pub fn read_limit(bytes: &[u8]) -> Option<Limit>
     ensures only { (n : ℕ) → IsLimit n → bytes.now ≡ join_with_byte 32 (limit_words n) → result ≡ Some n }
     ensures exact { result ≡ limit_of bytes.now }
 {
-    let entries = named_number(b"limit", 1_000_000, bytes)?;
+    let entries = named_number(b"limit", Limit::MAX, bytes)?;
     let limit = Limit::of(entries)?;
     Some(limit)
 }

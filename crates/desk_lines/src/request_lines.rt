@@ -1,39 +1,38 @@
 //! Writing the line of a session that asks a request.
 
-ghost use Rattle.std.specs.Prelude.{◌≡◌, ◌≤◌, ◌∷◌, [], Some, length};
+ghost use Rattle.std.specs.Prelude.{◌≡◌, ◌≤◌, ◌∷◌, [], Some};
 ghost use Rattle.arrayvec.specs.ArrayVec.{array_vec_len};
 ghost use Rattle.std.specs.Fmt.{decimal};
 ghost use Rattle.std.specs.List.{join_with_byte};
 ghost use Rattle.plain_words.specs.Writing.{Writes};
 ghost use Rattle.desk_lines.specs.declared.line.Line.TheVariants.{Ask};
-ghost use Rattle.desk_lines.specs.Grammar.{request_words, request_line, IsAmount, IsRequest};
+ghost use Rattle.request_ledger.specs.Words.{verb_word};
+ghost use Rattle.delta_wire.specs.Grammar.{IsValue};
+ghost use Rattle.desk_lines.specs.Grammar.{request_words, request_line, IsRequest};
 ghost use Rattle.rights_lattice.specs.EventName.{IsEventName};
 ghost use Rattle.desk_lines.specs.Reading.{session_line_of};
 
-use plain_words::{Text, WriteFault, put, put_number, write_bytes};
-use request_ledger::{Request, RequestNumber};
+use plain_words::{Text, WriteFault, put, put_number, word, write_bytes};
+use request_ledger::{Request, RequestNumber, Verb};
 use rights_lattice::{Amount, Event};
 use std::io::Write;
 
 // A verb with the request's number.
-fn verb_numbered(verb: &[u8], number: RequestNumber) -> Text
-    requires { length verb.now ≤ 8 }
-    ensures value { result.items ≡ join_with_byte 32 (verb.now ∷ decimal number ∷ []) }
-    ensures fits { IsAmount number }
+fn verb_numbered(verb: Verb, number: RequestNumber) -> Text
+    ensures value { result.items ≡ join_with_byte 32 (verb_word verb ∷ decimal number ∷ []) }
+    ensures fits { IsValue number }
     ensures len { array_vec_len result ≤ 29 }
 {
-    let mut text = Text::new();
-    put(&mut text, verb);
+    let mut text = word(verb.word());
     put(&mut text, b" ");
     put_number(&mut text, number.get());
     text
 }
 
 // The same with an event.
-fn verb_named(verb: &[u8], number: RequestNumber, event: Event) -> Text
-    requires { length verb.now ≤ 8 }
-    ensures value { result.items ≡ join_with_byte 32 (verb.now ∷ decimal number ∷ event ∷ []) }
-    ensures fits { IsAmount number × IsEventName event }
+fn verb_named(verb: Verb, number: RequestNumber, event: Event) -> Text
+    ensures value { result.items ≡ join_with_byte 32 (verb_word verb ∷ decimal number ∷ event ∷ []) }
+    ensures fits { IsValue number × IsEventName event }
     ensures len { array_vec_len result ≤ 62 }
 {
     let mut text = verb_numbered(verb, number);
@@ -43,10 +42,9 @@ fn verb_named(verb: &[u8], number: RequestNumber, event: Event) -> Text
 }
 
 // The same with an amount.
-fn verb_sized(verb: &[u8], number: RequestNumber, event: Event, amount: Amount) -> Text
-    requires { length verb.now ≤ 8 }
-    ensures value { result.items ≡ join_with_byte 32 (verb.now ∷ decimal number ∷ event ∷ decimal amount ∷ []) }
-    ensures fits { IsAmount number × IsEventName event × IsAmount amount }
+fn verb_sized(verb: Verb, number: RequestNumber, event: Event, amount: Amount) -> Text
+    ensures value { result.items ≡ join_with_byte 32 (verb_word verb ∷ decimal number ∷ event ∷ decimal amount ∷ []) }
+    ensures fits { IsValue number × IsEventName event × IsValue amount }
     ensures len { array_vec_len result ≤ 83 }
 {
     let mut text = verb_named(verb, number, event);
@@ -58,21 +56,22 @@ fn verb_sized(verb: &[u8], number: RequestNumber, event: Event, amount: Amount) 
 // The words of a request, with one space between two.
 fn request_words(number: RequestNumber, request: Request) -> Text
     ensures value { result.items ≡ join_with_byte 32 (request_words number request) }
-    ensures fits { IsAmount number × IsRequest request }
+    ensures fits { IsValue number × IsRequest request }
     ensures len { array_vec_len result ≤ 104 }
 {
+    let verb = request.verb();
     match request {
-        Request::Announce { event } => verb_named(b"announce", number, event),
-        Request::Release { event, amount } => verb_sized(b"release", number, event, amount),
-        Request::Sell { event, amount } => verb_sized(b"sell", number, event, amount),
+        Request::Announce { event } => verb_named(verb, number, event),
+        Request::Release { event, amount } => verb_sized(verb, number, event, amount),
+        Request::Sell { event, amount } => verb_sized(verb, number, event, amount),
         Request::Refund { sale } => {
-            let mut text = verb_numbered(b"refund", number);
+            let mut text = verb_numbered(verb, number);
             put(&mut text, b" ");
             put_number(&mut text, sale.get());
             text
         }
         Request::Cede { event, amount, to } => {
-            let mut text = verb_sized(b"cede", number, event, amount);
+            let mut text = verb_sized(verb, number, event, amount);
             put(&mut text, b" ");
             put_number(&mut text, to.number());
             text

@@ -1,86 +1,27 @@
-//! Reading the words of a request, and what else a site is asked.
+//! Reading the words of a request.
 
 ghost use Rattle.std.specs.Prelude.{◌≡◌};
 ghost use Rattle.std.specs.Option.{option_map};
-ghost use Rattle.desk_lines.specs.Requests.{verb_of, verb_at, event_at, site_at, amount_at, sized_at, announce_at, release_at, sell_at, refund_at, cede_at, request_at, numbered_at};
+ghost use Rattle.delta_wire.specs.Fields.{value_at};
+ghost use Rattle.desk_lines.specs.Requests.{sized_at, announce_at, release_at, sell_at, refund_at, cede_at, request_at, numbered_at, request_from};
 
-use plain_words::{Words, number_at};
-use request_ledger::{Request, RequestNumber};
-use rights_lattice::{Amount, Event, MAX_VALUE, SiteId};
-
-/// The word that says what a site is asked.
-#[derive(Clone, Copy, Debug, PartialEq, Eq)]
-pub(crate) enum Verb {
-    Announce,
-    Release,
-    Sell,
-    Refund,
-    Cede,
-    Left,
-    Totals,
-}
-
-#[tactic(auto, unfolding(crate::specs::Requests::verb_of))]
-pub(crate) fn verb_of(word: &[u8]) -> Option<Verb>
-    ensures { result ≡ verb_of word.now }
-{
-    if word == b"announce".as_slice() {
-        Some(Verb::Announce)
-    } else if word == b"release".as_slice() {
-        Some(Verb::Release)
-    } else if word == b"sell".as_slice() {
-        Some(Verb::Sell)
-    } else if word == b"refund".as_slice() {
-        Some(Verb::Refund)
-    } else if word == b"cede".as_slice() {
-        Some(Verb::Cede)
-    } else if word == b"left".as_slice() {
-        Some(Verb::Left)
-    } else if word == b"totals".as_slice() {
-        Some(Verb::Totals)
-    } else {
-        None
-    }
-}
-
-#[tactic(auto, unfolding(crate::specs::Requests::verb_at))]
-pub(crate) fn verb_at(words: &mut Words<'_>) -> Option<Verb>
-    ensures { option_map (λ v. (v, words.new)) result ≡ verb_at words.old }
-{
-    let word = words.next()?;
-    let verb = verb_of(word)?;
-    Some(verb)
-}
-
-#[tactic(auto, unfolding(crate::specs::Requests::event_at))]
-pub(crate) fn event_at(words: &mut Words<'_>) -> Option<Event>
-    ensures { option_map (λ e. (e, words.new)) result ≡ event_at words.old }
-{
-    let word = words.next()?;
-    let event = Event::read(word)?;
-    Some(event)
-}
-
-pub(crate) fn site_at(words: &mut Words<'_>) -> Option<SiteId>
-    ensures { option_map (λ i. (i, words.new)) result ≡ site_at words.old }
-{
-    let number = number_at(words, 0, 63)?;
-    let site = SiteId::of(number)?;
-    Some(site)
-}
+use delta_wire::{event_at, site_at, value_at};
+use plain_words::Words;
+use request_ledger::{Request, RequestNumber, Verb};
+use rights_lattice::{Amount, Event};
 
 fn request_number_at(words: &mut Words<'_>) -> Option<RequestNumber>
-    ensures { option_map (λ n. (n, words.new)) result ≡ amount_at words.old }
+    ensures { option_map (λ n. (n, words.new)) result ≡ value_at words.old }
 {
-    let number = number_at(words, 1, MAX_VALUE)?;
+    let number = value_at(words)?;
     let number = RequestNumber::of(number)?;
     Some(number)
 }
 
 fn amount_at(words: &mut Words<'_>) -> Option<Amount>
-    ensures { option_map (λ a. (a, words.new)) result ≡ amount_at words.old }
+    ensures { option_map (λ a. (a, words.new)) result ≡ value_at words.old }
 {
-    let seats = number_at(words, 1, MAX_VALUE)?;
+    let seats = value_at(words)?;
     let amount = Amount::of(seats)?;
     Some(amount)
 }
@@ -164,16 +105,24 @@ fn request_at(verb: Verb, words: &mut Words<'_>) -> Option<Request>
         Verb::Sell => sell_at(words),
         Verb::Refund => refund_at(words),
         Verb::Cede => cede_at(words),
-        Verb::Left | Verb::Totals => None,
     }
 }
 
-/// The number and the request that the words behind the verb spell, where no word is left over.
+// The number and the request that the words behind the verb spell, where no word is left over.
 #[tactic(auto, unfolding(crate::specs::Requests::numbered_at))]
-pub(crate) fn numbered_at(verb: Verb, words: &mut Words<'_>) -> Option<(RequestNumber, Request)>
+fn numbered_at(verb: Verb, words: &mut Words<'_>) -> Option<(RequestNumber, Request)>
     ensures { result ≡ numbered_at verb words.old }
 {
     let number = request_number_at(words)?;
     let request = request_at(verb, words)?;
     Some((number, request))
+}
+
+/// The number and the request of a line that begins with this word, where no word is left over.
+#[tactic(auto, unfolding(crate::specs::Requests::request_from))]
+pub(crate) fn request_from(word: &[u8], words: &mut Words<'_>) -> Option<(RequestNumber, Request)>
+    ensures { result ≡ request_from word.now words.old }
+{
+    let verb = Verb::read(word)?;
+    numbered_at(verb, words)
 }

@@ -6,10 +6,10 @@ ghost use Rattle.plain_words.specs.Writing.{Writes};
 ghost use Rattle.desk_lines.specs.ScriptReplies.{refusal_text, outcome_text, answer_text, reply_line};
 
 use crate::answered::{Answered, answered_text};
-use crate::texts::{ask_fault_text, numbered, reply_text, take_fault_text, word};
+use crate::texts::{ask_fault_text, reply_text, take_fault_text};
 use book_core::PlanFault;
 use local_rights::Totals;
-use plain_words::{Text, WriteFault, put, write_bytes};
+use plain_words::{Text, WriteFault, numbered, put, word, write_bytes};
 use site_desk::AskFault;
 use std::io::Write;
 use world_steps::Outcome;

@@ -4,10 +4,11 @@ ghost use Rattle.std.specs.Prelude.{◌≡◌, Ok, IfOk};
 ghost use Rattle.std.specs.Result.{result_ok};
 ghost use Rattle.desk_lines.specs.declared.line.Line.{Line};
 ghost use Rattle.desk_lines.specs.Grammar.{session_text, IsSessionLine};
-ghost use Rattle.desk_lines.specs.Reading.{left_in, totals_in, ask_in, asked_after, asked_in, session_line_of};
+ghost use Rattle.desk_lines.specs.Reading.{left_in, totals_in, ask_in, asked_in, session_line_of};
 
 use crate::line::{BadLine, Line};
-use crate::requests::{Verb, event_at, numbered_at, verb_at};
+use crate::requests::request_from;
+use delta_wire::event_at;
 use plain_words::Words;
 
 #[tactic(auto, unfolding(crate::specs::Reading::left_in))]
@@ -35,21 +36,11 @@ fn totals_in(words: &mut Words<'_>) -> Option<Line>
 }
 
 #[tactic(auto, unfolding(crate::specs::Reading::ask_in))]
-fn ask_in(verb: Verb, words: &mut Words<'_>) -> Option<Line>
-    ensures { result ≡ ask_in verb words.old }
+fn ask_in(word: &[u8], words: &mut Words<'_>) -> Option<Line>
+    ensures { result ≡ ask_in word.now words.old }
 {
-    let (number, request) = numbered_at(verb, words)?;
+    let (number, request) = request_from(word, words)?;
     Some(Line::Ask { number, request })
-}
-
-fn asked_after(verb: Verb, words: &mut Words<'_>) -> Option<Line>
-    ensures { result ≡ asked_after verb words.old }
-{
-    match verb {
-        Verb::Left => left_in(words),
-        Verb::Totals => totals_in(words),
-        _ => ask_in(verb, words),
-    }
 }
 
 /// What the words ask of a site, where no word is left over.
@@ -57,8 +48,14 @@ fn asked_after(verb: Verb, words: &mut Words<'_>) -> Option<Line>
 pub(crate) fn asked_in(words: &mut Words<'_>) -> Option<Line>
     ensures { result ≡ asked_in words.old }
 {
-    let verb = verb_at(words)?;
-    asked_after(verb, words)
+    let word = words.next()?;
+    if word == b"left".as_slice() {
+        left_in(words)
+    } else if word == b"totals".as_slice() {
+        totals_in(words)
+    } else {
+        ask_in(word, words)
+    }
 }
 
 fn session_line_of(bytes: &[u8]) -> Option<Line>

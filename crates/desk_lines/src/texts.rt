@@ -1,54 +1,26 @@
 //! The texts that scripts and sessions share.
 
-ghost use Rattle.std.specs.Prelude.{◌≡◌, ◌+◌, ◌≤◌, ◌++◌, length};
-ghost use Rattle.std.specs.Fmt.{decimal};
+ghost use Rattle.std.specs.Prelude.{◌≡◌, ◌≤◌};
 ghost use Rattle.arrayvec.specs.ArrayVec.{array_vec_len};
 ghost use Rattle.desk_lines.specs.Replies.{reply_text, ask_fault_text, take_fault_text, totals_text};
 
 use local_rights::Totals;
-use plain_words::{Text, put, put_number};
+use plain_words::{Text, numbered, put, put_number, word};
 use request_ledger::Reply;
 use site_desk::AskFault;
 use site_exchange::TakeFault;
-
-/// A text of these bytes, of which there are at most 256.
-pub fn word(bytes: &[u8]) -> Text
-    requires { length bytes.now ≤ 256 }
-    ensures value { result.items ≡ bytes.now }
-    ensures len { array_vec_len result ≡ length bytes.now }
-{
-    let mut text = Text::new();
-    put(&mut text, bytes);
-    text
-}
-
-/// A text of at most 100 bytes, and a number in decimal behind it.
-pub fn numbered(bytes: &[u8], number: u64) -> Text
-    requires { length bytes.now ≤ 100 }
-    ensures value { result.items ≡ bytes.now ++ decimal number }
-    ensures len { array_vec_len result ≤ length bytes.now + 20 }
-{
-    let mut text = word(bytes);
-    put_number(&mut text, number);
-    text
-}
 
 /// The text of a reply, without a line break.
 pub fn reply_text(reply: Reply) -> Text
     ensures value { result.items ≡ reply_text reply }
     ensures len { array_vec_len result ≤ 40 }
 {
-    match reply {
-        Reply::Done => word(b"done"),
-        Reply::Known => word(b"known"),
-        Reply::Unknown => word(b"unknown"),
-        Reply::Short { left } => numbered(b"short ", left),
-        Reply::CellFull => word(b"full-cell"),
-        Reply::NoSale => word(b"no-sale"),
-        Reply::Refunded => word(b"refunded"),
-        Reply::ToSelf => word(b"to-self"),
-        Reply::NoSite => word(b"no-site"),
+    let mut text = word(reply.word());
+    if let Some(number) = reply.number() {
+        put(&mut text, b" ");
+        put_number(&mut text, number);
     }
+    text
 }
 
 /// The text of why a request is not answered.

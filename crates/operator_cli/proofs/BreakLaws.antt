@@ -1,13 +1,14 @@
 -- What was read and written before a reader broke off.
-use Rattle.std.proofs.Common.{◌≡◌, ◌⊎◌, ℕ, suc, ◌+◌, ◌<◌, ◌≤◌, false, List, [], ◌∷◌, ◌++◌, length, Option, Some, None, Result, Ok, Err, refl, sym, ap, subst, ◌∙◌, arith, append_assoc, length-append, inl, inr}
+use Rattle.std.proofs.Common.{◌≡◌, ◌⊎◌, ℕ, suc, ◌+◌, ◌<◌, ◌≤◌, false, List, [], ◌∷◌, ◌++◌, length, All, Option, Some, None, Result, Ok, Err, refl, sym, ap, subst, ◌∙◌, arith, append_assoc, length-append, inl, inr}
 use Rattle.std.specs.Prelude.{IfErr, IsErrAnd}
 use Rattle.std.specs.Io.KnownBytes.{Appends, Keeps}
 use Rattle.std.proofs.KnownBytes.{Appends-trans, Appends-nil}
 use Rattle.std.proofs.lemmas.Bool.{cases_lt}
-use Rattle.std.proofs.lemmas.List.Elements.{All-from_recursion}
-use Rattle.plain_words.specs.Input.{is_line_break, lines_of, Between, LineGives}
+use Rattle.std.proofs.lemmas.List.Elements.{All-append, All-from_recursion}
+use Rattle.plain_words.specs.Input.{is_line_break, longest_line, lines_of, Between, LineGives}
 use Rattle.plain_words.specs.declared.lines.LineFault.{LineFault}
 use Rattle.plain_words.specs.declared.lines.LineFault.TheVariants as line_fault
+use Rattle.plain_words.proofs.LineLaws.{AreShort}
 use Rattle.world_steps.specs.World.{World}
 use Rattle.operator_cli.specs.declared.fault.ScriptFault.{ScriptFault}
 use Rattle.operator_cli.specs.declared.fault.ScriptFault.TheVariants as fault
@@ -40,11 +41,14 @@ err_is r g h e = ap Err (named r g h e)
 
 -- ---- the first line that is not whole
 
+none_whole : All (λ (line : Text). length line ≤ longest_line) []
+none_whole = All-from_recursion (λ (line : Text). length line ≤ longest_line) [] tt
+
 begun : (most : ℕ) (replies : Lines → Text) (a b old : Option Text) (line : Text) → replies [] ≡ [] → LineGives a b line (Err line_fault.Read) → ReadBrokeOff (suc most) replies a b old old
 begun most replies None b old line none h = tt
 begun most replies (Some x) None old line none h = absurd h.1
 begun most replies (Some x) (Some y) old line none h =
-    (record { lines = []; part = line; rest = x; read = refl; begun = h.1; is_part = h.0; within = inl (omega arith) }, subst (Appends old old) (sym none) (Appends-nil old))
+    (record { lines = []; part = line; rest = x; read = refl; whole = none_whole; begun = h.1; is_part = h.0; within = inl (omega arith) }, subst (Appends old old) (sym none) (Appends-nil old))
 
 pub broke_here : {T : Type 0} (most : ℕ) (replies : Lines → Text) (a b old : Option Text) (line : Text) (g : LineFault) (r : Result T ScriptFault) → replies [] ≡ [] → LineGives a b line (Err g)
     → IsErrAnd r (λ f. f ≡ of_line_fault g) → r ≡ Err fault.Read → ReadBrokeOff (suc most) replies a b old old
@@ -56,7 +60,7 @@ pub broke_at_limit : (replies : Lines → Text) (a b old : Option Text) → repl
 broke_at_limit replies None b old none h = tt
 broke_at_limit replies (Some x) None old none h = absurd h
 broke_at_limit replies (Some x) (Some y) old none h = (
-  record { lines = []; part = []; rest = x; read = refl; begun = sym h; is_part = (omega arith, All-from_recursion (λ b. is_line_break b ≡ false) [] tt); within = inr (refl, refl) },
+  record { lines = []; part = []; rest = x; read = refl; whole = none_whole; begun = sym h; is_part = (omega arith, All-from_recursion (λ b. is_line_break b ≡ false) [] tt); within = inr (refl, refl) },
   subst (Appends old old) (sym none) (Appends-nil old),
 )
 
@@ -68,17 +72,18 @@ within_more front lines part more most le (inl lt) = inl (omega (arith, le, lt, 
 within_more front lines part more most le (inr h) =
     elim (cases_lt (length (front ++ lines)) most) [ inl q ↦ inl q | inr p ↦ inr (omega (arith, le, p, h.0, length-append front lines), h.1) ]
 
-pub broke_behind : (more most : ℕ) (some some' : Lines → Text) (front : Lines) (text : Text) (a b c old mid new : Option Text) → length front + more ≤ most → ((l : Lines) → some' (front ++ l) ≡ text ++ some l)
+pub broke_behind : (more most : ℕ) (some some' : Lines → Text) (front : Lines) (text : Text) (a b c old mid new : Option Text) → length front + more ≤ most → AreShort front → ((l : Lines) → some' (front ++ l) ≡ text ++ some l)
     → Between a b (λ xs ys. lines_of xs ≡ front ++ lines_of ys) → Appends old mid text → ReadBrokeOff more some b c mid new → ReadBrokeOff most some' a c old new
-broke_behind more most some some' front text None b c old mid new le s p out h = tt
-broke_behind more most some some' front text (Some x) None c old mid new le s p out h = absurd p
-broke_behind more most some some' front text (Some x) (Some y) None old mid new le s p out h = absurd h
-broke_behind more most some some' front text (Some x) (Some y) (Some z) old mid new le s p out h = (
+broke_behind more most some some' front text None b c old mid new le short s p out h = tt
+broke_behind more most some some' front text (Some x) None c old mid new le short s p out h = absurd p
+broke_behind more most some some' front text (Some x) (Some y) None old mid new le short s p out h = absurd h
+broke_behind more most some some' front text (Some x) (Some y) (Some z) old mid new le short s p out h = (
   record {
     lines = front ++ h.0.lines;
     part = h.0.part;
     rest = h.0.rest;
     read = p ∙ ap (λ (t : Lines). front ++ t) h.0.read ∙ sym (append_assoc front h.0.lines (lines_of h.0.rest));
+    whole = All-append (λ (line : Text). length line ≤ longest_line) front h.0.lines (All-from_recursion _ front short) h.0.whole;
     begun = h.0.begun;
     is_part = h.0.is_part;
     within = within_more front h.0.lines h.0.part more most le h.0.within;
@@ -90,7 +95,7 @@ broke_behind more most some some' front text (Some x) (Some y) (Some z) old mid 
 pub broke_after : (more most : ℕ) (input rest rest' old new new' : Option Text) (start now : World) (count : ℕ) → SoFar input rest old new start now count → count + more ≤ most
     → ReadBrokeOff more (answers now) rest rest' new new' → ReadBrokeOff most (answers start) input rest' old new'
 broke_after more most input rest rest' old new new' start now count h le k =
-    broke_behind more most (answers now) (answers start) h.lines (answers start h.lines) input rest rest' old new new' (omega (arith, le, h.counted)) (answered start now h.lines h.made) h.read h.written k
+    broke_behind more most (answers now) (answers start) h.lines (answers start h.lines) input rest rest' old new new' (omega (arith, le, h.counted)) h.short (answered start now h.lines h.made) h.read h.written k
 
 same_input : (o : Option Text) → Between o o (λ xs ys. lines_of xs ≡ lines_of ys)
 same_input None = tt
@@ -99,17 +104,17 @@ same_input (Some xs) = refl
 pub broke_second : (most sites : ℕ) (second : Text) (a b old mid new : Option Text) (w : World) → OpenRan sites second old mid (Ok w) → ReadBrokeOff most (answers w) a b mid new
     → ReadBrokeOff most (λ lines. replies_at sites (second ∷ lines)) a b old new
 broke_second most sites second a b old mid new w h k =
-    broke_behind most most (answers w) (λ l. replies_at sites (second ∷ l)) [] h.0 a a b old mid new (omega arith) (λ l. (h.2 l).0) (same_input a) h.1 k
+    broke_behind most most (answers w) (λ l. replies_at sites (second ∷ l)) [] h.0 a a b old mid new (omega arith) tt (λ l. (h.2 l).0) (same_input a) h.1 k
 
 -- the lines behind the first
-pub broke_sites : (most sites : ℕ) (second : Text) (a b c old new : Option Text) → Between a b (λ xs ys. lines_of xs ≡ second ∷ lines_of ys)
+pub broke_sites : (most sites : ℕ) (second : Text) (a b c old new : Option Text) → length second ≤ longest_line → Between a b (λ xs ys. lines_of xs ≡ second ∷ lines_of ys)
     → ReadBrokeOff most (λ lines. replies_at sites (second ∷ lines)) b c old new → ReadBrokeOff (suc most) (replies_at sites) a c old new
-broke_sites most sites second a b c old new p k =
-    broke_behind most (suc most) (λ l. replies_at sites (second ∷ l)) (replies_at sites) (second ∷ []) [] a b c old old new (omega arith) (λ l. refl) p (Appends-nil old) k
+broke_sites most sites second a b c old new short p k =
+    broke_behind most (suc most) (λ l. replies_at sites (second ∷ l)) (replies_at sites) (second ∷ []) [] a b c old old new (omega arith) (short, tt) (λ l. refl) p (Appends-nil old) k
 
 -- all lines
 pub broke_script : (most n : ℕ) (a b c old new : Option Text) → StartRan a b (Ok (Some n)) → ReadBrokeOff most (replies_at n) b c old new → ReadBrokeOff (suc most) replies a c old new
 broke_script most n None b c old new h k = tt
 broke_script most n (Some x) None c old new h k = absurd h
 broke_script most n (Some x) (Some y) c old new h k =
-    broke_behind most (suc most) (replies_at n) replies (h.0 ∷ []) [] (Some x) (Some y) c old old new (omega arith) (λ l. ap (λ (o : Option ℕ). replies_started o l) h.3) h.1 (Appends-nil old) k
+    broke_behind most (suc most) (replies_at n) replies (h.0 ∷ []) [] (Some x) (Some y) c old old new (omega arith) (h.2, tt) (λ l. ap (λ (o : Option ℕ). replies_started o l) h.3) h.1 (Appends-nil old) k

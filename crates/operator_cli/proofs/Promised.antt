@@ -10,7 +10,8 @@ use Rattle.desk_lines.specs.declared.script_line.ScriptLine.TheVariants.{Make, L
 use Rattle.desk_lines.specs.Grammar.{IsSites}
 use Rattle.desk_lines.specs.Reading.{line_of, limit_of}
 use Rattle.operator_cli.specs.Answering.{answer_to}
-use Rattle.operator_cli.specs.Script.{world_behind, opened, opened_by, greatest_limit}
+use Rattle.book_core.specs.Limits.{greatest_limit}
+use Rattle.operator_cli.specs.Script.{world_behind, opened, opened_by}
 use Rattle.operator_cli.specs.Laws.{step_of, steps_of, ScriptsMakeSteps, IsNotOversold, TotalsAreNotOversold}
 use Rattle.std.specs.Prelude.{replicate}
 use Rattle.std.proofs.lemmas.List.{length-replicate}

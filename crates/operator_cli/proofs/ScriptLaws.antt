@@ -14,12 +14,14 @@ use Rattle.plain_words.proofs.WriteLaws.{AppendsFront-after, AppendsFront-longer
 use Rattle.world_steps.specs.World.{World, opening}
 use Rattle.operator_cli.specs.declared.fault.ScriptFault.{ScriptFault}
 use Rattle.operator_cli.specs.declared.fault.ScriptFault.TheVariants as fault
-use Rattle.desk_lines.specs.Grammar.{IsSites, sites_words}
+use Rattle.rights_lattice.specs.Limits.{most_sites}
+use Rattle.book_core.specs.Limits.{greatest_limit}
+use Rattle.desk_lines.specs.Grammar.{most_lines, IsSites, sites_words}
 use Rattle.desk_lines.specs.Reading.{line_of, sites_of, limit_of}
 use Rattle.desk_lines.specs.ScriptReplies.{reply_line}
 use Rattle.operator_cli.specs.Answering.{answer_to}
 use Rattle.operator_cli.specs.Faults.{IsOutFault, of_line_fault}
-use Rattle.operator_cli.specs.Script.{answers, world_behind, run, opened_by, replies_at, run_at, replies_started, run_started, replies, total_lines, bad_line, script, script_of_lines, greatest_limit, most_lines}
+use Rattle.operator_cli.specs.Script.{answers, world_behind, run, opened_by, replies_at, run_at, replies_started, run_started, replies, total_lines, bad_line, script, script_of_lines}
 use Rattle.operator_cli.specs.Ran.{StartsWell, MayGoOn, Always, printed, EndsEarly, NextRan, AllAnswered, RestRan, Opens, OpenRan, SecondRan, SitesRan, StartRan, ScriptRan}
 use Rattle.desk_lines.proofs.ReadingLaws.{named_takes}
 
@@ -402,7 +404,7 @@ script_unread (Some x) b old f h = h 999999 old
 
 no_count : (first : Text) (lines : Lines) → (StartsWell (first ∷ lines) → ⊥) → (o : Option ℕ) → sites_of first ≡ o → o ≡ None
 no_count first lines h None e = refl
-no_count first lines h (Some n) e = let f = named_takes (codes "sites") 16 first n (lit< tt) e in absurd (h (n, f.0, f.1))
+no_count first lines h (Some n) e = let f = named_takes (codes "sites") most_sites first n (lit< tt) e in absurd (h (n, f.0, f.1))
 
 printed_bad : (end : End) (first : Text) (lines : Lines) → sites_of first ≡ None → printed end replies script_of_lines (first ∷ lines) ≡ bad_line
 printed_bad AtEnd first lines e = ap (λ (o : Option ℕ). run_started o lines) e

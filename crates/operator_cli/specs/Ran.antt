@@ -2,19 +2,19 @@
 use Rattle.std.specs.Prelude.{◌≡◌, ℕ, suc, ◌≤◌, List, [], ◌∷◌, ◌++◌, length, Bool, true, false, Option, Some, None, Result, Ok, Err, IfSome}
 use Rattle.std.specs.List.{join_with_byte}
 use Rattle.std.specs.Io.KnownBytes.{Appends, Keeps}
-use Rattle.plain_words.specs.Input.{lines_of, Between, BeginsTooLong, BreaksOff, End, AtEnd, AtLongLine, AtTooMany, Taken, taken}
+use Rattle.plain_words.specs.Input.{longest_line, lines_of, Between, BeginsTooLong, BreaksOff, End, AtEnd, AtLongLine, AtTooMany, Taken, taken}
 use Rattle.plain_words.specs.Writing.{AppendsFront}
 use Rattle.world_steps.specs.World.{World}
 use Rattle.operator_cli.specs.declared.fault.ScriptFault.{ScriptFault}
 use Rattle.operator_cli.specs.declared.fault.ScriptFault.TheVariants.{Read, Write, LineTooLong, TooManyLines, Memory}
 use Rattle.operator_cli.specs.declared.status.Status.{Status}
 use Rattle.operator_cli.specs.declared.status.Status.TheVariants as status
-use Rattle.desk_lines.specs.Grammar.{IsSites, sites_words}
+use Rattle.desk_lines.specs.Grammar.{most_lines, IsSites, sites_words}
 use Rattle.desk_lines.specs.Reading.{line_of, sites_of}
 use Rattle.desk_lines.specs.ScriptReplies.{reply_line}
 use Rattle.operator_cli.specs.Answering.{answer_to}
 use Rattle.operator_cli.specs.Faults.{IsOutFault, fault_line}
-use Rattle.operator_cli.specs.Script.{answers, world_behind, run, replies_at, run_at, replies, script_of_lines, bad_line, most_lines, script}
+use Rattle.operator_cli.specs.Script.{answers, world_behind, run, replies_at, run_at, replies, script_of_lines, bad_line, script}
 
 -- the first line gives the count of sites
 abbrev pub StartsWell : List (List ℕ) → Type 0
@@ -50,7 +50,7 @@ ReadBrokeOff most replies input rest old new = Between input rest (λ xs ys. (b 
 -- one line behind the second: its reply line went out, or none was left
 abbrev pub NextRan : Option (List ℕ) → Option (List ℕ) → Option (List ℕ) → Option (List ℕ) → World → World → Result Bool ScriptFault → Type 0
 NextRan input rest old new before after (Ok true) =
-    (line : List ℕ) × (length line ≤ 200) × Between input rest (λ xs ys. lines_of xs ≡ line ∷ lines_of ys)
+    (line : List ℕ) × (length line ≤ longest_line) × Between input rest (λ xs ys. lines_of xs ≡ line ∷ lines_of ys)
     × Appends old new (reply_line (answer_to before (line_of line)).0) × (after ≡ (answer_to before (line_of line)).1)
 NextRan input rest old new before after (Ok false) = Keeps old new × (after ≡ before) × Between input rest (λ xs ys. (lines_of xs ≡ []) × (lines_of ys ≡ []))
 NextRan input rest old new before after (Err f) = IfSome input (λ xs. (more : ℕ) → EndsEarly Always (answers before) (run before) (taken (suc more) (lines_of xs)) old new f)
@@ -85,7 +85,7 @@ SitesRan most sites input old new (Err f) = IfSome input (λ xs. EndsEarly Alway
 
 -- the first line
 abbrev pub StartRan : Option (List ℕ) → Option (List ℕ) → Result (Option ℕ) ScriptFault → Type 0
-StartRan input rest (Ok (Some n)) = Between input rest (λ xs ys. (first : List ℕ) × (lines_of xs ≡ first ∷ lines_of ys) × (length first ≤ 200) × (sites_of first ≡ Some n) × StartsWell (lines_of xs))
+StartRan input rest (Ok (Some n)) = Between input rest (λ xs ys. (first : List ℕ) × (lines_of xs ≡ first ∷ lines_of ys) × (length first ≤ longest_line) × (sites_of first ≡ Some n) × StartsWell (lines_of xs))
 StartRan input rest (Ok None) = IfSome input (λ xs. (StartsWell (lines_of xs) → ⊥) × (BeginsTooLong (lines_of xs) → ⊥))
 StartRan input rest (Err f) = IfSome input (λ xs. (more : ℕ) (out : Option (List ℕ)) → EndsEarly MayGoOn replies script_of_lines (taken (suc more) (lines_of xs)) out out f)
 

@@ -2,6 +2,7 @@
 use Rattle.std.specs.Prelude.{ℕ, ◌-◌, List, [], ◌∷◌, ◌++◌, Option, Some, None, codes}
 use Rattle.std.specs.Fmt.{decimal}
 use Rattle.std.specs.List.{flat_map}
+use Rattle.book_core.specs.Limits.{greatest_limit}
 use Rattle.plain_words.specs.Input.{lines_of}
 use Rattle.world_steps.specs.World.{World, opening, totals_of, events_of}
 use Rattle.local_rights.specs.declared.report.Totals.{Totals}
@@ -33,14 +34,6 @@ run w lines = answers w lines ++ total_lines (world_behind w lines)
 
 abbrev pub bad_line : List ℕ
 bad_line = codes "bad-line" ++ 10 ∷ []
-
--- the limit where no line gives one
-abbrev pub greatest_limit : ℕ
-greatest_limit = 1000000
-
--- the most lines of a script
-abbrev pub most_lines : ℕ
-most_lines = 1000000
 
 -- the second line is the first to be answered, unless it gives the limit
 abbrev pub opened_by : ℕ → Option ℕ → List ℕ → List (List ℕ) → World × List (List ℕ)

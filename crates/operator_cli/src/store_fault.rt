@@ -6,8 +6,7 @@ ghost use Rattle.std.specs.Fmt.{signed_decimal};
 ghost use Rattle.operator_cli.specs.Told.{store_fault_text, store_fault_line};
 
 use crate::fault::ScriptFault;
-use desk_lines::{numbered, word};
-use plain_words::{Text, put, put_number};
+use plain_words::{Text, numbered, put, put_number, word};
 use session_server::TalkFault;
 
 /// What ends a command over records early, and is told on standard error.

@@ -9,8 +9,8 @@ ghost use Rattle.operator_cli.specs.declared.store_fault.StoreFault.TheVariants.
 use crate::status::Status;
 use crate::store_fault::StoreFault;
 use delta_wire::WireFault;
-use desk_lines::{numbered, take_fault_text, word};
-use plain_words::{Text, put, write_bytes};
+use desk_lines::take_fault_text;
+use plain_words::{Text, numbered, put, word, write_bytes};
 use site_exchange::TakeFault;
 use std::io::Write;
 

@@ -1,9 +1,10 @@
 //! The command `world`: a script over a reader and writers.
 
-ghost use Rattle.std.specs.Prelude.{◌≡◌, ◌<◌, ℕ, List, [], ◌∷◌, Option, Err, OnOk, IfOk, IfErr};
+ghost use Rattle.std.specs.Prelude.{◌≡◌, ◌<◌, ◌-◌, ℕ, List, [], ◌∷◌, Option, Err, OnOk, IfOk, IfErr};
 ghost use Rattle.std.specs.Io.Buffered.{reader_remaining};
 ghost use Rattle.std.specs.Io.KnownBytes.{Keeps};
 ghost use Rattle.plain_words.specs.Writing.{Writes};
+ghost use Rattle.desk_lines.specs.Grammar.{most_lines};
 ghost use Rattle.desk_lines.specs.Reading.{line_of};
 ghost use Rattle.desk_lines.specs.ScriptReplies.{reply_line};
 ghost use Rattle.operator_cli.specs.Answering.{answer_to};
@@ -17,7 +18,7 @@ use crate::fault::{ScriptFault, fault_line};
 use crate::status::Status;
 use crate::totals::write_totals;
 use book_core::Limit;
-use desk_lines::{read_limit, read_sites, write_answer};
+use desk_lines::{MOST_LINES, read_limit, read_sites, write_answer};
 use plain_words::{LineBytes, has_more, next_line, write_bytes};
 use rights_lattice::Sites;
 use std::alloc::Global;
@@ -25,7 +26,7 @@ use std::io::{BufRead, BufReader, Read, Write};
 use world_steps::World;
 
 // The most lines behind the first two.
-const MOST_LINES: u32 = 999_998;
+const MOST_BEHIND: u32 = MOST_LINES - 2;
 
 // Answers one line: its reply line, or after a fault a front of it.
 fn reply<W: Write>(
@@ -112,11 +113,11 @@ fn run_second<R: BufRead, W: Write>(
     line: &[u8],
     sites: Sites,
 ) -> Result<(), ScriptFault>
-    ensures ran { SecondRan 999998 sites line.now (R.remaining reader.old) (W.contents out.old) (W.contents out.new) result }
-    ensures reads { result ≡ Err ReadFailed → ReadBrokeOff 999998 (λ lines. replies_at sites (line.now ∷ lines)) (R.remaining reader.old) (R.remaining reader.new) (W.contents out.old) (W.contents out.new) }
+    ensures ran { SecondRan (most_lines - 2) sites line.now (R.remaining reader.old) (W.contents out.old) (W.contents out.new) result }
+    ensures reads { result ≡ Err ReadFailed → ReadBrokeOff (most_lines - 2) (λ lines. replies_at sites (line.now ∷ lines)) (R.remaining reader.old) (R.remaining reader.new) (W.contents out.old) (W.contents out.new) }
 {
     let mut world = open_world(alloc, line, out, sites)?;
-    reply_all(alloc, reader, out, &mut world, MOST_LINES)?;
+    reply_all(alloc, reader, out, &mut world, MOST_BEHIND)?;
     write_totals(alloc, &world, out)?;
     Ok(())
 }
@@ -137,8 +138,8 @@ fn run_sites<R: BufRead, W: Write>(
     out: &mut W,
     sites: Sites,
 ) -> Result<(), ScriptFault>
-    ensures ran { SitesRan 999999 sites (R.remaining reader.old) (W.contents out.old) (W.contents out.new) result }
-    ensures reads { result ≡ Err ReadFailed → ReadBrokeOff 999999 (replies_at sites) (R.remaining reader.old) (R.remaining reader.new) (W.contents out.old) (W.contents out.new) }
+    ensures ran { SitesRan (most_lines - 1) sites (R.remaining reader.old) (W.contents out.old) (W.contents out.new) result }
+    ensures reads { result ≡ Err ReadFailed → ReadBrokeOff (most_lines - 1) (replies_at sites) (R.remaining reader.old) (R.remaining reader.new) (W.contents out.old) (W.contents out.new) }
 {
     let mut line = LineBytes::new();
     if next_line(reader, &mut line)? {
@@ -151,7 +152,7 @@ fn run_sites<R: BufRead, W: Write>(
 // The count of sites that the first line gives.
 fn read_start<R: BufRead>(reader: &mut R) -> Result<Option<Sites>, ScriptFault>
     ensures ran { StartRan (R.remaining reader.old) (R.remaining reader.new) result }
-    ensures reads { result ≡ Err ReadFailed → (out : Option (List ℕ)) → ReadBrokeOff 1000000 replies (R.remaining reader.old) (R.remaining reader.new) out out }
+    ensures reads { result ≡ Err ReadFailed → (out : Option (List ℕ)) → ReadBrokeOff most_lines replies (R.remaining reader.old) (R.remaining reader.new) out out }
 {
     let mut line = LineBytes::new();
     if !next_line(reader, &mut line)? {
@@ -170,7 +171,7 @@ pub fn run_script<R: BufRead, W: Write>(
     out: &mut W,
 ) -> Result<bool, ScriptFault>
     ensures ran { ScriptRan (R.remaining reader.old) (W.contents out.old) (W.contents out.new) result }
-    ensures reads { result ≡ Err ReadFailed → ReadBrokeOff 1000000 replies (R.remaining reader.old) (R.remaining reader.new) (W.contents out.old) (W.contents out.new) }
+    ensures reads { result ≡ Err ReadFailed → ReadBrokeOff most_lines replies (R.remaining reader.old) (R.remaining reader.new) (W.contents out.old) (W.contents out.new) }
 {
     let Some(sites) = read_start(reader)? else {
         write_bytes(b"bad-line\n", out)?;

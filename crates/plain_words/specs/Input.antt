@@ -6,6 +6,10 @@ use Rattle.plain_words.specs.declared.lines.LineFault.{LineFault}
 use Rattle.plain_words.specs.declared.lines.LineFault.TheVariants.{Read, LineTooLong}
 use Rattle.plain_words.specs.declared.lines.ReadFault.{ReadFault}
 
+-- the most bytes of a line, without its line break
+abbrev pub longest_line : ℕ
+longest_line = 200
+
 abbrev pub is_line_break : ℕ → Bool
 is_line_break b = b == 10
 
@@ -25,12 +29,12 @@ Between None new P = Unit {0}
 Between (Some before) None P = ⊥
 Between (Some before) (Some after) P = P before after
 
--- the first line has more than 200 bytes
+-- the first line is too long
 abbrev pub BeginsTooLong : List (List ℕ) → Type 0
 BeginsTooLong [] = ⊥
-BeginsTooLong (line ∷ more) = 200 < length line
+BeginsTooLong (line ∷ more) = longest_line < length line
 
--- how the lines of an input end: behind the last, at one of more than 200 bytes, or at one more than may be there
+-- how the lines of an input end: behind the last, at one that is too long, or at one more than may be there
 pub data End : Type 0 where
   AtEnd : End
   AtLongLine : End
@@ -52,29 +56,30 @@ with_line line t = record { lines = line ∷ t.lines; end = t.end }
 unfoldable pub taken : ℕ → List (List ℕ) → Taken
 taken most [] = none_taken AtEnd
 taken zero (line ∷ lines) = none_taken AtTooMany
-taken (suc most) (line ∷ lines) = if nat_le (length line) 200 then with_line line (taken most lines) else none_taken AtLongLine
+taken (suc most) (line ∷ lines) = if nat_le (length line) longest_line then with_line line (taken most lines) else none_taken AtLongLine
 
 -- A line is given up at the byte that makes it too long, which is the last that is read.
 abbrev pub GivesUp : Option (List ℕ) → Option (List ℕ) → List ℕ → Type 0
-GivesUp old new line = (byte : ℕ) × (byte ≢ 10) × (length line ≡ 200) × Consumes old new (line ++ byte ∷ [])
+GivesUp old new line = (byte : ℕ) × (byte ≢ 10) × (length line ≡ longest_line) × Consumes old new (line ++ byte ∷ [])
 
 -- bytes of a line that may be there, as far as it was read
 abbrev pub IsPartOfLine : List ℕ → Type 0
-IsPartOfLine part = (length part ≤ 200) × All (λ b. is_line_break b ≡ false) part
+IsPartOfLine part = (length part ≤ longest_line) × All (λ b. is_line_break b ≡ false) part
 
 -- what one call leaves
 abbrev pub LineGives : Option (List ℕ) → Option (List ℕ) → List ℕ → Result Bool LineFault → Type 0
-LineGives old new line (Ok true) = (length line ≤ 200) × Between old new (λ before after. lines_of before ≡ line ∷ lines_of after)
+LineGives old new line (Ok true) = (length line ≤ longest_line) × Between old new (λ before after. lines_of before ≡ line ∷ lines_of after)
 LineGives old new line (Ok false) = Between old new (λ before after. (lines_of before ≡ []) × (lines_of after ≡ []))
 LineGives old new line (Err LineTooLong) = GivesUp old new line × Between old new (λ before after. BeginsTooLong (lines_of before))
 LineGives old new line (Err Read) = IsPartOfLine line × Consumes old new line
 
--- Reading broke off where this many lines may be there: it took whole lines, and then a part of one that may be there.
+-- Reading broke off where this many lines may be there: it took whole lines that may be there, and then a part of one that may be there.
 pub record BreaksOff (most : ℕ) (before after : List ℕ) : Type 0 where
   pub lines : List (List ℕ)
   pub part : List ℕ
   pub rest : List ℕ
   pub read : lines_of before ≡ lines ++ lines_of rest
+  pub whole : All (λ line. length line ≤ longest_line) lines
   pub begun : rest ≡ part ++ after
   pub is_part : IsPartOfLine part
   pub within : (length lines < most) ⊎ ((length lines ≡ most) × (part ≡ []))

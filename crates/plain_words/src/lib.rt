@@ -10,8 +10,8 @@ mod text;
 mod words;
 mod writing;
 
-pub use lines::{LineBytes, LineFault, ReadFault, has_more, next_line};
+pub use lines::{LONGEST_LINE, LineBytes, LineFault, ReadFault, has_more, next_line};
 pub use number::{number_at, read_number};
-pub use text::{Text, put, put_number};
+pub use text::{Text, numbered, put, put_number, word};
 pub use words::Words;
 pub use writing::{WriteFault, write_bytes};

@@ -6,8 +6,11 @@ use arrayvec::ArrayVec;
 use std::io::BufRead;
 use thiserror::Error;
 
+/// The most bytes of a line, without its line break.
+pub const LONGEST_LINE: usize = 200;
+
 /// The bytes of one line, without its line break.
-pub type LineBytes = ArrayVec<u8, 200>;
+pub type LineBytes = ArrayVec<u8, LONGEST_LINE>;
 
 /// Why no line was read.
 #[derive(Clone, Copy, Debug, PartialEq, Eq, Error)]

@@ -27,3 +27,25 @@ pub fn put_number(text: &mut Text, number: u64)
     let mut buffer = Buffer::new();
     put(text, buffer.format(number).as_bytes());
 }
+
+/// A text of these bytes, of which there are at most 256.
+pub fn word(bytes: &[u8]) -> Text
+    requires { length bytes.now ≤ 256 }
+    ensures value { result.items ≡ bytes.now }
+    ensures len { array_vec_len result ≡ length bytes.now }
+{
+    let mut text = Text::new();
+    put(&mut text, bytes);
+    text
+}
+
+/// A text of at most 100 bytes, and a number in decimal behind it.
+pub fn numbered(bytes: &[u8], number: u64) -> Text
+    requires { length bytes.now ≤ 100 }
+    ensures value { result.items ≡ bytes.now ++ decimal number }
+    ensures len { array_vec_len result ≤ length bytes.now + 20 }
+{
+    let mut text = word(bytes);
+    put_number(&mut text, number);
+    text
+}

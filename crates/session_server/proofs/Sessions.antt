@@ -12,13 +12,14 @@ use Rattle.plain_words.proofs.WriteLaws.{AppendsFront-after}
 use Rattle.desk_lines.specs.declared.line.Line.{Line}
 use Rattle.desk_lines.specs.declared.line.Line.TheVariants.{Ask, Left, Totals, Quit}
 use Rattle.desk_lines.specs.declared.answered.Answered.{Answered}
+use Rattle.desk_lines.specs.Grammar.{most_lines}
 use Rattle.desk_lines.specs.Reading.{session_line_of}
 use Rattle.desk_lines.specs.Replies.{reply_line}
 use Rattle.session_server.specs.declared.fault.Ended.{Ended}
 use Rattle.session_server.specs.declared.fault.Ended.TheVariants as ended
 use Rattle.session_server.specs.declared.fault.TalkFault.{TalkFault}
 use Rattle.session_server.specs.declared.fault.TalkFault.TheVariants as fault
-use Rattle.session_server.specs.Session.{Steps, Answers, Chain, IsRead, Replied, NextTalked, EndsAt, Wrote, Talked, most_lines}
+use Rattle.session_server.specs.Session.{Steps, Answers, Chain, IsRead, Replied, NextTalked, EndsAt, Wrote, Talked}
 
 abbrev Lines : Type 0
 Lines = List (List ℕ)

@@ -10,6 +10,7 @@ use Rattle.desk_lines.specs.declared.line.Line.{Line}
 use Rattle.desk_lines.specs.declared.line.Line.TheVariants.{Ask, Left, Totals, Quit}
 use Rattle.desk_lines.specs.declared.answered.Answered.{Answered}
 use Rattle.desk_lines.specs.declared.answered.Answered.TheVariants.{Unread}
+use Rattle.desk_lines.specs.Grammar.{most_lines}
 use Rattle.desk_lines.specs.Reading.{session_line_of}
 use Rattle.desk_lines.specs.Replies.{reply_line}
 use Rattle.session_server.specs.declared.fault.Ended.{Ended}
@@ -20,10 +21,6 @@ use Rattle.session_server.specs.declared.fault.TalkFault.TheVariants as fault
 abbrev pub of_line_fault : LineFault → TalkFault
 of_line_fault line_fault.Read = fault.Read
 of_line_fault line_fault.LineTooLong = fault.LineTooLong
-
--- the most lines of a session
-abbrev pub most_lines : ℕ
-most_lines = 1000000
 
 -- how an answerer answers a line, and how it goes on
 abbrev pub Steps : Type 0 → Type 1

@@ -8,14 +8,11 @@ ghost use Rattle.session_server.specs.declared.fault.TalkFault.TheVariants.{Writ
 
 use crate::answerer::Answerer;
 use crate::fault::{Ended, TalkFault};
-use desk_lines::{Answered, BadLine, Line, read_line, reply_line};
+use desk_lines::{Answered, BadLine, Line, MOST_LINES, read_line, reply_line};
 use plain_words::{LineBytes, has_more, next_line};
 use std::alloc::Global;
 use std::io::{BufRead, BufReader, Read, Write};
 use std::sync::Wait;
-
-// The most lines of a session.
-const MOST_LINES: u32 = 1_000_000;
 
 // The answer to a line, and none to `quit`.
 fn answer_line<T: Wait, A: Answerer>(rt: &T, line: &[u8], answerer: &mut A) -> Option<Answered>

@@ -1,7 +1,7 @@
 use Rattle.std.proofs.Common.{◌≡◌, rules, None, Some}
 use Rattle.world_steps.specs.World.{opening}
 use Rattle.desk_lines.specs.Reading.{limit_of}
-use Rattle.operator_cli.specs.Script.{greatest_limit}
+use Rattle.book_core.specs.Limits.{greatest_limit}
 use Rattle.operator_cli.specs.Ran.{OpenRan}
 use Rattle.operator_cli.proofs.ScriptLaws.{at_err, open_unmade, open_broken, opens_limited, opens_answered}
 use Rattle.operator_cli.proofs.world.open_world.Goals as goal

@@ -31,7 +31,7 @@ pub returns-then-branch-clause-reads : goal.returns-then-branch-clause-reads
 returns-then-branch-clause-reads g c is =
     let given = rw c.if-branch.true at c.in_ok-next_line.ensures in
     let broke = rw c.as_slice.ensures.value at (c.run_second.ensures.reads is) in
-    broke_sites 999998 c.args.sites c.next_line.new.line.items _ _ _ _ _ given.1 broke
+    broke_sites 999998 c.args.sites c.next_line.new.line.items _ _ _ _ _ given.0 given.1 broke
 
 pub returns-else-branch-clause-reads : goal.returns-else-branch-clause-reads
 returns-else-branch-clause-reads g c is = absurd (not_out_of c.run_none.result c.run_none.ensures.fault is)
