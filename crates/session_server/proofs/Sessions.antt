@@ -1,14 +1,13 @@
 -- A session, line by line.
-use Rattle.std.proofs.Common.{◌≡◌, ◌≢◌, ℕ, suc, ◌+◌, ◌-◌, ◌<◌, ◌≤◌, List, [], ◌∷◌, ◌++◌, length, Option, Some, None, Result, Ok, Err, refl, sym, ap, subst, ◌∙◌, arith, append_assoc, append-nil, length-append}
-use Rattle.std.specs.Prelude.{IfSome}
+use Rattle.std.proofs.Common.{◌≡◌, ◌≢◌, ℕ, suc, ◌+◌, ◌-◌, ◌<◌, ◌≤◌, Bool, true, List, [], ◌∷◌, ◌++◌, length, Option, Some, None, Result, Ok, Err, refl, sym, ap, subst, ◌∙◌, arith, append_assoc, append-nil, length-append}
+use Rattle.std.specs.Prelude.{IfSome, IsErrAnd}
 use Rattle.std.specs.List.{flat_map}
 use Rattle.std.proofs.lemmas.List.{flat_map_more}
 use Rattle.std.specs.Io.KnownBytes.{Appends, Keeps}
 use Rattle.std.proofs.KnownBytes.{Appends-trans, Appends-nil, Appends-kept}
-use Rattle.plain_words.specs.Input.{lines_of, Between, BeginsTooLong, End, AtEnd, AtLongLine, AtTooMany, Taken, taken, none_taken}
+use Rattle.plain_words.specs.Input.{longest_line, lines_of, Between, BeginsTooLong, LineGives, End, AtEnd, AtLongLine, AtTooMany, Taken, taken, none_taken}
 use Rattle.plain_words.specs.Writing.{AppendsFront}
 use Rattle.plain_words.proofs.LineLaws.{AreShort, put_before, taken-nil, taken-line, taken-long, taken-too-many, taken-behind}
-use Rattle.plain_words.proofs.WriteLaws.{AppendsFront-after}
 use Rattle.desk_lines.specs.declared.line.Line.{Line}
 use Rattle.desk_lines.specs.declared.line.Line.TheVariants.{Ask, Left, Totals, Quit}
 use Rattle.desk_lines.specs.declared.answered.Answered.{Answered}
@@ -34,6 +33,18 @@ answers_by S before (Left event) answered after asks step = step
 answers_by S before (Totals event) answered after asks step = step
 answers_by S before Quit answered after asks step = absurd (asks refl)
 
+-- a line that was read, and its answer
+abbrev pub replied : {A : Type 0} (S : Steps A) (a b : Bytes) (line slice : List ℕ) (more : Bool) (before after : A) (answered : Answered) → more ≡ true → LineGives a b line (Ok more) → slice ≡ line
+    → Answers S before (session_line_of slice) answered after → Replied S a b before after
+replied S a b line slice more before after answered is gives same step =
+    record { line = line; answered = answered; read = subst (λ (m : Bool). LineGives a b line (Ok m)) is gives; step = subst (λ l. Answers S before (session_line_of l) answered after) same step }
+
+-- its reply line went out in part
+pub next_unwritten : {A : Type 0} (S : Steps A) (a b old new : Bytes) (before after : A) (result : Result (Option Ended) TalkFault) (f : TalkFault) → IsErrAnd result (λ e. e ≡ f) → f ≡ fault.Write
+    → (r : Replied S a b before after) → AppendsFront old new (reply_line r.answered) → NextTalked S a b old new before after result
+next_unwritten S a b old new before after (Ok x) f h is r out = absurd h
+next_unwritten S a b old new before after (Err e) f h is r out = subst (λ (e : TalkFault). NextTalked S a b old new before after (Err e)) (sym (h ∙ is)) (r, out)
+
 -- what was read, answered and written so far
 pub record SoFar {A : Type 0} (S : Steps A) (input rest old new : Bytes) (before after : A) (count : ℕ) : Type 0 where
   pub lines : Lines
@@ -58,7 +69,7 @@ chain-push S a (l ∷ ls) (r ∷ rs) b line answered c h k = (h.0, h.1, chain-pu
 chain-push S a [] (r ∷ rs) b line answered c h k = absurd h
 chain-push S a (l ∷ ls) [] b line answered c h k = absurd h
 
-short-push : (lines : Lines) (line : List ℕ) → AreShort lines → length line ≤ 200 → AreShort (lines ++ line ∷ [])
+short-push : (lines : Lines) (line : List ℕ) → AreShort lines → length line ≤ longest_line → AreShort (lines ++ line ∷ [])
 short-push [] line h k = (k, tt)
 short-push (l ∷ ls) line h k = (h.0, short-push ls line h.1 k)
 
@@ -109,7 +120,7 @@ front_of (Some x) (Some y) lines few short p =
     ((taken (most_lines - length lines) (lines_of y)).lines, ap (λ (t : Taken). t.lines) (taken_after (most_lines - length lines) (lines_of x) (lines_of y) lines p short (omega (arith, few))))
 
 -- and `quit` behind them is one more
-quit_behind : (a b c : Bytes) (lines : Lines) (quit : List ℕ) → length lines + 1 ≤ most_lines → AreShort lines → session_line_of quit ≡ Some Quit → length quit ≤ 200
+quit_behind : (a b c : Bytes) (lines : Lines) (quit : List ℕ) → length lines + 1 ≤ most_lines → AreShort lines → session_line_of quit ≡ Some Quit → length quit ≤ longest_line
     → Between a b (λ xs ys. lines_of xs ≡ lines ++ lines_of ys) → Between b c (λ xs ys. lines_of xs ≡ quit ∷ lines_of ys)
     → IfSome a (λ xs. EndsAt (Ok ended.Quit) lines (taken most_lines (lines_of xs)))
 quit_behind None b c lines quit few short is fits p q = tt
@@ -177,7 +188,7 @@ breaks_off S input rest rest' old new new' before mid after count fault.Write fe
   read = not_none input (h.lines ++ k.0.line ∷ []) (one_more h.lines k.0.line)
       (front_of input rest' (h.lines ++ k.0.line ∷ []) (omega (arith, few, h.counted, length-append h.lines (k.0.line ∷ []))) (short-push h.lines k.0.line h.short k.0.read.0) (read-push input rest rest' h.lines k.0.line h.read k.0.read.1));
   chain = chain-push S before h.lines h.answers mid k.0.line k.0.answered after h.chain k.0.step;
-  written = subst (AppendsFront old new') (replies-push h.answers k.0.answered) (AppendsFront-after old new new' (flat_map reply_line h.answers) (reply_line k.0.answered) h.written k.1);
+  written = (h.answers, k.0.answered, k.1.0, k.1.1, refl, k.1.2, Appends-trans old new new' (flat_map reply_line h.answers) k.1.0 h.written k.1.3);
 }
 breaks_off S input rest rest' old new new' before mid after count fault.TooLong few h k = absurd k
 breaks_off S input rest rest' old new new' before mid after count fault.Memory few h k = absurd k

@@ -2,7 +2,7 @@
 use Rattle.std.specs.Prelude.{◌≡◌, ◌≢◌, ℕ, List, [], ◌∷◌, ◌++◌, length, ◌≤◌, Option, Some, None, Result, Ok, Err, IfSome}
 use Rattle.std.specs.List.{flat_map}
 use Rattle.std.specs.Io.KnownBytes.{Appends, Keeps}
-use Rattle.plain_words.specs.Input.{lines_of, Between, BeginsTooLong, AtEnd, AtLongLine, AtTooMany, Taken, taken}
+use Rattle.plain_words.specs.Input.{longest_line, lines_of, Between, BeginsTooLong, AtEnd, AtLongLine, AtTooMany, Taken, taken}
 use Rattle.plain_words.specs.Writing.{AppendsFront}
 use Rattle.plain_words.specs.declared.lines.LineFault.{LineFault}
 use Rattle.plain_words.specs.declared.lines.LineFault.TheVariants as line_fault
@@ -48,7 +48,7 @@ LineAnswered S line before after (Some answered) = Answers S before (session_lin
 
 -- this line was read, and may be there
 abbrev pub IsRead : Option (List ℕ) → Option (List ℕ) → List ℕ → Type 0
-IsRead input rest line = (length line ≤ 200) × Between input rest (λ xs ys. lines_of xs ≡ line ∷ lines_of ys)
+IsRead input rest line = (length line ≤ longest_line) × Between input rest (λ xs ys. lines_of xs ≡ line ∷ lines_of ys)
 
 -- a line that was read, and its answer
 pub record Replied {A : Type 0} (S : Steps A) (input rest : Option (List ℕ)) (before after : A) : Type 0 where
@@ -77,10 +77,12 @@ EndsAt (Err fault.Read) lines t = (more : List (List ℕ)) × (t.lines ≡ lines
 EndsAt (Err fault.Write) lines t = (lines ≢ []) × ((more : List (List ℕ)) × (t.lines ≡ lines ++ more))
 EndsAt (Err fault.Memory) lines t = lines ≡ []
 
--- all reply lines went out, or a front of them where a write failed
-abbrev pub Wrote : Result Ended TalkFault → Option (List ℕ) → Option (List ℕ) → List ℕ → Type 0
-Wrote (Err fault.Write) old new text = AppendsFront old new text
-Wrote _ old new text = Appends old new text
+-- All reply lines went out. Where a write failed it was that of the last: those before it went out, and a front of it.
+abbrev pub Wrote : Result Ended TalkFault → Option (List ℕ) → Option (List ℕ) → List Answered → Type 0
+Wrote (Err fault.Write) old new answers =
+    (earlier : List Answered) × (last : Answered) × (front : List ℕ) × (rest : List ℕ)
+    × (answers ≡ earlier ++ last ∷ []) × (reply_line last ≡ front ++ rest) × Appends old new (flat_map reply_line earlier ++ front)
+Wrote _ old new answers = Appends old new (flat_map reply_line answers)
 
 -- A session: the lines that were answered, their answers in order, and their reply lines.
 pub record Talked {A : Type 0} (S : Steps A) (input old new : Option (List ℕ)) (before after : A) (result : Result Ended TalkFault) : Type 0 where
@@ -88,4 +90,4 @@ pub record Talked {A : Type 0} (S : Steps A) (input old new : Option (List ℕ))
   pub answers : List Answered
   pub read : IfSome input (λ xs. EndsAt result lines (taken most_lines (lines_of xs)))
   pub chain : Chain S before lines answers after
-  pub written : Wrote result old new (flat_map reply_line answers)
+  pub written : Wrote result old new answers
