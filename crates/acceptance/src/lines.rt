@@ -2,8 +2,8 @@
 
 use desk_lines::{Answered, Line, ScriptLine, read_line, read_step, reply_line, request_line};
 use local_rights::Totals;
-use request_ledger::{Amount, Reply, Request, RequestNumber};
-use rights_lattice::{Event, SiteId};
+use request_ledger::{Reply, Request, RequestNumber};
+use rights_lattice::{Amount, Event, SiteId};
 use site_desk::AskFault;
 use std::test::Fail;
 use world_steps::{Input, Step};

@@ -1,7 +1,7 @@
 //! The values that the tests speak of.
 
-use request_ledger::{Amount, RequestNumber};
-use rights_lattice::{Event, SiteId};
+use request_ledger::RequestNumber;
+use rights_lattice::{Amount, Event, SiteId};
 use std::process::Abort;
 
 pub(crate) fn event(rt: &impl Abort, name: &[u8]) -> Event {

@@ -4,6 +4,7 @@ use Rattle.request_ledger.specs.Requests.{is_done}
 use Rattle.book_core.specs.declared.entry.Entry.{Entry}
 use Rattle.book_core.specs.declared.entry.Entry.TheVariants.{Asked, Joined}
 use Rattle.request_ledger.specs.declared.request.Request.{Request}
+use Rattle.request_ledger.specs.declared.reply.Reply.{Reply}
 use Rattle.book_core.specs.declared.plan.Plan.{Plan}
 use Rattle.book_core.specs.declared.plan.Plan.TheVariants as plan
 use Rattle.book_core.specs.declared.plan.PlanFault.{PlanFault}
@@ -23,6 +24,16 @@ use Rattle.book_core.specs.BookView.{BookView, HasRoomFor}
 abbrev pub IsEntryOf : ℕ → Request → Entry → Type 0
 IsEntryOf number request (Asked n q reply delta) = (n ≡ number) × (q ≡ request)
 IsEntryOf number request (Joined peer delta) = ⊥
+
+-- the entry is of a request
+abbrev pub IsAsked : Entry → Type 0
+IsAsked (Asked number request reply delta) = Unit {0}
+IsAsked (Joined peer delta) = ⊥
+
+-- the entry is of a request that has this reply
+abbrev pub HasReply : Entry → Reply → Type 0
+HasReply (Asked number request reply delta) r = r ≡ reply
+HasReply (Joined peer delta) r = ⊥
 
 -- the entry may follow the book's history, and the book has room for it
 pub record IsReady (book : BookView) (entry : Entry) : Type 0 where

@@ -1,5 +1,6 @@
 //! What a request or a peer's delta leads to, before it is entered.
 ghost use Rattle.std.specs.Prelude.{◌≡◌};
+ghost use Rattle.book_core.specs.Plans.{HasReply, IsAsked};
 
 use crate::entry::Entry;
 use request_ledger::Reply;
@@ -30,6 +31,17 @@ impl Planned {
         ensures { result.now ≡ self.now }
     {
         &self.entry
+    }
+
+    /// The reply to the request whose entry is planned.
+    pub fn reply(&self) -> Reply
+        requires { IsAsked self.now }
+        ensures { HasReply self.now result }
+    {
+        match &self.entry {
+            Entry::Asked { reply, .. } => *reply,
+            Entry::Joined { .. } => unreachable!(),
+        }
     }
 }
 

@@ -3,8 +3,8 @@ use crate::values::{book_of, event, gave, join, mark, number, seats, site};
 use book_core::{Book, Entry, JoinFault, Limit, Plan, PlanFault, ReplayFault};
 use delta_mutators::{Delta, Item, announce};
 use local_rights::Totals;
-use request_ledger::{Amount, Kept, Reply, Request, RequestNumber, SaleState};
-use rights_lattice::{Cell, Event, SiteId};
+use request_ledger::{Kept, Reply, Request, RequestNumber, SaleState};
+use rights_lattice::{Amount, Cell, Event, SiteId};
 use std::alloc::Global;
 use std::process::Abort;
 
@@ -33,12 +33,9 @@ fn ask(
     match book.plan(alloc, number, request)? {
         Plan::Again { reply, .. } => Ok(reply),
         Plan::New(planned) => {
-            let reply = match planned.entry() {
-                Entry::Asked { reply, .. } => Some(*reply),
-                Entry::Joined { .. } => None,
-            };
+            let reply = planned.reply();
             book.enter(planned);
-            Ok(reply.unwrap_or(Reply::Unknown))
+            Ok(reply)
         }
     }
 }

@@ -1,5 +1,5 @@
-use request_ledger::{Amount, Kept, Ledger, Reply, Request, RequestNumber, SaleState};
-use rights_lattice::Event;
+use request_ledger::{Kept, Ledger, Reply, Request, RequestNumber, SaleState};
+use rights_lattice::{Amount, Event};
 
 #[test]
 fn amounts_and_numbers_have_limits(rt: HostRuntime) {

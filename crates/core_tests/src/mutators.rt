@@ -1,4 +1,5 @@
 // Each public call with ample memory; the expected values are worked out by hand.
+use crate::values::seats;
 use delta_mutators::{CellFull, Delta, Item, announce, cession, refund, release, sale};
 use rights_lattice::{Cell, Event, MAX_VALUE, Mark, Rights, SiteId, Sites};
 
@@ -15,7 +16,7 @@ fn marks_of_operations(rt: HostRuntime) {
         cell: Cell::Gave { by: me, to: me },
         value: 100,
     };
-    assert_eq!(rt; release(&rights, me, gala, 100), Ok(released));
+    assert_eq!(rt; release(&rights, me, gala, seats(&rt, 100)), Ok(released));
     let ceded_at_first = Mark {
         event: gala,
         cell: Cell::Gave { by: me, to: peer },
@@ -26,9 +27,9 @@ fn marks_of_operations(rt: HostRuntime) {
         cell: Cell::Gave { by: me, to: peer },
         value: 50,
     };
-    assert_eq!(rt; cession(&rights, me, gala, 40, peer), Ok(ceded_at_first));
+    assert_eq!(rt; cession(&rights, me, gala, seats(&rt, 40), peer), Ok(ceded_at_first));
     rights.raise(ceded_at_first);
-    assert_eq!(rt; cession(&rights, me, gala, 10, peer), Ok(ceded_in_all));
+    assert_eq!(rt; cession(&rights, me, gala, seats(&rt, 10), peer), Ok(ceded_in_all));
     let sold = Mark {
         event: gala,
         cell: Cell::Used { by: me },
@@ -39,8 +40,8 @@ fn marks_of_operations(rt: HostRuntime) {
         cell: Cell::Back { by: me },
         value: 5,
     };
-    assert_eq!(rt; sale(&rights, me, gala, 5), Ok(sold));
-    assert_eq!(rt; refund(&rights, me, gala, 5), Ok(back));
+    assert_eq!(rt; sale(&rights, me, gala, seats(&rt, 5)), Ok(sold));
+    assert_eq!(rt; refund(&rights, me, gala, seats(&rt, 5)), Ok(back));
 }
 
 #[test]
@@ -55,9 +56,9 @@ fn cell_at_its_greatest_value(rt: HostRuntime) {
         cell: Cell::Gave { by: me, to: me },
         value: MAX_VALUE,
     };
-    assert_eq!(rt; release(&rights, me, gala, MAX_VALUE), Ok(all));
+    assert_eq!(rt; release(&rights, me, gala, seats(&rt, MAX_VALUE)), Ok(all));
     rights.raise(all);
-    assert_eq!(rt; release(&rights, me, gala, 1), Err(CellFull));
+    assert_eq!(rt; release(&rights, me, gala, seats(&rt, 1)), Err(CellFull));
 }
 
 #[test]

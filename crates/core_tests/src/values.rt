@@ -2,8 +2,8 @@
 
 use book_core::{Book, JoinFault, JoinPlan, Limit};
 use delta_mutators::Delta;
-use request_ledger::{Amount, RequestNumber};
-use rights_lattice::{Cell, Event, MAX_VALUE, Mark, SiteId, Sites};
+use request_ledger::RequestNumber;
+use rights_lattice::{Amount, Cell, Event, MAX_VALUE, Mark, SiteId, Sites};
 use std::alloc::Global;
 use std::process::Abort;
 

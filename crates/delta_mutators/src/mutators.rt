@@ -6,7 +6,7 @@ ghost use Rattle.delta_mutators.specs.declared.delta.Item.TheVariants.{Name};
 ghost use Rattle.delta_mutators.specs.Marks.{mark_plus};
 
 use crate::delta::Item;
-use rights_lattice::{Cell, Event, MAX_VALUE, Mark, Rights, SiteId};
+use rights_lattice::{Amount, Cell, Event, MAX_VALUE, Mark, Rights, SiteId};
 use thiserror::Error;
 
 /// The value of the cell would exceed the greatest value of a cell.
@@ -14,54 +14,46 @@ use thiserror::Error;
 #[error("the value of the cell would exceed the greatest")]
 pub struct CellFull;
 
-/// The mark of a release of `amount` seats, 1 to `MAX_VALUE`.
+/// The mark of a release of `amount` seats.
 ///
 /// `CellFull` where the site's released seats would exceed `MAX_VALUE`.
-pub fn release(rights: &Rights, me: SiteId, event: Event, amount: u64) -> Result<Mark, CellFull>
-    requires at_least_one { 1 ≤ amount }
-    requires at_most_max { amount ≤ max_value }
+pub fn release(rights: &Rights, me: SiteId, event: Event, amount: Amount) -> Result<Mark, CellFull>
     ensures mark { IfOk result (λ mark. mark ≡ mark_plus rights.now.cells event (Gave me me) amount) }
     ensures full { IsErr result ↔ (max_value < value_at rights.now.cells event (Gave me me) + amount) }
 {
     raised_by(rights, event, &Cell::Gave { by: me, to: me }, amount)
 }
 
-/// The mark of a sale of `amount` seats, 1 to `MAX_VALUE`.
+/// The mark of a sale of `amount` seats.
 ///
 /// `CellFull` where the site's sold seats would exceed `MAX_VALUE`.
-pub fn sale(rights: &Rights, me: SiteId, event: Event, amount: u64) -> Result<Mark, CellFull>
-    requires at_least_one { 1 ≤ amount }
-    requires at_most_max { amount ≤ max_value }
+pub fn sale(rights: &Rights, me: SiteId, event: Event, amount: Amount) -> Result<Mark, CellFull>
     ensures mark { IfOk result (λ mark. mark ≡ mark_plus rights.now.cells event (Used me) amount) }
     ensures full { IsErr result ↔ (max_value < value_at rights.now.cells event (Used me) + amount) }
 {
     raised_by(rights, event, &Cell::Used { by: me }, amount)
 }
 
-/// The mark of a refund of `amount` seats, 1 to `MAX_VALUE`.
+/// The mark of a refund of `amount` seats.
 ///
 /// `CellFull` where the seats that the site took back would exceed `MAX_VALUE`.
-pub fn refund(rights: &Rights, me: SiteId, event: Event, amount: u64) -> Result<Mark, CellFull>
-    requires at_least_one { 1 ≤ amount }
-    requires at_most_max { amount ≤ max_value }
+pub fn refund(rights: &Rights, me: SiteId, event: Event, amount: Amount) -> Result<Mark, CellFull>
     ensures mark { IfOk result (λ mark. mark ≡ mark_plus rights.now.cells event (Back me) amount) }
     ensures full { IsErr result ↔ (max_value < value_at rights.now.cells event (Back me) + amount) }
 {
     raised_by(rights, event, &Cell::Back { by: me }, amount)
 }
 
-/// The mark of a cession of `amount` rights, 1 to `MAX_VALUE`, to another site.
+/// The mark of a cession of `amount` rights to another site.
 ///
 /// `CellFull` where the rights given to that site would exceed `MAX_VALUE`.
 pub fn cession(
     rights: &Rights,
     me: SiteId,
     event: Event,
-    amount: u64,
+    amount: Amount,
     to: SiteId,
 ) -> Result<Mark, CellFull>
-    requires at_least_one { 1 ≤ amount }
-    requires at_most_max { amount ≤ max_value }
     requires other { to ≢ me }
     ensures mark { IfOk result (λ mark. mark ≡ mark_plus rights.now.cells event (Gave me to) amount) }
     ensures full { IsErr result ↔ (max_value < value_at rights.now.cells event (Gave me to) + amount) }
@@ -77,13 +69,11 @@ pub fn announce(event: Event) -> Item
 }
 
 // The mark of a cell at its old value plus the amount.
-fn raised_by(rights: &Rights, event: Event, cell: &Cell, amount: u64) -> Result<Mark, CellFull>
-    requires at_least_one { 1 ≤ amount }
-    requires at_most_max { amount ≤ max_value }
+fn raised_by(rights: &Rights, event: Event, cell: &Cell, amount: Amount) -> Result<Mark, CellFull>
     ensures mark { IfOk result (λ mark. mark ≡ mark_plus rights.now.cells event cell.now amount) }
     ensures full { IsErr result ↔ (max_value < value_at rights.now.cells event cell.now + amount) }
 {
-    let value = rights.get(event, *cell) + amount;
+    let value = rights.get(event, *cell) + amount.seats();
     if value > MAX_VALUE {
         return Err(CellFull);
     }

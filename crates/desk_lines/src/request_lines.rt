@@ -13,8 +13,8 @@ ghost use Rattle.rights_lattice.specs.EventName.{IsEventName};
 ghost use Rattle.desk_lines.specs.Reading.{session_line_of};
 
 use plain_words::{Text, WriteFault, put, put_number, word, write_bytes};
-use request_ledger::{Amount, Request, RequestNumber, Verb};
-use rights_lattice::Event;
+use request_ledger::{Request, RequestNumber, Verb};
+use rights_lattice::{Amount, Event};
 use std::io::Write;
 
 // A verb with the request's number.

@@ -7,8 +7,8 @@ ghost use Rattle.desk_lines.specs.Requests.{sized_at, announce_at, release_at, s
 
 use delta_wire::{event_at, site_at, value_at};
 use plain_words::Words;
-use request_ledger::{Amount, Request, RequestNumber, Verb};
-use rights_lattice::Event;
+use request_ledger::{Request, RequestNumber, Verb};
+use rights_lattice::{Amount, Event};
 
 fn request_number_at(words: &mut Words<'_>) -> Option<RequestNumber>
     ensures { option_map (λ n. (n, words.new)) result ≡ value_at words.old }

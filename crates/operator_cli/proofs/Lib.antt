@@ -4,4 +4,6 @@ pub mod BreakLaws
 pub mod Promised
 pub mod EndLaws
 pub mod PrintLaws
+pub mod OpenedLaws
+pub mod ExchangeLaws
 pub mod Inputs

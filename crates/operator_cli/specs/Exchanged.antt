@@ -1,5 +1,5 @@
 -- What exporting and importing come to, by the records that were opened. (Our own.)
-use Rattle.std.specs.Prelude.{◌≡◌, ◌⊎◌, ⊤, ℕ, ◌<◌, ◌≤◌, Bool, true, IsTrue, IsSome, if◌then◌else◌, nat_lt, List, length, Option, Some, None, Result, Ok, Err}
+use Rattle.std.specs.Prelude.{◌≡◌, ◌⊎◌, ⊤, IfSome, ℕ, ◌<◌, ◌≤◌, Bool, true, false, IsTrue, IsSome, if◌then◌else◌, nat_lt, List, length, Option, Some, None, Result, Ok, Err}
 use Rattle.sqlite.specs.Tree.{Trees}
 use Rattle.book_core.specs.declared.entry.Entry.{Entry}
 use Rattle.book_core.specs.Decision.{Office}
@@ -30,6 +30,7 @@ pub record IsBookOf {K : Type 0} (db : Trees) (book : SiteView K) : Type 0 where
   pub history : book.book.history ≡ history_in db
   pub legal : (meta : Meta) → HasMeta meta db → IsLegal (office_of meta) (history_in db)
   pub fresh : book.acked ≡ zeros
+  pub unclosed : book.closed ≡ false
 
 -- what is told of what a site does with a message
 abbrev pub told_of_verdict : Verdict → Told
@@ -77,3 +78,11 @@ abbrev pub IsTakeEnd : Bool → Told → StoreFault → Type 0
 IsTakeEnd closed told fault.Store = (closed ≡ true) ⊎ (told ≡ Joined)
 IsTakeEnd closed told fault.Memory = ⊤
 IsTakeEnd closed told _ = ⊥
+
+-- what ends an import early: the bytes that were read are a delta that was not stored, memory is wanted, the input fails, or what is told is not written
+abbrev pub IsInputEnd : Office → List Entry → Option (List ℕ) → StoreFault → Type 0
+IsInputEnd office h input fault.Store = IfSome input (λ bytes. told_of_bytes office h bytes ≡ Joined)
+IsInputEnd office h input fault.Memory = ⊤
+IsInputEnd office h input fault.Read = ⊤
+IsInputEnd office h input fault.Write = ⊤
+IsInputEnd office h input _ = ⊥

@@ -19,7 +19,9 @@ use Rattle.sql_records.specs.Making.{IsInitFault}
 use Rattle.sql_records.specs.Held.{history_in}
 use Rattle.sql_records.specs.Layout.{HasMeta}
 use Rattle.sql_records.specs.Opening.{IsOpenFault}
+use Rattle.site_exchange.specs.Exchange.{next}
 use Rattle.site_desk.specs.SiteView.{office_of}
+use Rattle.operator_cli.specs.Exchanged.{IsInputEnd, IsNextEnd, site_in}
 use Rattle.operator_cli.specs.declared.store_fault.StoreFault.{StoreFault}
 use Rattle.operator_cli.specs.declared.store_fault.StoreFault.TheVariants as fault
 use Rattle.operator_cli.specs.Told.{of_open_fault, of_replay_fault, store_fault_line}
@@ -37,6 +39,13 @@ IsLookupEnd old new fault.Memory = ⊤
 IsLookupEnd old new fault.Disk = HasDiskCause old new
 IsLookupEnd old new fault.Write = ⊤
 IsLookupEnd old new _ = ⊥
+
+-- what ends an export early: memory is wanted for the message that is due, or what is told is not written
+abbrev pub IsExportEnd : ℕ → State → State → StoreFault → Type 0
+IsExportEnd to old new cause = (meta : Meta) → HasMeta meta old.now.trees → IsNextEnd false (next meta.me (site_in old.now.trees) to) cause
+
+abbrev pub IsImportEnd : Option (List ℕ) → State → State → StoreFault → Type 0
+IsImportEnd input old new cause = (meta : Meta) → HasMeta meta old.now.trees → IsInputEnd (office_of meta) (history_in old.now.trees) input cause
 
 -- a command failed for one of these causes, and told which
 abbrev pub FailsFor : (StoreFault → Type 0) → Option (List ℕ) → Option (List ℕ) → Status → Type 0

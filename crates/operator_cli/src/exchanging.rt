@@ -1,20 +1,21 @@
 //! Messages to and from the records of a site.
 
-ghost use Rattle.std.specs.Prelude.{◌≡◌, ◌≤◌, None, Some, IfOk, IfErr, IfSome, vec_len};
+ghost use Rattle.std.specs.Prelude.{◌≡◌, ◌≢◌, ◌≤◌, ◌⊎◌, false, None, Some, IfOk, IfErr, IfSome, vec_len};
 ghost use Rattle.sqlite.specs.State.{HasCleanDisk};
 ghost use Rattle.sqlite.specs.Held.{state};
 ghost use Rattle.sql_records.specs.Layout.{HasMeta};
 ghost use Rattle.sql_records.specs.declared.meta.Meta.{Meta as Numbers};
 ghost use Rattle.site_desk.specs.SiteView.{office_of, site_of};
-ghost use Rattle.operator_cli.specs.Exchanged.{IsDueText, IsNextEnd, IsTakeEnd, IsInput, most_bytes, site_in, told_of_bytes, told_of_read};
+ghost use Rattle.operator_cli.specs.Exchanged.{IsDueText, IsNextEnd, IsTakeEnd, IsInput, IsInputEnd, most_bytes, site_in, told_of_bytes, told_of_read};
 ghost use Rattle.delta_wire.specs.Wire.{message_of};
 ghost use Rattle.site_exchange.specs.Exchange.{next};
 ghost use Rattle.sql_records.specs.Held.{history_in};
 ghost use Rattle.operator_cli.specs.Told.{FaultTold, told_status};
-ghost use Rattle.operator_cli.specs.declared.status.Status.TheVariants.{Refused};
+ghost use Rattle.operator_cli.specs.declared.status.Status.TheVariants.{Refused, Failed};
+ghost use Rattle.operator_cli.specs.declared.store_fault.StoreFault.TheVariants.{Memory as WantsMemory, Read as ReadFailed};
 ghost use Rattle.std.specs.Option.{option_map};
 ghost use Rattle.operator_cli.specs.Printed.{Printed, IsSentText, IsTakenText, IsOfTaking, IsTellingOf};
-ghost use Rattle.operator_cli.specs.Opened.{FailsIfIllegal, IsLost, ShowedRecords};
+ghost use Rattle.operator_cli.specs.Opened.{EndsOpened, FailsFor, FailsIfIllegal, IsExportEnd, IsIllegal, IsImportEnd, IsLost, ShowedRecords};
 
 use crate::ending::ended;
 use crate::opening::open_book;
@@ -42,6 +43,7 @@ fn write_next<K: Keeper, W: Write>(
     ensures due { IfOk result (Printed (IsDueText book.now.book.office (site_of book.now) to)
         (W.contents out.old) (W.contents out.new)) }
     ensures fault { IfErr result (IsNextEnd book.now.closed (next book.now.book.office.me (site_of book.now) to)) }
+    ensures ends { IfOk result (λ status. status ≢ Failed) }
 {
     match book.next(alloc, to) {
         Ok(Some(message)) => match write_message(&message, out) {
@@ -75,6 +77,9 @@ pub fn export_store<S: Alter + Drop, W: Write, E: Write>(
     ensures same { IfSome result.1 (λ after. HasCleanDisk (state S.Store after)
         → (state S.Store after).now ≡ (state S.Store conn).now) }
     ensures err { FaultTold (E.contents err.old) (E.contents err.new) result.0 }
+    ensures cause { IfSome result.1 (λ after. HasCleanDisk (state S.Store after)
+        → FailsFor (λ fault. IsIllegal S.Store conn after fault ⊎ EndsOpened S.Store conn (IsExportEnd to) after fault)
+        (E.contents err.old) (E.contents err.new) result.0) }
     ensures ours { IfSome result.1 (ShowedRecords S.Store conn) }
     ensures illegal { IfSome result.1 (λ after. FailsIfIllegal S.Store conn after (W.contents out.old) (W.contents out.new) (E.contents err.old) (E.contents err.new) result.0) }
     ensures lost { result.1 ≡ None → IsLost S.Store conn (W.contents out.old) (W.contents out.new) (E.contents err.old) (E.contents err.new) result.0 }
@@ -93,6 +98,7 @@ fn read_input<R: Read + Drop>(alloc: Global, input: R) -> Result<Option<Vec<u8>>
     ensures few { IfOk result (λ read. IfSome read (λ bytes. vec_len bytes ≤ 4294967296)) }
     ensures read { IfOk result (λ read. IfSome (R.remaining input)
         (λ bytes. IsInput bytes (option_map (λ v. v.items) read))) }
+    ensures fault { IfErr result (λ fault. (fault ≡ WantsMemory) ⊎ (fault ≡ ReadFailed)) }
 {
     let mut bytes = Vec::new(alloc);
     match input.take(MOST_BYTES as u64 + 1).read_to_end(&mut bytes) {
@@ -141,6 +147,7 @@ fn take_input<K: Keeper, R: Read + Drop>(
     ensures told { IfSome (R.remaining input) (λ bytes. IfOk result (λ told. told
         ≡ told_of_bytes book.old.book.office book.old.book.history bytes)) }
     ensures kept { IfOk result (λ told. told_status told ≡ Refused → book.new.keeper ≡ book.old.keeper) }
+    ensures fault { IfErr result (λ fault. book.old.closed ≡ false → IsInputEnd book.old.book.office book.old.book.history (R.remaining input) fault) }
     ensures trusted { K.is_trusted book.new.keeper → K.is_trusted book.old.keeper }
 {
     match read_input(alloc, input) {
@@ -161,6 +168,8 @@ fn write_taken<K: Keeper, R: Read + Drop, W: Write>(
         (IsTellingOf (λ told. told ≡ told_of_bytes book.old.book.office book.old.book.history bytes))
         (W.contents out.old) (W.contents out.new))) }
     ensures kept { IfOk result (λ status. status ≡ Refused → book.new.keeper ≡ book.old.keeper) }
+    ensures fault { IfErr result (λ fault. book.old.closed ≡ false → IsInputEnd book.old.book.office book.old.book.history (R.remaining input) fault) }
+    ensures ends { IfOk result (λ status. status ≢ Failed) }
     ensures trusted { K.is_trusted book.new.keeper → K.is_trusted book.old.keeper }
 {
     match take_input(alloc, book, input) {
@@ -190,6 +199,9 @@ pub fn import_store<S: Alter + Drop, R: Read + Drop, W: Write, E: Write>(
     ensures kept { IfSome result.1 (λ after. HasCleanDisk (state S.Store after) → result.0 ≡ Refused
         → (state S.Store after).now ≡ (state S.Store conn).now) }
     ensures err { FaultTold (E.contents err.old) (E.contents err.new) result.0 }
+    ensures cause { IfSome result.1 (λ after. HasCleanDisk (state S.Store after)
+        → FailsFor (λ fault. IsIllegal S.Store conn after fault ⊎ EndsOpened S.Store conn (IsImportEnd (R.remaining input)) after fault)
+        (E.contents err.old) (E.contents err.new) result.0) }
     ensures ours { IfSome result.1 (ShowedRecords S.Store conn) }
     ensures illegal { IfSome result.1 (λ after. FailsIfIllegal S.Store conn after (W.contents out.old) (W.contents out.new) (E.contents err.old) (E.contents err.new) result.0) }
     ensures lost { result.1 ≡ None → IsLost S.Store conn (W.contents out.old) (W.contents out.new) (E.contents err.old) (E.contents err.new) result.0 }

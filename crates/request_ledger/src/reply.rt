@@ -5,9 +5,8 @@ ghost use Rattle.std.specs.Str.{bytes_eq};
 ghost use Rattle.request_ledger.specs.declared.reply.Reply.{Reply};
 ghost use Rattle.request_ledger.specs.Words.{reply_word, reply_number, reply_of};
 
-use crate::amount::Amount;
 use crate::request::Request;
-use rights_lattice::Event;
+use rights_lattice::{Amount, Event};
 
 /// The decision on a request.
 #[derive(Clone, Copy, PartialEq, Eq, Debug)]

@@ -2,10 +2,9 @@
 ghost use Rattle.std.specs.Prelude.{◌≡◌};
 ghost use Rattle.request_ledger.specs.Words.{request_verb};
 
-use crate::amount::Amount;
 use crate::number::RequestNumber;
 use crate::verb::Verb;
-use rights_lattice::{Event, SiteId};
+use rights_lattice::{Amount, Event, SiteId};
 
 /// A request to one site, which decides it from its own rights.
 #[derive(Clone, Copy, PartialEq, Eq, Debug)]

@@ -5,6 +5,7 @@
 //! greater of each cell, as state-based replicated data are (INRIA RR-7506).
 #![tactic(auto)]
 
+pub mod amount;
 mod blocks;
 pub mod cell;
 pub mod event;
@@ -15,6 +16,7 @@ pub mod merge;
 pub mod rights;
 pub mod site;
 
+pub use amount::Amount;
 pub use cell::{Cell, owner};
 pub use event::Event;
 pub use limits::{GREATEST_SITE, MOST_SITES};

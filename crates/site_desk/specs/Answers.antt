@@ -1,5 +1,5 @@
 -- What a site's book answers over its keeper, and why it does not. (Our own.)
-use Rattle.std.specs.Prelude.{◌≡◌, ℕ, Bool, true, false, not, ◌&&◌, ◌==◌, nat_lt, List, length, take, Option, Some, None}
+use Rattle.std.specs.Prelude.{◌≡◌, ℕ, Bool, true, false, not, ◌&&◌, ◌==◌, nat_lt, List, take, Option, Some, None}
 use Rattle.local_rights.specs.Rights.{released_in, sold_in, refunded_in}
 use Rattle.book_core.specs.declared.entry.Entry.{Entry}
 use Rattle.book_core.specs.Decision as decided

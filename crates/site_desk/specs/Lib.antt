@@ -1,2 +1,4 @@
 pub mod Answers
+pub mod Count
+pub mod Seats
 pub mod SiteView

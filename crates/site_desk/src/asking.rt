@@ -1,7 +1,7 @@
 //! Requests at an open book.
 ghost use Rattle.std.specs.Prelude.{◌≡◌, ◌≢◌, false, true, length, IfOk, IfErr, OnOk, OnErr, Err};
 ghost use Rattle.book_core.specs.OwnRow.{HasOwnRights};
-ghost use Rattle.site_exchange.specs.Taking.{HasReply, IsAsked, extended};
+ghost use Rattle.site_exchange.specs.Taking.{extended};
 ghost use Rattle.sql_records.specs.Keeping.{Keeps, LeavesOnly};
 ghost use Rattle.sql_records.specs.declared.meta.Meta.{Meta as Numbers};
 ghost use Rattle.site_desk.specs.Answers.{IsAnswer, IsAskFault, LeavesEither};
@@ -10,8 +10,8 @@ ghost use Rattle.site_desk.specs.SiteView.{decision_in, entry_in};
 use crate::answer::Answer;
 use crate::fault::AskFault;
 use crate::storing::store;
-use book_core::{Book, Entry, Plan, PlanFault};
-use request_ledger::{Reply, Request, RequestNumber};
+use book_core::{Book, Plan, PlanFault};
+use request_ledger::{Request, RequestNumber};
 use sql_records::Keeper;
 use std::alloc::Global;
 
@@ -48,7 +48,7 @@ pub(crate) fn answer<K: Keeper>(
             fresh: false,
         }),
         Ok(Plan::New(planned)) => {
-            let reply = reply_of(planned.entry());
+            let reply = planned.reply();
             let place = book.len();
             match store(book, keeper, planned) {
                 Ok(()) => Ok(Answer {
@@ -62,16 +62,5 @@ pub(crate) fn answer<K: Keeper>(
         Err(PlanFault::Reused { place }) => Err(AskFault::Reused { place }),
         Err(PlanFault::Full) => Err(AskFault::Full),
         Err(PlanFault::Memory) => Err(AskFault::Memory),
-    }
-}
-
-// The reply of an entry that was asked.
-fn reply_of(entry: &Entry) -> Reply
-    requires { IsAsked entry.now }
-    ensures { HasReply entry.now result }
-{
-    match entry {
-        Entry::Asked { reply, .. } => *reply,
-        Entry::Joined { .. } => unreachable!(),
     }
 }

@@ -12,6 +12,7 @@ ghost use Rattle.site_exchange.specs.Taking.{site_after, with_entry};
 ghost use Rattle.sql_records.specs.Keeping.{Keeps, LeavesOnly};
 ghost use Rattle.sql_records.specs.declared.meta.Meta.{Meta as Numbers};
 ghost use Rattle.site_desk.specs.Answers.{IsAnswer, IsAskFault, IsSeenAt, IsTakeFault, IsTaken, LeavesEither, is_peer};
+ghost use Rattle.site_desk.specs.Count.{Grows};
 ghost use Rattle.site_desk.specs.SiteView.{decision_in, entry_in, office_of, site_of, verdict_in};
 
 use crate::answer::{Answer, Seen, Taken};
@@ -93,8 +94,11 @@ impl<K: Keeper> SiteBook<K> {
     /// The book, also where it is closed.
     pub fn book(&self) -> &Book
         ensures book { result.now ≡ self.now.book }
+        ensures legal { IsLegal self.now.book.office self.now.book.history }
         ensures has_rights { HasOwnRights self.now.book }
     {
+        // What the book says of its history.
+        let _len = self.book.len();
         &self.book
     }
 
@@ -130,6 +134,7 @@ impl<K: Keeper> SiteBook<K> {
         ensures office { self.new.book.office ≡ self.old.book.office }
         ensures answer { IfOk result (IsAnswer (decision_in self.old.book number request.now) (length self.old.book.history)) }
         ensures entered { OnOk result (site_of self.new ≡ with_entry (entry_in self.old.book number request.now) (site_of self.old)) }
+        ensures grown { IfOk result (λ a. Grows a.fresh a.place self.old.book.history self.new.book.history) }
 
         // When each error comes, and what it leaves.
         ensures closed { (result ≡ Err AskFault.Closed) ↔ (self.old.closed ≡ true) }

@@ -1,8 +1,7 @@
 -- A site after it was asked, took a message, or started anew. (Our own.)
-use Rattle.std.specs.Prelude.{◌≡◌, max, Bool, if◌then◌else◌, List, [], ◌∷◌, ◌++◌, set, get_or, Option, Some, None}
-use Rattle.request_ledger.specs.declared.reply.Reply.{Reply}
+use Rattle.std.specs.Prelude.{max, Bool, if◌then◌else◌, List, [], ◌∷◌, ◌++◌, set, get_or, Option, Some, None}
 use Rattle.book_core.specs.declared.entry.Entry.{Entry}
-use Rattle.book_core.specs.declared.entry.Entry.TheVariants.{Asked, Joined}
+use Rattle.book_core.specs.declared.entry.Entry.TheVariants.{Joined}
 use Rattle.site_exchange.specs.declared.message.Message.{Message}
 use Rattle.site_exchange.specs.declared.message.Message.TheVariants.{Delta, Ack}
 use Rattle.site_exchange.specs.Exchange.{Site, zeros, Verdict, Joins, NothingNew, Acks, Refuses, ack_for}
@@ -43,13 +42,3 @@ restarted site = record { history = site.history; acked = zeros }
 -- the site stopped in the midst of an input and started anew, with the entry that the input adds where it was stored
 abbrev pub stopped_with : Option Entry → Bool → Site → Site
 stopped_with entry stored site = restarted (if stored then with_entry entry site else site)
-
--- the entry is of a request
-abbrev pub IsAsked : Entry → Type 0
-IsAsked (Asked number request reply delta) = Unit {0}
-IsAsked (Joined peer delta) = ⊥
-
--- the entry is of a request that has this reply
-abbrev pub HasReply : Entry → Reply → Type 0
-HasReply (Asked number request reply delta) r = r ≡ reply
-HasReply (Joined peer delta) r = ⊥

@@ -1,7 +1,9 @@
 -- What an open finds.
-use Rattle.std.proofs.Common.{◌≡◌, ◌⊎◌, inl, inr, ℕ, suc, ◌+◌, ◌<◌, ◌≤◌, pos, false, List, [], ◌∷◌, ◌++◌, length, take, get_or, IsTrue, IsSome, Option, Some, None, refl, sym, ap, subst, ◌∙◌, arith, Result, Ok, Err, OnOk, IfErr, IsErrAnd, Bool, true, not}
+use Rattle.std.proofs.Common.{◌≡◌, ◌⊎◌, inl, inr, ℕ, suc, ◌+◌, ◌-◌, ◌<◌, ◌≤◌, pos, false, List, [], ◌∷◌, ◌++◌, length, take, drop, get_or, slice_get, zero, IsTrue, IsSome, Option, Some, None, refl, sym, ap, subst, ◌∙◌, arith, Result, Ok, Err, OnOk, IfErr, IsErrAnd, Bool, true, not}
 use Rattle.std.specs.List.{filter_map, cons_option}
-use Rattle.std.proofs.lemmas.List.{take_more, length-take-le}
+use Rattle.std.proofs.lemmas.List.{take_more, length-take-le, length-drop}
+use Rattle.std.proofs.lemmas.List.Sums.{prefix_len-le-length}
+use Rattle.std.proofs.Math.Seq.{take-length}
 use Rattle.std.proofs.lemmas.Option.{slice_get_read}
 use Rattle.sqlite.specs.Order.{Row, column}
 use Rattle.sqlite.specs.declared.types.Value.TheVariants.{Int}
@@ -14,7 +16,7 @@ use Rattle.sql_records.specs.declared.fault.OpenFault.TheVariants.{NotOurs, Othe
 use Rattle.sql_records.specs.Keeping.{LeavesOnly, LeavesWithOrWithout, Keeps}
 use Rattle.sql_records.specs.declared.meta.Meta.{Meta}
 use Rattle.sql_records.specs.Layout.{IsOurs, HasMeta, AreNumbers}
-use Rattle.sql_records.specs.Rows.{entry_of, AreInOrder, AreWhole, IsEntryAt}
+use Rattle.sql_records.specs.Rows.{entry_of, is_below, rows_below, rows_from_0, AreInOrder, AreWhole, IsEntryAt, IsFirstDamaged, IsDamagedAt}
 use Rattle.sql_records.specs.Held.{IsAtRest, IsSiteIn, MayLeaveIn, LeavesSite, history_in, opened_in, rows_in}
 use Rattle.sql_records.specs.Opening.{AreRowsFault, IsStoreFault, IsOurFault}
 use Rattle.sql_records.specs.Faults.{HasDiskCause}
@@ -32,11 +34,51 @@ pub entries_more : (rows : List Row) (i : ℕ) (values : Row) (entry : Entry) �
     → filter_map entry_of (take (i + 1) rows) ≡ filter_map entry_of (take i rows) ++ entry ∷ []
 entries_more rows i values entry low at reads = rw (take_more rows i values low, ← at) (entries_next (take i rows) values entry reads)
 
+-- want of memory, or the first row that is not the entry of its place
+abbrev pub StopsReading : List Row → OpenFault → Type 0
+StopsReading rows fault = (fault ≡ Memory) ⊎ ((place : ℕ) × (fault ≡ Damaged place) × IsFirstDamaged place rows)
+
 -- the fault of the row at a place, the rows before it being whole
 pub fault_at : (rows : List Row) (i : ℕ) (values : Row) (fault : OpenFault) → i < length rows → values ≡ get_or rows i values → AreWhole 0 (take i rows) → (fault ≡ Memory) ⊎ (fault ≡ Damaged i)
-    → (fault ≡ Damaged i → ¬ IsEntryAt i values) → AreRowsFault rows fault
-fault_at rows i values fault low at whole (inl is) other = subst (AreRowsFault rows) (sym is) tt
-fault_at rows i values fault low at whole (inr is) other = subst (AreRowsFault rows) (sym is) (whole, (values, slice_get_read rows (length rows) i values refl low at, other is))
+    → (fault ≡ Damaged i → ¬ IsEntryAt i values) → StopsReading rows fault
+fault_at rows i values fault low at whole (inl is) other = inl is
+fault_at rows i values fault low at whole (inr is) other = inr (i, is, (whole, (values, slice_get_read rows (length rows) i values refl low at, other is)))
+
+-- ---- rows in front of the place 0
+
+one_row : (values other : Row) → Some values ≡ Some other → values ≡ other
+one_row values other same = cc
+
+pub has_some : (rows : List Row) (i : ℕ) (values : Row) → slice_get rows i ≡ Some values → i < length rows
+has_some [] i values at = absurd cc
+has_some (r ∷ rows) zero values at = omega arith
+has_some (r ∷ rows) (suc i) values at = let low = has_some rows i values at in omega (arith, low)
+
+-- the rows behind those in front of the place 0
+pub part_from_0 : (rows : List Row) (n : ℕ) → n ≡ rows_below rows → take (length rows - n) (drop n rows) ≡ rows_from_0 rows
+part_from_0 rows n is = ap (λ (k : ℕ). take k (drop n rows)) (sym (length-drop n rows)) ∙ take-length (drop n rows) ∙ ap (λ (k : ℕ). drop k rows) is
+
+-- the first damaged row from the place 0 on
+pub damaged_above : (rows : List Row) (fault : OpenFault) → StopsReading (rows_from_0 rows) fault → AreRowsFault rows fault
+damaged_above rows fault (inl is) = subst (AreRowsFault rows) (sym is) tt
+damaged_above rows fault (inr (place, is, (whole, (values, at, other)))) =
+    let low = has_some (rows_from_0 rows) place values at in
+    let long = length-drop (rows_below rows) rows in
+    let here : (v : Row) → slice_get (rows_from_0 rows) place ≡ Some v → ¬ IsEntryAt place v = λ v there. subst (λ (r : Row). ¬ IsEntryAt place r) (one_row values v (sym at ∙ there)) other in
+    subst (AreRowsFault rows) (sym is) (record { low = omega (arith, low, long); before = whole; reached = omega (arith, low); missing = here })
+
+-- all rows from the place 0 on are whole, and some stand in front of it
+pub damaged_below : (rows : List Row) → 0 < rows_below rows → AreWhole 0 (rows_from_0 rows) → IsDamagedAt (length (rows_from_0 rows)) rows
+damaged_below rows some whole =
+    let long = length-drop (rows_below rows) rows in
+    let few = prefix_len-le-length (λ (r : Row). is_below (column r 0)) rows in
+    let own = rows_from_0 rows in
+    record {
+      low = omega (arith, some, long, few);
+      before = subst (AreWhole 0) (sym (take-length own)) whole;
+      reached = omega arith;
+      missing = λ v there. absurd (let low = has_some own (length own) v there in omega (arith, low));
+    }
 
 one_more : (o : Option Entry) (entries : List Entry) (n : ℕ) → IsSome o → length entries ≡ n → length (cons_option o entries) ≡ suc n
 one_more None entries n is long = absurd (let e = is in cc)

@@ -1,5 +1,5 @@
 -- What an open finds of a database that a stop left.
-use Rattle.std.proofs.Common.{◌≡◌, inl, inr, ℕ, zero, suc, ◌+◌, ℤ, pos, List, [], ◌∷◌, map, Option, Some, None, IsSome, slice_get, refl, sym, ap, subst, arith}
+use Rattle.std.proofs.Common.{◌≡◌, inl, inr, ℕ, zero, suc, ◌+◌, ℤ, pos, List, [], ◌∷◌, map, Option, Some, None, IsSome, slice_get, drop, length, ◌<◌, ◌∙◌, refl, sym, ap, subst, arith}
 use Rattle.sqlite_catalog.specs.Listing.{IsSound}
 use Rattle.sqlite_catalog.proofs.ReadLemmas.{lists_once}
 use Rattle.sqlite.specs.Order.{Row, column}
@@ -11,7 +11,7 @@ use Rattle.sql_records.specs.declared.meta.Meta.{Meta}
 use Rattle.sql_records.specs.declared.fault.OpenFault.{OpenFault}
 use Rattle.sql_records.specs.declared.fault.OpenFault.TheVariants.{NotOurs, OtherSchema, Damaged, Memory, Disk}
 use Rattle.sql_records.specs.Layout.{IsOurs, HasMeta, HasOtherSchema}
-use Rattle.sql_records.specs.Rows.{shown, in_order, AreInOrder, AreWhole, IsEntryAt, IsDamagedAt}
+use Rattle.sql_records.specs.Rows.{shown, in_order, rows_below, rows_from_0, AreInOrder, AreWhole, IsEntryAt, IsDamagedAt}
 use Rattle.sql_records.specs.Held.{IsSiteIn, opened_in, rows_in}
 use Rattle.sql_records.specs.Opening.{IsOpenFault, IsOurFault, IsAfterStop}
 use Rattle.sql_records.proofs.RowLemmas.{whole_from}
@@ -35,11 +35,24 @@ whole_at from (suc i) (r ∷ rows) values whole at =
     let here : (from + 1) + i ≡ from + suc i = omega arith in
     subst (λ k. IsEntryAt k values) here (whole_at (from + 1) i rows values whole.1 at)
 
+-- rows that are whole have no place below 0
+none_below : (from : ℕ) (rows : List Row) → AreWhole from rows → rows_below rows ≡ 0
+none_below from [] whole = refl
+none_below from (r ∷ rows) whole = rw (whole.0.placed) refl
+
+has_value : (rows : List Row) (i : ℕ) → i < length rows → (values : Row) × (slice_get rows i ≡ Some values)
+has_value [] i low = absurd (omega (arith, low))
+has_value (r ∷ rows) zero low = (r, refl)
+has_value (r ∷ rows) (suc i) low = has_value rows i (omega (arith, low))
+
 no_damage : (place : ℕ) (table rows : List Row) → AreInOrder table rows → AreWhole 0 (in_order (map shown table)) → IsDamagedAt place rows → ⊥
 no_damage place table rows order whole damaged =
     let all = subst (AreWhole 0) (sym (order_whole table rows order whole)) whole in
+    let same : rows_from_0 rows ≡ rows = ap (λ (n : ℕ). drop n rows) (none_below 0 rows all) in
+    let value = has_value rows place damaged.low in
     let at : 0 + place ≡ place = omega arith in
-    damaged.1.2 (subst (λ k. IsEntryAt k damaged.1.0) at (whole_at 0 place rows damaged.1.0 all damaged.1.1))
+    let here : slice_get (rows_from_0 rows) place ≡ Some value.0 = ap (λ (l : List Row). slice_get l place) same ∙ value.1 in
+    damaged.missing value.0 here (subst (λ k. IsEntryAt k value.0) at (whole_at 0 place rows value.0 all value.1))
 
 some : {A : Type 0} (o : Option A) → IsSome o → (x : A) × (o ≡ Some x)
 some None h = absurd (let e = h in cc)

@@ -9,16 +9,16 @@ use Rattle.sqlite.specs.State.{State, IsUnchanged, IsRolledBack, KeepsCommit, Sh
 use Rattle.sql_records.specs.Opening.{IsLeftOrUndone}
 
 pub left_or_undone : (old new : State) → IsUnchanged old new ⊎ IsRolledBack old new → IsLeftOrUndone old new
-left_or_undone old new (inl h) = record { kept = record { was_open = λ _. h.0.was_open; committed = λ _. h.0.committed_is }; shows = λ _. inl (h.0.now_is, h.0.mode) }
-left_or_undone old new (inr h) = record { kept = record { was_open = h.was_open; committed = λ on. (h.undone on).1 }; shows = λ on. inr ((h.undone on).0, h.autocommit) }
+left_or_undone old new (inl h) = record { kept = record { was_open = λ _. h.0.was_open; committed = λ _. h.0.committed_is }; shows = λ _. inl (h.0.now_is, h.0.mode, h.2) }
+left_or_undone old new (inr h) = record { kept = record { was_open = h.was_open; committed = λ on. (h.undone on).1 }; shows = λ on. inr ((h.undone on).0, h.autocommit, h.unmarked) }
 
 pub as_it_was : (s : State) → IsLeftOrUndone s s
-as_it_was s = record { kept = record { was_open = λ on. on; committed = λ _. refl }; shows = λ _. inl (refl, refl) }
+as_it_was s = record { kept = record { was_open = λ on. on; committed = λ _. refl }; shows = λ _. inl (refl, refl, refl) }
 
 pub left_after : (first mid last : State) → IsUnchanged first mid → IsLeftOrUndone mid last → IsLeftOrUndone first last
 left_after first mid last same h = record {
   kept = record { was_open = λ on. same.0.was_open; committed = λ on. h.kept.committed on ∙ same.0.committed_is };
-  shows = λ on. elim (h.shows on) [ inl s ↦ inl (s.0 ∙ same.0.now_is, s.1 ∙ same.0.mode) | inr u ↦ inr (u.0 ∙ same.0.committed_is, u.1) ];
+  shows = λ on. elim (h.shows on) [ inl s ↦ inl (s.0 ∙ same.0.now_is, s.1 ∙ same.0.mode, s.2 ∙ same.2) | inr u ↦ inr (u.0 ∙ same.0.committed_is, u.1, u.2) ];
 }
 
 -- ---- a statement that is not known, inside a transaction
@@ -64,7 +64,7 @@ error_keeps sql params old new e (inr h) = unchanged_keeps old new h.5
 pub undone_outside : (old begun mid new : State) → begun.committed ≡ old.committed → (IsTrue begun.is_open → IsTrue old.is_open) → KeepsCommit begun mid → IsRolledBack mid new → IsLeftOrUndone old new
 undone_outside old begun mid new same opened ran back = record {
   kept = record { was_open = λ on. opened (ran.was_open (back.was_open on)); committed = λ on. (back.undone on).1 ∙ ran.committed (back.was_open on) ∙ same };
-  shows = λ on. inr ((back.undone on).0 ∙ ran.committed (back.was_open on) ∙ same, back.autocommit);
+  shows = λ on. inr ((back.undone on).0 ∙ ran.committed (back.was_open on) ∙ same, back.autocommit, back.unmarked);
 }
 
 pub on_err : {T E : Type 0} (r : Result T E) (P : Type 0) → P → OnErr r P

@@ -1,7 +1,8 @@
 -- Why no new records are made. (Our own.)
-use Rattle.std.specs.Prelude.{◌≡◌, ◌≢◌, ◌⊎◌, ℕ, List, [], ◌∷◌, Ok, Err, true, IsTrue}
+use Rattle.std.specs.Prelude.{◌≡◌, ◌≢◌, ◌⊎◌, ℕ, List, [], ◌∷◌, Ok, Err, Bool, true, false, IsTrue}
 use Rattle.sqlite.specs.Store.{Ghosts}
 use Rattle.sqlite.specs.Order.{Row}
+use Rattle.sqlite.specs.Schema.{Schema}
 use Rattle.sqlite.specs.State.{HasCleanDisk, ExecutesInside}
 use Rattle.sqlite.specs.Steps.{FailsToCommit}
 use Rattle.sqlite.specs.Held.{Held, state}
@@ -45,3 +46,15 @@ module _ {S : Type 0} (g : Ghosts S) (conn : Held S) (meta : Meta) where
   IsInitFault AlreadyThere = IsTrue (has_our_table conn.schema)
   IsInitFault Memory = FailsToMake (SqliteFailure OutOfMemory)
   IsInitFault Disk = (conn.schema ≢ no_schema) ⊎ ((conn.in_transaction ≡ true) ⊎ ((e : Error) × (e ≢ SqliteFailure OutOfMemory) × FailsToMake e))
+
+-- a database in which new records are begun
+pub record IsVacant (schema : Schema) (in_transaction : Bool) : Type 0 where
+  pub ours : has_our_table schema ≡ false
+  pub empty : schema ≡ no_schema
+  pub outside : in_transaction ≡ false
+
+-- why none are begun
+abbrev pub IsRefusal : Schema → Bool → InitFault → Type 0
+IsRefusal schema in_transaction AlreadyThere = IsTrue (has_our_table schema)
+IsRefusal schema in_transaction Disk = (has_our_table schema ≡ false) × ((schema ≢ no_schema) ⊎ (in_transaction ≡ true))
+IsRefusal schema in_transaction Memory = ⊥

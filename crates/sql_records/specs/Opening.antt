@@ -139,10 +139,18 @@ pub record IsFoundAfterStop {S : Type 0} (g : Ghosts S) (conn : Held S) (fault :
   pub found : HasCleanDisk (state g after) → (state g conn).may_leave (state g again).now.trees × IsDatabase (state g again).now × IsOpenFault (state g again) (state g after) fault
   pub foreign : ¬ IsOurs again.schema → (last : Held S) × (HasCleanDisk (state g last) → IsForeignCause g again fault)
 
+-- the connection shows what it showed, in the transaction and the savepoints in which it was
+abbrev pub IsLeft : State → State → Type 0
+IsLeft old new = (new.now ≡ old.now) × (new.in_transaction ≡ old.in_transaction) × (new.marks ≡ old.marks)
+
+-- the connection shows what was committed, with no transaction and no savepoint
+abbrev pub IsUndone : State → State → Type 0
+IsUndone old new = (new.now ≡ old.committed) × (new.in_transaction ≡ false) × (new.marks ≡ [])
+
 -- Nothing was committed. The connection shows what it showed, or its transaction was undone.
 pub record IsLeftOrUndone (old new : State) : Type 0 where
   pub kept : KeepsCommit old new
-  pub shows : IsTrue new.is_open → ((new.now ≡ old.now) × (new.in_transaction ≡ old.in_transaction)) ⊎ ((new.now ≡ old.committed) × (new.in_transaction ≡ false))
+  pub shows : IsTrue new.is_open → IsLeft old new ⊎ IsUndone old new
 
 -- what may be at fault in the next open after a stop: memory or the disk
 abbrev pub IsAfterStop : Option OpenFault → Type 0

@@ -1,6 +1,6 @@
 -- The rows of the entries: the ten columns of each, and the entry that a row stands for. (Our own.)
-use Rattle.std.specs.Prelude.{ℕ, ◌+◌, ◌≤◌, ◌<◌, ◌^◌, ◌≡◌, nat_le, ◌&&◌, ◌==◌, if◌then◌else◌, Bool, true, false, List, [], ◌∷◌, ◌++◌, Option, Some, None, pos, map, length, take, slice_get, IsSome, IfSome, IsSorted, IsPermutation}
-use Rattle.std.specs.List.{filter_map}
+use Rattle.std.specs.Prelude.{ℕ, ◌+◌, ◌≤◌, ◌<◌, ◌^◌, ◌≡◌, nat_le, ◌&&◌, ◌==◌, if◌then◌else◌, Bool, true, false, List, [], ◌∷◌, ◌++◌, Option, Some, None, pos, negsuc, map, length, take, drop, slice_get, IsSome, IfSome, IsSorted, IsPermutation}
+use Rattle.std.specs.List.{filter_map, prefix_len}
 use Rattle.std.specs.Option.{option_map}
 use Rattle.std.specs.Result.{result_ok}
 use Rattle.std.specs.declared.cmp.Ordering.{Ordering}
@@ -273,6 +273,27 @@ abbrev pub AreWhole : ℕ → List Row → Type 0
 AreWhole from [] = Unit {0}
 AreWhole from (values ∷ rows) = IsEntryAt from values × AreWhole (from + 1) rows
 
--- the first row that is not the entry of its place
-abbrev pub IsDamagedAt : ℕ → List Row → Type 0
-IsDamagedAt place rows = AreWhole 0 (take place rows) × ((values : Row) × (slice_get rows place ≡ Some values) × ¬ IsEntryAt place values)
+-- the first of these rows that is not the entry of its place
+abbrev pub IsFirstDamaged : ℕ → List Row → Type 0
+IsFirstDamaged place rows = AreWhole 0 (take place rows) × ((values : Row) × (slice_get rows place ≡ Some values) × ¬ IsEntryAt place values)
+
+-- ---- what is at fault in rows that are in an order of their places
+
+abbrev pub is_below : Value → Bool
+is_below (Int (negsuc n)) = true
+is_below _ = false
+
+-- how many rows stand in front of the place 0
+abbrev pub rows_below : List Row → ℕ
+rows_below rows = prefix_len (λ (values : Row). is_below (column values 0)) rows
+
+-- the rows from the place 0 on
+abbrev pub rows_from_0 : List Row → List Row
+rows_from_0 rows = drop (rows_below rows) rows
+
+-- the least place below the number of rows that is missing, or whose row does not read as an entry
+pub record IsDamagedAt (place : ℕ) (rows : List Row) : Type 0 where
+  pub low : place < length rows
+  pub before : AreWhole 0 (take place (rows_from_0 rows))
+  pub reached : place ≤ length (rows_from_0 rows)
+  pub missing : (values : Row) → slice_get (rows_from_0 rows) place ≡ Some values → ¬ IsEntryAt place values

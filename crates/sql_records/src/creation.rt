@@ -1,12 +1,12 @@
 //! A new site's records.
-ghost use Rattle.std.specs.Prelude.{◌≡◌, ◌≢◌, [], ◌<◌, ◌↔◌, true, false, IsTrue, OnOk, OnErr, IfErr};
+ghost use Rattle.std.specs.Prelude.{◌≡◌, ◌≢◌, [], ◌<◌, ◌↔◌, true, false, IsTrue, OnOk, OnErr, IfErr, IfSome, IfNone};
 ghost use Rattle.sqlite.specs.State.{HasCleanDisk, Survives};
 ghost use Rattle.sqlite.specs.Held.{state};
 ghost use Rattle.sqlite.specs.Values.{bound};
 ghost use Rattle.sql_records.specs.Layout.{no_schema, has_our_table, meta_of, HasMeta};
 ghost use Rattle.sql_records.specs.Held.{IsNew, IsAtRest, LeavesAsBeforeOrNew, LeavesSite, MayLeaveIn};
 ghost use Rattle.sql_records.specs.Keeping.{LeavesOnly};
-ghost use Rattle.sql_records.specs.Making.{making, RunInTurn, FailInTurn, IsInitFault};
+ghost use Rattle.sql_records.specs.Making.{making, RunInTurn, FailInTurn, FailsToMake, IsRefusal, IsVacant, IsInitFault};
 
 use crate::fault::{InitFault, told};
 use crate::meta::Meta;
@@ -65,6 +65,47 @@ fn fill<S: Alter>(tx: &mut Transaction<'_, S>, meta: Meta) -> Result<(), Error>
     Ok(())
 }
 
+// Why no new records are begun here.
+fn refusal<S: Alter>(conn: &Connection<S>) -> Option<InitFault>
+    ensures refused { IfSome result (IsRefusal conn.now.schema conn.now.in_transaction) }
+    ensures none { IfNone result (IsVacant conn.now.schema conn.now.in_transaction) }
+{
+    if has_our_table(conn.schema()) {
+        return Some(InitFault::AlreadyThere);
+    }
+    if !is_empty(conn.schema()) || !conn.is_autocommit() {
+        return Some(InitFault::Disk);
+    }
+    None
+}
+
+// Makes new records in one transaction.
+fn make<S: Alter>(conn: &mut Connection<S>, meta: Meta) -> Result<(), Error>
+    requires me { meta.me < meta.sites }
+    requires outside { conn.old.in_transaction ≡ false }
+    requires empty { conn.old.schema ≡ no_schema }
+    ensures rest { HasCleanDisk (state S.Store conn.new) → OnOk result (IsAtRest (state S.Store conn.new) 0) }
+    ensures made { HasCleanDisk (state S.Store conn.new) → OnOk result (IsNew meta (state S.Store conn.new).now) }
+    ensures leaves { HasCleanDisk (state S.Store conn.new) → OnOk result (LeavesOnly [] (MayLeaveIn (state S.Store conn.new))) }
+    ensures site { HasCleanDisk (state S.Store conn.new) → OnOk result (LeavesSite (state S.Store conn.new) meta) }
+    ensures crash { HasCleanDisk (state S.Store conn.new) → LeavesAsBeforeOrNew meta (state S.Store conn.old) (state S.Store conn.new) }
+    ensures as_before { HasCleanDisk (state S.Store conn.new) → IsTrue (state S.Store conn.new).is_open → OnErr result
+        ((state S.Store conn.new).committed ≡ (state S.Store conn.old).committed) }
+    ensures fails { HasCleanDisk (state S.Store conn.new) → IfErr result (FailsToMake S.Store conn.old meta) }
+    ensures limit { conn.new.step_limit ≡ conn.old.step_limit }
+    ensures ended { conn.new.in_transaction ≡ false }
+    ensures clean { HasCleanDisk (state S.Store conn.new) → HasCleanDisk (state S.Store conn.old) }
+{
+    let mut tx = conn.transaction();
+    match fill(&mut tx, meta) {
+        Ok(()) => tx.commit(),
+        Err(error) => {
+            tx.rollback();
+            Err(error)
+        }
+    }
+}
+
 impl<S: Alter> Records<S> {
     /// Makes the records of a site that has no entry yet, in an empty database, in one transaction.
     ///
@@ -97,22 +138,12 @@ impl<S: Alter> Records<S> {
         ensures ended { conn.old.in_transaction ≡ false → conn.new.in_transaction ≡ false }
         ensures clean { HasCleanDisk (state S.Store conn.new) → HasCleanDisk (state S.Store conn.old) }
     {
-        if has_our_table(conn.schema()) {
-            return Err(InitFault::AlreadyThere);
+        if let Some(fault) = refusal(conn) {
+            return Err(fault);
         }
-        if !is_empty(conn.schema()) || !conn.is_autocommit() {
-            return Err(InitFault::Disk);
-        }
-        let mut tx = conn.transaction();
-        match fill(&mut tx, Meta { me, sites, limit }) {
-            Ok(()) => match tx.commit() {
-                Ok(()) => Ok(()),
-                Err(error) => Err(told(InitFault::Memory, InitFault::Disk, error)),
-            },
-            Err(error) => {
-                tx.rollback();
-                Err(told(InitFault::Memory, InitFault::Disk, error))
-            }
+        match make(conn, Meta { me, sites, limit }) {
+            Ok(()) => Ok(()),
+            Err(error) => Err(told(InitFault::Memory, InitFault::Disk, error)),
         }
     }
 }

@@ -27,7 +27,7 @@ pub enum OpenFault {
     /// The records are of another version than is read here.
     #[error("the records have the schema {version}")]
     OtherSchema { version: i64 },
-    /// The first row, in the order of places, that is not the entry of its place.
+    /// The least place, below the number of rows, that has no row or whose row does not read as an entry.
     #[error("the entry {place} is damaged")]
     Damaged { place: u64 },
     #[error("out of memory")]

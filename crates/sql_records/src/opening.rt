@@ -7,7 +7,7 @@ ghost use Rattle.sqlite.specs.Held.{state};
 ghost use Rattle.sqlite.specs.Order.{column};
 ghost use Rattle.sqlite_value.specs.Value.{owned};
 ghost use Rattle.sql_records.specs.Layout.{IsOurs, our_kind, HasMeta, AreNumbers};
-ghost use Rattle.sql_records.specs.Rows.{entry_of, number_within, IsEntryAt, AreInOrder, AreWhole};
+ghost use Rattle.sql_records.specs.Rows.{entry_of, is_below, rows_below, number_within, IsEntryAt, AreInOrder, AreWhole, IsFirstDamaged};
 ghost use Rattle.sql_records.specs.Held.{entries_tree, rows_in, history_in, LeavesNoMore};
 ghost use Rattle.sql_records.specs.Opening.{int_in, numbers_in, IsRowOf, IsRowFault, IsMetaFault, AreRowsFault, IsStoreFault, IsForeignFault, IsForeignCause, AreOfVersion, AreTold, foreign_told, IsOpenFault, IsLeftOrUndone};
 
@@ -77,7 +77,7 @@ fn read_next(alloc: Global, place: u64, row: &Row) -> Result<Entry, OpenFault>
 fn read_entries(alloc: Global, rows: &[Row]) -> Result<Vec<Entry>, OpenFault>
     ensures whole { OnOk result (AreWhole 0 rows.now) }
     ensures entries { IfOk result (λ entries. entries.items ≡ filter_map entry_of rows.now) }
-    ensures fault { IfErr result (AreRowsFault rows.now) }
+    ensures fault { IfErr result (λ fault. (fault ≡ OpenFault.Memory) ⊎ ((place : ℕ) × (fault ≡ OpenFault.Damaged place) × IsFirstDamaged place rows.now)) }
 {
     let mut entries = Vec::new(alloc);
     'rows: for (place, row) in rows.iter().enumerate() {
@@ -85,6 +85,44 @@ fn read_entries(alloc: Global, rows: &[Row]) -> Result<Vec<Entry>, OpenFault>
         let Ok(()) = entries.push(entry) else {
             return Err(OpenFault::Memory);
         };
+    }
+    Ok(entries)
+}
+
+fn is_below(value: ValueRef<'_>) -> bool
+    ensures { result ≡ is_below (owned value.entry) }
+{
+    match value {
+        ValueRef::Int(n) => n < 0,
+        _ => false,
+    }
+}
+
+// How many rows stand in front of the place 0.
+fn rows_below(rows: &[Row]) -> usize
+    ensures value { result ≡ rows_below rows.now }
+    ensures within { result ≤ length rows.now }
+{
+    'rows: for (at, row) in rows.iter().enumerate() {
+        if !is_below(value_at(row, 0)) {
+            return at;
+        }
+    }
+    rows.len()
+}
+
+// The entries of all rows, which are in an order of their places.
+fn read_all(alloc: Global, rows: &[Row]) -> Result<Vec<Entry>, OpenFault>
+    ensures whole { OnOk result (AreWhole 0 rows.now) }
+    ensures entries { IfOk result (λ entries. entries.items ≡ filter_map entry_of rows.now) }
+    ensures fault { IfErr result (AreRowsFault rows.now) }
+{
+    let below = rows_below(rows);
+    let entries = read_entries(alloc, &rows[below..])?;
+    if below > 0 {
+        return Err(OpenFault::Damaged {
+            place: entries.len() as u64,
+        });
     }
     Ok(entries)
 }
@@ -278,6 +316,6 @@ pub fn read_records<S: Alter>(
     }
     let meta = read_meta(conn)?;
     let rows = read_rows(conn)?;
-    let entries = read_entries(alloc, rows.as_slice())?;
+    let entries = read_all(alloc, rows.as_slice())?;
     Ok((entries, meta))
 }

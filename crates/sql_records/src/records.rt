@@ -1,5 +1,10 @@
 //! The records of a site.
-ghost use Rattle.std.specs.Prelude.{◌≡◌};
+ghost use Rattle.std.specs.Prelude.{◌≡◌, ◌≢◌, ◌<◌, ◌+◌, ◌++◌, ◌∷◌, [], OnOk, IfErr, Err};
+ghost use Rattle.sqlite.specs.State.{HasCleanDisk};
+ghost use Rattle.sqlite.specs.Held.{state};
+ghost use Rattle.sql_records.specs.declared.meta.Meta.{Meta as Numbers};
+ghost use Rattle.sql_records.specs.Held.{IsAtRest, IsKeepFault, LeavesSite, MayLeaveIn, history_in, most};
+ghost use Rattle.sql_records.specs.Keeping.{LeavesWithOrWithout};
 
 use crate::columns::fits;
 use crate::fault::{OpenFault, told};
@@ -50,6 +55,40 @@ impl<S: Alter + Drop> Drop for Records<S> {
     }
 }
 
+// Stores the entry at the place, which is the next.
+fn store<S: Alter>(
+    alloc: Global,
+    conn: &mut Connection<S>,
+    place: u64,
+    entry: &Entry,
+) -> Result<(), KeepFault>
+    requires rest { HasCleanDisk (state S.Store conn.old) → IsAtRest (state S.Store conn.old) place }
+    ensures low { OnOk result (place < most) }
+    ensures rest { HasCleanDisk (state S.Store conn.new) → OnOk result (IsAtRest (state S.Store conn.new) (place + 1)) }
+    ensures added { HasCleanDisk (state S.Store conn.new) → OnOk result
+        (history_in (state S.Store conn.new).now.trees ≡ history_in (state S.Store conn.old).now.trees ++ entry.now ∷ []) }
+    ensures stopped { HasCleanDisk (state S.Store conn.new)
+        → LeavesWithOrWithout (history_in (state S.Store conn.old).now.trees) entry.now (MayLeaveIn (state S.Store conn.new)) }
+    ensures cause { IfErr result (λ fault. HasCleanDisk (state S.Store conn.new)
+        → IsKeepFault S.Store (record { conn = conn.old; failures = 0 }) (record { conn = conn.new; failures = 1 }) entry.now fault) }
+    ensures named { result ≢ Err KeepFault.Shut }
+    ensures site { HasCleanDisk (state S.Store conn.new) → (meta : Numbers)
+        → LeavesSite (state S.Store conn.old) meta → LeavesSite (state S.Store conn.new) meta }
+    ensures limit { conn.new.step_limit ≡ conn.old.step_limit }
+    ensures clean { HasCleanDisk (state S.Store conn.new) → HasCleanDisk (state S.Store conn.old) }
+{
+    let Ok(text) = delta_text(alloc, entry.delta()) else {
+        return Err(KeepFault::Memory);
+    };
+    if place >= MOST || !fits(entry, &text) {
+        return Err(KeepFault::Disk);
+    }
+    match insert(conn, place, entry, &text) {
+        Ok(()) => Ok(()),
+        Err(error) => Err(told(KeepFault::Memory, KeepFault::Disk, error)),
+    }
+}
+
 impl<S: Alter> Keeper for Records<S> {
     ghost use Rattle.std.specs.Prelude.{◌≡◌, ◌≢◌, ◌++◌, ◌∷◌, [], OnOk, OnErr, IfErr, IsErrOf, refl};
     ghost use Rattle.std.proofs.Math.Logic.{∥∥₁_map};
@@ -86,25 +125,14 @@ impl<S: Alter> Keeper for Records<S> {
         if self.failures != 0 {
             return Err(KeepFault::Shut);
         }
-        let text = match delta_text(self.alloc, entry.delta()) {
-            Ok(text) => text,
-            Err(_) => {
-                self.failures = 1;
-                return Err(KeepFault::Memory);
-            }
-        };
-        if self.count >= MOST || !fits(entry, &text) {
-            self.failures = 1;
-            return Err(KeepFault::Disk);
-        }
-        match insert(&mut self.conn, self.count, entry, &text) {
+        match store(self.alloc, &mut self.conn, self.count, entry) {
             Ok(()) => {
                 self.count += 1;
                 Ok(())
             }
-            Err(error) => {
+            Err(fault) => {
                 self.failures = 1;
-                Err(told(KeepFault::Memory, KeepFault::Disk, error))
+                Err(fault)
             }
         }
     }

@@ -18,7 +18,7 @@ use Rattle.world_steps.specs.declared.step.Outcome.TheVariants as outcomes
 use Rattle.world_steps.specs.declared.step.WorldFault.{WorldFault}
 use Rattle.world_steps.specs.declared.step.WorldFault.TheVariants.{NoSite, NoMessage, Memory}
 use Rattle.world_steps.specs.Nodes.{site_of, limit_of}
-use Rattle.world_steps.specs.Outcomes.{answered, outcome, delivered_as, IsDue, MayGrow}
+use Rattle.world_steps.specs.Outcomes.{answered, outcome, delivered_as, IsDue, MayGrow, MayStore}
 use Rattle.world_steps.specs.Reaching.{world_of, IsKept}
 use Rattle.world_steps.specs.World.{World, count, site_at, history_at, office_at, at_site, with_sent, sends, asks, entry_of_input, is_there, after, IsReached}
 use Rattle.world_steps.proofs.Reached.{reached_after, sound_in}
@@ -91,6 +91,17 @@ ask_wants nodes sent i number request old kept l is fresh =
     let here = at_place nodes sent i old kept l is in
     subst (λ (s : Site). IsFresh (decision (office_at w i) s.history number request)) (sym here.site)
     (subst (λ (f : Office). IsFresh (decision f old.book.history number request)) (sym here.office) fresh)
+
+-- a stop that wants memory stores what wants it
+pub stop_wants : (nodes : List Node) (sent : List Message) (i : ℕ) (in_hand : Input) (stored : Bool) (old : Node) → IsKept nodes sent → i < length nodes → old ≡ get_or nodes i old
+    → stored ≡ true → MayStore old.book.office old.book.history sent in_hand → MayGrow (world_of nodes sent) (Stop i in_hand stored)
+stop_wants nodes sent i in_hand stored old kept l is stores wants =
+    let w : World = world_of nodes sent in
+    let here = at_place nodes sent i old kept l is in (
+      stores,
+      subst (λ (s : Site). MayStore (office_at w i) s.history sent in_hand) (sym here.site)
+          (subst (λ (f : Office). MayStore f old.book.history sent in_hand) (sym here.office) wants),
+    )
 
 -- a restart
 pub restart_made : (nodes : List Node) (sent : List Message) (i : ℕ) (old new : Node) → IsKept nodes sent → i < length nodes → old ≡ get_or nodes i old

@@ -4,15 +4,15 @@ ghost use Rattle.book_core.specs.Decision.{decision, entry_of_ask};
 ghost use Rattle.book_core.specs.Plans.{IsFresh};
 ghost use Rattle.book_core.specs.Joining.{entry_of_join, join_decision};
 ghost use Rattle.site_exchange.specs.Exchange.{IsDelta, entry_of_take, verdict, verdict_of};
-ghost use Rattle.site_exchange.specs.Taking.{HasReply, IsAsked, extended, site_after, stopped_with, with_entry};
+ghost use Rattle.site_exchange.specs.Taking.{extended, site_after, stopped_with, with_entry};
 ghost use Rattle.world_steps.specs.World.{entry_of_input, is_there};
-ghost use Rattle.world_steps.specs.Outcomes.{answered};
+ghost use Rattle.world_steps.specs.Outcomes.{answered, MayStore};
 ghost use Rattle.world_steps.specs.Nodes.{site_of, verdict_told};
 
 use crate::step::{Input, Outcome, WorldFault};
-use book_core::{Book, Entry, JoinFault, JoinPlan, Plan, PlanFault};
+use book_core::{Book, JoinFault, JoinPlan, Plan, PlanFault};
 use delta_mutators::Delta;
-use request_ledger::{Reply, Request, RequestNumber};
+use request_ledger::{Request, RequestNumber};
 use rights_lattice::SiteId;
 use site_exchange::{Exchange, Message, TakeFault, check};
 use std::alloc::{AllocError, Global};
@@ -54,23 +54,12 @@ pub fn ask(
     match node.book.plan(alloc, number, request) {
         Ok(Plan::Again { reply, .. }) => Ok(Outcome::Answered(reply)),
         Ok(Plan::New(planned)) => {
-            let reply = reply_of(planned.entry());
+            let reply = planned.reply();
             node.book.enter(planned);
             Ok(Outcome::Answered(reply))
         }
         Err(PlanFault::Memory) => Err(WorldFault::Memory),
         Err(fault) => Ok(Outcome::Refused(fault)),
-    }
-}
-
-// The reply of an entry that was asked.
-fn reply_of(entry: &Entry) -> Reply
-    requires { IsAsked entry.now }
-    ensures { HasReply entry.now result }
-{
-    match entry {
-        Entry::Asked { reply, .. } => *reply,
-        Entry::Joined { .. } => unreachable!(),
     }
 }
 
@@ -134,7 +123,8 @@ pub fn stop(
     ensures office { node.new.book.office ≡ node.old.book.office }
     ensures outcome { IfOk result (λ o. o ≡ Outcome.Stopped) }
     ensures memory { IfErr result (λ fault. fault ≡ WorldFault.Memory) }
-    ensures wanted { result ≡ Err WorldFault.Memory → IsTrue stored }
+    ensures stores { result ≡ Err WorldFault.Memory → IsTrue stored }
+    ensures wanted { result ≡ Err WorldFault.Memory → MayStore node.old.book.office node.old.book.history sent.now input.now }
     ensures stopped { OnOk result (site_of node.new ≡ stopped_with (entry_of_input node.old.book.office node.old.book.history sent.now input.now) stored (site_of node.old)) }
     ensures unchanged { OnErr result (site_of node.new ≡ site_of node.old) }
 {
@@ -150,6 +140,7 @@ fn store(book: &mut Book, alloc: Global, sent: &[Message], input: &Input) -> Res
     requires { IsTrue (is_there sent.now input.now) }
     ensures office { book.new.office ≡ book.old.office }
     ensures stored { OnOk result (book.new.history ≡ extended (entry_of_input book.old.office book.old.history sent.now input.now) book.old.history) }
+    ensures wanted { OnErr result (MayStore book.old.office book.old.history sent.now input.now) }
     ensures unchanged { OnErr result (book.new.history ≡ book.old.history) }
 {
     match input {
@@ -167,6 +158,7 @@ fn store_request(
 ) -> Result<(), AllocError>
     ensures office { book.new.office ≡ book.old.office }
     ensures stored { OnOk result (book.new.history ≡ extended (entry_of_ask book.old.office book.old.history number request.now) book.old.history) }
+    ensures wanted { OnErr result (IsFresh (decision book.old.office book.old.history number request.now)) }
     ensures unchanged { OnErr result (book.new.history ≡ book.old.history) }
 {
     match book.plan(alloc, number, request) {
@@ -183,6 +175,7 @@ fn store_request(
 fn store_delta(book: &mut Book, alloc: Global, message: &Message) -> Result<(), AllocError>
     ensures office { book.new.office ≡ book.old.office }
     ensures stored { OnOk result (book.new.history ≡ extended (entry_of_take book.old.office book.old.history message.now) book.old.history) }
+    ensures wanted { OnErr result (IsDelta message.now) }
     ensures unchanged { OnErr result (book.new.history ≡ book.old.history) }
 {
     match check(book, message) {

@@ -148,7 +148,7 @@ impl World {
     ) -> Result<Outcome, WorldFault>
         ensures outcome { IfOk result (λ o. outcome self.old (Step.Stop site input stored) ≡ Ok o) }
         ensures fault { IfErr result (IsDue self.old (Step.Stop site input stored)) }
-        ensures memory { result ≡ Err WorldFault.Memory → IsTrue stored }
+        ensures memory { result ≡ Err WorldFault.Memory → MayGrow self.old (Step.Stop site input stored) }
         ensures made { OnOk result (self.new ≡ after self.old (Step.Stop site input stored)) }
         ensures unchanged { OnErr result (self.new ≡ self.old) }
     {

@@ -11,8 +11,8 @@ use crate::book::Book;
 use crate::entry::Entry;
 use crate::plan::{Plan, PlanFault, Planned};
 use delta_mutators::{Delta, Item, announce, cession, refund, release, sale};
-use request_ledger::{Amount, Reply, Request, RequestNumber};
-use rights_lattice::{Cell, Event, SiteId};
+use request_ledger::{Reply, Request, RequestNumber};
+use rights_lattice::{Amount, Cell, Event, SiteId};
 use std::alloc::{AllocError, Global};
 
 impl Book {
@@ -102,7 +102,7 @@ impl Book {
         if !self.knows(event) {
             return (Reply::Unknown, None);
         }
-        match release(&self.rights, self.me, event, amount.seats()) {
+        match release(&self.rights, self.me, event, amount) {
             Ok(mark) => (Reply::Done, Some(Item::Cell(mark))),
             Err(_) => (Reply::CellFull, None),
         }
@@ -120,7 +120,7 @@ impl Book {
         if left < amount.seats() {
             return (Reply::Short { left }, None);
         }
-        match sale(&self.rights, self.me, event, amount.seats()) {
+        match sale(&self.rights, self.me, event, amount) {
             Ok(mark) => (Reply::Done, Some(Item::Cell(mark))),
             Err(_) => (Reply::CellFull, None),
         }
@@ -134,13 +134,12 @@ impl Book {
         let Some(sale) = self.sale(number) else {
             return (Reply::NoSale, None);
         };
-        let seats = sale.seats.seats();
-        if seats <= sale.given_back {
+        let Some(rest) = Amount::of(sale.seats.seats().saturating_sub(sale.given_back)) else {
             return (Reply::Refunded, None);
-        }
+        };
         // No site gives back more than it sold, so the cell has room.
         let _sold = self.rights.get(sale.event, Cell::Used { by: self.me });
-        match refund(&self.rights, self.me, sale.event, seats - sale.given_back) {
+        match refund(&self.rights, self.me, sale.event, rest) {
             Ok(mark) => (Reply::Done, Some(Item::Cell(mark))),
             Err(_) => unreachable!(),
         }
@@ -164,7 +163,7 @@ impl Book {
         if rights < amount.seats() {
             return (Reply::Short { left: rights }, None);
         }
-        match cession(&self.rights, self.me, event, amount.seats(), to) {
+        match cession(&self.rights, self.me, event, amount, to) {
             Ok(mark) => (Reply::Done, Some(Item::Cell(mark))),
             Err(_) => (Reply::CellFull, None),
         }

@@ -1,31 +1,26 @@
-use Rattle.std.proofs.Common.{◌≡◌, ap, subst, ◌∙◌}
+use Rattle.std.proofs.Common.{◌≡◌, refl, ap, sym, subst, ◌∙◌}
 use Rattle.std.specs.Prelude.{IfOk}
 use Rattle.sqlite.specs.State.{HasCleanDisk}
+use Rattle.sqlite.specs.Effect.{Database}
 use Rattle.sqlite.specs.Held.{Held, state}
 use Rattle.book_core.specs.Decision.{Office}
 use Rattle.site_exchange.specs.Exchange.{Site}
 use Rattle.sql_records.specs.Held.{IsTrusted, Kept}
+use Rattle.sql_records.specs.Layout.{HasMeta}
 use Rattle.site_desk.specs.SiteView.{office_of, site_of}
 use Rattle.operator_cli.specs.Exchanged.{IsDueText, site_in}
 use Rattle.operator_cli.specs.Printed.{Printed}
 use Rattle.operator_cli.specs.Printed.{IsSentText}
-use Rattle.operator_cli.specs.Opened.{IsIllegal, IsRefused}
-use Rattle.operator_cli.proofs.EndLaws.{if_back}
-use Rattle.operator_cli.proofs.PrintLaws.{ends_printed, refused_if_none}
+use Rattle.operator_cli.specs.Opened.{IsExportEnd}
+use Rattle.operator_cli.proofs.EndLaws.{weaker}
+use Rattle.operator_cli.proofs.ExchangeLaws.{export_end}
+use Rattle.operator_cli.proofs.OpenedLaws.{book_back, opened_cause, opened_illegal, opened_ours, refused_cause, refused_illegal, refused_lost, refused_ours}
+use Rattle.operator_cli.proofs.PrintLaws.{ends_printed}
 use Rattle.operator_cli.proofs.exchanging.export_store.Goals as goal
 
 pub returns-in-Ok-clause-out : goal.returns-in-Ok-clause-out
 returns-in-Ok-clause-out g c =
     ends_printed IsSentText (g.W.Write.contents c.args.out.now) (g.W.Write.contents c.write_next-came.new.out) (g.W.Write.contents c.ended.new.out) c.write_next-came.result c.ended.result c.write_next-came.ensures.out c.ended.ensures.kept c.ended.ensures.status
-
-pub returns-in-Err-clause-lost : goal.returns-in-Err-clause-lost
-returns-in-Err-clause-lost g c none = record {
-  fault = c.in-Err.fault;
-  refused = refused_if_none _ _ _ c.in-Err.ensures.fault none;
-  silent = c.ended-in-Err.ensures.kept;
-  told = c.ended-in-Err.ensures.line;
-  failed = c.ended-in-Err.ensures.status;
-}
 
 pub returns-in-Ok-clause-due : goal.returns-in-Ok-clause-due
 returns-in-Ok-clause-due g c clean meta has =
@@ -46,23 +41,38 @@ returns-in-Ok-clause-same g c clean =
     let trusted : IsTrusted g.S.Store c.in-Ok.book.keeper = subst (λ (conn : Held g.row.S.Denot). HasCleanDisk (state g.S.Store conn)) conn_is clean in
     ap (λ (conn : Held g.row.S.Denot). (state g.S.Store conn).now) conn_is ∙ c.in-Ok.ensures.same trusted
 
+pub returns-in-Err-clause-lost : goal.returns-in-Err-clause-lost
+returns-in-Err-clause-lost g c =
+    refused_lost g.S.Store c.args.conn c.in-Err.fault c.in-Err.conn c.in-Err.ensures.fault (g.W.Write.contents c.args.out.now) (g.W.Write.contents c.ended-in-Err.new.out) (g.E.Write.contents c.args.err.now) (g.E.Write.contents c.ended-in-Err.new.err) c.ended-in-Err.result c.ended-in-Err.ensures.kept c.ended-in-Err.ensures.line c.ended-in-Err.ensures.status
+
 pub returns-in-Err-clause-illegal : goal.returns-in-Err-clause-illegal
 returns-in-Err-clause-illegal g c =
-    if_back c.in-Err.conn (IsRefused g.S.Store c.args.conn c.in-Err.fault) (λ after. IsIllegal g.S.Store c.args.conn after c.in-Err.fault) _ c.in-Err.ensures.fault
-    (λ after found clean meta has illegal. (c.in-Err.fault, found, c.ended-in-Err.ensures.kept, c.ended-in-Err.ensures.line, c.ended-in-Err.ensures.status))
+    refused_illegal g.S.Store c.args.conn c.in-Err.fault c.in-Err.conn c.in-Err.ensures.fault (g.W.Write.contents c.args.out.now) (g.W.Write.contents c.ended-in-Err.new.out) (g.E.Write.contents c.args.err.now) (g.E.Write.contents c.ended-in-Err.new.err) c.ended-in-Err.result c.ended-in-Err.ensures.kept c.ended-in-Err.ensures.line c.ended-in-Err.ensures.status
 
-pub returns-in-Ok-clause-illegal : goal.returns-in-Ok-clause-illegal
-returns-in-Ok-clause-illegal g c clean meta has illegal =
-    let conn_is = c.close.ensures ∙ ap (λ (k : Kept g.row.S.Denot). k.conn) c.into_keeper.ensures in
-    let trusted : IsTrusted g.S.Store c.in-Ok.book.keeper = subst (λ (conn : Held g.row.S.Denot). HasCleanDisk (state g.S.Store conn)) conn_is clean in
-    absurd (illegal ((c.in-Ok.ensures.book trusted).legal meta has))
+pub returns-in-Err-clause-cause : goal.returns-in-Err-clause-cause
+returns-in-Err-clause-cause g c =
+    refused_cause g.S.Store c.args.conn c.in-Err.fault c.in-Err.conn c.in-Err.ensures.fault (IsExportEnd c.args.to) (g.E.Write.contents c.args.err.now) (g.E.Write.contents c.ended-in-Err.new.err) c.ended-in-Err.result c.ended-in-Err.ensures.line
 
 pub returns-in-Err-clause-ours : goal.returns-in-Err-clause-ours
 returns-in-Err-clause-ours g c =
-    if_back c.in-Err.conn (IsRefused g.S.Store c.args.conn c.in-Err.fault) (λ after. IsIllegal g.S.Store c.args.conn after c.in-Err.fault) _ c.in-Err.ensures.fault (λ after found. found.ours)
+    refused_ours g.S.Store c.args.conn c.in-Err.fault c.in-Err.conn c.in-Err.ensures.fault
 
 pub returns-in-Ok-clause-ours : goal.returns-in-Ok-clause-ours
-returns-in-Ok-clause-ours g c clean =
-    let conn_is = c.close.ensures ∙ ap (λ (k : Kept g.row.S.Denot). k.conn) c.into_keeper.ensures in
-    let trusted : IsTrusted g.S.Store c.in-Ok.book.keeper = subst (λ (conn : Held g.row.S.Denot). HasCleanDisk (state g.S.Store conn)) conn_is clean in
-    (c.in-Ok.ensures.book trusted).ours
+returns-in-Ok-clause-ours g c =
+    opened_ours g.S.Store c.args.conn c.close.result c.in-Ok.book (book_back g.S.Store c.args.conn c.close.result c.in-Ok.book c.in-Ok.book.keeper c.in-Ok.book.keeper refl (λ h. h) (c.close.ensures ∙ ap (λ (k : Kept g.row.S.Denot). k.conn) c.into_keeper.ensures) c.in-Ok.ensures.book)
+
+pub returns-in-Ok-clause-illegal : goal.returns-in-Ok-clause-illegal
+returns-in-Ok-clause-illegal g c =
+    opened_illegal g.S.Store c.args.conn c.close.result c.in-Ok.book (book_back g.S.Store c.args.conn c.close.result c.in-Ok.book c.in-Ok.book.keeper c.in-Ok.book.keeper refl (λ h. h) (c.close.ensures ∙ ap (λ (k : Kept g.row.S.Denot). k.conn) c.into_keeper.ensures) c.in-Ok.ensures.book) (g.W.Write.contents c.args.out.now) (g.W.Write.contents c.ended.new.out) (g.E.Write.contents c.args.err.now) (g.E.Write.contents c.ended.new.err) c.ended.result
+
+pub returns-in-Ok-clause-cause : goal.returns-in-Ok-clause-cause
+returns-in-Ok-clause-cause g c clean =
+    let opened = c.in-Ok.book.keeper.conn in
+    let of = (book_back g.S.Store c.args.conn c.close.result c.in-Ok.book c.in-Ok.book.keeper c.in-Ok.book.keeper refl (λ h. h) (c.close.ensures ∙ ap (λ (k : Kept g.row.S.Denot). k.conn) c.into_keeper.ensures) c.in-Ok.ensures.book) clean in
+    let same = c.in-Ok.ensures.same (subst (λ (conn : Held g.row.S.Denot). HasCleanDisk (state g.S.Store conn)) (c.close.ensures ∙ ap (λ (k : Kept g.row.S.Denot). k.conn) c.into_keeper.ensures) clean) in
+    let now = ap (λ (d : Database). d.trees) same in
+    let site : site_of c.in-Ok.book ≡ site_in (state g.S.Store c.args.conn).now.trees = λ i. record { history = of.history i; acked = of.fresh i } in
+    let ended = weaker _ (IsExportEnd c.args.to (state g.S.Store opened) (state g.S.Store c.close.result)) c.write_next-came.result
+    (λ f e meta has. export_end c.args.to c.in-Ok.book meta (state g.S.Store opened).now.trees f of.unclosed (of.office meta (subst (HasMeta meta) now has)) (site ∙ ap site_in (sym now)) e) c.write_next-came.ensures.fault in
+    opened_cause g.S.Store c.args.conn c.close.result c.in-Ok.book (book_back g.S.Store c.args.conn c.close.result c.in-Ok.book c.in-Ok.book.keeper c.in-Ok.book.keeper refl (λ h. h) (c.close.ensures ∙ ap (λ (k : Kept g.row.S.Denot). k.conn) c.into_keeper.ensures) c.in-Ok.ensures.book) (IsExportEnd c.args.to) opened (g.E.Write.contents c.args.err.now) (g.E.Write.contents c.ended.new.err) c.write_next-came.result c.ended.result clean same c.in-Ok.ensures.limit ended (λ meta has. tt)
+    c.write_next-came.ensures.ends c.ended.ensures.line c.ended.ensures.flush

@@ -1,33 +1,28 @@
-use Rattle.std.proofs.Common.{◌≡◌, ap, subst, ◌∙◌}
+use Rattle.std.proofs.Common.{◌≡◌, refl, ap, sym, subst, ◌∙◌}
 use Rattle.std.specs.Prelude.{IfOk, List}
 use Rattle.sqlite.specs.State.{HasCleanDisk}
+use Rattle.sqlite.specs.Effect.{Database}
 use Rattle.sqlite.specs.Held.{Held, state}
 use Rattle.book_core.specs.declared.entry.Entry.{Entry}
 use Rattle.book_core.specs.Decision.{Office}
 use Rattle.sql_records.specs.Held.{IsTrusted, Kept, history_in}
+use Rattle.sql_records.specs.Layout.{HasMeta}
 use Rattle.site_desk.specs.SiteView.{office_of}
 use Rattle.operator_cli.specs.declared.status.Status.{Status}
 use Rattle.operator_cli.specs.declared.status.Status.TheVariants.{Refused}
 use Rattle.operator_cli.specs.Exchanged.{told_of_bytes}
 use Rattle.operator_cli.specs.Printed.{Printed, IsTellingOf}
 use Rattle.operator_cli.specs.Printed.{IsTakenText}
-use Rattle.operator_cli.specs.Opened.{IsIllegal, IsRefused}
-use Rattle.operator_cli.proofs.EndLaws.{if_back}
-use Rattle.operator_cli.proofs.PrintLaws.{ends_printed, ends_as, if_some_map, refused_if_none}
+use Rattle.operator_cli.specs.Opened.{IsImportEnd}
+use Rattle.operator_cli.proofs.EndLaws.{weaker}
+use Rattle.operator_cli.proofs.ExchangeLaws.{import_end}
+use Rattle.operator_cli.proofs.OpenedLaws.{book_back, opened_cause, opened_illegal, opened_ours, refused_cause, refused_illegal, refused_lost, refused_ours}
+use Rattle.operator_cli.proofs.PrintLaws.{ends_printed, ends_as, if_some_map}
 use Rattle.operator_cli.proofs.exchanging.import_store.Goals as goal
 
 pub returns-in-Ok-clause-out : goal.returns-in-Ok-clause-out
 returns-in-Ok-clause-out g c =
     ends_printed IsTakenText (g.W.Write.contents c.args.out.now) (g.W.Write.contents c.write_taken-came.new.out) (g.W.Write.contents c.ended.new.out) c.write_taken-came.result c.ended.result c.write_taken-came.ensures.out c.ended.ensures.kept c.ended.ensures.status
-
-pub returns-in-Err-clause-lost : goal.returns-in-Err-clause-lost
-returns-in-Err-clause-lost g c none = record {
-  fault = c.in-Err.fault;
-  refused = refused_if_none _ _ _ c.in-Err.ensures.fault none;
-  silent = c.ended-in-Err.ensures.kept;
-  told = c.ended-in-Err.ensures.line;
-  failed = c.ended-in-Err.ensures.status;
-}
 
 pub returns-in-Ok-clause-taken : goal.returns-in-Ok-clause-taken
 returns-in-Ok-clause-taken g c clean meta has =
@@ -52,23 +47,37 @@ returns-in-Ok-clause-kept g c clean refused =
     ∙ ap (λ (k : Kept g.row.S.Denot). (state g.S.Store k.conn).now) unchanged
     ∙ c.in-Ok.ensures.same (c.write_taken-came.ensures.trusted after)
 
+pub returns-in-Err-clause-lost : goal.returns-in-Err-clause-lost
+returns-in-Err-clause-lost g c =
+    refused_lost g.S.Store c.args.conn c.in-Err.fault c.in-Err.conn c.in-Err.ensures.fault (g.W.Write.contents c.args.out.now) (g.W.Write.contents c.ended-in-Err.new.out) (g.E.Write.contents c.args.err.now) (g.E.Write.contents c.ended-in-Err.new.err) c.ended-in-Err.result c.ended-in-Err.ensures.kept c.ended-in-Err.ensures.line c.ended-in-Err.ensures.status
+
 pub returns-in-Err-clause-illegal : goal.returns-in-Err-clause-illegal
 returns-in-Err-clause-illegal g c =
-    if_back c.in-Err.conn (IsRefused g.S.Store c.args.conn c.in-Err.fault) (λ after. IsIllegal g.S.Store c.args.conn after c.in-Err.fault) _ c.in-Err.ensures.fault
-    (λ after found clean meta has illegal. (c.in-Err.fault, found, c.ended-in-Err.ensures.kept, c.ended-in-Err.ensures.line, c.ended-in-Err.ensures.status))
+    refused_illegal g.S.Store c.args.conn c.in-Err.fault c.in-Err.conn c.in-Err.ensures.fault (g.W.Write.contents c.args.out.now) (g.W.Write.contents c.ended-in-Err.new.out) (g.E.Write.contents c.args.err.now) (g.E.Write.contents c.ended-in-Err.new.err) c.ended-in-Err.result c.ended-in-Err.ensures.kept c.ended-in-Err.ensures.line c.ended-in-Err.ensures.status
 
-pub returns-in-Ok-clause-illegal : goal.returns-in-Ok-clause-illegal
-returns-in-Ok-clause-illegal g c clean meta has illegal =
-    let conn_is = c.close.ensures ∙ ap (λ (k : Kept g.row.S.Denot). k.conn) c.into_keeper.ensures in
-    let after : IsTrusted g.S.Store c.write_taken-came.new.book.keeper = subst (λ (conn : Held g.row.S.Denot). HasCleanDisk (state g.S.Store conn)) conn_is clean in
-    absurd (illegal ((c.in-Ok.ensures.book (c.write_taken-came.ensures.trusted after)).legal meta has))
+pub returns-in-Err-clause-cause : goal.returns-in-Err-clause-cause
+returns-in-Err-clause-cause g c =
+    refused_cause g.S.Store c.args.conn c.in-Err.fault c.in-Err.conn c.in-Err.ensures.fault (IsImportEnd (g.R.Read.remaining c.args.input)) (g.E.Write.contents c.args.err.now) (g.E.Write.contents c.ended-in-Err.new.err) c.ended-in-Err.result c.ended-in-Err.ensures.line
 
 pub returns-in-Err-clause-ours : goal.returns-in-Err-clause-ours
 returns-in-Err-clause-ours g c =
-    if_back c.in-Err.conn (IsRefused g.S.Store c.args.conn c.in-Err.fault) (λ after. IsIllegal g.S.Store c.args.conn after c.in-Err.fault) _ c.in-Err.ensures.fault (λ after found. found.ours)
+    refused_ours g.S.Store c.args.conn c.in-Err.fault c.in-Err.conn c.in-Err.ensures.fault
 
 pub returns-in-Ok-clause-ours : goal.returns-in-Ok-clause-ours
-returns-in-Ok-clause-ours g c clean =
-    let conn_is = c.close.ensures ∙ ap (λ (k : Kept g.row.S.Denot). k.conn) c.into_keeper.ensures in
-    let after : IsTrusted g.S.Store c.write_taken-came.new.book.keeper = subst (λ (conn : Held g.row.S.Denot). HasCleanDisk (state g.S.Store conn)) conn_is clean in
-    (c.in-Ok.ensures.book (c.write_taken-came.ensures.trusted after)).ours
+returns-in-Ok-clause-ours g c =
+    opened_ours g.S.Store c.args.conn c.close.result c.in-Ok.book (book_back g.S.Store c.args.conn c.close.result c.in-Ok.book c.in-Ok.book.keeper c.write_taken-came.new.book.keeper refl c.write_taken-came.ensures.trusted (c.close.ensures ∙ ap (λ (k : Kept g.row.S.Denot). k.conn) c.into_keeper.ensures) c.in-Ok.ensures.book)
+
+pub returns-in-Ok-clause-illegal : goal.returns-in-Ok-clause-illegal
+returns-in-Ok-clause-illegal g c =
+    opened_illegal g.S.Store c.args.conn c.close.result c.in-Ok.book (book_back g.S.Store c.args.conn c.close.result c.in-Ok.book c.in-Ok.book.keeper c.write_taken-came.new.book.keeper refl c.write_taken-came.ensures.trusted (c.close.ensures ∙ ap (λ (k : Kept g.row.S.Denot). k.conn) c.into_keeper.ensures) c.in-Ok.ensures.book) (g.W.Write.contents c.args.out.now) (g.W.Write.contents c.ended.new.out) (g.E.Write.contents c.args.err.now) (g.E.Write.contents c.ended.new.err) c.ended.result
+
+pub returns-in-Ok-clause-cause : goal.returns-in-Ok-clause-cause
+returns-in-Ok-clause-cause g c clean =
+    let opened = c.in-Ok.book.keeper.conn in
+    let of = (book_back g.S.Store c.args.conn c.close.result c.in-Ok.book c.in-Ok.book.keeper c.write_taken-came.new.book.keeper refl c.write_taken-came.ensures.trusted (c.close.ensures ∙ ap (λ (k : Kept g.row.S.Denot). k.conn) c.into_keeper.ensures) c.in-Ok.ensures.book) clean in
+    let same = c.in-Ok.ensures.same (c.write_taken-came.ensures.trusted (subst (λ (conn : Held g.row.S.Denot). HasCleanDisk (state g.S.Store conn)) (c.close.ensures ∙ ap (λ (k : Kept g.row.S.Denot). k.conn) c.into_keeper.ensures) clean)) in
+    let now = ap (λ (d : Database). d.trees) same in
+    let ended = weaker _ (IsImportEnd (g.R.Read.remaining c.args.input) (state g.S.Store opened) (state g.S.Store c.close.result)) c.write_taken-came.result
+    (λ f e meta has. import_end c.in-Ok.book meta (state g.S.Store opened).now.trees (g.R.Read.remaining c.args.input) f (of.office meta (subst (HasMeta meta) now has)) (of.history ∙ ap history_in (sym now)) (e of.unclosed)) c.write_taken-came.ensures.fault in
+    opened_cause g.S.Store c.args.conn c.close.result c.in-Ok.book (book_back g.S.Store c.args.conn c.close.result c.in-Ok.book c.in-Ok.book.keeper c.write_taken-came.new.book.keeper refl c.write_taken-came.ensures.trusted (c.close.ensures ∙ ap (λ (k : Kept g.row.S.Denot). k.conn) c.into_keeper.ensures) c.in-Ok.ensures.book) (IsImportEnd (g.R.Read.remaining c.args.input)) opened (g.E.Write.contents c.args.err.now) (g.E.Write.contents c.ended.new.err) c.write_taken-came.result c.ended.result clean same c.in-Ok.ensures.limit ended (λ meta has. tt)
+    c.write_taken-came.ensures.ends c.ended.ensures.line c.ended.ensures.flush

@@ -20,6 +20,7 @@ returns-in-Ok-start-clause-book g c = λ clean.
           let office = c.in-Ok-start.ensures.office ∙ ap office_of (c.in-Ok.ensures.given trusted meta has) in
           subst₂ IsLegal office entries c.in-Ok-start.ensures.legal;
       fresh = c.in-Ok-start.ensures.acknowledged;
+      unclosed = c.in-Ok-start.ensures.open;
     }
 
 either : (b : Bool) → (b ≡ true) ⊎ (b ≡ false)

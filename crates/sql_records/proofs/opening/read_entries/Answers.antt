@@ -1,12 +1,11 @@
 use Rattle.std.proofs.Common.{◌<◌, length, arith, ap, sym, ◌∙◌, ◌++◌, [], ◌∷◌, Err}
-use Rattle.sql_records.specs.Opening.{AreRowsFault}
-use Rattle.sql_records.proofs.OpeningLemmas.{whole_more, entries_more, fault_at, if_err}
+use Rattle.sql_records.proofs.OpeningLemmas.{StopsReading, whole_more, entries_more, fault_at, if_err}
 use Rattle.sql_records.proofs.opening.read_entries.Goals as goal
 
 pub returns-in_err-entry-clause-fault : goal.returns-in_err-entry-clause-fault
 returns-in_err-entry-clause-fault c =
     let low : c.rows.place < length c.args.rows.now = omega arith in
-    if_err c.from_residual.result (AreRowsFault c.args.rows.now) _ c.from_residual.ensures.1
+    if_err c.from_residual.result (StopsReading c.args.rows.now) _ c.from_residual.ensures.1
     (λ f e. rw e (fault_at c.args.rows.now c.rows.place _ c.in_err-entry.field-0.0 low c.index-rows-place.is c.rows.invariant.whole c.in_err-entry.ensures.named (λ h. c.in_err-entry.ensures.damaged (ap Err h))))
 
 pub rows-preserved : goal.rows-preserved

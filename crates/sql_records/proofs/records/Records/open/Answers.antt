@@ -55,3 +55,6 @@ returns-clause-site g c clean =
 pub returns-in_err-entries-clause-version : goal.returns-in_err-entries-clause-version
 returns-in_err-entries-clause-version g c foreign outside =
     if_err c.from_residual.result _ _ c.from_residual.ensures.1 (λ f e. (c.read_records.new.conn, λ clean. rw e (c.in_err-entries.ensures.foreign foreign outside clean)))
+
+pub returns-clause-limit : goal.returns-clause-limit
+returns-clause-limit g c = c.read_records.ensures.limit

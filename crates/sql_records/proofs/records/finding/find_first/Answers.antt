@@ -15,3 +15,6 @@ returns-in-Ok-clause-fault g c clean =
     let db = (state g.S.Store c.args.conn.now).now.trees in
     let rest = c.requires.rest (c.find_rows.ensures.clean clean) in
     first_fault c.as_slice.result.now (rows_in db) (history_in db) c.args.number rest.1.whole refl (c.as_slice.ensures.value ∙ c.in-Ok.ensures.rows clean) _ c.first_of.result c.first_of.ensures.err
+
+pub returns-in-Ok-clause-limit : goal.returns-in-Ok-clause-limit
+returns-in-Ok-clause-limit g c = c.find_rows.ensures.limit

@@ -18,3 +18,6 @@ returns-in-Ok-clause-fault g c clean =
     let db = old.now.trees in
     let rest = c.requires.rest (c.list_rows.ensures.clean clean) in
     all_fault c.as_slice.result.now (rows_in db) (history_in db) c.args.event.now rest.1.whole refl (c.as_slice.ensures.value ∙ c.in-Ok.ensures.rows clean) (IsQueryFault old new) c.all_of.result tt c.all_of.ensures.damaged
+
+pub returns-in-Ok-clause-limit : goal.returns-in-Ok-clause-limit
+returns-in-Ok-clause-limit g c = c.list_rows.ensures.limit

@@ -1,8 +1,8 @@
-//! How many seats a request is about.
+// Numbers of seats.
 ghost use Rattle.std.specs.Prelude.{◌≡◌, ◌≤◌, ◌↔◌, IsSome, IfSome};
 ghost use Rattle.rights_lattice.specs.Cells.{max_value};
 
-use rights_lattice::MAX_VALUE;
+use crate::mark::MAX_VALUE;
 use std::marker::Model;
 
 /// A number of seats, 1 to 1,000,000,000,000.

@@ -1,0 +1,60 @@
+-- What a command over records says of the connection that comes back.
+use Rattle.std.proofs.Common.{◌≡◌, ◌≢◌, ◌⊎◌, inl, inr, ℕ, List, Option, None, Result, subst}
+use Rattle.std.specs.Prelude.{IfOk, IfErr, IfSome, MatchOption}
+use Rattle.std.specs.Io.KnownBytes.{Keeps}
+use Rattle.sqlite.specs.Store.{Ghosts}
+use Rattle.sqlite.specs.State.{State, HasCleanDisk}
+use Rattle.sqlite.specs.Held.{Held, state}
+use Rattle.plain_words.specs.Writing.{AppendsFront}
+use Rattle.sql_records.specs.Held.{Kept, IsTrusted}
+use Rattle.site_desk.specs.SiteView.{SiteView}
+use Rattle.operator_cli.specs.declared.status.Status.{Status}
+use Rattle.operator_cli.specs.declared.status.Status.TheVariants.{Failed}
+use Rattle.operator_cli.specs.declared.store_fault.StoreFault.{StoreFault}
+use Rattle.operator_cli.specs.declared.store_fault.StoreFault.TheVariants as fault
+use Rattle.operator_cli.specs.Exchanged.{IsBookOf}
+use Rattle.operator_cli.specs.Told.{store_fault_line}
+use Rattle.operator_cli.specs.Opened.{EndsOpened, FailsFor, FailsIfIllegal, IsIllegal, IsLost, IsRefused, ShowedRecords}
+use Rattle.operator_cli.proofs.EndLaws.{fails_for, if_back, weaker}
+use Rattle.operator_cli.proofs.PrintLaws.{refused_if_none}
+
+-- ---- the records were refused, or their history is not legal
+
+module _ {S : Type 0} (g : Ghosts S) (conn : Held S) (cause : StoreFault) (back : Option (Held S)) (found : MatchOption back (IsRefused g conn cause) (λ after. IsIllegal g conn after cause)) where
+  pub refused_ours : IfSome back (ShowedRecords g conn)
+  refused_ours = if_back back _ _ _ found (λ after is. is.ours)
+
+  module _ (old_out new_out old_err new_err : Option (List ℕ)) (status : Status) (silent : Keeps old_out new_out) (told : AppendsFront old_err new_err (store_fault_line cause)) (failed : status ≡ Failed) where
+    pub refused_illegal : IfSome back (λ after. FailsIfIllegal g conn after old_out new_out old_err new_err status)
+    refused_illegal = if_back back _ _ _ found (λ after is clean meta has illegal. (cause, is, silent, told, failed))
+
+    pub refused_lost : back ≡ None → IsLost g conn old_out new_out old_err new_err status
+    refused_lost none = record { fault = cause; refused = refused_if_none back _ _ found none; silent = silent; told = told; failed = failed }
+
+  pub refused_cause : (Ends : State → State → StoreFault → Type 0) (old_err new_err : Option (List ℕ)) (status : Status) → AppendsFront old_err new_err (store_fault_line cause)
+      → IfSome back (λ after. HasCleanDisk (state g after) → FailsFor (λ f. IsIllegal g conn after f ⊎ EndsOpened g conn Ends after f) old_err new_err status)
+  refused_cause Ends old_err new_err status told = if_back back _ _ _ found (λ after is clean failed. (cause, inl is, told))
+
+-- ---- the records were opened
+
+-- the book that was opened, from the connection that came back
+pub book_back : {S : Type 0} (g : Ghosts S) (conn last : Held S) (book : SiteView (Kept S)) (first left : Kept S) → first ≡ book.keeper → (IsTrusted g left → IsTrusted g first) → last ≡ left.conn
+    → (IsTrusted g book.keeper → IsBookOf (state g conn).now.trees book) → HasCleanDisk (state g last) → IsBookOf (state g conn).now.trees book
+book_back g conn last book first left is trusted closed of clean = of (subst (IsTrusted g) is (trusted (subst (λ h. HasCleanDisk (state g h)) closed clean)))
+
+module _ {S K : Type 0} (g : Ghosts S) (conn last : Held S) (book : SiteView K) (of : HasCleanDisk (state g last) → IsBookOf (state g conn).now.trees book) where
+  pub opened_ours : ShowedRecords g conn last
+  opened_ours clean = (of clean).ours
+
+  pub opened_illegal : (old_out new_out old_err new_err : Option (List ℕ)) (status : Status) → FailsIfIllegal g conn last old_out new_out old_err new_err status
+  opened_illegal old_out new_out old_err new_err status clean meta has illegal = absurd (illegal ((of clean).legal meta has))
+
+  -- what ended the command is told, or that what it wrote was not
+  pub opened_cause : (Ends : State → State → StoreFault → Type 0) (opened : Held S) (old_err new_err : Option (List ℕ)) (came : Result Status StoreFault) (status : Status) → HasCleanDisk (state g last)
+      → (state g opened).now ≡ (state g conn).now → opened.step_limit ≡ conn.step_limit → IfErr came (Ends (state g opened) (state g last)) → Ends (state g opened) (state g last) fault.Write
+      → IfOk came (λ s. s ≢ Failed) → IfErr came (λ f. AppendsFront old_err new_err (store_fault_line f)) → IfOk came (λ s. status ≢ s → AppendsFront old_err new_err (store_fault_line fault.Write))
+      → FailsFor (λ f. IsIllegal g conn last f ⊎ EndsOpened g conn Ends last f) old_err new_err status
+  opened_cause Ends opened old_err new_err came status clean same limit ended write lives line flush =
+      let P : StoreFault → Type 0 = λ f. IsIllegal g conn last f ⊎ EndsOpened g conn Ends last f in
+      let ends : (f : StoreFault) → Ends (state g opened) (state g last) f → P f = λ f e. inr (record { opened = opened; same = same; limit = limit; ours = (of clean).ours; legal = (of clean).legal; ended = e }) in
+      fails_for P old_err new_err came status (weaker _ P came ends ended) (ends fault.Write write) lives line flush

@@ -1,0 +1,137 @@
+//! What lies under a desk's lock.
+ghost use Rattle.std.specs.Prelude.{◌≡◌, ℕ, ◌+◌, ◌<◌, ◌≤◌, true, length, IsTrue, IfOk, OnErr, OnOk, if◌then◌else◌};
+ghost use Rattle.site_exchange.specs.Exchange.{ack_for, next};
+ghost use Rattle.site_exchange.specs.Taking.{site_after};
+ghost use Rattle.site_desk.specs.Answers.{IsSeenAt, IsTaken};
+ghost use Rattle.site_desk.specs.SiteView.{site_of, verdict_in};
+ghost use Rattle.site_desk.specs.Count.{asked_since, Grows};
+ghost use Rattle.site_desk.specs.Seats.{held};
+
+use crate::answer::{Answer, Seen, Taken};
+use crate::fault::{AskFault, LookFault, NextFault};
+use crate::receipt::Receipt;
+use crate::seat::{Opens, Seat};
+use crate::site_book::SiteBook;
+use request_ledger::{Request, RequestNumber};
+use rights_lattice::{Event, SiteId};
+use site_exchange::{Message, TakeFault};
+use sql_records::Keeper;
+use std::alloc::Global;
+use std::marker::Model;
+use std::sync::ledger::{Blank, Book, Share};
+
+/// A site's book, with the count of the requests that were newly entered since it lies here.
+#[derive(Drop)]
+pub struct Locked<K: Keeper, L: Opens> {
+    book: SiteBook<K>,
+    opening: usize,
+    total: u64,
+    tally: Book<L>,
+    nothing: Share<L>,
+}
+
+impl<K: Keeper, L: Opens> Model for Locked<K, L> {
+    ghost use Rattle.std.specs.Prelude.{◌≡◌, ◌≤◌, length};
+    ghost use Rattle.site_desk.specs.SiteView.{SiteView, coded_view};
+    ghost use Rattle.site_desk.specs.Count.{asked_since};
+
+    ghost Value = { SiteView K };
+
+    ghost coded = { coded_view K.code };
+
+    ghost view = { λ d. d.book };
+
+    ghost invariant = { λ d. (d.opening ≡ L.opening) × (d.opening ≤ length d.book.book.history) × (d.total ≡ asked_since L.opening d.book.book.history) × (d.tally.total ≡ d.total) × (d.nothing.parts ≡ 0) };
+}
+
+impl<K: Keeper, L: Opens> Locked<K, L> {
+    /// A book with its count at 0, and the seat that has all parts of the count.
+    pub fn new(book: SiteBook<K>, blank: Blank) -> (Locked<K, L>, Seat<L>)
+        requires name { blank.name ≡ L.name }
+        requires parts { blank.parts ≡ L.parts }
+        requires some { 0 < blank.parts }
+        requires opening { L.opening ≡ length book.book.history }
+        ensures book { result.0 ≡ book }
+        ensures seat { result.1 ≡ held blank.parts 0 }
+    {
+        let opening = book.book().len();
+        let (tally, mut share) = blank.open::<L>();
+        let nothing = share.empty();
+        (
+            Locked {
+                book,
+                opening,
+                total: 0,
+                tally,
+                nothing,
+            },
+            Seat { share, count: 0 },
+        )
+    }
+
+    /// Answers a request. A fresh answer raises the seat's share by one.
+    #[tactic(auto, using(crate::proofs::Growth::asked_since_push, crate::proofs::Growth::asked_since_below))]
+    pub fn ask(
+        &mut self,
+        alloc: Global,
+        seat: &mut Seat<L>,
+        number: RequestNumber,
+        request: &Request,
+    ) -> Result<(Answer, Receipt), AskFault>
+        ensures grown { IfOk result (λ r. Grows r.0.fresh r.0.place self.old.book.history self.new.book.history) }
+        ensures unchanged { OnErr result (self.new.book.history ≡ self.old.book.history) }
+        ensures receipt { IfOk result (λ r. r.1 ≡ record { number = number; request = request.now; reply = r.0.reply; place = r.0.place }) }
+        ensures share { IfOk result (λ r. seat.new ≡ held seat.old.parts (if r.0.fresh then seat.old.count + 1 else seat.old.count)) }
+        ensures kept { OnErr result (seat.new ≡ seat.old) }
+        ensures place { IfOk result (λ r. r.0.fresh ≡ true → L.opening + seat.old.count ≤ r.0.place) }
+    {
+        self.tally.audit(&mut seat.share);
+        let answer = self.book.ask(alloc, number, request)?;
+        // What the book says of its length, which the total is not above.
+        let _len = self.book.book().len();
+        if answer.fresh {
+            self.tally.add(&mut seat.share, 1);
+            self.total += 1;
+            seat.count += 1;
+        }
+        let receipt = Receipt {
+            number,
+            request: *request,
+            reply: answer.reply,
+            place: answer.place,
+        };
+        Ok((answer, receipt))
+    }
+
+    /// Whether the history has so many requests that were newly entered.
+    #[tactic(auto, using(crate::proofs::Growth::asked_since_below))]
+    pub fn shows(&self, count: u64) -> bool
+        ensures { IsTrue result → L.opening + count ≤ length self.now.book.history }
+    {
+        count <= self.total
+    }
+
+    /// What the history shows of an event that it knows.
+    pub fn look(&self, event: Event) -> Result<Seen, LookFault>
+        ensures seen { IfOk result (IsSeenAt self.now.book.office self.now.book.history event) }
+        ensures at { IfOk result (λ seen. seen.at ≡ length self.now.book.history) }
+    {
+        self.book.look(event)
+    }
+
+    /// Takes a peer's message.
+    pub fn take(&mut self, message: Message) -> Result<Taken, TakeFault>
+        ensures taken { IfOk result (IsTaken (verdict_in self.old.book message) (ack_for message)) }
+        ensures changed { OnOk result (site_of self.new ≡ site_after (verdict_in self.old.book message) message (site_of self.old)) }
+        ensures unchanged { OnErr result (site_of self.new ≡ site_of self.old) }
+    {
+        self.book.take(message)
+    }
+
+    /// The message that is due to a peer.
+    pub fn next(&self, alloc: Global, to: SiteId) -> Result<Option<Message>, NextFault>
+        ensures { IfOk result (λ message. message ≡ next self.now.book.office.me (site_of self.now) to) }
+    {
+        self.book.next(alloc, to)
+    }
+}

@@ -1,0 +1,59 @@
+//! A session's share of the count of requests that were newly entered.
+ghost use Rattle.std.specs.Prelude.{◌≡◌, ℕ, ◌+◌, ◌-◌, ◌<◌, ◌≤◌};
+ghost use Rattle.site_desk.specs.Seats.{held};
+
+use std::marker::{Brand, Model};
+use std::sync::ledger::{Ledger, Share};
+
+/// Which count it is, and the length of the history when the count began.
+pub trait Opens: Ledger {
+    ghost opening: { ℕ };
+}
+
+impl Opens for Brand {
+    ghost opening = { 0 };
+}
+
+/// A session's share of the count, and its parts of it.
+#[derive(Drop)]
+pub struct Seat<L: Opens> {
+    pub(crate) share: Share<L>,
+    pub(crate) count: u64,
+}
+
+impl<L: Opens> Model for Seat<L> {
+    ghost use Rattle.std.specs.Prelude.{◌≡◌, ◌<◌};
+    ghost use Rattle.site_desk.specs.Seats.{Held};
+
+    ghost Value = { Held };
+
+    ghost view = { λ s. record { parts = s.share.parts; count = s.count } };
+
+    ghost invariant = { λ s. (s.share.amount ≡ s.count) × (0 < s.share.parts) };
+}
+
+impl<L: Opens> Seat<L> {
+    /// How many requests were newly entered for it.
+    pub fn count(&self) -> u64
+        ensures { result ≡ self.now.count }
+    {
+        self.count
+    }
+
+    /// Cuts off a seat with one part and no share.
+    pub fn split(self) -> (Seat<L>, Seat<L>)
+        requires { 1 < self.parts }
+        ensures first { result.0 ≡ held (self.parts - 1) self.count }
+        ensures second { result.1 ≡ held 1 0 }
+    {
+        let Seat { mut share, count } = self;
+        let part = share.split_off(1, 0);
+        (
+            Seat { share, count },
+            Seat {
+                share: part,
+                count: 0,
+            },
+        )
+    }
+}
