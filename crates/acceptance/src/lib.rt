@@ -8,6 +8,8 @@ mod ends;
 #[cfg(test)]
 mod keepers;
 #[cfg(test)]
+mod line_texts;
+#[cfg(test)]
 mod lines;
 #[cfg(test)]
 mod many_sites;

@@ -16,6 +16,8 @@ mod ledger;
 #[cfg(test)]
 mod mutators;
 #[cfg(test)]
+mod request_words;
+#[cfg(test)]
 mod rights;
 #[cfg(test)]
 mod values;

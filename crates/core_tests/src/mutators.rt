@@ -27,9 +27,15 @@ fn marks_of_operations(rt: HostRuntime) {
         cell: Cell::Gave { by: me, to: peer },
         value: 50,
     };
-    assert_eq!(rt; cession(&rights, me, gala, seats(&rt, 40), peer), Ok(ceded_at_first));
+    assert_eq!(rt;
+        cession(&rights, me, gala, seats(&rt, 40), peer),
+        Ok(ceded_at_first)
+    );
     rights.raise(ceded_at_first);
-    assert_eq!(rt; cession(&rights, me, gala, seats(&rt, 10), peer), Ok(ceded_in_all));
+    assert_eq!(rt;
+        cession(&rights, me, gala, seats(&rt, 10), peer),
+        Ok(ceded_in_all)
+    );
     let sold = Mark {
         event: gala,
         cell: Cell::Used { by: me },

@@ -1,5 +1,5 @@
 -- An event, a site and a value in words: what is read is spelled so, and what is spelled so is read.
-use Rattle.std.proofs.Common.{◌≡◌, ℕ, true, List, ◌∷◌, Option, Some, refl, ap, subst, ◌∙◌, arith, lit<}
+use Rattle.std.proofs.Common.{◌≡◌, ℕ, true, List, ◌∷◌, Some, refl, ap, subst, ◌∙◌, arith, lit<}
 use Rattle.std.specs.Fmt.{decimal}
 use Rattle.rights_lattice.specs.Cells.{max_value}
 use Rattle.rights_lattice.specs.EventName.{IsEventName, name_of}

@@ -2,14 +2,11 @@
 //! messages times.
 #![tactic(auto)]
 
-use delta_wire::{read_message, write_message};
+use delta_wire::{MOST_BYTES, read_message, write_message};
 use plain_words::read_number;
 use std::env;
 use std::io::{BufWriter, Read, Write};
 use std::process::ExitCode;
-
-// The longest text that is read.
-const MOST_BYTES: usize = 4_294_967_296;
 
 fn read_all(rt: &HostRuntime) -> std::io::Result<Vec<u8>> {
     let mut bytes = Vec::new(rt.alloc());
