@@ -24,6 +24,8 @@ mod script_lines;
 #[cfg(test)]
 mod scripts;
 #[cfg(test)]
+mod sessions;
+#[cfg(test)]
 mod texts;
 #[cfg(test)]
 mod values;
