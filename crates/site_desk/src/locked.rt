@@ -1,5 +1,5 @@
 //! What lies under a desk's lock.
-ghost use Rattle.std.specs.Prelude.{◌≡◌, IfErr, ℕ, ◌+◌, ◌<◌, ◌≤◌, true, false, length, IsTrue, IfOk, OnErr, OnOk, if◌then◌else◌};
+ghost use Rattle.std.specs.Prelude.{◌≡◌, ℕ, ◌+◌, ◌<◌, ◌≤◌, true, false, length, IsTrue, IfOk, IfErr, OnErr, OnOk, if◌then◌else◌};
 ghost use Rattle.book_core.specs.Legal.{IsLegal};
 ghost use Rattle.book_core.specs.OwnRow.{HasOwnRights};
 ghost use Rattle.site_exchange.specs.Exchange.{ack_for, next};
@@ -25,7 +25,8 @@ use std::alloc::Global;
 use std::marker::Model;
 use std::sync::ledger::{Blank, Book, Share};
 
-/// A site's book, with the count of the requests that were newly entered since it lies here.
+/// A site's book, with the count of the requests that were newly entered since it lies here: what they are in its
+/// history from its length of then on.
 #[derive(Drop)]
 pub struct Locked<K: Keeper, L: Opens> {
     book: SiteBook<K>,
