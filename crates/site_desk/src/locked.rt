@@ -3,10 +3,10 @@ ghost use Rattle.std.specs.Prelude.{◌≡◌, ℕ, ◌+◌, ◌<◌, ◌≤◌,
 ghost use Rattle.book_core.specs.Legal.{IsLegal};
 ghost use Rattle.book_core.specs.OwnRow.{HasOwnRights};
 ghost use Rattle.site_exchange.specs.Exchange.{ack_for, next};
-ghost use Rattle.site_exchange.specs.Taking.{site_after};
+ghost use Rattle.site_exchange.specs.Taking.{site_after, with_entry};
 ghost use Rattle.sql_records.specs.Keeping.{LeavesOnly};
-ghost use Rattle.site_desk.specs.Answers.{IsSeenAt, IsTaken};
-ghost use Rattle.site_desk.specs.SiteView.{site_of, verdict_in};
+ghost use Rattle.site_desk.specs.Answers.{IsAnswer, IsSeenAt, IsTaken};
+ghost use Rattle.site_desk.specs.SiteView.{decision_in, entry_in, site_of, verdict_in};
 ghost use Rattle.site_desk.specs.Count.{asked_since, Grows};
 ghost use Rattle.site_desk.specs.Finish.{Each, FindsFirst, StandsIn, WasSeen, given_back};
 ghost use Rattle.site_desk.specs.Seats.{held, parts_of, shares_of};
@@ -84,8 +84,10 @@ impl<K: Keeper, L: Opens> Locked<K, L> {
         number: RequestNumber,
         request: &Request,
     ) -> Result<(Answer, Receipt), AskFault>
+        ensures answer { IfOk result (λ r. IsAnswer (decision_in self.old.book number request.now) (length self.old.book.history) r.0) }
+        ensures entered { OnOk result (site_of self.new ≡ with_entry (entry_in self.old.book number request.now) (site_of self.old)) }
         ensures grown { IfOk result (λ r. Grows r.0.fresh r.0.place self.old.book.history self.new.book.history) }
-        ensures unchanged { OnErr result (self.new.book.history ≡ self.old.book.history) }
+        ensures unchanged { OnErr result (site_of self.new ≡ site_of self.old) }
         ensures receipt { IfOk result (λ r. r.1 ≡ record { number = number; request = request.now; reply = r.0.reply; place = r.0.place }) }
         ensures share { IfOk result (λ r. seat.new ≡ held seat.old.parts (if r.0.fresh then seat.old.count + 1 else seat.old.count)) }
         ensures kept { OnErr result (seat.new ≡ seat.old) }
