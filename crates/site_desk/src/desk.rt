@@ -110,7 +110,8 @@ impl<K: Keeper, L: Opens> Desk<K, L> {
     /// memory.
     ///
     /// The first of these is the fault: the seats do not have all that was newly entered; a receipt is not the entry that
-    /// it names; a look does not show what the entries that it names say. The book comes back with a fault too.
+    /// it names; a look does not show what the entries that it names say. The book comes back with a fault too. Each
+    /// look costs a walk over the entries that it names.
     pub fn finish(
         self,
         seats: Vec<Seat<L>>,
