@@ -7,7 +7,7 @@ ghost use Rattle.book_core.specs.OwnRow.{HasOwnRights};
 ghost use Rattle.site_exchange.specs.Exchange.{ack_for, next};
 ghost use Rattle.site_exchange.specs.Taking.{site_after, with_entry};
 ghost use Rattle.sql_records.specs.Keeping.{LeavesOnly};
-ghost use Rattle.site_desk.specs.Answers.{IsAnswer, IsSeenAt, IsTakeFault, IsTaken, is_peer};
+ghost use Rattle.site_desk.specs.Answers.{IsAnswer, IsAskFault, IsSeenAt, IsTakeFault, IsTaken, is_peer};
 ghost use Rattle.site_desk.specs.SiteView.{decision_in, entry_in, site_of, verdict_in};
 ghost use Rattle.site_desk.specs.Count.{asked_since, Grows};
 ghost use Rattle.site_desk.specs.Finish.{Each, FindsFirst, StandsIn, WasSeen, given_back};
@@ -89,6 +89,8 @@ impl<K: Keeper, L: Opens> Locked<K, L> {
         ensures answer { IfOk result (λ r. IsAnswer (decision_in self.old.book number request.now) (length self.old.book.history) r.0) }
         ensures entered { OnOk result (site_of self.new ≡ with_entry (entry_in self.old.book number request.now) (site_of self.old)) }
         ensures grown { IfOk result (λ r. Grows r.0.fresh r.0.place self.old.book.history self.new.book.history) }
+        ensures closed { (result ≡ Err AskFault.Closed) ↔ (self.old.closed ≡ true) }
+        ensures fault { IfErr result (IsAskFault self.old.closed (decision_in self.old.book number request.now) (K.failed self.old.keeper) (K.failed self.new.keeper)) }
         ensures unchanged { OnErr result (site_of self.new ≡ site_of self.old) }
         ensures receipt { IfOk result (λ r. r.1 ≡ record { number = number; request = request.now; reply = r.0.reply; place = r.0.place }) }
         ensures share { IfOk result (λ r. seat.new ≡ held seat.old.parts (if r.0.fresh then seat.old.count + 1 else seat.old.count)) }
