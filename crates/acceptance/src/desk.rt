@@ -194,7 +194,7 @@ fn delta(rt: &impl Abort, alloc: Global, item: Item) -> Message {
 }
 
 // Of the sender, the receiver and the length that a message names.
-fn header(message: &Message) -> (u64, u64, u64) {
+pub(crate) fn header(message: &Message) -> (u64, u64, u64) {
     match message {
         Message::Delta { by, to, upto, .. } | Message::Ack { by, to, upto } => {
             (by.number(), to.number(), upto.entries())

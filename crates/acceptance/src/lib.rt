@@ -2,6 +2,8 @@
 #![tactic(auto)]
 
 #[cfg(test)]
+mod book_sessions;
+#[cfg(test)]
 mod desk;
 #[cfg(test)]
 mod ends;

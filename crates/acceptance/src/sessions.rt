@@ -1,53 +1,274 @@
-//! Sessions with a book over a keeper in memory, worked out by hand, with ample memory.
+//! Sessions that share a site's book at a desk, over a keeper in memory, worked out by hand, with ample memory.
+//!
+//! Each test ends by itself, and finds the same whatever the schedule.
+ghost use Rattle.std.specs.Prelude.{◌≡◌, ◌<◌, length};
 
-use crate::desk::{failing_book, restarted};
-use session_server::{AtBook, Ended, talk};
-use site_desk::SiteBook;
-use sql_records::ListKeeper;
+use crate::desk::header;
+use crate::values::{gala, number, seats, site};
+use book_core::Limit;
+use delta_mutators::{Delta, Item};
+use local_rights::Totals;
+use request_ledger::{Reply, Request};
+use rights_lattice::{Cell, Event, Mark, Sites};
+use site_desk::{Desk, FinishFault, NoGate, Opens, Receipt, Seat, Seen, SiteBook, Taken};
+use site_exchange::{Message, Upto};
+use sql_records::{Keeper, ListKeeper, Meta};
 use std::alloc::Global;
+use std::marker::Brand;
 use std::process::Abort;
 use std::sync::Wait;
+use std::sync::ledger::Blank;
+use std::thread::{Threads, join};
 
-// The book behind a session that ends so.
-fn session(
-    rt: &(impl Abort + Wait),
+// The book of no entries of a site of two.
+fn empty_book(rt: &impl Abort, alloc: Global, me: u64) -> SiteBook<ListKeeper> {
+    let meta = Meta {
+        me: site(rt, me),
+        sites: Sites::of(2).expect(rt, "a count"),
+        limit: Limit::greatest(),
+    };
+    assert!(rt; meta.me.number() < meta.sites.count());
+    match SiteBook::start(alloc, ListKeeper::new(alloc), Vec::new(alloc), meta) {
+        Ok(book) => book,
+        Err(_) => panic!(rt; "an empty history is legal"),
+    }
+}
+
+// The book of site 0 with 100 seats released.
+fn selling_book(rt: &impl Abort, alloc: Global) -> SiteBook<ListKeeper> {
+    let mut book = empty_book(rt, alloc, 0);
+    let announce = Request::Announce { event: gala(rt) };
+    let release = Request::Release {
+        event: gala(rt),
+        amount: seats(rt, 100),
+    };
+    assert!(rt; book.ask(alloc, number(rt, 1), &announce).is_ok());
+    assert!(rt; book.ask(alloc, number(rt, 2), &release).is_ok());
+    book
+}
+
+// What is seen of the event after so many entries.
+fn seen_of(event: Event, left: u64, sold: u64, at: usize) -> Seen {
+    let totals = Totals {
+        released: 100,
+        sold,
+        refunded: 0,
+    };
+    Seen {
+        event,
+        left,
+        totals,
+        at,
+    }
+}
+
+// Sells under a number and looks.
+fn sell_and_look<R: Wait + Abort, K: Keeper, L: Opens>(
+    rt: &R,
+    alloc: Global,
+    desk: &Desk<K, L>,
+    seat: &mut Seat<L>,
+    asked: u64,
+    count: u64,
+) -> (Receipt, Seen) {
+    let sell = Request::Sell {
+        event: gala(rt),
+        amount: seats(rt, count),
+    };
+    let answered = desk.ask(rt, alloc, &NoGate, seat, number(rt, asked), &sell);
+    let (answer, receipt) = answered.expect(rt, "an answer");
+    assert!(rt; answer.fresh);
+    assert_eq!(rt; answer.reply, Reply::Done);
+    let seen = desk.look(rt, seat, gala(rt)).expect(rt, "a look");
+    (receipt, seen)
+}
+
+// Two sessions sell at once, and each looks at what is left.
+fn two_sessions<R: Threads + Wait + Abort + Sync, L: Opens + Send + Sync>(
+    rt: &R,
     alloc: Global,
     book: SiteBook<ListKeeper>,
-    lines: &[u8],
-    replies: &[u8],
-    ended: Ended,
-) -> SiteBook<ListKeeper> {
-    let mut out = Vec::new(alloc);
-    let mut answerer = AtBook::new(alloc, book);
-    let came = talk(rt, alloc, lines, &mut out, &mut answerer);
-    assert_eq!(rt; came, Ok(ended));
-    assert_eq!(rt; out.as_slice(), replies);
-    answerer.into_book()
+    blank: Blank,
+) -> SiteBook<ListKeeper>
+    requires name { blank.name ≡ L.name }
+    requires parts { blank.parts ≡ L.parts }
+    requires two { blank.parts ≡ 2 }
+    requires opening { L.opening ≡ length book.book.history }
+{
+    let (desk, seat) = Desk::<ListKeeper, L>::new(book, blank);
+    let (mut zero, mut one) = seat.split();
+    let (first, second) = join(
+        rt,
+        || sell_and_look(rt, alloc, &desk, &mut zero, 10, 3),
+        || sell_and_look(rt, alloc, &desk, &mut one, 20, 4),
+    );
+    let last = seen_of(gala(rt), 93, 7, 4);
+    assert!(rt; first.1 == seen_of(gala(rt), 97, 3, 3) || first.1 == last);
+    assert!(rt; second.1 == seen_of(gala(rt), 96, 4, 3) || second.1 == last);
+    assert_eq!(rt; (zero.count(), one.count()), (1, 1));
+    let mut seats = Vec::new(alloc);
+    seats.push(zero).expect(rt, "memory");
+    seats.push(one).expect(rt, "memory");
+    match desk.finish(seats, &[first.0, second.0], &[first.1, second.1]) {
+        Ok(book) => book,
+        Err(_) => panic!(rt; "each receipt and look is of the history"),
+    }
+}
+
+// A desk that enters another request, that answers a new request as kept, or that is always closed fails here.
+#[test]
+fn two_sessions_sell_at_once(rt: HostRuntime) {
+    let alloc = rt.alloc();
+    let book = selling_book(&rt, alloc);
+    let book = two_sessions::<_, Brand>(&rt, alloc, book, Blank::new(2));
+    assert_eq!(rt; book.book().len(), 4);
+    assert_eq!(rt; book.look(gala(&rt)), Ok(seen_of(gala(&rt), 93, 7, 4)));
+    assert!(rt; !book.is_closed());
+}
+
+// After the sale of 3 alone: the fault, and the length of the book that comes back. A seat, a reply and a number of seats
+// left are handed in.
+fn finished_with<R: Wait + Abort, L: Opens>(
+    rt: &R,
+    alloc: Global,
+    book: SiteBook<ListKeeper>,
+    blank: Blank,
+    has_seat: bool,
+    reply: Reply,
+    left: u64,
+) -> (Option<FinishFault>, usize)
+    requires name { blank.name ≡ L.name }
+    requires parts { blank.parts ≡ L.parts }
+    requires some { 0 < blank.parts }
+    requires opening { L.opening ≡ length book.book.history }
+{
+    let (desk, mut seat) = Desk::<ListKeeper, L>::new(book, blank);
+    let (receipt, seen) = sell_and_look(rt, alloc, &desk, &mut seat, 10, 3);
+    assert_eq!(rt; receipt.place, 2);
+    assert_eq!(rt; seen, seen_of(gala(rt), 97, 3, 3));
+    let mut seats = Vec::new(alloc);
+    if has_seat {
+        seats.push(seat).expect(rt, "memory");
+    }
+    let receipt = Receipt { reply, ..receipt };
+    let seen = Seen { left, ..seen };
+    match desk.finish(seats, &[receipt], &[seen]) {
+        Ok(book) => (None, book.book().len()),
+        Err((book, fault)) => (Some(fault), book.book().len()),
+    }
+}
+
+fn finished(
+    rt: &(impl Wait + Abort),
+    alloc: Global,
+    has_seat: bool,
+    reply: Reply,
+    left: u64,
+) -> Option<FinishFault> {
+    let book = selling_book(rt, alloc);
+    let (fault, len) = finished_with::<_, Brand>(
+        rt,
+        alloc,
+        book,
+        Blank::new(1),
+        has_seat,
+        reply,
+        left,
+    );
+    assert_eq!(rt; len, 3);
+    fault
 }
 
 #[test]
-fn session_ends_at_quit(rt: HostRuntime) {
-    let book = restarted(&rt, rt.alloc(), Vec::new(rt.alloc()));
-    let lines = b"announce 1 gala\nrelease 2 gala 9\nsell\nsell 3 gala 4\nleft gala\nquit\nsell 4 gala 1\n";
-    let replies = b"done\ndone\nbad-line\ndone\nleft 5\n";
-    let book = session(&rt, rt.alloc(), book, lines, replies, Ended::Quit);
-    assert_eq!(rt; book.book().len(), 3);
+fn finish_finds_the_first_fault(rt: HostRuntime) {
+    let alloc = rt.alloc();
+    let other = Reply::Short { left: 0 };
+    let seats_out = Some(FinishFault::SeatsOut);
+    let stranger = Some(FinishFault::Stranger { at: 0 });
+    let stranger_seen = Some(FinishFault::StrangerSeen { at: 0 });
+    assert_eq!(rt; finished(&rt, alloc, true, Reply::Done, 97), None);
+    assert_eq!(rt; finished(&rt, alloc, false, Reply::Done, 97), seats_out);
+    assert_eq!(rt; finished(&rt, alloc, true, other, 97), stranger);
+    assert_eq!(rt; finished(&rt, alloc, true, Reply::Done, 96), stranger_seen);
+    assert_eq!(rt; finished(&rt, alloc, true, other, 96), stranger);
+    assert_eq!(rt; finished(&rt, alloc, false, other, 96), seats_out);
 }
 
-// A session whose second request is not known to be kept, and one after a restart from what was kept.
-fn fails_and_restarts(rt: &(impl Abort + Wait), alloc: Global, is_stored: bool) -> usize {
-    let book = failing_book(rt, alloc, 2, is_stored);
-    let lines = b"announce 1 gala\nrelease 2 gala 5\nsell 3 gala 1\nleft gala\n";
-    let replies = b"done\nstore\nclosed\nclosed\n";
-    let book = session(rt, alloc, book, lines, replies, Ended::EndOfInput);
-    let book = restarted(rt, alloc, book.into_keeper().into_entries());
-    let lines = b"release 2 gala 5\nleft gala\n";
-    let book = session(rt, alloc, book, lines, b"done\nleft 5\n", Ended::EndOfInput);
-    book.book().len()
+fn gave(rt: &impl Abort, to: u64, value: u64) -> Mark {
+    Mark {
+        event: gala(rt),
+        cell: Cell::Gave {
+            by: site(rt, 0),
+            to: site(rt, to),
+        },
+        value: seats(rt, value).seats(),
+    }
 }
 
+// Site 0 made 100 seats known to site 1, and gave it 40 of them.
+fn given_rights(rt: &impl Abort, alloc: Global) -> Message {
+    let items = [Item::Cell(gave(rt, 0, 100)), Item::Cell(gave(rt, 1, 40))];
+    let mut delta = Delta::of(alloc, Item::Name(gala(rt))).expect(rt, "memory");
+    for item in items {
+        let more = Delta::of(alloc, item).expect(rt, "memory");
+        delta = delta.join(alloc, &more).expect(rt, "memory");
+    }
+    Message::Delta {
+        by: site(rt, 0),
+        to: site(rt, 1),
+        upto: Upto::of(4).expect(rt, "a length"),
+        delta,
+    }
+}
+
+// Takes a peer's message twice, and gives it back to the peer.
+fn messages_pass<R: Wait + Abort, L: Opens>(
+    rt: &R,
+    alloc: Global,
+    book: SiteBook<ListKeeper>,
+    blank: Blank,
+) -> usize
+    requires name { blank.name ≡ L.name }
+    requires parts { blank.parts ≡ L.parts }
+    requires some { 0 < blank.parts }
+    requires opening { L.opening ≡ length book.book.history }
+{
+    let (desk, seat) = Desk::<ListKeeper, L>::new(book, blank);
+    let taken = desk
+        .take(rt, given_rights(rt, alloc))
+        .expect(rt, "an answer");
+    let Taken::Joined { ack } = &taken else {
+        panic!(rt; "the delta is new")
+    };
+    assert_eq!(rt; header(ack), (1, 0, 4));
+    let seen = desk.look(rt, &seat, gala(rt)).expect(rt, "a look");
+    assert_eq!(rt; seen, seen_of(gala(rt), 40, 0, 1));
+    let again = desk
+        .take(rt, given_rights(rt, alloc))
+        .expect(rt, "an answer");
+    assert!(rt; matches!(again, Taken::NothingNew { .. }));
+    let due = desk.next(rt, alloc, site(rt, 0)).expect(rt, "memory");
+    let message = due.expect(rt, "a message");
+    assert_eq!(rt; header(&message), (1, 0, 1));
+    let Message::Delta { delta, .. } = &message else {
+        panic!(rt; "an acknowledgement")
+    };
+    assert_eq!(rt; delta.names(), [gala(rt)].as_slice());
+    let given = [gave(rt, 0, 100), gave(rt, 1, 40)];
+    assert_eq!(rt; delta.marks(), given.as_slice());
+    let mut seats = Vec::new(alloc);
+    seats.push(seat).expect(rt, "memory");
+    match desk.finish(seats, &[], &[seen]) {
+        Ok(book) => book.book().len(),
+        Err(_) => panic!(rt; "the look is of the history"),
+    }
+}
+
+// A desk that takes nothing, or gives an invented message, fails here.
 #[test]
-fn keeper_fails_in_a_session(rt: HostRuntime) {
-    assert_eq!(rt; fails_and_restarts(&rt, rt.alloc(), false), 2);
-    assert_eq!(rt; fails_and_restarts(&rt, rt.alloc(), true), 2);
+fn desk_takes_and_gives_messages(rt: HostRuntime) {
+    let alloc = rt.alloc();
+    let book = empty_book(&rt, alloc, 1);
+    let entries = messages_pass::<_, Brand>(&rt, alloc, book, Blank::new(1));
+    assert_eq!(rt; entries, 1);
 }

@@ -23,7 +23,10 @@ use std::alloc::Global;
 use std::sync::ledger::Blank;
 use std::sync::{Mutex, Wait};
 
-/// A site's book behind its one lock.
+/// A site's book behind its one lock. Each call but `finish` is one event under it, and may wait for it.
+///
+/// Whenever the lock is free the book's history is legal, its own rights are not negative and, unless it is closed,
+/// its history is what its keeper holds, as far as that is to be trusted.
 #[derive(Drop)]
 pub struct Desk<K: Keeper, L: Opens> {
     lock: Mutex<Locked<K, L>>,
@@ -31,7 +34,7 @@ pub struct Desk<K: Keeper, L: Opens> {
 }
 
 impl<K: Keeper, L: Opens> Desk<K, L> {
-    /// A desk with its count at 0, and the seat that has all parts of the count.
+    /// A desk with its count at 0, and the seat that has all parts of the count. The book may be closed.
     pub fn new(book: SiteBook<K>, blank: Blank) -> (Desk<K, L>, Seat<L>)
         requires name { blank.name ≡ L.name }
         requires parts { blank.parts ≡ L.parts }
@@ -50,7 +53,10 @@ impl<K: Keeper, L: Opens> Desk<K, L> {
         )
     }
 
-    /// Answers a request. The seat's share is raised by one exactly where the answer is fresh.
+    /// Answers a request as the book does, and gives the receipt for the answer. The seat's share is raised by one
+    /// exactly where the answer is fresh. The gate is passed under the lock.
+    ///
+    /// Errors are those of `SiteBook::ask`; they leave the seat as it was.
     pub fn ask<R: Wait, G: Gate>(
         &self,
         rt: &R,
@@ -70,8 +76,8 @@ impl<K: Keeper, L: Opens> Desk<K, L> {
         locked.ask(alloc, seat, number, request)
     }
 
-    /// What the history shows of an event that it knows, once it shows all that was entered for this seat. It waits
-    /// for that, though the history always does.
+    /// What the history shows of an event that it knows, once it has all that was newly entered for this seat (the
+    /// session guarantee "read your writes", PDIS 1994). It waits for that, though the history always has it.
     pub fn look<R: Wait>(&self, rt: &R, seat: &Seat<L>, event: Event) -> Result<Seen, LookFault>
         ensures event { IfOk result (λ seen. seen.event ≡ event) }
         ensures at { IfOk result (λ seen. L.opening + seat.now.count ≤ seen.at) }
@@ -85,12 +91,12 @@ impl<K: Keeper, L: Opens> Desk<K, L> {
         unreachable!()
     }
 
-    /// Takes a peer's message.
+    /// Takes a peer's message as the book does, with its errors.
     pub fn take<R: Wait>(&self, rt: &R, message: Message) -> Result<Taken, TakeFault> {
         self.lock.lock(rt).take(message)
     }
 
-    /// The message that is due to a peer.
+    /// The message that is due to a peer, as the book gives it, with its errors.
     pub fn next<R: Wait>(
         &self,
         rt: &R,
@@ -104,7 +110,8 @@ impl<K: Keeper, L: Opens> Desk<K, L> {
     /// memory.
     ///
     /// The first of these is the fault: the seats do not have all that was newly entered; a receipt is not the entry that
-    /// it names; a look does not show what the entries that it names say. The book comes back with a fault too.
+    /// it names; a look does not show what the entries that it names say. The book comes back with a fault too. Each
+    /// look costs a walk over the entries that it names.
     pub fn finish(
         self,
         seats: Vec<Seat<L>>,

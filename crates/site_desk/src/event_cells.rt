@@ -122,7 +122,7 @@ impl EventCells {
     }
 }
 
-// Where the number of a cell is.
+// Where the number of a cell is, for 64 sites: row by row what each gave, then what each sold, then what came back.
 #[tactic(auto, unfolding(rights_lattice::specs::Sums::max_sites))]
 fn offset(cell: &Cell) -> usize
     ensures of_sites { IsCellOf max_sites cell.now }

@@ -1,11 +1,13 @@
-//! A session's share of the count of requests that were newly entered.
+//! A session's share of the count of requests that were newly entered at a desk.
 ghost use Rattle.std.specs.Prelude.{◌≡◌, ℕ, ◌+◌, ◌-◌, ◌<◌, ◌≤◌};
 ghost use Rattle.site_desk.specs.Seats.{held};
 
 use std::marker::{Brand, Model};
 use std::sync::ledger::{Ledger, Share};
 
-/// Which count it is, and the length of the history when the count began.
+/// Which count it is (std's `sync::ledger`) and, for contracts alone, how long the history was when the count began.
+///
+/// A desk lives in a function over a type with this bound. A caller passes `Brand`, and picks both.
 pub trait Opens: Ledger {
     ghost opening: { ℕ };
 }
@@ -14,7 +16,9 @@ impl Opens for Brand {
     ghost opening = { 0 };
 }
 
-/// A session's share of the count, and its parts of it.
+/// A session's place at the desk of `L`: how many requests were newly entered for it, and its parts of the count.
+///
+/// Seats with all parts have, added up, all that was newly entered. A seat that is let go takes its share with it.
 #[derive(Drop)]
 pub struct Seat<L: Opens> {
     pub(crate) share: Share<L>,
@@ -40,7 +44,7 @@ impl<L: Opens> Seat<L> {
         self.count
     }
 
-    /// Cuts off a seat with one part and no share.
+    /// Cuts off a seat with one part and no share; the first keeps the rest.
     pub fn split(self) -> (Seat<L>, Seat<L>)
         requires { 1 < self.parts }
         ensures first { result.0 ≡ held (self.parts - 1) self.count }

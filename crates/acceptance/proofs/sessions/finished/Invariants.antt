@@ -1,0 +1,8 @@
+use Rattle.std.specs.Prelude.{length}
+use Rattle.acceptance.proofs.sessions.finished.Given as goal
+
+abbrev pub ghosts-finished_with-L-Opens : goal.ghosts-finished_with-L-Opens
+ghosts-finished_with-L-Opens g a = record { opening = length a.book.book.history }
+
+abbrev pub ghosts-finished_with-L-Ledger : goal.ghosts-finished_with-L-Ledger
+ghosts-finished_with-L-Ledger g a = record { name = a.blank.name; parts = a.blank.parts }
