@@ -1,13 +1,15 @@
 //! What lies under a desk's lock.
-ghost use Rattle.std.specs.Prelude.{◌≡◌, ℕ, ◌+◌, ◌<◌, ◌≤◌, true, false, length, IsTrue, IfOk, IfErr, OnErr, OnOk, if◌then◌else◌};
+ghost use Rattle.std.specs.Prelude.{◌≡◌, ◌↔◌, ℕ, ◌+◌, ◌<◌, ◌≤◌, true, false, length, Err, IsSome, IsTrue, IfOk, IfErr, OnErr, OnOk, if◌then◌else◌};
+ghost use Rattle.rights_lattice.specs.State.{knows};
+ghost use Rattle.book_core.specs.History.{state_of};
 ghost use Rattle.book_core.specs.Legal.{IsLegal};
 ghost use Rattle.book_core.specs.OwnRow.{HasOwnRights};
 ghost use Rattle.site_exchange.specs.Exchange.{ack_for, next};
 ghost use Rattle.site_exchange.specs.Taking.{site_after, with_entry};
 ghost use Rattle.sql_records.specs.Keeping.{LeavesOnly};
-ghost use Rattle.site_desk.specs.Answers.{IsAnswer, IsSeenAt, IsTaken};
+ghost use Rattle.site_desk.specs.Answers.{IsAnswer, IsAskFault, IsSeenAt, IsTakeFault, IsTaken, is_peer};
 ghost use Rattle.site_desk.specs.SiteView.{decision_in, entry_in, site_of, verdict_in};
-ghost use Rattle.site_desk.specs.Count.{asked_since, Grows};
+ghost use Rattle.site_desk.specs.Count.{asked_since};
 ghost use Rattle.site_desk.specs.Finish.{Each, FindsFirst, StandsIn, WasSeen, given_back};
 ghost use Rattle.site_desk.specs.Seats.{held, parts_of, shares_of};
 
@@ -86,7 +88,8 @@ impl<K: Keeper, L: Opens> Locked<K, L> {
     ) -> Result<(Answer, Receipt), AskFault>
         ensures answer { IfOk result (λ r. IsAnswer (decision_in self.old.book number request.now) (length self.old.book.history) r.0) }
         ensures entered { OnOk result (site_of self.new ≡ with_entry (entry_in self.old.book number request.now) (site_of self.old)) }
-        ensures grown { IfOk result (λ r. Grows r.0.fresh r.0.place self.old.book.history self.new.book.history) }
+        ensures closed { (result ≡ Err AskFault.Closed) ↔ (self.old.closed ≡ true) }
+        ensures fault { IfErr result (IsAskFault self.old.closed (decision_in self.old.book number request.now) (K.failed self.old.keeper) (K.failed self.new.keeper)) }
         ensures unchanged { OnErr result (site_of self.new ≡ site_of self.old) }
         ensures receipt { IfOk result (λ r. r.1 ≡ record { number = number; request = request.now; reply = r.0.reply; place = r.0.place }) }
         ensures share { IfOk result (λ r. seat.new ≡ held seat.old.parts (if r.0.fresh then seat.old.count + 1 else seat.old.count)) }
@@ -123,6 +126,8 @@ impl<K: Keeper, L: Opens> Locked<K, L> {
     pub fn look(&self, event: Event) -> Result<Seen, LookFault>
         ensures seen { IfOk result (IsSeenAt self.now.book.office self.now.book.history event) }
         ensures at { IfOk result (λ seen. seen.at ≡ length self.now.book.history) }
+        ensures closed { (result ≡ Err LookFault.Closed) ↔ (self.now.closed ≡ true) }
+        ensures unknown { (result ≡ Err LookFault.Unknown) ↔ ((self.now.closed ≡ false) × (knows (state_of self.now.book.history).names event ≡ false)) }
     {
         self.book.look(event)
     }
@@ -131,6 +136,8 @@ impl<K: Keeper, L: Opens> Locked<K, L> {
     pub fn take(&mut self, message: Message) -> Result<Taken, TakeFault>
         ensures taken { IfOk result (IsTaken (verdict_in self.old.book message) (ack_for message)) }
         ensures changed { OnOk result (site_of self.new ≡ site_after (verdict_in self.old.book message) message (site_of self.old)) }
+        ensures closed { (result ≡ Err TakeFault.Closed) ↔ (self.old.closed ≡ true) }
+        ensures fault { IfErr result (IsTakeFault self.old.closed (verdict_in self.old.book message) (K.failed self.old.keeper) (K.failed self.new.keeper)) }
         ensures unchanged { OnErr result (site_of self.new ≡ site_of self.old) }
     {
         self.book.take(message)
@@ -138,7 +145,10 @@ impl<K: Keeper, L: Opens> Locked<K, L> {
 
     /// The message that is due to a peer.
     pub fn next(&self, alloc: Global, to: SiteId) -> Result<Option<Message>, NextFault>
-        ensures { IfOk result (λ message. message ≡ next self.now.book.office.me (site_of self.now) to) }
+        ensures message { IfOk result (λ message. message ≡ next self.now.book.office.me (site_of self.now) to) }
+        ensures closed { (result ≡ Err NextFault.Closed) ↔ (self.now.closed ≡ true) }
+        ensures no_site { (result ≡ Err NextFault.NoSite) ↔ ((self.now.closed ≡ false) × (is_peer self.now.book.office to ≡ false)) }
+        ensures memory { result ≡ Err NextFault.Memory → IsSome (next self.now.book.office.me (site_of self.now) to) }
     {
         self.book.next(alloc, to)
     }
