@@ -1,10 +1,12 @@
 //! A site's book that threads share.
-ghost use Rattle.std.specs.Prelude.{◌≡◌, ◌≢◌, ℕ, ◌+◌, ◌<◌, ◌≤◌, true, false, length, IfOk, IfErr, OnErr, if◌then◌else◌};
+ghost use Rattle.std.specs.Prelude.{◌≡◌, ◌≢◌, ℕ, ◌+◌, ◌<◌, ◌≤◌, true, false, length, IfOk, IfErr, IfSome, OnErr, if◌then◌else◌};
 ghost use Rattle.book_core.specs.Legal.{IsLegal};
 ghost use Rattle.book_core.specs.OwnRow.{HasOwnRights};
+ghost use Rattle.site_exchange.specs.Exchange.{ack_for, receiver};
 ghost use Rattle.sql_records.specs.Keeping.{LeavesOnly};
+ghost use Rattle.site_desk.specs.Answers.{ack_of};
 ghost use Rattle.site_desk.specs.Count.{asked_since};
-ghost use Rattle.site_desk.specs.Finish.{Each, FindsFirst, StandsIn, WasSeen, given_back};
+ghost use Rattle.site_desk.specs.Finish.{Each, FindsFirst, StandsIn, WasSeen, handed_back};
 ghost use Rattle.site_desk.specs.Seats.{held, parts_of, shares_of};
 
 use crate::answer::{Answer, Seen, Taken};
@@ -30,7 +32,6 @@ use std::sync::{Mutex, Wait};
 #[derive(Drop)]
 pub struct Desk<K: Keeper, L: Opens> {
     lock: Mutex<Locked<K, L>>,
-    site: SiteId,
 }
 
 impl<K: Keeper, L: Opens> Desk<K, L> {
@@ -42,15 +43,9 @@ impl<K: Keeper, L: Opens> Desk<K, L> {
         requires opening { L.opening ≡ length book.book.history }
         ensures { result.1 ≡ held blank.parts 0 }
     {
-        let site = book.book().me();
         let (locked, seat) = Locked::new(book, blank);
-        (
-            Desk {
-                lock: Mutex::new(locked),
-                site,
-            },
-            seat,
-        )
+        let lock = Mutex::new(locked);
+        (Desk { lock }, seat)
     }
 
     /// Answers a request as the book does, and gives the receipt for the answer. The seat's share is raised by one
@@ -72,12 +67,13 @@ impl<K: Keeper, L: Opens> Desk<K, L> {
         ensures place { IfOk result (λ r. r.0.fresh ≡ true → L.opening + seat.old.count ≤ r.0.place) }
     {
         let mut locked = self.lock.lock(rt);
-        gate.pass(rt, Place::Inside { site: self.site });
+        let site = locked.site();
+        gate.pass(rt, Place::Inside { site });
         locked.ask(alloc, seat, number, request)
     }
 
     /// What the history shows of an event that it knows, once it has all that was newly entered for this seat (the
-    /// session guarantee "read your writes", PDIS 1994). It waits for that, though the history always has it.
+    /// session guarantee "read your writes", PDIS 1994). It waits for that, though the history always has it. Errors are those of `SiteBook::look`.
     pub fn look<R: Wait>(&self, rt: &R, seat: &Seat<L>, event: Event) -> Result<Seen, LookFault>
         ensures event { IfOk result (λ seen. seen.event ≡ event) }
         ensures at { IfOk result (λ seen. L.opening + seat.now.count ≤ seen.at) }
@@ -91,18 +87,25 @@ impl<K: Keeper, L: Opens> Desk<K, L> {
         unreachable!()
     }
 
-    /// Takes a peer's message as the book does, with its errors.
-    pub fn take<R: Wait>(&self, rt: &R, message: Message) -> Result<Taken, TakeFault> {
+    /// Takes a peer's message as the book does, with its errors. The acknowledgement that is given is the one for the
+    /// message, and none is given for an acknowledgement.
+    #[tactic(auto, using(crate::proofs::Sent::ack_taken))]
+    pub fn take<R: Wait>(&self, rt: &R, message: Message) -> Result<Taken, TakeFault>
+        ensures { IfOk result (λ taken. ack_of taken ≡ ack_for message) }
+    {
         self.lock.lock(rt).take(message)
     }
 
     /// The message that is due to a peer, as the book gives it, with its errors.
+    #[tactic(auto, using(crate::proofs::Sent::next_sent))]
     pub fn next<R: Wait>(
         &self,
         rt: &R,
         alloc: Global,
         to: SiteId,
-    ) -> Result<Option<Message>, NextFault> {
+    ) -> Result<Option<Message>, NextFault>
+        ensures { IfOk result (λ message. IfSome message (λ m. receiver m ≡ to)) }
+    {
         self.lock.lock(rt).next(alloc, to)
     }
 
@@ -125,10 +128,10 @@ impl<K: Keeper, L: Opens> Desk<K, L> {
         ensures whole { parts_of seats.items ≡ L.parts → IfErr result (λ e. e.1 ≢ FinishFault.SeatsOut) }
 
         // What the book kept, whenever the lock was free.
-        ensures legal { IsLegal (given_back result).book.office (given_back result).book.history }
-        ensures has_rights { HasOwnRights (given_back result).book }
-        ensures same { (given_back result).closed ≡ false → K.is_trusted (given_back result).keeper → (given_back result).book.history ≡ K.kept (given_back result).keeper }
-        ensures rests { (given_back result).closed ≡ false → K.is_trusted (given_back result).keeper → LeavesOnly (given_back result).book.history (K.may_leave (given_back result).keeper) }
+        ensures legal { IsLegal (handed_back result).book.office (handed_back result).book.history }
+        ensures has_rights { HasOwnRights (handed_back result).book }
+        ensures same { (handed_back result).closed ≡ false → K.is_trusted (handed_back result).keeper → (handed_back result).book.history ≡ K.kept (handed_back result).keeper }
+        ensures rests { (handed_back result).closed ≡ false → K.is_trusted (handed_back result).keeper → LeavesOnly (handed_back result).book.history (K.may_leave (handed_back result).keeper) }
     {
         self.lock.into_inner().finish(seats, receipts, looks)
     }
