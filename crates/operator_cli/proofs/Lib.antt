@@ -1,9 +1,10 @@
-pub mod TotalLines
-pub mod ScriptLaws
 pub mod BreakLaws
-pub mod Promised
 pub mod EndLaws
-pub mod PrintLaws
-pub mod OpenedLaws
 pub mod ExchangeLaws
 pub mod Inputs
+pub mod OpenedLaws
+pub mod PrintLaws
+pub mod Promised
+pub mod ScriptLaws
+pub mod SessionLaws
+pub mod TotalLines

@@ -1,5 +1,13 @@
-use Rattle.std.proofs.Common.{refl, ap, ◌∙◌}
+use Rattle.std.proofs.Common.{inl, inr, ap, sym, subst, ◌∙◌}
+use Rattle.sqlite.specs.Held.{state}
 use Rattle.sql_records.specs.Held.{Kept}
+use Rattle.site_desk.specs.SiteView.{SiteView}
+use Rattle.session_server.proofs.Books.{talked_trusted}
+use Rattle.operator_cli.specs.Exchanged.{IsBookOf}
+use Rattle.operator_cli.specs.Opened.{IsIllegal, IsRefused}
+use Rattle.operator_cli.specs.Session.{records}
+use Rattle.operator_cli.proofs.EndLaws.{if_back}
+use Rattle.operator_cli.proofs.SessionLaws.{session_ran, stored_at_first}
 use Rattle.operator_cli.proofs.OpenedLaws.{book_back, opened_illegal, opened_ours, refused_illegal, refused_lost, refused_ours}
 use Rattle.operator_cli.proofs.ask.ask_store.Goals as goal
 
@@ -20,13 +28,16 @@ returns-in-Err-clause-ran g c =
     if_back c.in-Err.conn (IsRefused g.S.Store c.args.conn c.in-Err.fault) (λ after. IsIllegal g.S.Store c.args.conn after c.in-Err.fault) _ c.in-Err.ensures.fault
     (λ after found clean. inl (c.in-Err.fault, found, c.ended-in-Err.ensures.kept, c.ended-in-Err.ensures.line, c.ended-in-Err.ensures.status))
 
--- the connection that comes back is that of the book behind the session
-last : (g : goal.Ghosts) (c : goal.In-Ok g) → c.close.result ≡ c.talk-came.new.answerer.keeper.conn
-last g c = c.close.ensures ∙ ap (λ (k : Kept g.row.S.Denot). k.conn) (c.into_keeper.ensures ∙ ap (λ (s : SiteView (Kept g.row.S.Denot)). s.keeper) c.into_book.ensures)
-
 pub returns-in-Ok-clause-ours : goal.returns-in-Ok-clause-ours
-returns-in-Ok-clause-ours g c = opened_ours g.S.Store c.args.conn c.close.result c.in-Ok.book (back g c)
+returns-in-Ok-clause-ours g c =
+    opened_ours g.S.Store c.args.conn c.close.result c.in-Ok.book (book_back g.S.Store c.args.conn c.close.result c.in-Ok.book c.new-answerer.result.keeper c.talk-came.new.answerer.keeper (ap (λ (b : SiteView (Kept g.row.S.Denot)). b.keeper) c.new-answerer.ensures) (talked_trusted (records g.S.Store) _ _ _ _ _ _ c.talk-came.ensures) (c.close.ensures ∙ ap (λ (k : Kept g.row.S.Denot). k.conn) (c.into_keeper.ensures ∙ ap (λ (b : SiteView (Kept g.row.S.Denot)). b.keeper) c.into_book.ensures)) c.in-Ok.ensures.book)
 
 pub returns-in-Ok-clause-illegal : goal.returns-in-Ok-clause-illegal
 returns-in-Ok-clause-illegal g c =
-    opened_illegal g.S.Store c.args.conn c.close.result c.in-Ok.book (back g c) (g.W.Write.contents c.args.out.now) (g.W.Write.contents c.ended-status.new.out) (g.E.Write.contents c.args.err.now) (g.E.Write.contents c.ended-status.new.err) c.ended-status.result
+    opened_illegal g.S.Store c.args.conn c.close.result c.in-Ok.book (book_back g.S.Store c.args.conn c.close.result c.in-Ok.book c.new-answerer.result.keeper c.talk-came.new.answerer.keeper (ap (λ (b : SiteView (Kept g.row.S.Denot)). b.keeper) c.new-answerer.ensures) (talked_trusted (records g.S.Store) _ _ _ _ _ _ c.talk-came.ensures) (c.close.ensures ∙ ap (λ (k : Kept g.row.S.Denot). k.conn) (c.into_keeper.ensures ∙ ap (λ (b : SiteView (Kept g.row.S.Denot)). b.keeper) c.into_book.ensures)) c.in-Ok.ensures.book) (g.W.Write.contents c.args.out.now) (g.W.Write.contents c.ended-status.new.out) (g.E.Write.contents c.args.err.now) (g.E.Write.contents c.ended-status.new.err) c.ended-status.result
+
+pub returns-in-Ok-clause-ran : goal.returns-in-Ok-clause-ran
+returns-in-Ok-clause-ran g c clean =
+    inr (session_ran g.S.Store c.args.conn c.close.result c.new-answerer.result c.talk-came.new.answerer (g.R.Read.remaining c.args.input) (g.W.Write.contents c.args.out.now) (g.W.Write.contents c.talk-came.new.out) (g.W.Write.contents c.ended-status.new.out) (g.E.Write.contents c.args.err.now) (g.E.Write.contents c.ended-status.new.err) c.talk-came.result c.status_of.result c.ended-status.result
+    (subst (IsBookOf (state g.S.Store c.args.conn).now.trees) (sym c.new-answerer.ensures) ((book_back g.S.Store c.args.conn c.close.result c.in-Ok.book c.new-answerer.result.keeper c.talk-came.new.answerer.keeper (ap (λ (b : SiteView (Kept g.row.S.Denot)). b.keeper) c.new-answerer.ensures) (talked_trusted (records g.S.Store) _ _ _ _ _ _ c.talk-came.ensures) (c.close.ensures ∙ ap (λ (k : Kept g.row.S.Denot). k.conn) (c.into_keeper.ensures ∙ ap (λ (b : SiteView (Kept g.row.S.Denot)). b.keeper) c.into_book.ensures)) c.in-Ok.ensures.book) clean)) c.talk-came.ensures c.status_of.ensures c.ended-status.ensures.kept c.ended-status.ensures.told c.ended-status.ensures.line c.ended-status.ensures.flush c.ended-status.ensures.status
+    (stored_at_first g.S.Store c.args.conn c.new-answerer.result c.in-Ok.book c.new-answerer.ensures c.in-Ok.ensures.kept c.in-Ok.ensures.book) (c.close.ensures ∙ ap (λ (k : Kept g.row.S.Denot). k.conn) (c.into_keeper.ensures ∙ ap (λ (b : SiteView (Kept g.row.S.Denot)). b.keeper) c.into_book.ensures)) clean)

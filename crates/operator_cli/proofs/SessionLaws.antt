@@ -1,0 +1,66 @@
+-- What a session over records comes to.
+use Rattle.std.proofs.Common.{◌≡◌, ◌≢◌, ◌⊎◌, inl, inr, ℕ, List, Option, Result, Ok, Err, false, refl, sym, ap, subst, ◌∙◌}
+use Rattle.std.specs.Prelude.{IfOk, IfErr, MatchResult}
+use Rattle.std.specs.Io.KnownBytes.{Appends, Keeps}
+use Rattle.std.proofs.KnownBytes.{Appends-kept}
+use Rattle.sqlite.specs.Store.{Ghosts}
+use Rattle.sqlite.specs.State.{HasCleanDisk}
+use Rattle.sqlite.specs.Held.{Held, state}
+use Rattle.plain_words.specs.Writing.{AppendsFront}
+use Rattle.sql_records.specs.Held.{Kept, IsTrusted, kept_in, history_in}
+use Rattle.site_desk.specs.SiteView.{SiteView}
+use Rattle.desk_lines.specs.declared.answered.Answered.{Answered}
+use Rattle.session_server.specs.BookStep.{BookStep, IsStored}
+use Rattle.session_server.specs.Session.{Talked, Wrote}
+use Rattle.session_server.specs.declared.fault.Ended.{Ended}
+use Rattle.session_server.specs.declared.fault.TalkFault.{TalkFault}
+use Rattle.session_server.specs.declared.fault.TalkFault.TheVariants as talk
+use Rattle.session_server.proofs.Books.{talked_stored}
+use Rattle.operator_cli.specs.declared.status.Status.{Status}
+use Rattle.operator_cli.specs.declared.status.Status.TheVariants.{Done, Failed}
+use Rattle.operator_cli.specs.declared.store_fault.StoreFault.{StoreFault}
+use Rattle.operator_cli.specs.declared.store_fault.StoreFault.TheVariants as fault
+use Rattle.operator_cli.specs.Exchanged.{IsBookOf}
+use Rattle.operator_cli.specs.Session.{IsToldAs, SessionRan, records, status_of}
+use Rattle.operator_cli.specs.Told.{FaultTold, store_fault_line}
+
+-- what the records hold is the history of the book that was opened
+pub stored_at_first : {S : Type 0} (g : Ghosts S) (conn : Held S) (first book : SiteView (Kept S)) → first ≡ book → (IsTrusted g book.keeper → kept_in g book.keeper ≡ history_in (state g conn).now.trees)
+    → (IsTrusted g book.keeper → IsBookOf (state g conn).now.trees book) → IsStored (records g) first
+stored_at_first g conn first book is kept of =
+    subst (IsStored (records g)) (sym is) (λ open clean. (of clean).history ∙ sym (kept clean))
+
+told_as : (came : Result Status StoreFault) (a b : Option (List ℕ)) (status : Status) → IfOk came (λ s. s ≡ Done) → FaultTold a b status → IfErr came (λ f. AppendsFront a b (store_fault_line f))
+    → IfOk came (λ s. status ≢ s → AppendsFront a b (store_fault_line fault.Write)) → MatchResult came (λ s. (status ≡ s) ⊎ (status ≡ Failed)) (λ f. status ≡ Failed) → IsToldAs came a b status
+told_as (Ok s) a b status done told line flush (inl is) = inl (is, subst (FaultTold a b) (is ∙ done) told)
+told_as (Ok s) a b status done told line flush (inr failed) = inr (failed, flush (λ is. let bad : Failed ≡ Done = sym failed ∙ is ∙ done in cc))
+told_as (Err f) a b status done told line flush failed = (failed, line)
+
+ends_well : (came : Result Ended TalkFault) → IfOk (status_of came) (λ s. s ≡ Done)
+ends_well (Ok e) = refl
+ends_well (Err f) = tt
+
+-- a flush behind it changes no byte
+wrote_kept : (r : Result Ended TalkFault) (a b c : Option (List ℕ)) (answers : List Answered) → Wrote r a b answers → Keeps b c → Wrote r a c answers
+wrote_kept (Ok e) a b c answers w k = Appends-kept a b c _ w k
+wrote_kept (Err talk.Read) a b c answers w k = Appends-kept a b c _ w k
+wrote_kept (Err talk.Write) a b c answers w k = (w.0, w.1, w.2, w.3, w.4, w.5, Appends-kept a b c _ w.6 k)
+wrote_kept (Err talk.TooLong) a b c answers w k = Appends-kept a b c _ w k
+wrote_kept (Err talk.LineTooLong) a b c answers w k = Appends-kept a b c _ w k
+wrote_kept (Err talk.Memory) a b c answers w k = Appends-kept a b c _ w k
+
+pub session_ran : {S : Type 0} (g : Ghosts S) (conn last : Held S) (book behind : SiteView (Kept S)) (input old mid new old_err new_err : Option (List ℕ)) (came : Result Ended TalkFault) (told : Result Status StoreFault) (status : Status)
+    → IsBookOf (state g conn).now.trees book → Talked (BookStep (records g)) input old mid book behind came → told ≡ status_of came → Keeps mid new → FaultTold old_err new_err status
+    → IfErr told (λ f. AppendsFront old_err new_err (store_fault_line f)) → IfOk told (λ s. status ≢ s → AppendsFront old_err new_err (store_fault_line fault.Write)) → MatchResult told (λ s. (status ≡ s) ⊎ (status ≡ Failed)) (λ f. status ≡ Failed)
+    → IsStored (records g) book → last ≡ behind.keeper.conn → HasCleanDisk (state g last) → SessionRan g conn input old new old_err new_err last status
+session_ran g conn last book behind input old mid new old_err new_err came told status opened talked is kept told_fault line flush ended stored last_is clean = record {
+  book = book;
+  behind = behind;
+  opened = opened;
+  came = came;
+  talked = record { lines = talked.lines; answers = talked.answers; read = talked.read; chain = talked.chain; written = wrote_kept came old mid new talked.answers talked.written kept };
+  told = subst (λ r. IsToldAs r old_err new_err status) is (told_as told old_err new_err status (subst (λ r. IfOk r (λ s. s ≡ Done)) (sym is) (ends_well came)) told_fault line flush ended);
+  stored = λ open.
+      ap (λ h. history_in (state g h).now.trees) last_is
+      ∙ sym (talked_stored (records g) input old mid book behind came talked stored open (subst (λ h. HasCleanDisk (state g h)) last_is clean));
+}
