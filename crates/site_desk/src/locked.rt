@@ -9,7 +9,7 @@ ghost use Rattle.site_exchange.specs.Taking.{site_after, with_entry};
 ghost use Rattle.sql_records.specs.Keeping.{LeavesOnly};
 ghost use Rattle.site_desk.specs.Answers.{IsAnswer, IsAskFault, IsSeenAt, IsTakeFault, IsTaken, is_peer};
 ghost use Rattle.site_desk.specs.SiteView.{decision_in, entry_in, site_of, verdict_in};
-ghost use Rattle.site_desk.specs.Count.{asked_since};
+ghost use Rattle.site_desk.specs.Count.{asked_since, Grows};
 ghost use Rattle.site_desk.specs.Finish.{Each, FindsFirst, StandsIn, WasSeen, handed_back};
 ghost use Rattle.site_desk.specs.Seats.{held, parts_of, shares_of};
 
@@ -41,7 +41,7 @@ pub struct Locked<K: Keeper, L: Opens> {
 impl<K: Keeper, L: Opens> Model for Locked<K, L> {
     ghost use Rattle.std.specs.Prelude.{◌≡◌, ◌≤◌, length};
     ghost use Rattle.site_desk.specs.SiteView.{SiteView, coded_view};
-    ghost use Rattle.site_desk.specs.Count.{asked_since};
+    ghost use Rattle.site_desk.specs.Count.{asked_since, Grows};
 
     ghost Value = { SiteView K };
 
