@@ -1,4 +1,5 @@
 pub mod Acknowledged
 pub mod EventTables
 pub mod Growth
+pub mod Sent
 pub mod Shown

@@ -41,6 +41,12 @@ IsTaken verdict ack (taken.Joined given) = (verdict ≡ exchange.Joins) × (ack 
 IsTaken verdict ack (taken.NothingNew given) = (verdict ≡ exchange.NothingNew) × (ack ≡ Some given)
 IsTaken verdict ack taken.Acked = verdict ≡ exchange.Acks
 
+-- the acknowledgement that is to be sent back, if any
+abbrev pub ack_of : Taken → Option Message
+ack_of (taken.Joined ack) = Some ack
+ack_of (taken.NothingNew ack) = Some ack
+ack_of taken.Acked = None
+
 -- as of a request: the fault is the verdict, or memory or the store was refused to a delta that is joined
 abbrev pub IsTakeFault : Bool → Verdict → ℕ → ℕ → TakeFault → Type 0
 IsTakeFault closed verdict before after take_fault.Closed = closed ≡ true

@@ -1,8 +1,10 @@
 //! A site's book that threads share.
-ghost use Rattle.std.specs.Prelude.{◌≡◌, ◌≢◌, ℕ, ◌+◌, ◌<◌, ◌≤◌, true, false, length, IfOk, IfErr, OnErr, if◌then◌else◌};
+ghost use Rattle.std.specs.Prelude.{◌≡◌, ◌≢◌, ℕ, ◌+◌, ◌<◌, ◌≤◌, true, false, length, IfOk, IfErr, IfSome, OnErr, if◌then◌else◌};
 ghost use Rattle.book_core.specs.Legal.{IsLegal};
 ghost use Rattle.book_core.specs.OwnRow.{HasOwnRights};
+ghost use Rattle.site_exchange.specs.Exchange.{ack_for, receiver};
 ghost use Rattle.sql_records.specs.Keeping.{LeavesOnly};
+ghost use Rattle.site_desk.specs.Answers.{ack_of};
 ghost use Rattle.site_desk.specs.Count.{asked_since};
 ghost use Rattle.site_desk.specs.Finish.{Each, FindsFirst, StandsIn, WasSeen, given_back};
 ghost use Rattle.site_desk.specs.Seats.{held, parts_of, shares_of};
@@ -77,7 +79,7 @@ impl<K: Keeper, L: Opens> Desk<K, L> {
     }
 
     /// What the history shows of an event that it knows, once it has all that was newly entered for this seat (the
-    /// session guarantee "read your writes", PDIS 1994). It waits for that, though the history always has it.
+    /// session guarantee "read your writes", PDIS 1994). It waits for that, though the history always has it. Errors are those of `SiteBook::look`.
     pub fn look<R: Wait>(&self, rt: &R, seat: &Seat<L>, event: Event) -> Result<Seen, LookFault>
         ensures event { IfOk result (λ seen. seen.event ≡ event) }
         ensures at { IfOk result (λ seen. L.opening + seat.now.count ≤ seen.at) }
@@ -91,18 +93,25 @@ impl<K: Keeper, L: Opens> Desk<K, L> {
         unreachable!()
     }
 
-    /// Takes a peer's message as the book does, with its errors.
-    pub fn take<R: Wait>(&self, rt: &R, message: Message) -> Result<Taken, TakeFault> {
+    /// Takes a peer's message as the book does, with its errors. The acknowledgement that is given is the one for the
+    /// message, and none is given for an acknowledgement.
+    #[tactic(auto, using(crate::proofs::Sent::ack_taken))]
+    pub fn take<R: Wait>(&self, rt: &R, message: Message) -> Result<Taken, TakeFault>
+        ensures { IfOk result (λ taken. ack_of taken ≡ ack_for message) }
+    {
         self.lock.lock(rt).take(message)
     }
 
     /// The message that is due to a peer, as the book gives it, with its errors.
+    #[tactic(auto, using(crate::proofs::Sent::next_sent))]
     pub fn next<R: Wait>(
         &self,
         rt: &R,
         alloc: Global,
         to: SiteId,
-    ) -> Result<Option<Message>, NextFault> {
+    ) -> Result<Option<Message>, NextFault>
+        ensures { IfOk result (λ message. IfSome message (λ m. receiver m ≡ to)) }
+    {
         self.lock.lock(rt).next(alloc, to)
     }
 
