@@ -1,5 +1,5 @@
 -- What a site sends, by what it was asked.
-use Rattle.std.proofs.Common.{◌≡◌, ℕ, Bool, true, false, List, length, get_or, Option, Some, None, refl, sym, ap, ◌∙◌, subst, Result, Ok, Err}
+use Rattle.std.proofs.Common.{◌≡◌, ℕ, Bool, true, false, List, length, get_or, Option, Some, None, refl, sym, subst, Result, Ok, Err}
 use Rattle.std.specs.Prelude.{IfOk, IfSome, if◌then◌else◌, ◌==◌}
 use Rattle.rights_lattice.specs.State.{State}
 use Rattle.book_core.specs.declared.entry.Entry.{Entry}
@@ -10,7 +10,7 @@ use Rattle.site_exchange.specs.declared.message.Message.{Message}
 use Rattle.site_exchange.specs.declared.message.Message.TheVariants.{Delta, Ack}
 use Rattle.site_exchange.specs.declared.message.CheckFault.{CheckFault}
 use Rattle.site_exchange.specs.declared.message.TakeFault.{TakeFault}
-use Rattle.site_exchange.specs.Exchange.{Site, Verdict, Acks, ack_for, check, next, receiver, verdict, verdict_if, verdict_of}
+use Rattle.site_exchange.specs.Exchange.{Site, Acks, ack_for, check, next, receiver, verdict, verdict_if, verdict_of}
 use Rattle.site_desk.specs.declared.answer.Taken.{Taken}
 use Rattle.site_desk.specs.declared.answer.Taken.TheVariants.{Joined, NothingNew, Acked}
 use Rattle.site_desk.specs.declared.fault.NextFault.{NextFault}
