@@ -41,6 +41,6 @@ FindsFirst office history total shares receipts looks (Stranger k) = (shares ≡
 FindsFirst office history total shares receipts looks (StrangerSeen k) = (shares ≡ total) × Each (StandsIn history) receipts × FirstNot (WasSeen office history) looks k
 
 -- the book that comes back, with a fault or without one
-abbrev pub given_back : {K : Type 0} → Result (SiteView K) (SiteView K × FinishFault) → SiteView K
-given_back (Ok book) = book
-given_back (Err refused) = refused.0
+abbrev pub handed_back : {K : Type 0} → Result (SiteView K) (SiteView K × FinishFault) → SiteView K
+handed_back (Ok book) = book
+handed_back (Err refused) = refused.0

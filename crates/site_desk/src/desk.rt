@@ -6,7 +6,7 @@ ghost use Rattle.site_exchange.specs.Exchange.{ack_for, receiver};
 ghost use Rattle.sql_records.specs.Keeping.{LeavesOnly};
 ghost use Rattle.site_desk.specs.Answers.{ack_of};
 ghost use Rattle.site_desk.specs.Count.{asked_since};
-ghost use Rattle.site_desk.specs.Finish.{Each, FindsFirst, StandsIn, WasSeen, given_back};
+ghost use Rattle.site_desk.specs.Finish.{Each, FindsFirst, StandsIn, WasSeen, handed_back};
 ghost use Rattle.site_desk.specs.Seats.{held, parts_of, shares_of};
 
 use crate::answer::{Answer, Seen, Taken};
@@ -32,7 +32,6 @@ use std::sync::{Mutex, Wait};
 #[derive(Drop)]
 pub struct Desk<K: Keeper, L: Opens> {
     lock: Mutex<Locked<K, L>>,
-    site: SiteId,
 }
 
 impl<K: Keeper, L: Opens> Desk<K, L> {
@@ -44,15 +43,9 @@ impl<K: Keeper, L: Opens> Desk<K, L> {
         requires opening { L.opening ≡ length book.book.history }
         ensures { result.1 ≡ held blank.parts 0 }
     {
-        let site = book.book().me();
         let (locked, seat) = Locked::new(book, blank);
-        (
-            Desk {
-                lock: Mutex::new(locked),
-                site,
-            },
-            seat,
-        )
+        let lock = Mutex::new(locked);
+        (Desk { lock }, seat)
     }
 
     /// Answers a request as the book does, and gives the receipt for the answer. The seat's share is raised by one
@@ -74,7 +67,8 @@ impl<K: Keeper, L: Opens> Desk<K, L> {
         ensures place { IfOk result (λ r. r.0.fresh ≡ true → L.opening + seat.old.count ≤ r.0.place) }
     {
         let mut locked = self.lock.lock(rt);
-        gate.pass(rt, Place::Inside { site: self.site });
+        let site = locked.site();
+        gate.pass(rt, Place::Inside { site });
         locked.ask(alloc, seat, number, request)
     }
 
@@ -134,10 +128,10 @@ impl<K: Keeper, L: Opens> Desk<K, L> {
         ensures whole { parts_of seats.items ≡ L.parts → IfErr result (λ e. e.1 ≢ FinishFault.SeatsOut) }
 
         // What the book kept, whenever the lock was free.
-        ensures legal { IsLegal (given_back result).book.office (given_back result).book.history }
-        ensures has_rights { HasOwnRights (given_back result).book }
-        ensures same { (given_back result).closed ≡ false → K.is_trusted (given_back result).keeper → (given_back result).book.history ≡ K.kept (given_back result).keeper }
-        ensures rests { (given_back result).closed ≡ false → K.is_trusted (given_back result).keeper → LeavesOnly (given_back result).book.history (K.may_leave (given_back result).keeper) }
+        ensures legal { IsLegal (handed_back result).book.office (handed_back result).book.history }
+        ensures has_rights { HasOwnRights (handed_back result).book }
+        ensures same { (handed_back result).closed ≡ false → K.is_trusted (handed_back result).keeper → (handed_back result).book.history ≡ K.kept (handed_back result).keeper }
+        ensures rests { (handed_back result).closed ≡ false → K.is_trusted (handed_back result).keeper → LeavesOnly (handed_back result).book.history (K.may_leave (handed_back result).keeper) }
     {
         self.lock.into_inner().finish(seats, receipts, looks)
     }

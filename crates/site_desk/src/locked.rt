@@ -10,7 +10,7 @@ ghost use Rattle.sql_records.specs.Keeping.{LeavesOnly};
 ghost use Rattle.site_desk.specs.Answers.{IsAnswer, IsAskFault, IsSeenAt, IsTakeFault, IsTaken, is_peer};
 ghost use Rattle.site_desk.specs.SiteView.{decision_in, entry_in, site_of, verdict_in};
 ghost use Rattle.site_desk.specs.Count.{asked_since, Grows};
-ghost use Rattle.site_desk.specs.Finish.{Each, FindsFirst, StandsIn, WasSeen, given_back};
+ghost use Rattle.site_desk.specs.Finish.{Each, FindsFirst, StandsIn, WasSeen, handed_back};
 ghost use Rattle.site_desk.specs.Seats.{held, parts_of, shares_of};
 
 use crate::answer::{Answer, Seen, Taken};
@@ -25,7 +25,7 @@ use site_exchange::{Message, TakeFault};
 use sql_records::Keeper;
 use std::alloc::Global;
 use std::marker::Model;
-use std::sync::ledger::{Blank, Book, Share};
+use std::sync::ledger::{Blank, Book as Tally, Share};
 
 /// A site's book, with the count of the requests that were newly entered since it lies here: what they are in its
 /// history from its length of then on.
@@ -34,14 +34,14 @@ pub struct Locked<K: Keeper, L: Opens> {
     book: SiteBook<K>,
     opening: usize,
     total: u64,
-    tally: Book<L>,
+    tally: Tally<L>,
     nothing: Share<L>,
 }
 
 impl<K: Keeper, L: Opens> Model for Locked<K, L> {
     ghost use Rattle.std.specs.Prelude.{◌≡◌, ◌≤◌, length};
     ghost use Rattle.site_desk.specs.SiteView.{SiteView, coded_view};
-    ghost use Rattle.site_desk.specs.Count.{asked_since};
+    ghost use Rattle.site_desk.specs.Count.{asked_since, Grows};
 
     ghost Value = { SiteView K };
 
@@ -115,6 +115,13 @@ impl<K: Keeper, L: Opens> Locked<K, L> {
         Ok((answer, receipt))
     }
 
+    /// The site whose book it is.
+    pub fn site(&self) -> SiteId
+        ensures { result ≡ self.now.book.office.me }
+    {
+        self.book.book().me()
+    }
+
     /// Whether the history has so many requests that were newly entered.
     #[tactic(auto, using(crate::proofs::Growth::asked_since_below))]
     pub fn shows(&self, count: u64) -> bool
@@ -161,7 +168,7 @@ impl<K: Keeper, L: Opens> Locked<K, L> {
         receipts: &[Receipt],
         looks: &[Seen],
     ) -> Result<SiteBook<K>, (SiteBook<K>, FinishFault)>
-        ensures book { given_back result ≡ self }
+        ensures book { handed_back result ≡ self }
         ensures counted { OnOk result (shares_of seats.items ≡ asked_since L.opening self.book.history) }
         ensures receipts { OnOk result (Each (StandsIn self.book.history) receipts.now) }
         ensures looks { OnOk result (Each (WasSeen self.book.office self.book.history) looks.now) }

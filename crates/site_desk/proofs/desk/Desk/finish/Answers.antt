@@ -1,12 +1,12 @@
 use Rattle.std.proofs.Common.{◌≡◌, Result, Ok, Err, subst, sym}
 use Rattle.std.specs.Prelude.{IfOk, OnOk}
 use Rattle.site_desk.specs.declared.finish.FinishFault.{FinishFault}
-use Rattle.site_desk.specs.Finish.{Each, StandsIn, WasSeen, given_back}
+use Rattle.site_desk.specs.Finish.{Each, StandsIn, WasSeen, handed_back}
 use Rattle.site_desk.specs.SiteView.{SiteView}
 use Rattle.site_desk.proofs.desk.Desk.finish.Goals as goal
 
 -- what holds of the book before holds of the book that comes back
-of_result : {K : Type 0} (result : Result (SiteView K) (SiteView K × FinishFault)) (book : SiteView K) (P : SiteView K → Type 0) → given_back result ≡ book → OnOk result (P book) → IfOk result P
+of_result : {K : Type 0} (result : Result (SiteView K) (SiteView K × FinishFault)) (book : SiteView K) (P : SiteView K → Type 0) → handed_back result ≡ book → OnOk result (P book) → IfOk result P
 of_result (Ok given) book P is holds = subst P (sym is) holds
 of_result (Err refused) book P is holds = tt
 
