@@ -73,7 +73,9 @@ impl<K: Keeper, L: Opens> Desk<K, L> {
     }
 
     /// What the history shows of an event that it knows, once it has all that was newly entered for this seat (the
-    /// session guarantee "read your writes", PDIS 1994). It waits for that, though the history always has it. Errors are those of `SiteBook::look`.
+    /// session guarantee "read your writes", PDIS 1994). It waits for that, though the history always has it.
+    ///
+    /// Errors are those of `SiteBook::look`.
     pub fn look<R: Wait>(&self, rt: &R, seat: &Seat<L>, event: Event) -> Result<Seen, LookFault>
         ensures event { IfOk result (λ seen. seen.event ≡ event) }
         ensures at { IfOk result (λ seen. L.opening + seat.now.count ≤ seen.at) }

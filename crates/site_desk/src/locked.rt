@@ -41,7 +41,7 @@ pub struct Locked<K: Keeper, L: Opens> {
 impl<K: Keeper, L: Opens> Model for Locked<K, L> {
     ghost use Rattle.std.specs.Prelude.{◌≡◌, ◌≤◌, length};
     ghost use Rattle.site_desk.specs.SiteView.{SiteView, coded_view};
-    ghost use Rattle.site_desk.specs.Count.{asked_since, Grows};
+    ghost use Rattle.site_desk.specs.Count.{asked_since};
 
     ghost Value = { SiteView K };
 
