@@ -28,7 +28,7 @@ use Rattle.operator_cli.specs.Told.{FaultTold, store_fault_line}
 pub stored_at_first : {S : Type 0} (g : Ghosts S) (conn : Held S) (first book : SiteView (Kept S)) → first ≡ book → (IsTrusted g book.keeper → kept_in g book.keeper ≡ history_in (state g conn).now.trees)
     → (IsTrusted g book.keeper → IsBookOf (state g conn).now.trees book) → IsStored (records g) first
 stored_at_first g conn first book is kept of =
-    subst (IsStored (records g)) (sym is) (λ open clean. (of clean).history ∙ sym (kept clean))
+    subst (IsStored (records g)) (sym is) (λ unclosed clean. (of clean).history ∙ sym (kept clean))
 
 told_as : (came : Result Status StoreFault) (a b : Option (List ℕ)) (status : Status) → IfOk came (λ s. s ≡ Done) → FaultTold a b status → IfErr came (λ f. AppendsFront a b (store_fault_line f))
     → IfOk came (λ s. status ≢ s → AppendsFront a b (store_fault_line fault.Write)) → MatchResult came (λ s. (status ≡ s) ⊎ (status ≡ Failed)) (λ f. status ≡ Failed) → IsToldAs came a b status
@@ -60,7 +60,12 @@ session_ran g conn last book behind input old mid new old_err new_err came told 
   came = came;
   talked = record { lines = talked.lines; answers = talked.answers; read = talked.read; chain = talked.chain; written = wrote_kept came old mid new talked.answers talked.written kept };
   told = subst (λ r. IsToldAs r old_err new_err status) is (told_as told old_err new_err status (subst (λ r. IfOk r (λ s. s ≡ Done)) (sym is) (ends_well came)) told_fault line flush ended);
-  stored = λ open.
+  stored = λ unclosed.
       ap (λ h. history_in (state g h).now.trees) last_is
-      ∙ sym (talked_stored (records g) input old mid book behind came talked stored open (subst (λ h. HasCleanDisk (state g h)) last_is clean));
+      ∙ sym (talked_stored (records g) input old mid book behind came talked stored unclosed (subst (λ h. HasCleanDisk (state g h)) last_is clean));
 }
+
+-- a session ends with one of two statuses
+pub ends_so : (came : Result Ended TalkFault) (told : Result Status StoreFault) (status : Status) → told ≡ status_of came → MatchResult told (λ s. (status ≡ s) ⊎ (status ≡ Failed)) (λ f. status ≡ Failed) → (status ≡ Done) ⊎ (status ≡ Failed)
+ends_so (Ok e) told status is h = subst (λ r. MatchResult r (λ s. (status ≡ s) ⊎ (status ≡ Failed)) (λ f. status ≡ Failed)) is h
+ends_so (Err f) told status is h = inr (subst (λ r. MatchResult r (λ s. (status ≡ s) ⊎ (status ≡ Failed)) (λ f. status ≡ Failed)) is h)
