@@ -28,7 +28,8 @@ fn session(
 #[test]
 fn session_ends_at_quit(rt: HostRuntime) {
     let book = restarted(&rt, rt.alloc(), Vec::new(rt.alloc()));
-    let lines = b"announce 1 gala\nrelease 2 gala 9\nsell\nsell 3 gala 4\nleft gala\nquit\nsell 4 gala 1\n";
+    let lines =
+        b"announce 1 gala\nrelease 2 gala 9\nsell\nsell 3 gala 4\nleft gala\nquit\nsell 4 gala 1\n";
     let replies = b"done\ndone\nbad-line\ndone\nleft 5\n";
     let book = session(&rt, rt.alloc(), book, lines, replies, Ended::Quit);
     assert_eq!(rt; book.book().len(), 3);

@@ -64,7 +64,11 @@ fn copies(alloc: Global, entries: &[Entry]) -> Result<Vec<Entry>, AllocError>
 }
 
 // The book of these entries, which its keeper has.
-pub(crate) fn restarted(rt: &impl Abort, alloc: Global, entries: Vec<Entry>) -> SiteBook<ListKeeper> {
+pub(crate) fn restarted(
+    rt: &impl Abort,
+    alloc: Global,
+    entries: Vec<Entry>,
+) -> SiteBook<ListKeeper> {
     let kept = copies(alloc, entries.as_slice()).expect(rt, "memory");
     let meta = office(rt);
     assert!(rt; meta.me.number() < meta.sites.count());

@@ -141,7 +141,14 @@ fn session(
         most,
     };
     let lines = b"announce 1 gala\nrelease 2 gala 9\nleft gala\n";
-    let (ended, conn) = ask_store(rt, rt.alloc(), conn, lines.as_slice(), &mut flushes, &mut err);
+    let (ended, conn) = ask_store(
+        rt,
+        rt.alloc(),
+        conn,
+        lines.as_slice(),
+        &mut flushes,
+        &mut err,
+    );
     assert_eq!(rt; ended, status);
     assert!(rt; conn.is_some());
     assert_eq!(rt; flushes.bytes.as_slice(), replies);
