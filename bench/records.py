@@ -4,12 +4,14 @@
 usage: records.py PROGRAM [FOLDER]
 
 PROGRAM is the built boxoffice, which answers sales from a session: each is an entry in the file before it is
-answered. It is compared with C SQLite (Python's sqlite3), which makes the same INSERTs one by one in WAL mode with
-synchronous=FULL, in the same run and FOLDER (where the files stand; a temporary one without it). Each rate is the
-best of three runs.
+answered. The lines come all at once, or each when the reply to the one before it was read, as a person types. It is
+compared with C SQLite (Python's sqlite3), which makes the same INSERTs one by one in WAL mode with synchronous=FULL, in
+the same run and FOLDER (where the files stand; a temporary one without it). Each rate is the median of five runs, which
+take turns.
 """
 import os
 import sqlite3
+import statistics
 import subprocess
 import sys
 import tempfile
@@ -27,15 +29,32 @@ def fresh(path):
             os.remove(path + end)
 
 
-def ours(program, path, sales):
+def released(program, path):
     fresh(path)
     subprocess.run([program, 'init', path, '0', '1', '1000000'], stdout=subprocess.DEVNULL, check=True)
     lines = 'announce 1 gala\nrelease 2 gala 1000000\n'
     subprocess.run([program, 'ask', path], input=lines, text=True, stdout=subprocess.DEVNULL, check=True)
+
+
+def piped(program, path, sales):
+    released(program, path)
     lines = ''.join('sell %d gala 1\n' % (3 + k) for k in range(sales))
     began = time.perf_counter()
     subprocess.run([program, 'ask', path], input=lines, text=True, stdout=subprocess.DEVNULL, check=True)
     return time.perf_counter() - began
+
+
+def typed(program, path, sales):
+    released(program, path)
+    lines = [b'sell %d gala 1\n' % (3 + k) for k in range(sales)]
+    with subprocess.Popen([program, 'ask', path], stdin=subprocess.PIPE, stdout=subprocess.PIPE, bufsize=0) as session:
+        to, of = session.stdin.fileno(), session.stdout.fileno()
+        began = time.perf_counter()
+        for line in lines:
+            os.write(to, line)
+            if os.read(of, 100) != b'done\n':
+                sys.exit('a sale was not done')
+        return time.perf_counter() - began
 
 
 def theirs(path, sales):
@@ -69,11 +88,13 @@ def main(words):
     with tempfile.TemporaryDirectory(dir=words[1] if len(words) == 2 else None) as folder:
         path, plain = os.path.join(folder, 'ours.db'), os.path.join(folder, 'theirs.db')
         sales = 5000
-        mine = min(ours(program, path, sales) for _ in range(3))
-        other = min(theirs(plain, sales) for _ in range(3))
-        print('durable sales: %.0f a second, C SQLite %.0f, ratio %.2f' % (sales / mine, sales / other, other / mine))
+        runs = [(piped(program, path, sales), typed(program, path, sales), theirs(plain, sales)) for _ in range(5)]
+        at_once, one_by_one, other = (statistics.median(times) for times in zip(*runs))
+        for how, mine in (('all at once', at_once), ('each behind a reply', one_by_one)):
+            rates = (how, sales / mine, sales / other, other / mine)
+            print('durable sales, lines %s: %.0f a second, C SQLite %.0f, ratio %.2f' % rates)
         for entries in (1000, 10000, 100000):
-            ours(program, path, entries - 2)
+            piped(program, path, entries - 2)
             took = opening(program, path)
             print('opening %d entries: %.3f s, %.1f us an entry' % (entries, took, took / entries * 1e6))
 
