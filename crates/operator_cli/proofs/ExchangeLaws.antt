@@ -3,7 +3,7 @@ use Rattle.std.proofs.Common.{◌≡◌, ℕ, List, Option, false, subst, subst�
 use Rattle.sqlite.specs.Tree.{Trees}
 use Rattle.book_core.specs.declared.entry.Entry.{Entry}
 use Rattle.book_core.specs.Decision.{Office}
-use Rattle.site_exchange.specs.Exchange.{Site, next}
+use Rattle.site_exchange.specs.Exchange.{Site}
 use Rattle.sql_records.specs.declared.meta.Meta.{Meta}
 use Rattle.sql_records.specs.Held.{history_in}
 use Rattle.site_desk.specs.SiteView.{SiteView, office_of, site_of}
@@ -11,10 +11,10 @@ use Rattle.operator_cli.specs.declared.store_fault.StoreFault.{StoreFault}
 use Rattle.operator_cli.specs.Exchanged.{IsInputEnd, IsNextEnd, site_in}
 
 pub export_end : {K : Type 0} (to : ℕ) (book : SiteView K) (meta : Meta) (db : Trees) (cause : StoreFault) → book.closed ≡ false → book.book.office ≡ office_of meta → site_of book ≡ site_in db
-    → IsNextEnd book.closed (next book.book.office.me (site_of book) to) cause → IsNextEnd false (next meta.me (site_in db) to) cause
+    → IsNextEnd book.closed book.book.office (site_of book) to cause → IsNextEnd false (office_of meta) (site_in db) to cause
 export_end to book meta db cause unclosed office site e =
-    let first = subst (λ b. IsNextEnd b (next book.book.office.me (site_of book) to) cause) unclosed e in
-    subst₂ (λ (o : Office) (s : Site). IsNextEnd false (next o.me s to) cause) office site first
+    let first = subst (λ b. IsNextEnd b book.book.office (site_of book) to cause) unclosed e in
+    subst₂ (λ (o : Office) (s : Site). IsNextEnd false o s to cause) office site first
 
 pub import_end : {K : Type 0} (book : SiteView K) (meta : Meta) (db : Trees) (input : Option (List ℕ)) (cause : StoreFault) → book.book.office ≡ office_of meta → book.book.history ≡ history_in db
     → IsInputEnd book.book.office book.book.history input cause → IsInputEnd (office_of meta) (history_in db) input cause

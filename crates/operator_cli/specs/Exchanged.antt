@@ -1,17 +1,20 @@
 -- What exporting and importing come to, by the records that were opened. (Our own.)
 use Rattle.std.specs.Prelude.{◌≡◌, ◌⊎◌, ⊤, IfSome, ℕ, ◌<◌, ◌≤◌, Bool, true, false, IsTrue, IsSome, if◌then◌else◌, nat_lt, List, length, Option, Some, None, Result, Ok, Err}
 use Rattle.sqlite.specs.Tree.{Trees}
+use Rattle.sqlite.specs.State.{State}
 use Rattle.book_core.specs.declared.entry.Entry.{Entry}
 use Rattle.book_core.specs.Decision.{Office}
 use Rattle.book_core.specs.Legal.{IsLegal}
 use Rattle.site_exchange.specs.declared.message.Message.{Message}
 use Rattle.site_exchange.specs.Exchange as exchange
-use Rattle.site_exchange.specs.Exchange.{Site, Verdict, next, verdict, zeros}
+use Rattle.site_exchange.specs.Exchange.{Site, Verdict, entry_of_take, next, verdict, zeros}
+use Rattle.site_exchange.specs.Taking.{extended}
 use Rattle.delta_wire.specs.declared.fault.WireFault.{WireFault}
 use Rattle.delta_wire.specs.Grammar.{message_text}
 use Rattle.delta_wire.specs.Wire.{message_of}
 use Rattle.sql_records.specs.declared.meta.Meta.{Meta}
-use Rattle.sql_records.specs.Held.{history_in}
+use Rattle.sql_records.specs.Held.{MayLeaveIn, history_in}
+use Rattle.sql_records.specs.Keeping.{Keeps}
 use Rattle.sql_records.specs.Layout.{HasMeta}
 use Rattle.site_desk.specs.Answers.{is_peer}
 use Rattle.site_desk.specs.SiteView.{SiteView, office_of}
@@ -43,6 +46,11 @@ abbrev pub told_of_read : Office → List Entry → Result Message WireFault →
 told_of_read office h (Ok message) = told_of_verdict (verdict office h message)
 told_of_read office h (Err fault) = Unread fault
 
+-- the history behind a message that was read: what is joined stands at its end
+abbrev pub behind_read : Office → List Entry → Result Message WireFault → List Entry
+behind_read office h (Ok message) = extended (entry_of_take office h message) h
+behind_read office h (Err fault) = h
+
 -- the most bytes that a message may have
 abbrev pub most_bytes : ℕ
 most_bytes = 4294967296
@@ -50,6 +58,14 @@ most_bytes = 4294967296
 -- what is told of the bytes of an input
 abbrev pub told_of_bytes : Office → List Entry → List ℕ → Told
 told_of_bytes office h bytes = if nat_lt most_bytes (length bytes) then TooLong else told_of_read office h (message_of bytes)
+
+-- the history behind the bytes of an input
+abbrev pub behind_bytes : Office → List Entry → List ℕ → List Entry
+behind_bytes office h bytes = if nat_lt most_bytes (length bytes) then h else behind_read office h (message_of bytes)
+
+-- the database holds this history, and a stop leaves it and nothing else
+abbrev pub HoldsOnly : State → List Entry → Type 0
+HoldsOnly s h = Keeps h (history_in s.now.trees) (MayLeaveIn s)
 
 -- the message that is due to a peer, or why there is none
 abbrev pub IsDueText : Office → Site → ℕ → Status → List ℕ → Type 0
@@ -66,12 +82,12 @@ abbrev pub IsInput : List ℕ → Option (List ℕ) → Type 0
 IsInput input None = most_bytes < length input
 IsInput input (Some bytes) = (bytes ≡ input) × (length input ≤ most_bytes)
 
--- what ends sending early: the book is closed, memory is wanted for a message that is due, or it is not written
-abbrev pub IsNextEnd : Bool → Option Message → StoreFault → Type 0
-IsNextEnd closed due fault.Store = closed ≡ true
-IsNextEnd closed due fault.Memory = IsSome due
-IsNextEnd closed due fault.Write = ⊤
-IsNextEnd closed due _ = ⊥
+-- what ends sending early: the book is closed, memory is wanted for a message that is due to a peer, or it is not written
+abbrev pub IsNextEnd : Bool → Office → Site → ℕ → StoreFault → Type 0
+IsNextEnd closed office site to fault.Store = closed ≡ true
+IsNextEnd closed office site to fault.Memory = IsTrue (is_peer office to) × IsSome (next office.me site to)
+IsNextEnd closed office site to fault.Write = ⊤
+IsNextEnd closed office site to _ = ⊥
 
 -- what ends taking early: the book is closed, memory is wanted, or what is joined is not stored; a refusal does not
 abbrev pub IsTakeEnd : Bool → Told → StoreFault → Type 0

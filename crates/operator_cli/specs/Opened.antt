@@ -19,7 +19,6 @@ use Rattle.sql_records.specs.Making.{IsInitFault}
 use Rattle.sql_records.specs.Held.{history_in}
 use Rattle.sql_records.specs.Layout.{HasMeta}
 use Rattle.sql_records.specs.Opening.{IsOpenFault}
-use Rattle.site_exchange.specs.Exchange.{next}
 use Rattle.site_desk.specs.SiteView.{office_of}
 use Rattle.operator_cli.specs.Exchanged.{IsInputEnd, IsNextEnd, site_in}
 use Rattle.operator_cli.specs.declared.store_fault.StoreFault.{StoreFault}
@@ -42,7 +41,7 @@ IsLookupEnd old new _ = ⊥
 
 -- what ends an export early: memory is wanted for the message that is due, or what is told is not written
 abbrev pub IsExportEnd : ℕ → State → State → StoreFault → Type 0
-IsExportEnd to old new cause = (meta : Meta) → HasMeta meta old.now.trees → IsNextEnd false (next meta.me (site_in old.now.trees) to) cause
+IsExportEnd to old new cause = (meta : Meta) → HasMeta meta old.now.trees → IsNextEnd false (office_of meta) (site_in old.now.trees) to cause
 
 abbrev pub IsImportEnd : Option (List ℕ) → State → State → StoreFault → Type 0
 IsImportEnd input old new cause = (meta : Meta) → HasMeta meta old.now.trees → IsInputEnd (office_of meta) (history_in old.now.trees) input cause

@@ -13,8 +13,6 @@ use Rattle.sql_records.specs.declared.fault.OpenFault.{OpenFault}
 use Rattle.sql_records.specs.declared.fault.OpenFault.TheVariants as opening
 use Rattle.sql_records.specs.declared.lookup.FindFault.{FindFault}
 use Rattle.sql_records.specs.declared.lookup.FindFault.TheVariants as find
-use Rattle.operator_cli.specs.declared.fault.ScriptFault.{ScriptFault}
-use Rattle.operator_cli.specs.declared.fault.ScriptFault.TheVariants as script
 use Rattle.operator_cli.specs.declared.store_fault.StoreFault.{StoreFault}
 use Rattle.operator_cli.specs.declared.store_fault.StoreFault.TheVariants as fault
 use Rattle.operator_cli.specs.declared.told.Told.{Told}
@@ -118,10 +116,3 @@ of_find_fault find.Shut = fault.Store
 of_find_fault (find.Damaged place) = fault.Damaged place
 of_find_fault find.Memory = fault.Memory
 of_find_fault find.Disk = fault.Disk
-
-abbrev pub of_script_fault : ScriptFault → StoreFault
-of_script_fault script.Read = fault.Read
-of_script_fault script.Write = fault.Write
-of_script_fault script.LineTooLong = fault.LineTooLong
-of_script_fault script.TooManyLines = fault.TooManyLines
-of_script_fault script.Memory = fault.Memory

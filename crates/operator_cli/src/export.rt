@@ -7,7 +7,6 @@ ghost use Rattle.sql_records.specs.Layout.{HasMeta};
 ghost use Rattle.sql_records.specs.declared.meta.Meta.{Meta as Numbers};
 ghost use Rattle.site_desk.specs.SiteView.{office_of, site_of};
 ghost use Rattle.operator_cli.specs.Exchanged.{IsDueText, IsNextEnd, site_in};
-ghost use Rattle.site_exchange.specs.Exchange.{next};
 ghost use Rattle.operator_cli.specs.Told.{FaultTold};
 ghost use Rattle.operator_cli.specs.declared.status.Status.TheVariants.{Failed};
 ghost use Rattle.operator_cli.specs.Printed.{Printed, IsSentText};
@@ -35,7 +34,7 @@ fn write_next<K: Keeper, W: Write>(
     ensures out { IfOk result (Printed IsSentText (W.contents out.old) (W.contents out.new)) }
     ensures due { IfOk result (Printed (IsDueText book.now.book.office (site_of book.now) to)
         (W.contents out.old) (W.contents out.new)) }
-    ensures fault { IfErr result (IsNextEnd book.now.closed (next book.now.book.office.me (site_of book.now) to)) }
+    ensures fault { IfErr result (IsNextEnd book.now.closed book.now.book.office (site_of book.now) to) }
     ensures ends { IfOk result (λ status. status ≢ Failed) }
 {
     match book.next(alloc, to) {

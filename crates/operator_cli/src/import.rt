@@ -1,12 +1,12 @@
 //! The command `import`: a message from a peer.
 
-ghost use Rattle.std.specs.Prelude.{◌≡◌, ◌≢◌, ◌≤◌, ◌⊎◌, false, None, Some, IfOk, IfErr, IfSome, vec_len};
+ghost use Rattle.std.specs.Prelude.{◌≡◌, ◌≢◌, ◌≤◌, ◌⊎◌, false, None, Some, IfOk, IfErr, IfSome, OnOk, vec_len};
 ghost use Rattle.sqlite.specs.State.{HasCleanDisk};
 ghost use Rattle.sqlite.specs.Held.{state};
 ghost use Rattle.sql_records.specs.Layout.{HasMeta};
 ghost use Rattle.sql_records.specs.declared.meta.Meta.{Meta as Numbers};
 ghost use Rattle.site_desk.specs.SiteView.{office_of};
-ghost use Rattle.operator_cli.specs.Exchanged.{IsTakeEnd, IsInput, IsInputEnd, told_of_bytes, told_of_read};
+ghost use Rattle.operator_cli.specs.Exchanged.{HoldsOnly, IsTakeEnd, IsInput, IsInputEnd, behind_bytes, behind_read, told_of_bytes, told_of_read};
 ghost use Rattle.delta_wire.specs.Wire.{message_of};
 ghost use Rattle.sql_records.specs.Held.{history_in};
 ghost use Rattle.operator_cli.specs.Told.{FaultTold, told_status};
@@ -60,6 +60,8 @@ fn take_bytes<K: Keeper>(
     ensures kind { IfOk result IsOfTaking }
     ensures told { IfOk result (λ told. told
         ≡ told_of_read book.old.book.office book.old.book.history (message_of bytes.now)) }
+    ensures entered { OnOk result (book.new.book.history ≡ behind_read book.old.book.office book.old.book.history (message_of bytes.now)) }
+    ensures unclosed { OnOk result (book.old.closed ≡ false → book.new.closed ≡ false) }
     ensures kept { IfOk result (λ told. told_status told ≡ Refused → book.new.keeper ≡ book.old.keeper) }
     ensures fault { IfErr result (IsTakeEnd book.old.closed (told_of_read book.old.book.office book.old.book.history (message_of bytes.now))) }
     ensures trusted { K.is_trusted book.new.keeper → K.is_trusted book.old.keeper }
@@ -84,6 +86,9 @@ fn take_input<K: Keeper, R: Read + Drop>(
     ensures kind { IfOk result IsOfTaking }
     ensures told { IfSome (R.remaining input) (λ bytes. IfOk result (λ told. told
         ≡ told_of_bytes book.old.book.office book.old.book.history bytes)) }
+    ensures entered { IfSome (R.remaining input) (λ bytes. OnOk result (book.new.book.history
+        ≡ behind_bytes book.old.book.office book.old.book.history bytes)) }
+    ensures unclosed { OnOk result (book.old.closed ≡ false → book.new.closed ≡ false) }
     ensures kept { IfOk result (λ told. told_status told ≡ Refused → book.new.keeper ≡ book.old.keeper) }
     ensures fault { IfErr result (λ fault. book.old.closed ≡ false → IsInputEnd book.old.book.office book.old.book.history (R.remaining input) fault) }
     ensures trusted { K.is_trusted book.new.keeper → K.is_trusted book.old.keeper }
@@ -105,6 +110,9 @@ fn write_taken<K: Keeper, R: Read + Drop, W: Write>(
     ensures taken { IfSome (R.remaining input) (λ bytes. IfOk result (Printed
         (IsTellingOf (λ told. told ≡ told_of_bytes book.old.book.office book.old.book.history bytes))
         (W.contents out.old) (W.contents out.new))) }
+    ensures entered { IfSome (R.remaining input) (λ bytes. OnOk result (book.new.book.history
+        ≡ behind_bytes book.old.book.office book.old.book.history bytes)) }
+    ensures unclosed { OnOk result (book.old.closed ≡ false → book.new.closed ≡ false) }
     ensures kept { IfOk result (λ status. status ≡ Refused → book.new.keeper ≡ book.old.keeper) }
     ensures fault { IfErr result (λ fault. book.old.closed ≡ false → IsInputEnd book.old.book.office book.old.book.history (R.remaining input) fault) }
     ensures ends { IfOk result (λ status. status ≢ Failed) }
@@ -136,6 +144,10 @@ pub fn import_store<S: Alter + Drop, R: Read + Drop, W: Write, E: Write>(
         (W.contents out.old) (W.contents out.new) result.0)) }
     ensures kept { IfSome result.1 (λ after. HasCleanDisk (state S.Store after) → result.0 ≡ Refused
         → (state S.Store after).now ≡ (state S.Store conn).now) }
+    ensures holds { IfSome result.1 (λ after. HasCleanDisk (state S.Store after) → result.0 ≢ Failed
+        → (meta : Numbers) → HasMeta meta (state S.Store conn).now.trees
+        → IfSome (R.remaining input) (λ bytes. HoldsOnly (state S.Store after)
+        (behind_bytes (office_of meta) (history_in (state S.Store conn).now.trees) bytes))) }
     ensures err { FaultTold (E.contents err.old) (E.contents err.new) result.0 }
     ensures cause { IfSome result.1 (λ after. HasCleanDisk (state S.Store after)
         → FailsFor (λ fault. IsIllegal S.Store conn after fault ⊎ EndsOpened S.Store conn (IsImportEnd (R.remaining input)) after fault)
@@ -147,6 +159,8 @@ pub fn import_store<S: Alter + Drop, R: Read + Drop, W: Write, E: Write>(
     match open_book(alloc, conn) {
         Ok(mut book) => {
             let came = write_taken(alloc, &mut book, input, out);
+            // What the book says of a stop.
+            let _closed = book.is_closed();
             (ended(came, out, err), Some(book.into_keeper().close()))
         }
         Err((fault, conn)) => (ended(Err(fault), out, err), conn),

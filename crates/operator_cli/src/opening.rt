@@ -1,9 +1,12 @@
 //! Opening the records of a site.
 
-ghost use Rattle.std.specs.Prelude.{◌≡◌, IfOk, IfErr, MatchOption};
+ghost use Rattle.std.specs.Prelude.{◌≡◌, false, IfOk, IfErr, MatchOption};
 ghost use Rattle.sqlite.specs.Held.{state};
 ghost use Rattle.sqlite.specs.State.{HasCleanDisk};
-ghost use Rattle.sql_records.specs.Held.{IsTrusted, kept_in, history_in};
+ghost use Rattle.sql_records.specs.declared.meta.Meta.{Meta as Numbers};
+ghost use Rattle.sql_records.specs.Keeping.{LeavesOnly};
+ghost use Rattle.sql_records.specs.Layout.{HasMeta};
+ghost use Rattle.sql_records.specs.Held.{IsOf, IsTrusted, MayLeave, kept_in, history_in};
 ghost use Rattle.operator_cli.specs.Exchanged.{IsBookOf};
 ghost use Rattle.operator_cli.specs.Opened.{IsRefused, IsIllegal};
 ghost use Rattle.operator_cli.specs.Told.{of_open_fault, of_replay_fault};
@@ -47,7 +50,10 @@ pub(crate) fn open_book<S: Alter + Drop>(
 ) -> Result<SiteBook<Records<S>>, (StoreFault, Option<Connection<S>>)>
     ensures kept { IfOk result (λ book. IsTrusted S.Store book.keeper
         → kept_in S.Store book.keeper ≡ history_in (state S.Store conn).now.trees) }
+    ensures rests { IfOk result (λ book. IsTrusted S.Store book.keeper → LeavesOnly (kept_in S.Store book.keeper) (MayLeave S.Store book.keeper)) }
+    ensures site { IfOk result (λ book. IsTrusted S.Store book.keeper → (meta : Numbers) → HasMeta meta (state S.Store conn).now.trees → IsOf S.Store book.keeper meta) }
     ensures open { IfOk result (λ book. book.keeper.failures ≡ 0) }
+    ensures unclosed { IfOk result (λ book. book.closed ≡ false) }
     ensures book { IfOk result (λ book. IsTrusted S.Store book.keeper → IsBookOf (state S.Store conn).now.trees book) }
     ensures same { IfOk result (λ book. IsTrusted S.Store book.keeper
         → (state S.Store book.keeper.conn).now ≡ (state S.Store conn).now) }

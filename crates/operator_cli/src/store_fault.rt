@@ -5,7 +5,6 @@ ghost use Rattle.arrayvec.specs.ArrayVec.{array_vec_len};
 ghost use Rattle.std.specs.Fmt.{signed_decimal};
 ghost use Rattle.operator_cli.specs.Told.{store_fault_text, store_fault_line};
 
-use crate::fault::ScriptFault;
 use plain_words::{Text, numbered, put, put_number, word};
 use session_server::TalkFault;
 
@@ -30,23 +29,6 @@ pub(crate) enum StoreFault {
     LineTooLong,
     /// A session has more than 1,000,000 lines.
     TooManyLines,
-}
-
-impl From<ScriptFault> for StoreFault {
-    ghost use Rattle.std.specs.Prelude.{◌≡◌};
-    ghost use Rattle.operator_cli.specs.Told.{of_script_fault};
-
-    ghost from_gives = { λ script fault. fault ≡ of_script_fault script };
-
-    fn from(fault: ScriptFault) -> StoreFault {
-        match fault {
-            ScriptFault::Read => StoreFault::Read,
-            ScriptFault::Write => StoreFault::Write,
-            ScriptFault::LineTooLong => StoreFault::LineTooLong,
-            ScriptFault::TooManyLines => StoreFault::TooManyLines,
-            ScriptFault::Memory => StoreFault::Memory,
-        }
-    }
 }
 
 impl From<TalkFault> for StoreFault {

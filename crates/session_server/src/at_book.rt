@@ -47,7 +47,7 @@ impl<K: Keeper> AtBook<K> {
     }
 
     fn ask(&mut self, number: RequestNumber, request: &Request) -> Answered
-        ensures { AnswersAsk (record { failed = K.failed; is_trusted = K.is_trusted; kept = K.kept }) self.old self.new number request.now result }
+        ensures { AnswersAsk (record { failed = K.failed; is_trusted = K.is_trusted; kept = K.kept; may_leave = K.may_leave; is_of = K.is_of }) self.old self.new number request.now result }
     {
         let came = self.book.ask(self.alloc, number, request);
         answered_of(came)
@@ -75,7 +75,7 @@ impl<K: Keeper> AtBook<K> {
 impl<K: Keeper> Answerer for AtBook<K> {
     ghost use Rattle.session_server.specs.BookStep.{BookStep};
 
-    ghost step = { BookStep (record { failed = K.failed; is_trusted = K.is_trusted; kept = K.kept }) };
+    ghost step = { BookStep (record { failed = K.failed; is_trusted = K.is_trusted; kept = K.kept; may_leave = K.may_leave; is_of = K.is_of }) };
 
     fn answer<T: Wait>(&mut self, _rt: &T, line: &Line) -> Answered {
         match line {

@@ -5,19 +5,20 @@ use Rattle.sqlite.specs.Effect.{Database}
 use Rattle.sqlite.specs.Held.{Held, state}
 use Rattle.book_core.specs.declared.entry.Entry.{Entry}
 use Rattle.book_core.specs.Decision.{Office}
-use Rattle.sql_records.specs.Held.{IsTrusted, Kept, history_in}
+use Rattle.sql_records.specs.Held.{IsTrusted, Kept, MayLeaveIn, history_in}
+use Rattle.sql_records.specs.Keeping.{LeavesOnly}
 use Rattle.sql_records.specs.Layout.{HasMeta}
 use Rattle.site_desk.specs.SiteView.{office_of}
 use Rattle.operator_cli.specs.declared.status.Status.{Status}
 use Rattle.operator_cli.specs.declared.status.Status.TheVariants.{Refused}
-use Rattle.operator_cli.specs.Exchanged.{told_of_bytes}
+use Rattle.operator_cli.specs.Exchanged.{behind_bytes, told_of_bytes}
 use Rattle.operator_cli.specs.Printed.{Printed, IsTellingOf}
 use Rattle.operator_cli.specs.Printed.{IsTakenText}
 use Rattle.operator_cli.specs.Opened.{IsImportEnd}
 use Rattle.operator_cli.proofs.EndLaws.{weaker}
 use Rattle.operator_cli.proofs.ExchangeLaws.{import_end}
 use Rattle.operator_cli.proofs.OpenedLaws.{book_back, opened_cause, opened_illegal, opened_ours, refused_cause, refused_illegal, refused_lost, refused_ours}
-use Rattle.operator_cli.proofs.PrintLaws.{ends_printed, ends_as, if_some_map}
+use Rattle.operator_cli.proofs.PrintLaws.{ends_printed, ends_as, if_some_map, ok_unless_failed}
 use Rattle.operator_cli.proofs.import.import_store.Goals as goal
 
 pub returns-in-Ok-clause-out : goal.returns-in-Ok-clause-out
@@ -46,6 +47,21 @@ returns-in-Ok-clause-kept g c clean refused =
     ap (λ (conn : Held g.row.S.Denot). (state g.S.Store conn).now) conn_is
     ∙ ap (λ (k : Kept g.row.S.Denot). (state g.S.Store k.conn).now) unchanged
     ∙ c.in-Ok.ensures.same (c.write_taken-came.ensures.trusted after)
+
+pub returns-in-Ok-clause-holds : goal.returns-in-Ok-clause-holds
+returns-in-Ok-clause-holds g c clean alive meta has =
+    let conn_is = c.close.ensures ∙ ap (λ (k : Kept g.row.S.Denot). k.conn) c.into_keeper.ensures in
+    let after : IsTrusted g.S.Store c.write_taken-came.new.book.keeper = subst (λ (conn : Held g.row.S.Denot). HasCleanDisk (state g.S.Store conn)) conn_is clean in
+    let of = c.in-Ok.ensures.book (c.write_taken-came.ensures.trusted after) in
+    let unclosed = c.is_closed-closed.ensures.closed ∙ ok_unless_failed _ c.write_taken-came.result c.ended.result c.write_taken-came.ensures.unclosed c.ended.ensures.status alive of.unclosed in
+    if_some_map _ _ _ (λ bytes entered.
+    let behind = ok_unless_failed _ c.write_taken-came.result c.ended.result entered c.ended.ensures.status alive ∙ (λ i. behind_bytes (of.office meta has i) (of.history i) bytes) in
+    record {
+      is = ap (λ (conn : Held g.row.S.Denot). history_in (state g.S.Store conn).now.trees) conn_is ∙ sym (c.is_closed-closed.ensures.kept unclosed after) ∙ behind;
+      leaves = subst (λ (h : List Entry). LeavesOnly h (MayLeaveIn (state g.S.Store c.close.result))) behind
+          (subst (λ (conn : Held g.row.S.Denot). LeavesOnly c.write_taken-came.new.book.book.history (MayLeaveIn (state g.S.Store conn))) (sym conn_is) (c.is_closed-closed.ensures.rests unclosed after));
+    })
+    c.write_taken-came.ensures.entered
 
 pub returns-in-Err-clause-lost : goal.returns-in-Err-clause-lost
 returns-in-Err-clause-lost g c =

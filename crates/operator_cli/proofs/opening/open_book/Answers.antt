@@ -1,11 +1,11 @@
-use Rattle.std.proofs.Common.{◌≡◌, ◌⊎◌, List, Bool, true, false, inl, inr, refl, ◌∙◌, ap, subst, subst₂}
+use Rattle.std.proofs.Common.{◌≡◌, ◌⊎◌, List, Bool, true, false, inl, inr, refl, ◌∙◌, ap, sym, subst, subst₂}
 use Rattle.sqlite.specs.State.{HasCleanDisk}
 use Rattle.sqlite.specs.Held.{Held, state}
 use Rattle.book_core.specs.declared.entry.Entry.{Entry}
 use Rattle.book_core.specs.Decision.{Office}
 use Rattle.book_core.specs.Legal.{IsLegal}
 use Rattle.book_core.specs.Replay.{IsReplayFault}
-use Rattle.sql_records.specs.Held.{Kept, history_in}
+use Rattle.sql_records.specs.Held.{IsOf, Kept, history_in}
 use Rattle.site_desk.specs.SiteView.{office_of}
 use Rattle.operator_cli.proofs.opening.open_book.Goals as goal
 
@@ -22,6 +22,12 @@ returns-in-Ok-start-clause-book g c = λ clean.
       fresh = c.in-Ok-start.ensures.acknowledged;
       unclosed = c.in-Ok-start.ensures.open;
     }
+
+pub returns-in-Ok-start-clause-site : goal.returns-in-Ok-start-clause-site
+returns-in-Ok-start-clause-site g c = λ clean meta has.
+    let trusted = subst (λ kept. HasCleanDisk (state g.S.Store kept.conn)) (c.in-Ok-start.ensures.keeper) clean in
+    subst (λ (kept : Kept g.row.S.Denot). IsOf g.S.Store kept meta) (sym c.in-Ok-start.ensures.keeper)
+    (subst (IsOf g.S.Store c.in-Ok.opened.0) (c.in-Ok.ensures.given trusted meta has) (c.in-Ok.ensures.site trusted))
 
 either : (b : Bool) → (b ≡ true) ⊎ (b ≡ false)
 either true = inl refl
