@@ -14,6 +14,8 @@ mod lattice;
 #[cfg(test)]
 mod ledger;
 #[cfg(test)]
+mod links;
+#[cfg(test)]
 mod mutators;
 #[cfg(test)]
 mod request_words;
