@@ -65,6 +65,7 @@ wrote_kept (Err talk.Write) a b c answers w k = (w.0, w.1, w.2, w.3, w.4, w.5, A
 wrote_kept (Err talk.TooLong) a b c answers w k = Appends-kept a b c _ w k
 wrote_kept (Err talk.LineTooLong) a b c answers w k = Appends-kept a b c _ w k
 wrote_kept (Err talk.Memory) a b c answers w k = Appends-kept a b c _ w k
+wrote_kept (Err talk.NotStarted) a b c answers w k = absurd w
 
 pub session_ran : {S : Type 0} (g : Ghosts S) (conn last : Held S) (book behind : SiteView (Kept S)) (input old mid new old_err new_err : Option (List ℕ)) (came : Result Ended TalkFault) (told : Result Status StoreFault) (status : Status)
     → IsBookOf (state g conn).now.trees book → Talked (BookStep (records g)) input old mid book behind came → told ≡ status_of came → Keeps mid new → FaultTold old_err new_err status

@@ -43,7 +43,7 @@ impl From<TalkFault> for StoreFault {
             TalkFault::Write => StoreFault::Write,
             TalkFault::TooLong => StoreFault::TooManyLines,
             TalkFault::LineTooLong => StoreFault::LineTooLong,
-            TalkFault::Memory => StoreFault::Memory,
+            TalkFault::Memory | TalkFault::NotStarted => StoreFault::Memory,
         }
     }
 }

@@ -192,6 +192,7 @@ breaks_off S input rest rest' old new new' before mid after count fault.Write fe
 }
 breaks_off S input rest rest' old new new' before mid after count fault.TooLong few h k = absurd k
 breaks_off S input rest rest' old new new' before mid after count fault.Memory few h k = absurd k
+breaks_off S input rest rest' old new new' before mid after count fault.NotStarted few h k = absurd k
 
 -- all lines were read that may be there, and no other is
 pub ends_after_all : {A : Type 0} (S : Steps A) (input rest rest' old new : Bytes) (before after : A) → SoFar S input rest old new before after most_lines

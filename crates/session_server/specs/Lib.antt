@@ -1,2 +1,4 @@
 pub mod BookStep
+pub mod SeatStep
+pub mod Served
 pub mod Session

@@ -76,12 +76,14 @@ EndsAt (Err fault.TooLong) lines t = t ≡ record { lines = lines; end = AtTooMa
 EndsAt (Err fault.Read) lines t = (more : List (List ℕ)) × (t.lines ≡ lines ++ more)
 EndsAt (Err fault.Write) lines t = (lines ≢ []) × ((more : List (List ℕ)) × (t.lines ≡ lines ++ more))
 EndsAt (Err fault.Memory) lines t = lines ≡ []
+EndsAt (Err fault.NotStarted) lines t = ⊥
 
--- All reply lines went out. Where a write failed it was that of the last: those before it went out, and a front of it.
+-- All reply lines went out. Where a write failed it was that of the last: those before it went out, and a front of it. A session that was not started is none.
 abbrev pub Wrote : Result Ended TalkFault → Option (List ℕ) → Option (List ℕ) → List Answered → Type 0
 Wrote (Err fault.Write) old new answers =
     (earlier : List Answered) × (last : Answered) × (front : List ℕ) × (rest : List ℕ)
     × (answers ≡ earlier ++ last ∷ []) × (reply_line last ≡ front ++ rest) × Appends old new (flat_map reply_line earlier ++ front)
+Wrote (Err fault.NotStarted) old new answers = ⊥
 Wrote _ old new answers = Appends old new (flat_map reply_line answers)
 
 -- A session: the lines that were answered, their answers in order, and their reply lines.

@@ -96,7 +96,7 @@ fn answered_of(came: Result<Answer, AskFault>) -> Answered
     }
 }
 
-fn not_shown(fault: LookFault) -> Answered
+pub(crate) fn not_shown(fault: LookFault) -> Answered
     ensures { result ≡ not_shown fault }
 {
     match fault {

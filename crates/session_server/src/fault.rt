@@ -28,6 +28,9 @@ pub enum TalkFault {
     /// Nothing was read.
     #[error("out of memory")]
     Memory,
+    /// The thread of a session could not be started. `talk` never tells this.
+    #[error("the thread could not be started")]
+    NotStarted,
 }
 
 impl From<LineFault> for TalkFault {

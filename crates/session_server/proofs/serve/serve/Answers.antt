@@ -1,0 +1,10 @@
+use Rattle.std.proofs.Common.{ap}
+use Rattle.session_server.proofs.Seats.{served_by}
+use Rattle.session_server.proofs.serve.serve.Goals as goal
+
+pub invariant_of-result : goal.invariant_of-result
+invariant_of-result g c =
+    record {
+      served = ∣ served_by g.L.Opens.opening _ _ _ _ _ _ _ _ _ _ _ c.talk-ended.ensures c.new-at.ensures
+          (ap g.R.Read.remaining c.of-reader_began.ensures) (ap g.W.Write.contents c.of-writer_began.ensures) c.into_parts-seat.ensures.receipts c.into_parts-seat.ensures.looks ∣₁;
+    }

@@ -1,0 +1,52 @@
+-- How a seat at a desk answers the lines of a session, and what it was given. (Our own.)
+use Rattle.std.specs.Prelude.{◌≡◌, ◌⊎◌, ℕ, ◌+◌, ◌≤◌, List, [], ◌∷◌, ◌++◌}
+use Rattle.site_desk.specs.declared.answer.Seen.{Seen}
+use Rattle.site_desk.specs.declared.receipt.Receipt.{Receipt}
+use Rattle.site_desk.specs.Seats.{Held, held}
+use Rattle.desk_lines.specs.declared.line.Line.{Line}
+use Rattle.desk_lines.specs.declared.line.Line.TheVariants.{Ask, Left, Totals as TotalsOf, Quit}
+use Rattle.desk_lines.specs.declared.answered.Answered.{Answered}
+use Rattle.desk_lines.specs.declared.answered.Answered.TheVariants.{Kept, LeftIs, TotalsAre, NotKnown, Refused}
+
+-- a seat, with the receipts and the looks that it was given, the first one first
+pub record Seated : Type 0 where
+  pub seat : Held
+  pub receipts : List Receipt
+  pub looks : List Seen
+
+abbrev pub seated : Held → List Receipt → List Seen → Seated
+seated seat receipts looks = record { seat = seat; receipts = receipts; looks = looks }
+
+abbrev pub with_receipt : Seated → Held → Receipt → Seated
+with_receipt old seat receipt = seated seat (old.receipts ++ receipt ∷ []) old.looks
+
+abbrev pub with_look : Seated → Seen → Seated
+with_look old seen = seated old.seat old.receipts (old.looks ++ seen ∷ [])
+
+-- The share is as it was, or one more; then the entry at this place was added behind all that was entered for the seat before.
+abbrev pub IsRaisedAt : ℕ → ℕ → Held → Held → Type 0
+IsRaisedAt opening place old new = (new ≡ old) ⊎ ((new ≡ held old.parts (old.count + 1)) × (opening + old.count ≤ place))
+
+-- one look is added, at this event and at no less than all that was entered for the seat
+abbrev pub IsLookAt : ℕ → List ℕ → Seated → Seen → Seated → Type 0
+IsLookAt opening event old seen new = (new ≡ with_look old seen) × (seen.event ≡ event) × (opening + old.seat.count ≤ seen.at)
+
+-- A step of a seat, at a desk whose history had this length when its count began. A kept reply is that of the one receipt that is added, which has the line's number and request; what is left, and totals, are those of the one look that is added, at the line's event; every other answer adds none. The last line asks nothing.
+abbrev pub SeatStep : ℕ → Seated → Line → Answered → Seated → Type 0
+SeatStep opening old (Ask number request) (Kept reply) new =
+    (place : ℕ) × (seat : Held) × (new ≡ with_receipt old seat (record { number = number; request = request; reply = reply; place = place })) × IsRaisedAt opening place old.seat seat
+SeatStep opening old (Left event) (LeftIs left) new = (seen : Seen) × IsLookAt opening event old seen new × (seen.left ≡ left)
+SeatStep opening old (TotalsOf event) (TotalsAre totals) new = (seen : Seen) × IsLookAt opening event old seen new × (seen.totals ≡ totals)
+SeatStep opening old (Ask number request) (Refused fault) new = new ≡ old
+SeatStep opening old (Left event) (Refused fault) new = new ≡ old
+SeatStep opening old (TotalsOf event) (Refused fault) new = new ≡ old
+SeatStep opening old (Left event) NotKnown new = new ≡ old
+SeatStep opening old (TotalsOf event) NotKnown new = new ≡ old
+SeatStep opening old Quit NotKnown new = new ≡ old
+SeatStep opening old line answered new = ⊥
+
+-- this is answered where nothing is shown
+abbrev pub ShowsNothing : Answered → Type 0
+ShowsNothing NotKnown = Unit {0}
+ShowsNothing (Refused fault) = Unit {0}
+ShowsNothing answered = ⊥
