@@ -60,6 +60,10 @@ pub if_some_map : {A : Type 0} (o : Option A) (P Q : A → Type 0) → ((a : A) 
 if_some_map None P Q f h = tt
 if_some_map (Some a) P Q f h = f a h
 
+-- what holds of the connection that came back
+pub if_some_is : {A : Type 0} (o : Option A) (a : A) (Q : A → Type 0) → o ≡ Some a → Q a → IfSome o Q
+if_some_is o a Q e h = subst (λ (p : Option _). IfSome p Q) (sym e) h
+
 pub refused_if_none : {A : Type 0} (o : Option A) (P : Type 0) (Q : A → Type 0) → MatchOption o P Q → o ≡ None → P
 refused_if_none None P Q h e = h
 refused_if_none (Some a) P Q h e = cc

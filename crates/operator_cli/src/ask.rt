@@ -8,7 +8,7 @@ ghost use Rattle.operator_cli.specs.declared.status.Status.TheVariants.{Done, Fa
 ghost use Rattle.operator_cli.specs.Told.{FaultTold};
 ghost use Rattle.operator_cli.specs.Opened.{FailsAsIllegal, FailsIfIllegal, IsLost, ShowedRecords};
 
-use crate::ending::ended;
+use crate::ending::{close_book, ended};
 use crate::opening::open_book;
 use crate::status::Status;
 use crate::store_fault::StoreFault;
@@ -56,8 +56,7 @@ pub fn ask_store<T: Wait, S: Alter + Drop, R: Read + Drop, W: Write, E: Write>(
         Ok(book) => {
             let mut answerer = AtBook::new(alloc, book);
             let came = talk(rt, alloc, input, out, &mut answerer);
-            let status = ended(status_of(came), out, err);
-            (status, Some(answerer.into_book().into_keeper().close()))
+            close_book(status_of(came), answerer.into_book(), out, err)
         }
         Err((fault, conn)) => (ended(Err(fault), out, err), conn),
     }

@@ -1,6 +1,6 @@
 //! The end of a command over records.
 
-ghost use Rattle.std.specs.Prelude.{◌≡◌, ◌≢◌, ◌⊎◌, IfOk, IfErr, MatchResult};
+ghost use Rattle.std.specs.Prelude.{◌≡◌, ◌≢◌, ◌⊎◌, IfOk, IfErr, MatchResult, Some};
 ghost use Rattle.std.specs.Io.KnownBytes.{Keeps};
 ghost use Rattle.plain_words.specs.Writing.{Writes, AppendsFront};
 ghost use Rattle.operator_cli.specs.Told.{store_fault_line, FaultTold};
@@ -10,6 +10,9 @@ ghost use Rattle.operator_cli.specs.declared.store_fault.StoreFault.TheVariants.
 use crate::status::Status;
 use crate::store_fault::{StoreFault, store_fault_line};
 use plain_words::{Text, write_bytes};
+use site_desk::SiteBook;
+use sql_records::Records;
+use sqlite::{Alter, Connection};
 use std::io::Write;
 
 /// Writes a line.
@@ -44,6 +47,24 @@ fn tell_fault<E: Write>(fault: StoreFault, err: &mut E) -> Status
     let line = store_fault_line(fault);
     let _ = write_bytes(line.as_slice(), err);
     Status::Failed
+}
+
+/// The end of a command over the book of a site: its status, and the connection, which comes back.
+pub(crate) fn close_book<S: Alter + Drop, W: Write, E: Write>(
+    came: Result<Status, StoreFault>,
+    book: SiteBook<Records<S>>,
+    out: &mut W,
+    err: &mut E,
+) -> (Status, Option<Connection<S>>)
+    ensures back { result.1 ≡ Some book.keeper.conn }
+    ensures kept { Keeps (W.contents out.old) (W.contents out.new) }
+    ensures told { FaultTold (E.contents err.old) (E.contents err.new) result.0 }
+    ensures line { IfErr came (λ fault. AppendsFront (E.contents err.old) (E.contents err.new) (store_fault_line fault)) }
+    ensures flush { IfOk came (λ status. result.0 ≢ status → AppendsFront (E.contents err.old) (E.contents err.new) (store_fault_line WriteFailed)) }
+    ensures status { MatchResult came (λ status. (result.0 ≡ status) ⊎ (result.0 ≡ Failed)) (λ _. result.0 ≡ Failed) }
+{
+    let conn = book.into_keeper().close();
+    (ended(came, out, err), Some(conn))
 }
 
 /// The status of a command that came to this. A fault is told on `err`.

@@ -12,7 +12,7 @@ ghost use Rattle.operator_cli.specs.declared.status.Status.TheVariants.{Failed};
 ghost use Rattle.operator_cli.specs.Printed.{Printed, IsSentText};
 ghost use Rattle.operator_cli.specs.Opened.{EndsOpened, FailsFor, FailsIfIllegal, IsExportEnd, IsIllegal, IsLost, ShowedRecords};
 
-use crate::ending::ended;
+use crate::ending::{close_book, ended};
 use crate::opening::open_book;
 use crate::status::Status;
 use crate::store_fault::StoreFault;
@@ -79,7 +79,7 @@ pub fn export_store<S: Alter + Drop, W: Write, E: Write>(
     match open_book(alloc, conn) {
         Ok(book) => {
             let came = write_next(alloc, &book, to, out);
-            (ended(came, out, err), Some(book.into_keeper().close()))
+            close_book(came, book, out, err)
         }
         Err((fault, conn)) => (ended(Err(fault), out, err), conn),
     }

@@ -16,7 +16,7 @@ ghost use Rattle.std.specs.Option.{option_map};
 ghost use Rattle.operator_cli.specs.Printed.{Printed, IsTakenText, IsOfTaking, IsTellingOf};
 ghost use Rattle.operator_cli.specs.Opened.{EndsOpened, FailsFor, FailsIfIllegal, IsIllegal, IsImportEnd, IsLost, ShowedRecords};
 
-use crate::ending::ended;
+use crate::ending::{close_book, ended};
 use crate::opening::open_book;
 use crate::status::Status;
 use crate::store_fault::StoreFault;
@@ -161,7 +161,7 @@ pub fn import_store<S: Alter + Drop, R: Read + Drop, W: Write, E: Write>(
             let came = write_taken(alloc, &mut book, input, out);
             // What the book says of a stop.
             let _closed = book.is_closed();
-            (ended(came, out, err), Some(book.into_keeper().close()))
+            close_book(came, book, out, err)
         }
         Err((fault, conn)) => (ended(Err(fault), out, err), conn),
     }

@@ -15,43 +15,43 @@ use Rattle.operator_cli.specs.Opened.{IsExportEnd}
 use Rattle.operator_cli.proofs.EndLaws.{weaker}
 use Rattle.operator_cli.proofs.ExchangeLaws.{export_end}
 use Rattle.operator_cli.proofs.OpenedLaws.{book_back, opened_cause, opened_illegal, opened_ours, refused_cause, refused_illegal, refused_lost, refused_ours}
-use Rattle.operator_cli.proofs.PrintLaws.{ends_printed}
+use Rattle.operator_cli.proofs.PrintLaws.{ends_printed, if_some_is}
 use Rattle.operator_cli.proofs.export.export_store.Goals as goal
 
 pub returns-in-Ok-clause-out : goal.returns-in-Ok-clause-out
 returns-in-Ok-clause-out g c =
-    ends_printed IsSentText (g.W.Write.contents c.args.out.now) (g.W.Write.contents c.write_next-came.new.out) (g.W.Write.contents c.ended.new.out) c.write_next-came.result c.ended.result c.write_next-came.ensures.out c.ended.ensures.kept c.ended.ensures.status
+    ends_printed IsSentText (g.W.Write.contents c.args.out.now) (g.W.Write.contents c.write_next-came.new.out) (g.W.Write.contents c.close_book.new.out) c.write_next-came.result c.close_book.result.0 c.write_next-came.ensures.out c.close_book.ensures.kept c.close_book.ensures.status
 
 pub returns-in-Ok-clause-due : goal.returns-in-Ok-clause-due
-returns-in-Ok-clause-due g c clean meta has =
+returns-in-Ok-clause-due g c =
+    if_some_is _ _ _ c.close_book.ensures.back (λ clean meta has.
     let db = (state g.S.Store c.args.conn).now.trees in
     let a = g.W.Write.contents c.args.out.now in
     let b = g.W.Write.contents c.write_next-came.new.out in
-    let trusted : IsTrusted g.S.Store c.in-Ok.book.keeper =
-    subst (λ (conn : Held g.row.S.Denot). HasCleanDisk (state g.S.Store conn)) (c.close.ensures ∙ ap (λ (k : Kept g.row.S.Denot). k.conn) c.into_keeper.ensures) clean in
+    let trusted : IsTrusted g.S.Store c.in-Ok.book.keeper = clean in
     let of = c.in-Ok.ensures.book trusted in
     let site : site_of c.in-Ok.book ≡ site_in db = λ i. record { history = of.history i; acked = of.fresh i } in
     let here = subst (λ (s : Site). IfOk c.write_next-came.result (Printed (IsDueText c.in-Ok.book.book.office s c.args.to) a b)) site c.write_next-came.ensures.due in
     let came = subst (λ (o : Office). IfOk c.write_next-came.result (Printed (IsDueText o (site_in db) c.args.to) a b)) (of.office meta has) here in
-    ends_printed (IsDueText (office_of meta) (site_in db) c.args.to) a b (g.W.Write.contents c.ended.new.out) c.write_next-came.result c.ended.result came c.ended.ensures.kept c.ended.ensures.status
+    ends_printed (IsDueText (office_of meta) (site_in db) c.args.to) a b (g.W.Write.contents c.close_book.new.out) c.write_next-came.result c.close_book.result.0 came c.close_book.ensures.kept c.close_book.ensures.status)
 
 pub returns-in-Ok-clause-same : goal.returns-in-Ok-clause-same
-returns-in-Ok-clause-same g c clean =
-    let conn_is = c.close.ensures ∙ ap (λ (k : Kept g.row.S.Denot). k.conn) c.into_keeper.ensures in
-    let trusted : IsTrusted g.S.Store c.in-Ok.book.keeper = subst (λ (conn : Held g.row.S.Denot). HasCleanDisk (state g.S.Store conn)) conn_is clean in
-    ap (λ (conn : Held g.row.S.Denot). (state g.S.Store conn).now) conn_is ∙ c.in-Ok.ensures.same trusted
+returns-in-Ok-clause-same g c =
+    if_some_is _ _ _ c.close_book.ensures.back (λ clean.
+    let trusted : IsTrusted g.S.Store c.in-Ok.book.keeper = clean in
+    c.in-Ok.ensures.same trusted)
 
 pub returns-in-Err-clause-lost : goal.returns-in-Err-clause-lost
 returns-in-Err-clause-lost g c =
-    refused_lost g.S.Store c.args.conn c.in-Err.fault c.in-Err.conn c.in-Err.ensures.fault (g.W.Write.contents c.args.out.now) (g.W.Write.contents c.ended-in-Err.new.out) (g.E.Write.contents c.args.err.now) (g.E.Write.contents c.ended-in-Err.new.err) c.ended-in-Err.result c.ended-in-Err.ensures.kept c.ended-in-Err.ensures.line c.ended-in-Err.ensures.status
+    refused_lost g.S.Store c.args.conn c.in-Err.fault c.in-Err.conn c.in-Err.ensures.fault (g.W.Write.contents c.args.out.now) (g.W.Write.contents c.ended.new.out) (g.E.Write.contents c.args.err.now) (g.E.Write.contents c.ended.new.err) c.ended.result c.ended.ensures.kept c.ended.ensures.line c.ended.ensures.status
 
 pub returns-in-Err-clause-illegal : goal.returns-in-Err-clause-illegal
 returns-in-Err-clause-illegal g c =
-    refused_illegal g.S.Store c.args.conn c.in-Err.fault c.in-Err.conn c.in-Err.ensures.fault (g.W.Write.contents c.args.out.now) (g.W.Write.contents c.ended-in-Err.new.out) (g.E.Write.contents c.args.err.now) (g.E.Write.contents c.ended-in-Err.new.err) c.ended-in-Err.result c.ended-in-Err.ensures.kept c.ended-in-Err.ensures.line c.ended-in-Err.ensures.status
+    refused_illegal g.S.Store c.args.conn c.in-Err.fault c.in-Err.conn c.in-Err.ensures.fault (g.W.Write.contents c.args.out.now) (g.W.Write.contents c.ended.new.out) (g.E.Write.contents c.args.err.now) (g.E.Write.contents c.ended.new.err) c.ended.result c.ended.ensures.kept c.ended.ensures.line c.ended.ensures.status
 
 pub returns-in-Err-clause-cause : goal.returns-in-Err-clause-cause
 returns-in-Err-clause-cause g c =
-    refused_cause g.S.Store c.args.conn c.in-Err.fault c.in-Err.conn c.in-Err.ensures.fault (IsExportEnd c.args.to) (g.E.Write.contents c.args.err.now) (g.E.Write.contents c.ended-in-Err.new.err) c.ended-in-Err.result c.ended-in-Err.ensures.line
+    refused_cause g.S.Store c.args.conn c.in-Err.fault c.in-Err.conn c.in-Err.ensures.fault (IsExportEnd c.args.to) (g.E.Write.contents c.args.err.now) (g.E.Write.contents c.ended.new.err) c.ended.result c.ended.ensures.line
 
 pub returns-in-Err-clause-ours : goal.returns-in-Err-clause-ours
 returns-in-Err-clause-ours g c =
@@ -59,20 +59,21 @@ returns-in-Err-clause-ours g c =
 
 pub returns-in-Ok-clause-ours : goal.returns-in-Ok-clause-ours
 returns-in-Ok-clause-ours g c =
-    opened_ours g.S.Store c.args.conn c.close.result c.in-Ok.book (book_back g.S.Store c.args.conn c.close.result c.in-Ok.book c.in-Ok.book.keeper c.in-Ok.book.keeper refl (λ h. h) (c.close.ensures ∙ ap (λ (k : Kept g.row.S.Denot). k.conn) c.into_keeper.ensures) c.in-Ok.ensures.book)
+    if_some_is _ _ _ c.close_book.ensures.back (opened_ours g.S.Store c.args.conn c.in-Ok.book.keeper.conn c.in-Ok.book (book_back g.S.Store c.args.conn c.in-Ok.book.keeper.conn c.in-Ok.book c.in-Ok.book.keeper c.in-Ok.book.keeper refl (λ h. h) refl c.in-Ok.ensures.book))
 
 pub returns-in-Ok-clause-illegal : goal.returns-in-Ok-clause-illegal
 returns-in-Ok-clause-illegal g c =
-    opened_illegal g.S.Store c.args.conn c.close.result c.in-Ok.book (book_back g.S.Store c.args.conn c.close.result c.in-Ok.book c.in-Ok.book.keeper c.in-Ok.book.keeper refl (λ h. h) (c.close.ensures ∙ ap (λ (k : Kept g.row.S.Denot). k.conn) c.into_keeper.ensures) c.in-Ok.ensures.book) (g.W.Write.contents c.args.out.now) (g.W.Write.contents c.ended.new.out) (g.E.Write.contents c.args.err.now) (g.E.Write.contents c.ended.new.err) c.ended.result
+    if_some_is _ _ _ c.close_book.ensures.back (opened_illegal g.S.Store c.args.conn c.in-Ok.book.keeper.conn c.in-Ok.book (book_back g.S.Store c.args.conn c.in-Ok.book.keeper.conn c.in-Ok.book c.in-Ok.book.keeper c.in-Ok.book.keeper refl (λ h. h) refl c.in-Ok.ensures.book) (g.W.Write.contents c.args.out.now) (g.W.Write.contents c.close_book.new.out) (g.E.Write.contents c.args.err.now) (g.E.Write.contents c.close_book.new.err) c.close_book.result.0)
 
 pub returns-in-Ok-clause-cause : goal.returns-in-Ok-clause-cause
-returns-in-Ok-clause-cause g c clean =
+returns-in-Ok-clause-cause g c =
+    if_some_is _ _ _ c.close_book.ensures.back (λ clean.
     let opened = c.in-Ok.book.keeper.conn in
-    let of = (book_back g.S.Store c.args.conn c.close.result c.in-Ok.book c.in-Ok.book.keeper c.in-Ok.book.keeper refl (λ h. h) (c.close.ensures ∙ ap (λ (k : Kept g.row.S.Denot). k.conn) c.into_keeper.ensures) c.in-Ok.ensures.book) clean in
-    let same = c.in-Ok.ensures.same (subst (λ (conn : Held g.row.S.Denot). HasCleanDisk (state g.S.Store conn)) (c.close.ensures ∙ ap (λ (k : Kept g.row.S.Denot). k.conn) c.into_keeper.ensures) clean) in
+    let of = (book_back g.S.Store c.args.conn c.in-Ok.book.keeper.conn c.in-Ok.book c.in-Ok.book.keeper c.in-Ok.book.keeper refl (λ h. h) refl c.in-Ok.ensures.book) clean in
+    let same = c.in-Ok.ensures.same clean in
     let now = ap (λ (d : Database). d.trees) same in
     let site : site_of c.in-Ok.book ≡ site_in (state g.S.Store c.args.conn).now.trees = λ i. record { history = of.history i; acked = of.fresh i } in
-    let ended = weaker _ (IsExportEnd c.args.to (state g.S.Store opened) (state g.S.Store c.close.result)) c.write_next-came.result
+    let ended = weaker _ (IsExportEnd c.args.to (state g.S.Store opened) (state g.S.Store c.in-Ok.book.keeper.conn)) c.write_next-came.result
     (λ f e meta has. export_end c.args.to c.in-Ok.book meta (state g.S.Store opened).now.trees f of.unclosed (of.office meta (subst (HasMeta meta) now has)) (site ∙ ap site_in (sym now)) e) c.write_next-came.ensures.fault in
-    opened_cause g.S.Store c.args.conn c.close.result c.in-Ok.book (book_back g.S.Store c.args.conn c.close.result c.in-Ok.book c.in-Ok.book.keeper c.in-Ok.book.keeper refl (λ h. h) (c.close.ensures ∙ ap (λ (k : Kept g.row.S.Denot). k.conn) c.into_keeper.ensures) c.in-Ok.ensures.book) (IsExportEnd c.args.to) opened (g.E.Write.contents c.args.err.now) (g.E.Write.contents c.ended.new.err) c.write_next-came.result c.ended.result clean same c.in-Ok.ensures.limit ended (λ meta has. tt)
-    c.write_next-came.ensures.ends c.ended.ensures.line c.ended.ensures.flush
+    opened_cause g.S.Store c.args.conn c.in-Ok.book.keeper.conn c.in-Ok.book (book_back g.S.Store c.args.conn c.in-Ok.book.keeper.conn c.in-Ok.book c.in-Ok.book.keeper c.in-Ok.book.keeper refl (λ h. h) refl c.in-Ok.ensures.book) (IsExportEnd c.args.to) opened (g.E.Write.contents c.args.err.now) (g.E.Write.contents c.close_book.new.err) c.write_next-came.result c.close_book.result.0 clean same c.in-Ok.ensures.limit ended (λ meta has. tt)
+    c.write_next-came.ensures.ends c.close_book.ensures.line c.close_book.ensures.flush)
