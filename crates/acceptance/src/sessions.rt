@@ -10,15 +10,18 @@ use delta_mutators::{Delta, Item};
 use local_rights::Totals;
 use request_ledger::{Reply, Request};
 use rights_lattice::{Cell, Event, Mark, Sites};
-use site_desk::{Desk, FinishFault, NoGate, Opens, Receipt, Seat, Seen, SiteBook, Taken};
+use site_desk::{
+    Desk, FinishFault, Gate, NoGate, Opens, Place, Receipt, Seat, Seen, SiteBook, Taken,
+};
 use site_exchange::{Message, Upto};
 use sql_records::{Keeper, ListKeeper, Meta};
 use std::alloc::Global;
 use std::marker::Brand;
 use std::process::Abort;
 use std::sync::Wait;
+use std::sync::atomic::{AtomicU64, Ordering};
 use std::sync::ledger::Blank;
-use std::thread::{Threads, join};
+use std::thread::{Threads, join, yield_now};
 
 // The book of no entries of a site of two.
 fn empty_book(rt: &impl Abort, alloc: Global, me: u64) -> SiteBook<ListKeeper> {
@@ -124,6 +127,150 @@ fn two_sessions_sell_at_once(rt: HostRuntime) {
     assert_eq!(rt; book.book().len(), 4);
     assert_eq!(rt; book.look(gala(&rt)), Ok(seen_of(gala(&rt), 93, 7, 4)));
     assert!(rt; !book.is_closed());
+}
+
+// How often a session looks for the other one before it goes on.
+const TURNS: u64 = 20_000;
+
+// What two sessions at a desk do, counted over both.
+#[derive(Drop)]
+struct Meeting {
+    asking: AtomicU64,
+    inside: AtomicU64,
+    entered: AtomicU64,
+    answered: AtomicU64,
+}
+
+impl Meeting {
+    fn new() -> Meeting {
+        Meeting {
+            asking: AtomicU64::new(0),
+            inside: AtomicU64::new(0),
+            entered: AtomicU64::new(0),
+            answered: AtomicU64::new(0),
+        }
+    }
+}
+
+// Looks at the count until it is 2, for some turns.
+fn wait_for_both(count: &AtomicU64) {
+    for _ in 0..TURNS {
+        if count.load(Ordering::SeqCst) == 2 {
+            return;
+        }
+        yield_now();
+    }
+}
+
+// A session's gate at the desk of site 0: which of the two it was to come in, how many it met inside, how many answers
+// there were as it left, and how often it passed another place.
+#[derive(Drop)]
+struct Meets<'a> {
+    meeting: &'a Meeting,
+    turn: AtomicU64,
+    met: AtomicU64,
+    answers: AtomicU64,
+    elsewhere: AtomicU64,
+}
+
+impl<'a> Meets<'a> {
+    fn new(meeting: &'a Meeting) -> Meets<'a> {
+        Meets {
+            meeting,
+            turn: AtomicU64::new(0),
+            met: AtomicU64::new(0),
+            answers: AtomicU64::new(0),
+            elsewhere: AtomicU64::new(0),
+        }
+    }
+
+    // Stands inside until the other one asks, and then for as long as it may take to come in.
+    fn stand(&self) {
+        let turn = self.meeting.entered.fetch_add(1, Ordering::SeqCst);
+        self.turn.store(turn, Ordering::SeqCst);
+        let met = self.meeting.inside.fetch_add(1, Ordering::SeqCst);
+        wait_for_both(&self.meeting.asking);
+        wait_for_both(&self.meeting.inside);
+        self.met.fetch_add(met, Ordering::SeqCst);
+        let answers = self.meeting.answered.load(Ordering::SeqCst);
+        self.answers.fetch_add(answers, Ordering::SeqCst);
+        self.meeting.inside.fetch_sub(1, Ordering::SeqCst);
+    }
+}
+
+impl Gate for Meets<'_> {
+    fn pass<R: Wait>(&self, _rt: &R, place: Place) {
+        match place {
+            Place::Inside { site } if site.number() == 0 => self.stand(),
+            _ => {
+                self.elsewhere.fetch_add(1, Ordering::SeqCst);
+            }
+        }
+    }
+}
+
+// Sells a seat through the gate, looks, and tells the place of the sale.
+fn sell_through<R: Wait + Abort, K: Keeper, L: Opens>(
+    rt: &R,
+    alloc: Global,
+    desk: &Desk<K, L>,
+    gate: &Meets<'_>,
+    seat: &mut Seat<L>,
+    asked: u64,
+) -> u64 {
+    let sell = Request::Sell {
+        event: gala(rt),
+        amount: seats(rt, 1),
+    };
+    gate.meeting.asking.fetch_add(1, Ordering::SeqCst);
+    let answered = desk.ask(rt, alloc, gate, seat, number(rt, asked), &sell);
+    gate.meeting.answered.fetch_add(1, Ordering::SeqCst);
+    let (answer, receipt) = answered.expect(rt, "an answer");
+    assert!(rt; answer.fresh);
+    assert!(rt; desk.look(rt, seat, gala(rt)).is_ok());
+    receipt.place as u64
+}
+
+// Two sessions ask at once. Neither comes in while the other is inside, and they are answered in the order in which they
+// came in.
+fn two_sessions_meet<R: Threads + Wait + Abort + Sync, L: Opens + Send + Sync>(
+    rt: &R,
+    alloc: Global,
+    book: SiteBook<ListKeeper>,
+    blank: Blank,
+)
+    requires name { blank.name ≡ L.name }
+    requires parts { blank.parts ≡ L.parts }
+    requires two { blank.parts ≡ 2 }
+    requires opening { L.opening ≡ length book.book.history }
+{
+    let (desk, seat) = Desk::<ListKeeper, L>::new(book, blank);
+    let (mut zero, mut one) = seat.split();
+    let meeting = Meeting::new();
+    let first = Meets::new(&meeting);
+    let second = Meets::new(&meeting);
+    let places = join(
+        rt,
+        || sell_through(rt, alloc, &desk, &first, &mut zero, 10),
+        || sell_through(rt, alloc, &desk, &second, &mut one, 20),
+    );
+    for (gate, place) in [(&first, places.0), (&second, places.1)] {
+        let turn = gate.turn.load(Ordering::SeqCst);
+        assert!(rt; turn < 2);
+        assert_eq!(rt; place, 2 + turn);
+        assert_eq!(rt; gate.met.load(Ordering::SeqCst), 0);
+        assert_eq!(rt; gate.elsewhere.load(Ordering::SeqCst), 0);
+        assert!(rt; gate.answers.load(Ordering::SeqCst) <= turn);
+    }
+    assert_eq!(rt; meeting.entered.load(Ordering::SeqCst), 2);
+}
+
+// A desk that passes the gate before it has the lock, or once it let go of it, fails here.
+#[test]
+fn gate_is_passed_under_the_lock(rt: HostRuntime) {
+    let alloc = rt.alloc();
+    let book = selling_book(&rt, alloc);
+    two_sessions_meet::<_, Brand>(&rt, alloc, book, Blank::new(2));
 }
 
 // After the sale of 3 alone: the fault, and the length of the book that comes back. A seat, a reply and a number of seats

@@ -1,12 +1,12 @@
 -- What the first entries of a history say of one event, an entry at a time.
-use Rattle.std.proofs.Common.{◌≡◌, ℕ, zero, suc, ◌+◌, ◌≤◌, ◌<◌, Bool, true, false, ◌||◌, List, [], ◌∷◌, ◌++◌, length, take, drop, get_or, Some, None, slice_get, inl, inr, subst, refl, sym, ap, ◌∙◌, arith}
+use Rattle.std.proofs.Common.{All, ◌≡◌, ℕ, zero, suc, ◌+◌, ◌≤◌, ◌<◌, Bool, true, false, ◌||◌, List, [], ◌∷◌, ◌++◌, length, take, drop, get_or, Some, None, slice_get, inl, inr, subst, refl, sym, ap, ◌∙◌, arith}
 use Rattle.std.specs.Prelude.{max, IsTrue, ◌↔◌, ◌==◌}
 use Rattle.std.specs.List.{list_any}
 use Rattle.std.specs.Ordering.{nat_cmp, eq_by_cmp}
 use Rattle.std.specs.Cmp.Lexicographic.{slice_cmp, texts_ties}
 use Rattle.std.specs.FinMap as finite
-use Rattle.std.proofs.lemmas.List.{take-append-drop, take-take, take_more, get_or_default}
-use Rattle.std.proofs.lemmas.Bool.{cases_lt}
+use Rattle.std.proofs.lemmas.List.{take_all, take_more}
+use Rattle.std.proofs.lemmas.List.Elements.{All-more}
 use Rattle.std.proofs.lemmas.Bool.Decides.{nat_tests}
 use Rattle.rights_lattice.specs.declared.cell.Cell.{Cell}
 use Rattle.rights_lattice.specs.Cell.{same_event}
@@ -24,7 +24,7 @@ use Rattle.book_core.specs.History.{delta_of, state_of}
 use Rattle.book_core.proofs.Histories.{state_of-append, state_of-push, at-push}
 use Rattle.site_desk.specs.EventCells.{number_at, Shows}
 use Rattle.site_desk.specs.declared.receipt.Receipt.{Receipt}
-use Rattle.site_desk.specs.Finish.{EachOf, StandsIn}
+use Rattle.site_desk.specs.Finish.{StandsIn}
 
 got : {X : Type 0} (xs : List X) (k : ℕ) (x : X) → slice_get xs k ≡ Some x → (k < length xs) × (get_or xs k x ≡ x)
 got [] zero x is = cc
@@ -39,13 +39,12 @@ not_none (y ∷ ys) zero lt none = cc
 not_none (y ∷ ys) (suc k) lt none = not_none ys k (omega (arith, lt)) none
 
 -- one element more of which the fact holds
-pub each_more : {X : Type 0} (P : X → Type 0) (xs : List X) (n : ℕ) (x : X) → EachOf n P xs → n < length xs → x ≡ get_or xs n x → P x → EachOf (n + 1) P xs
-each_more P xs n x before lt is holds k y le at = elim (cases_lt k n) [
-  | inl l ↦ before k y l at
-  | inr l ↦
-      let same : n ≡ k = omega (arith, l, le) in
-      subst P (is ∙ get_or_default xs n x y lt ∙ ap (λ j. get_or xs j y) same ∙ (got xs k y at).1) holds
-]
+pub all_more : {X : Type 0} (P : X → Type 0) (xs : List X) (n : ℕ) (x : X) → All P (take n xs) → n < length xs → x ≡ get_or xs n x → P x → All P (take (n + 1) xs)
+all_more P xs n x before lt is holds = All-more P xs n x lt before (subst P is holds)
+
+-- all elements, once there is none left
+pub all_of : {X : Type 0} (P : X → Type 0) (xs : List X) (n : ℕ) → length xs ≤ n → All P (take n xs) → All P xs
+all_of P xs n le holds = subst (All P) (take_all n xs le) holds
 
 take_next : {X : Type 0} (xs : List X) (k : ℕ) (x : X) → slice_get xs k ≡ Some x → take (k + 1) xs ≡ take k xs ++ x ∷ []
 take_next xs k x is = let at = got xs k x is in take_more xs k x at.0 ∙ ap (λ y. take k xs ++ y ∷ []) at.1
@@ -60,32 +59,13 @@ shows_more h k entry marks old new event is all before raised cell of =
     ∙ sym (at-push (take k h) entry (At event cell))
     ∙ ap (λ (g : List Entry). value_at (state_of g).cells event cell) (sym (take_next h k entry is))
 
-knows_more : (h : List Entry) (k : ℕ) (entry : Entry) (event : List ℕ) → slice_get h k ≡ Some entry
+-- one entry more names what it and those before it name
+pub knows_more : (h : List Entry) (k : ℕ) (entry : Entry) (event : List ℕ) → slice_get h k ≡ Some entry
     → knows (state_of (take (k + 1) h)).names event ≡ (knows (state_of (take k h)).names event || knows (delta_of entry).names event)
 knows_more h k entry event is =
     ap (λ (g : List Entry). knows (state_of g).names event) (take_next h k entry is)
     ∙ ap (λ (s : State). knows s.names event) (state_of-push (take k h) entry)
     ∙ contains-union (state_of (take k h)).names (delta_of entry).names event
-
-knows_later : (h : List Entry) (j k : ℕ) (event : List ℕ) → j ≤ k → knows (state_of (take j h)).names event ≡ true → knows (state_of (take k h)).names event ≡ true
-knows_later h j k event le known =
-    ap (λ (g : List Entry). knows (state_of g).names event) (sym (take-append-drop j (take k h)))
-    ∙ ap (λ (s : State). knows s.names event) (state_of-append (take j (take k h)) (drop j (take k h)))
-    ∙ contains-union (state_of (take j (take k h))).names (state_of (drop j (take k h))).names event
-    ∙ ap (λ b. b || knows (state_of (drop j (take k h))).names event) (ap (λ (g : List Entry). knows (state_of g).names event) (take-take j k h le) ∙ known)
-
-either_true : (a b : Bool) → b ≡ true → (a || b) ≡ true
-either_true true b h = refl
-either_true false b h = h
-
--- an entry that names the event, and one that does not
-pub names_it : (h : List Entry) (k at : ℕ) (entry : Entry) (event : List ℕ) → slice_get h k ≡ Some entry → k < at
-    → knows (delta_of entry).names event ≡ true → knows (state_of (take at h)).names event ≡ true
-names_it h k at entry event is lt named = knows_later h (k + 1) at event (omega (arith, lt)) (knows_more h k entry event is ∙ either_true (knows (state_of (take k h)).names event) _ named)
-
-pub names_not : (h : List Entry) (k : ℕ) (entry : Entry) (event : List ℕ) → slice_get h k ≡ Some entry → knows (state_of (take k h)).names event ≡ false
-    → knows (delta_of entry).names event ≡ false → knows (state_of (take (k + 1) h)).names event ≡ false
-names_not h k entry event is before named = knows_more h k entry event is ∙ (λ i. before i || named i)
 
 any_by_order : (name : List ℕ) (names : List (List ℕ)) → list_any (same_event name) names ≡ list_any (eq_by_cmp (slice_cmp nat_cmp) name) names
 any_by_order name [] = refl

@@ -1,5 +1,5 @@
 -- What a desk's sessions were given, beside what its history holds. (Our own.)
-use Rattle.std.specs.Prelude.{◌≡◌, ◌≢◌, ℕ, ◌<◌, ◌≤◌, true, List, take, length, Result, Ok, Err, Some, slice_get}
+use Rattle.std.specs.Prelude.{◌≡◌, ◌≢◌, ℕ, ◌≤◌, true, List, All, take, length, Result, Ok, Err, Some, slice_get}
 use Rattle.rights_lattice.specs.State.{State, knows}
 use Rattle.book_core.specs.declared.entry.Entry.{Entry}
 use Rattle.book_core.specs.declared.entry.Entry.TheVariants.{Asked}
@@ -12,17 +12,9 @@ use Rattle.site_desk.specs.declared.receipt.Receipt.{Receipt}
 use Rattle.site_desk.specs.Answers.{IsSeenAt}
 use Rattle.site_desk.specs.SiteView.{SiteView}
 
--- the fact holds of the first n elements
-abbrev pub EachOf : {X : Type 0} → ℕ → (X → Type 0) → List X → Type 0
-EachOf {X} n P xs = (k : ℕ) (x : X) → k < n → slice_get xs k ≡ Some x → P x
-
--- the fact holds of every element
-abbrev pub Each : {X : Type 0} → (X → Type 0) → List X → Type 0
-Each P xs = EachOf (length xs) P xs
-
 -- the element at n is the first of which the fact does not hold
 abbrev pub FirstNot : {X : Type 0} → (X → Type 0) → List X → ℕ → Type 0
-FirstNot {X} P xs n = EachOf n P xs × ((x : X) × (slice_get xs n ≡ Some x) × ¬ P x)
+FirstNot {X} P xs n = All P (take n xs) × ((x : X) × (slice_get xs n ≡ Some x) × ¬ P x)
 
 -- the entry at the receipt's place is its request, under its number and with its reply
 abbrev pub StandsIn : List Entry → Receipt → Type 0
@@ -38,7 +30,7 @@ pub record WasSeen (office : Office) (history : List Entry) (seen : Seen) : Type
 abbrev pub FindsFirst : Office → List Entry → ℕ → ℕ → List Receipt → List Seen → FinishFault → Type 0
 FindsFirst office history total shares receipts looks SeatsOut = shares ≢ total
 FindsFirst office history total shares receipts looks (Stranger k) = (shares ≡ total) × FirstNot (StandsIn history) receipts k
-FindsFirst office history total shares receipts looks (StrangerSeen k) = (shares ≡ total) × Each (StandsIn history) receipts × FirstNot (WasSeen office history) looks k
+FindsFirst office history total shares receipts looks (StrangerSeen k) = (shares ≡ total) × All (StandsIn history) receipts × FirstNot (WasSeen office history) looks k
 
 -- the book that comes back, with a fault or without one
 abbrev pub handed_back : {K : Type 0} → Result (SiteView K) (SiteView K × FinishFault) → SiteView K

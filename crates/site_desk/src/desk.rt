@@ -1,12 +1,12 @@
 //! A site's book that threads share.
-ghost use Rattle.std.specs.Prelude.{◌≡◌, ◌≢◌, ℕ, ◌+◌, ◌<◌, ◌≤◌, true, false, length, IfOk, IfErr, IfSome, OnErr, if◌then◌else◌};
+ghost use Rattle.std.specs.Prelude.{◌≡◌, ◌≢◌, ℕ, ◌+◌, ◌<◌, ◌≤◌, All, true, false, length, IfOk, IfErr, IfSome, OnErr, if◌then◌else◌};
 ghost use Rattle.book_core.specs.Legal.{IsLegal};
 ghost use Rattle.book_core.specs.OwnRow.{HasOwnRights};
 ghost use Rattle.site_exchange.specs.Exchange.{ack_for, receiver};
 ghost use Rattle.sql_records.specs.Keeping.{LeavesOnly};
 ghost use Rattle.site_desk.specs.Answers.{ack_of};
 ghost use Rattle.site_desk.specs.Count.{asked_since};
-ghost use Rattle.site_desk.specs.Finish.{Each, FindsFirst, StandsIn, WasSeen, handed_back};
+ghost use Rattle.site_desk.specs.Finish.{FindsFirst, StandsIn, WasSeen, handed_back};
 ghost use Rattle.site_desk.specs.Seats.{held, parts_of, shares_of};
 
 use crate::answer::{Answer, Seen, Taken};
@@ -124,8 +124,8 @@ impl<K: Keeper, L: Opens> Desk<K, L> {
         looks: &[Seen],
     ) -> Result<SiteBook<K>, (SiteBook<K>, FinishFault)>
         ensures counted { IfOk result (λ book. shares_of seats.items ≡ asked_since L.opening book.book.history) }
-        ensures receipts { IfOk result (λ book. Each (StandsIn book.book.history) receipts.now) }
-        ensures looks { IfOk result (λ book. Each (WasSeen book.book.office book.book.history) looks.now) }
+        ensures receipts { IfOk result (λ book. All (StandsIn book.book.history) receipts.now) }
+        ensures looks { IfOk result (λ book. All (WasSeen book.book.office book.book.history) looks.now) }
         ensures fault { IfErr result (λ e. FindsFirst e.0.book.office e.0.book.history (asked_since L.opening e.0.book.history) (shares_of seats.items) receipts.now looks.now e.1) }
         ensures whole { parts_of seats.items ≡ L.parts → IfErr result (λ e. e.1 ≢ FinishFault.SeatsOut) }
 

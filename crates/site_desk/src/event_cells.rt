@@ -1,11 +1,13 @@
 //! The cells of one event, without memory.
-ghost use Rattle.std.specs.Prelude.{◌≡◌, ℕ, List, length, take, ◌<◌, ◌≤◌, max, if◌then◌else◌};
+ghost use Rattle.std.specs.Prelude.{◌≡◌, ℕ, List, length, take, ◌<◌, ◌≤◌, ◌↔◌, max, true, if◌then◌else◌, IfSome, IsSome};
+ghost use Rattle.std.specs.List.{list_any};
 ghost use Rattle.rights_lattice.specs.declared.cell.Cell.{Cell as TheCell};
-ghost use Rattle.rights_lattice.specs.Cell.{same_cell};
+ghost use Rattle.rights_lattice.specs.Cell.{same_cell, same_event};
 ghost use Rattle.rights_lattice.specs.Cells.{Cells, greatest, max_value};
 ghost use Rattle.rights_lattice.specs.Dense.{offset_of};
 ghost use Rattle.rights_lattice.specs.RightsView.{IsCellOf};
 ghost use Rattle.rights_lattice.specs.Sums.{max_sites};
+ghost use Rattle.rights_lattice.specs.State.{knows};
 ghost use Rattle.book_core.specs.History.{state_of};
 ghost use Rattle.local_rights.specs.Rights.{left_of, released_in, sold_in, refunded_in};
 ghost use Rattle.site_desk.specs.EventCells.{number_at, Shows};
@@ -40,18 +42,22 @@ impl EventCells {
         EventCells { values: [0; 4224] }
     }
 
-    /// The cells of an event by the first `at` entries of a history.
-    pub fn by_first(book: &Book, at: usize, event: &Event) -> EventCells
+    /// The cells of an event by the first `at` entries of a history, and `None` where none of them names it.
+    pub fn by_first(book: &Book, at: usize, event: &Event) -> Option<EventCells>
         requires { at ≤ length book.now.history }
-        ensures { Shows result (state_of (take at book.now.history)).cells event.now }
+        ensures named { IsSome result ↔ (knows (state_of (take at book.now.history)).names event.now ≡ true) }
+        ensures cells { IfSome result (λ cells. Shows cells (state_of (take at book.now.history)).cells event.now) }
     {
         let mut cells = EventCells::new();
+        let mut is_named = false;
         for place in 0..at {
             if let Some(entry) = book.entry(place) {
-                cells.raise_all(event, entry.delta().marks());
+                let delta = entry.delta();
+                is_named |= has(delta.names(), event);
+                cells.raise_all(event, delta.marks());
             }
         }
-        cells
+        if is_named { Some(cells) } else { None }
     }
 
     /// Raises the cells of an event to the greatest value that the marks say.
@@ -120,6 +126,13 @@ impl EventCells {
         let place = offset(cell);
         self.values[place] = self.values[place].max(value);
     }
+}
+
+// Whether the event is among the names.
+fn has(names: &[Event], event: &Event) -> bool
+    ensures { result ≡ list_any (same_event event.now) names.now }
+{
+    names.iter().any(|name| event == name)
 }
 
 // Where the number of a cell is, for 64 sites: row by row what each gave, then what each sold, then what came back.

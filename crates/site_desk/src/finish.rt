@@ -1,10 +1,6 @@
 //! What a desk's sessions were given is compared with its history.
-ghost use Rattle.std.specs.Prelude.{◌≡◌, ◌+◌, ◌<◌, ◌≤◌, ◌^◌, ◌↔◌, length, take, IsTrue, MatchOption};
-ghost use Rattle.std.specs.List.{list_any};
-ghost use Rattle.rights_lattice.specs.Cell.{same_event};
-ghost use Rattle.rights_lattice.specs.State.{knows};
-ghost use Rattle.book_core.specs.History.{state_of};
-ghost use Rattle.site_desk.specs.Finish.{Each, FirstNot, StandsIn, WasSeen};
+ghost use Rattle.std.specs.Prelude.{◌≡◌, ◌<◌, ◌^◌, ◌↔◌, All, IsTrue, MatchOption};
+ghost use Rattle.site_desk.specs.Finish.{FirstNot, StandsIn, WasSeen};
 ghost use Rattle.site_desk.specs.Seats.{parts_of, shares_of};
 
 use crate::answer::Seen;
@@ -13,7 +9,6 @@ use crate::receipt::Receipt;
 use crate::seat::{Opens, Seat};
 use book_core::{Book, Entry};
 use request_ledger::{Reply, Request};
-use rights_lattice::Event;
 use std::sync::ledger::{Book as Tally, Share};
 use thiserror::Error;
 
@@ -53,7 +48,7 @@ pub(crate) fn gather<L: Opens>(tally: &mut Tally<L>, nothing: Share<L>, seats: V
 
 // The first receipt that is not the entry that it names.
 pub(crate) fn first_stranger(book: &Book, receipts: &[Receipt]) -> Option<usize>
-    ensures { MatchOption result (Each (StandsIn book.now.history) receipts.now) (λ k. FirstNot (StandsIn book.now.history) receipts.now k) }
+    ensures { MatchOption result (All (StandsIn book.now.history) receipts.now) (λ k. FirstNot (StandsIn book.now.history) receipts.now k) }
 {
     for (at, receipt) in receipts.iter().enumerate() {
         if !stands_in(book, receipt) {
@@ -65,7 +60,7 @@ pub(crate) fn first_stranger(book: &Book, receipts: &[Receipt]) -> Option<usize>
 
 // The first look that does not show what the entries that it names say.
 pub(crate) fn first_stranger_seen(book: &Book, looks: &[Seen]) -> Option<usize>
-    ensures { MatchOption result (Each (WasSeen book.now.office book.now.history) looks.now) (λ k. FirstNot (WasSeen book.now.office book.now.history) looks.now k) }
+    ensures { MatchOption result (All (WasSeen book.now.office book.now.history) looks.now) (λ k. FirstNot (WasSeen book.now.office book.now.history) looks.now k) }
 {
     for (at, seen) in looks.iter().enumerate() {
         if !was_seen(book, seen) {
@@ -112,31 +107,11 @@ fn is_same_reply(reply: &Reply, other: &Reply) -> bool
 fn was_seen(book: &Book, seen: &Seen) -> bool
     ensures { IsTrue result ↔ WasSeen book.now.office book.now.history seen.now }
 {
-    if seen.at > book.len() || !is_named(book, seen.at, &seen.event) {
+    if seen.at > book.len() {
         return false;
     }
-    let cells = EventCells::by_first(book, seen.at, &seen.event);
-    seen.left == cells.left(book.me()) && seen.totals == cells.totals()
-}
-
-// Whether one of the first `at` entries names the event.
-fn is_named(book: &Book, at: usize, event: &Event) -> bool
-    requires { at ≤ length book.now.history }
-    ensures { result ≡ knows (state_of (take at book.now.history)).names event.now }
-{
-    for place in 0..at {
-        if let Some(entry) = book.entry(place) {
-            if has(entry.delta().names(), event) {
-                return true;
-            }
-        }
+    match EventCells::by_first(book, seen.at, &seen.event) {
+        Some(cells) => seen.left == cells.left(book.me()) && seen.totals == cells.totals(),
+        None => false,
     }
-    false
-}
-
-// Whether the event is among the names.
-fn has(names: &[Event], event: &Event) -> bool
-    ensures { result ≡ list_any (same_event event.now) names.now }
-{
-    names.iter().any(|name| event == name)
 }

@@ -1,5 +1,5 @@
 //! What lies under a desk's lock.
-ghost use Rattle.std.specs.Prelude.{◌≡◌, ◌↔◌, Err, IsSome, ℕ, ◌+◌, ◌<◌, ◌≤◌, true, false, length, IsTrue, IfOk, IfErr, OnErr, OnOk, if◌then◌else◌};
+ghost use Rattle.std.specs.Prelude.{◌≡◌, ◌↔◌, All, Err, IsSome, ℕ, ◌+◌, ◌<◌, ◌≤◌, true, false, length, IsTrue, IfOk, IfErr, OnErr, OnOk, if◌then◌else◌};
 ghost use Rattle.rights_lattice.specs.State.{knows};
 ghost use Rattle.book_core.specs.History.{state_of};
 ghost use Rattle.book_core.specs.Legal.{IsLegal};
@@ -9,8 +9,8 @@ ghost use Rattle.site_exchange.specs.Taking.{site_after, with_entry};
 ghost use Rattle.sql_records.specs.Keeping.{LeavesOnly};
 ghost use Rattle.site_desk.specs.Answers.{IsAnswer, IsAskFault, IsSeenAt, IsTakeFault, IsTaken, is_peer};
 ghost use Rattle.site_desk.specs.SiteView.{decision_in, entry_in, site_of, verdict_in};
-ghost use Rattle.site_desk.specs.Count.{asked_since, Grows};
-ghost use Rattle.site_desk.specs.Finish.{Each, FindsFirst, StandsIn, WasSeen, handed_back};
+ghost use Rattle.site_desk.specs.Count.{asked_since};
+ghost use Rattle.site_desk.specs.Finish.{FindsFirst, StandsIn, WasSeen, handed_back};
 ghost use Rattle.site_desk.specs.Seats.{held, parts_of, shares_of};
 
 use crate::answer::{Answer, Seen, Taken};
@@ -88,7 +88,6 @@ impl<K: Keeper, L: Opens> Locked<K, L> {
     ) -> Result<(Answer, Receipt), AskFault>
         ensures answer { IfOk result (λ r. IsAnswer (decision_in self.old.book number request.now) (length self.old.book.history) r.0) }
         ensures entered { OnOk result (site_of self.new ≡ with_entry (entry_in self.old.book number request.now) (site_of self.old)) }
-        ensures grown { IfOk result (λ r. Grows r.0.fresh r.0.place self.old.book.history self.new.book.history) }
         ensures closed { (result ≡ Err AskFault.Closed) ↔ (self.old.closed ≡ true) }
         ensures fault { IfErr result (IsAskFault self.old.closed (decision_in self.old.book number request.now) (K.failed self.old.keeper) (K.failed self.new.keeper)) }
         ensures unchanged { OnErr result (site_of self.new ≡ site_of self.old) }
@@ -170,8 +169,8 @@ impl<K: Keeper, L: Opens> Locked<K, L> {
     ) -> Result<SiteBook<K>, (SiteBook<K>, FinishFault)>
         ensures book { handed_back result ≡ self }
         ensures counted { OnOk result (shares_of seats.items ≡ asked_since L.opening self.book.history) }
-        ensures receipts { OnOk result (Each (StandsIn self.book.history) receipts.now) }
-        ensures looks { OnOk result (Each (WasSeen self.book.office self.book.history) looks.now) }
+        ensures receipts { OnOk result (All (StandsIn self.book.history) receipts.now) }
+        ensures looks { OnOk result (All (WasSeen self.book.office self.book.history) looks.now) }
         ensures fault { IfErr result (λ e. FindsFirst self.book.office self.book.history (asked_since L.opening self.book.history) (shares_of seats.items) receipts.now looks.now e.1) }
         ensures whole { parts_of seats.items ≡ L.parts → shares_of seats.items ≡ asked_since L.opening self.book.history }
 

@@ -1,6 +1,7 @@
-use Rattle.site_desk.specs.Finish.{EachOf, WasSeen}
+use Rattle.std.proofs.Common.{All, take}
+use Rattle.site_desk.specs.Finish.{WasSeen}
 use Rattle.site_desk.proofs.finish.first_stranger_seen.Given as goal
 
 -- those before were seen
 abbrev pub invariant-loop-at : goal.invariant-loop-at
-invariant-loop-at l = EachOf l.at (WasSeen l.book.office l.book.history) l.looks
+invariant-loop-at l = All (WasSeen l.book.office l.book.history) (take l.at l.looks)

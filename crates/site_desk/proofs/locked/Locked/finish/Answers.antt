@@ -1,7 +1,7 @@
-use Rattle.std.proofs.Common.{◌≡◌, ◌∙◌, subst, sym}
+use Rattle.std.proofs.Common.{All, ◌≡◌, ◌∙◌, subst, sym}
 use Rattle.book_core.specs.BookView.{BookView}
 use Rattle.site_desk.specs.Count.{asked_since}
-use Rattle.site_desk.specs.Finish.{Each, FirstNot, StandsIn, WasSeen}
+use Rattle.site_desk.specs.Finish.{FirstNot, StandsIn, WasSeen}
 use Rattle.site_desk.specs.Seats.{shares_of}
 use Rattle.site_desk.proofs.locked.Locked.finish.Goals as goal
 
@@ -21,7 +21,7 @@ returns-in-Some-first_stranger_seen-clause-fault g c =
     let count : shares_of c.args.seats.items ≡ asked_since g.L.Opens.opening c.self.inside.book.book.history = sym c.gather.ensures.sum ∙ c.if-gather-total.false ∙ c.self.invariant.2 in
     rw (← c.self.view_is) (
       count,
-      subst (λ (b : BookView). Each (StandsIn b.history) c.args.receipts.now) c.book.ensures.book c.in_default.ensures,
+      subst (λ (b : BookView). All (StandsIn b.history) c.args.receipts.now) c.book.ensures.book c.in_default.ensures,
       subst (λ (b : BookView). FirstNot (WasSeen b.office b.history) c.args.looks.now c.in-Some-first_stranger_seen.at) c.book-2.ensures.book c.in-Some-first_stranger_seen.ensures,
     )
 
@@ -32,10 +32,10 @@ pub returns-in-Some-first_stranger_seen-clause-has_rights : goal.returns-in-Some
 returns-in-Some-first_stranger_seen-clause-has_rights g c = rw (← c.self.view_is) c.book-book.ensures.has_rights
 
 pub returns-clause-receipts : goal.returns-clause-receipts
-returns-clause-receipts g c = rw (← c.self.view_is) (subst (λ (b : BookView). Each (StandsIn b.history) c.args.receipts.now) c.book.ensures.book c.in_default.ensures)
+returns-clause-receipts g c = rw (← c.self.view_is) (subst (λ (b : BookView). All (StandsIn b.history) c.args.receipts.now) c.book.ensures.book c.in_default.ensures)
 
 pub returns-clause-looks : goal.returns-clause-looks
-returns-clause-looks g c = rw (← c.self.view_is) (subst (λ (b : BookView). Each (WasSeen b.office b.history) c.args.looks.now) c.book-2.ensures.book c.in_default-first_stranger_seen.ensures)
+returns-clause-looks g c = rw (← c.self.view_is) (subst (λ (b : BookView). All (WasSeen b.office b.history) c.args.looks.now) c.book-2.ensures.book c.in_default-first_stranger_seen.ensures)
 
 pub returns-clause-legal : goal.returns-clause-legal
 returns-clause-legal g c = rw (← c.self.view_is) c.book-book.ensures.legal
