@@ -28,7 +28,11 @@ mod script_lines;
 #[cfg(test)]
 mod scripts;
 #[cfg(test)]
+mod served;
+#[cfg(test)]
 mod sessions;
+#[cfg(test)]
+mod sockets;
 #[cfg(test)]
 mod texts;
 #[cfg(test)]

@@ -38,7 +38,7 @@ fn empty_book(rt: &impl Abort, alloc: Global, me: u64) -> SiteBook<ListKeeper> {
 }
 
 // The book of site 0 with 100 seats released.
-fn selling_book(rt: &impl Abort, alloc: Global) -> SiteBook<ListKeeper> {
+pub(crate) fn selling_book(rt: &impl Abort, alloc: Global) -> SiteBook<ListKeeper> {
     let mut book = empty_book(rt, alloc, 0);
     let announce = Request::Announce { event: gala(rt) };
     let release = Request::Release {
@@ -51,7 +51,7 @@ fn selling_book(rt: &impl Abort, alloc: Global) -> SiteBook<ListKeeper> {
 }
 
 // What is seen of the event after so many entries.
-fn seen_of(event: Event, left: u64, sold: u64, at: usize) -> Seen {
+pub(crate) fn seen_of(event: Event, left: u64, sold: u64, at: usize) -> Seen {
     let totals = Totals {
         released: 100,
         sold,
