@@ -15,7 +15,7 @@ use std::sync::ledger::Blank;
 use std::thread;
 use std::thread::Threads;
 
-const PORT: u16 = 45_719;
+const PORT: u16 = 28_457;
 
 // Connects once somebody listens.
 fn connect<N: Net<Stream = TcpStream>>(net: &N) -> Option<TcpStream> {
