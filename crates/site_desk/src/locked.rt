@@ -124,7 +124,8 @@ impl<K: Keeper, L: Opens> Locked<K, L> {
     /// Whether the history has so many requests that were newly entered.
     #[tactic(auto, using(crate::proofs::Growth::asked_since_below))]
     pub fn shows(&self, count: u64) -> bool
-        ensures { IsTrue result → L.opening + count ≤ length self.now.book.history }
+        ensures counted { IsTrue result ↔ (count ≤ asked_since L.opening self.now.book.history) }
+        ensures within { IsTrue result → L.opening + count ≤ length self.now.book.history }
     {
         count <= self.total
     }
