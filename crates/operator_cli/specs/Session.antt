@@ -46,7 +46,7 @@ IsToldAs (Err f) old_err new_err status = (status ≡ Failed) × AppendsFront ol
 abbrev pub records : {S : Type 0} → Ghosts S → Keeping (Kept S)
 records g = record { failed = λ k. k.failures; is_trusted = IsTrusted g; kept = kept_in g; may_leave = MayLeave g; is_of = IsOf g }
 
--- A session over records: their book, open as it is when they are opened, answered the lines of the input. Unless it is closed behind them, the records hold its history, which a stop leaves; where it is closed, a stop leaves that history with the entry of one request at its end or without. Whatever a stop leaves is of the same site.
+-- A session over records: their book, open as it is when they are opened, answered the lines of the input, and its connection comes back. Unless it is closed behind them, the records hold its history, which a stop leaves; where it is closed, a stop leaves that history with the entry of one request at its end or without. Whatever a stop leaves is of the same site.
 pub record SessionRan {S : Type 0} (g : Ghosts S) (conn : Held S) (input old_out new_out old_err new_err : Option (List ℕ)) (after : Held S) (status : Status) : Type 0 where
   pub book : SiteView (Kept S)
   pub behind : SiteView (Kept S)
@@ -54,6 +54,7 @@ pub record SessionRan {S : Type 0} (g : Ghosts S) (conn : Held S) (input old_out
   pub came : Result Ended TalkFault
   pub talked : Talked (BookStep (records g)) input old_out new_out book behind came
   pub told : IsToldAs (status_of came) old_err new_err status
+  pub back : behind.keeper.conn ≡ after
   pub stored : behind.closed ≡ false → history_in (state g after).now.trees ≡ behind.book.history
   pub rests : behind.closed ≡ false → LeavesOnly behind.book.history (MayLeaveIn (state g after))
   pub stopped : behind.closed ≡ true → (number : ℕ) × (request : Request) × LeavesEither behind.book.history (entry_in behind.book number request) (MayLeaveIn (state g after))

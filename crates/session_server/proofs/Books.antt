@@ -1,5 +1,5 @@
 -- What a session leaves of a book, whatever it was asked. For callers.
-use Rattle.std.proofs.Common.{◌≡◌, ◌≢◌, inl, inr, ℕ, List, [], ◌∷◌, Option, Some, None, Result, Ok, Err, ap, sym, subst, subst₂}
+use Rattle.std.proofs.Common.{◌≡◌, inl, inr, ℕ, List, Option, Some, None, Result, Ok, Err, ap, sym, subst, subst₂}
 use Rattle.std.specs.Prelude.{IfErr, OnErr}
 use Rattle.request_ledger.specs.declared.request.Request.{Request}
 use Rattle.book_core.specs.declared.entry.Entry.{Entry}
@@ -14,11 +14,11 @@ use Rattle.site_desk.specs.SiteView.{SiteView, entry_in}
 use Rattle.desk_lines.specs.declared.line.Line.{Line}
 use Rattle.desk_lines.specs.declared.line.Line.TheVariants.{Ask, Left, Totals, Quit}
 use Rattle.desk_lines.specs.declared.answered.Answered.{Answered}
-use Rattle.desk_lines.specs.Reading.{session_line_of}
 use Rattle.session_server.specs.declared.fault.Ended.{Ended}
 use Rattle.session_server.specs.declared.fault.TalkFault.{TalkFault}
 use Rattle.session_server.specs.BookStep.{BookStep, Comes, IsLeft, IsStored, Keeping}
-use Rattle.session_server.specs.Session.{Answers, Chain, Steps, Talked}
+use Rattle.session_server.specs.Session.{Answers, Talked}
+use Rattle.session_server.proofs.Sessions.{chain_keeps}
 
 if_err : {X F : Type 0} (r : Result X F) (P : F → Type 0) (fault : F) → IfErr r P → r ≡ Err fault → P fault
 if_err (Ok x) P fault h e = absurd (let is = e in cc)
@@ -26,13 +26,6 @@ if_err (Err f) P fault h e = subst P (let is = e in cc) h
 
 on_err : {X F : Type 0} (r : Result X F) (P : Type 0) (fault : F) → OnErr r P → r ≡ Err fault → P
 on_err r P fault h e = if_err r (λ _. P) fault h e
-
-chain_keeps : {A : Type 0} (S : Steps A) (P : A → Type 0) → ((a : A) (o : Option Line) (answered : Answered) (b : A) → Answers S a o answered b → P a → P b)
-    → (a : A) (lines : List (List ℕ)) (answers : List Answered) (b : A) → Chain S a lines answers b → P a → P b
-chain_keeps S P step a [] [] b h p = subst P (sym h) p
-chain_keeps S P step a (line ∷ lines) (x ∷ answers) b h p = chain_keeps S P step h.0 lines answers b h.2 (step a (session_line_of line) x h.0 h.1 p)
-chain_keeps S P step a [] (x ∷ answers) b h p = absurd h
-chain_keeps S P step a (line ∷ lines) [] b h p = absurd h
 
 module _ {K : Type 0} (k : Keeping K) where
   -- of all lines a request alone changes the book

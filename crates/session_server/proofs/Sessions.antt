@@ -3,7 +3,7 @@ use Rattle.std.proofs.Common.{◌≡◌, ◌≢◌, ℕ, suc, ◌+◌, ◌-◌, 
 use Rattle.std.specs.Prelude.{IfSome, IsErrAnd}
 use Rattle.std.specs.List.{flat_map}
 use Rattle.std.proofs.lemmas.List.{flat_map_more}
-use Rattle.std.specs.Io.KnownBytes.{Appends, Keeps}
+use Rattle.std.specs.Io.KnownBytes.{Appends}
 use Rattle.std.proofs.KnownBytes.{Appends-trans, Appends-nil, Appends-kept}
 use Rattle.plain_words.specs.Input.{longest_line, lines_of, Between, BeginsTooLong, LineGives, End, AtEnd, AtLongLine, AtTooMany, Taken, taken, none_taken}
 use Rattle.plain_words.specs.Writing.{AppendsFront}
@@ -18,7 +18,7 @@ use Rattle.session_server.specs.declared.fault.Ended.{Ended}
 use Rattle.session_server.specs.declared.fault.Ended.TheVariants as ended
 use Rattle.session_server.specs.declared.fault.TalkFault.{TalkFault}
 use Rattle.session_server.specs.declared.fault.TalkFault.TheVariants as fault
-use Rattle.session_server.specs.Session.{Steps, Answers, Chain, IsRead, Replied, NextTalked, EndsAt, Wrote, Talked}
+use Rattle.session_server.specs.Session.{Steps, Answers, Chain, Replied, NextTalked, EndsAt, Talked}
 
 abbrev Lines : Type 0
 Lines = List (List ℕ)
@@ -68,6 +68,14 @@ chain-push S a [] [] b line answered c h k = (c, subst (λ x. Answers S x (sessi
 chain-push S a (l ∷ ls) (r ∷ rs) b line answered c h k = (h.0, h.1, chain-push S h.0 ls rs b line answered c h.2 k)
 chain-push S a [] (r ∷ rs) b line answered c h k = absurd h
 chain-push S a (l ∷ ls) [] b line answered c h k = absurd h
+
+-- what each answer keeps, a chain of them keeps
+pub chain_keeps : {A : Type 0} (S : Steps A) (P : A → Type 0) → ((a : A) (o : Option Line) (answered : Answered) (b : A) → Answers S a o answered b → P a → P b)
+    → (a : A) (lines : List (List ℕ)) (answers : List Answered) (b : A) → Chain S a lines answers b → P a → P b
+chain_keeps S P step a [] [] b h p = subst P (sym h) p
+chain_keeps S P step a (line ∷ lines) (x ∷ answers) b h p = chain_keeps S P step h.0 lines answers b h.2 (step a (session_line_of line) x h.0 h.1 p)
+chain_keeps S P step a [] (x ∷ answers) b h p = absurd h
+chain_keeps S P step a (line ∷ lines) [] b h p = absurd h
 
 short-push : (lines : Lines) (line : List ℕ) → AreShort lines → length line ≤ longest_line → AreShort (lines ++ line ∷ [])
 short-push [] line h k = (k, tt)

@@ -1,6 +1,8 @@
 -- How a seat at a desk answers the lines of a session, and what it was given. (Our own.)
-use Rattle.std.specs.Prelude.{◌≡◌, ◌⊎◌, ℕ, ◌+◌, ◌≤◌, List, [], ◌∷◌, ◌++◌}
+use Rattle.std.specs.Prelude.{◌≡◌, ◌⊎◌, ⊤, ℕ, ◌+◌, ◌≤◌, List, [], ◌∷◌, ◌++◌}
 use Rattle.site_desk.specs.declared.answer.Seen.{Seen}
+use Rattle.site_desk.specs.declared.fault.AskFault.{AskFault}
+use Rattle.site_desk.specs.declared.fault.AskFault.TheVariants as ask
 use Rattle.site_desk.specs.declared.receipt.Receipt.{Receipt}
 use Rattle.site_desk.specs.Seats.{Held, held}
 use Rattle.desk_lines.specs.declared.line.Line.{Line}
@@ -31,6 +33,12 @@ IsRaisedAt opening place old new = (new ≡ old) ⊎ ((new ≡ held old.parts (o
 abbrev pub IsLookAt : ℕ → List ℕ → Seated → Seen → Seated → Type 0
 IsLookAt opening event old seen new = (new ≡ with_look old seen) × (seen.event ≡ event) × (opening + old.seat.count ≤ seen.at)
 
+-- a look is refused where the desk is closed, or memory for it
+abbrev pub RefusesLook : AskFault → Type 0
+RefusesLook ask.Closed = ⊤
+RefusesLook ask.Memory = ⊤
+RefusesLook fault = ⊥
+
 -- A step of a seat, at a desk whose history had this length when its count began. A kept reply is that of the one receipt that is added, which has the line's number and request; what is left, and totals, are those of the one look that is added, at the line's event; every other answer adds none. The last line asks nothing.
 abbrev pub SeatStep : ℕ → Seated → Line → Answered → Seated → Type 0
 SeatStep opening old (Ask number request) (Kept reply) new =
@@ -38,8 +46,8 @@ SeatStep opening old (Ask number request) (Kept reply) new =
 SeatStep opening old (Left event) (LeftIs left) new = (seen : Seen) × IsLookAt opening event old seen new × (seen.left ≡ left)
 SeatStep opening old (TotalsOf event) (TotalsAre totals) new = (seen : Seen) × IsLookAt opening event old seen new × (seen.totals ≡ totals)
 SeatStep opening old (Ask number request) (Refused fault) new = new ≡ old
-SeatStep opening old (Left event) (Refused fault) new = new ≡ old
-SeatStep opening old (TotalsOf event) (Refused fault) new = new ≡ old
+SeatStep opening old (Left event) (Refused fault) new = RefusesLook fault × (new ≡ old)
+SeatStep opening old (TotalsOf event) (Refused fault) new = RefusesLook fault × (new ≡ old)
 SeatStep opening old (Left event) NotKnown new = new ≡ old
 SeatStep opening old (TotalsOf event) NotKnown new = new ≡ old
 SeatStep opening old Quit NotKnown new = new ≡ old
@@ -47,6 +55,6 @@ SeatStep opening old line answered new = ⊥
 
 -- this is answered where nothing is shown
 abbrev pub ShowsNothing : Answered → Type 0
-ShowsNothing NotKnown = Unit {0}
-ShowsNothing (Refused fault) = Unit {0}
+ShowsNothing NotKnown = ⊤
+ShowsNothing (Refused fault) = RefusesLook fault
 ShowsNothing answered = ⊥

@@ -1,6 +1,7 @@
 //! Sessions in threads.
 
-ghost use Rattle.std.specs.Prelude.{◌≡◌, [], ◌≤◌, ◌+◌, ◌++◌, map, vec_len, vec_capacity, IfOk};
+ghost use Rattle.std.specs.Prelude.{◌≡◌, [], ◌≤◌, ◌+◌, ◌++◌, All, IsSome, None, map, vec_len, vec_capacity, IfOk};
+ghost use Rattle.site_desk.specs.Seats.{parts_of};
 
 use crate::at_desk::AtDesk;
 use crate::fault::TalkFault;
@@ -25,6 +26,7 @@ fn serve<T: Wait, R: Read + Drop, W: Write + Drop, K: Keeper, L: Opens, G: Gate>
 ) -> (SessionEnd<R, W>, Seat<L>)
     ensures id { result.0.id ≡ session.id }
     ensures began { (result.0.reader_began.value ≡ session.reader) × (result.0.writer_began.value ≡ session.writer) }
+    ensures parts { result.1.parts ≡ session.seat.parts }
 {
     let Session {
         id,
@@ -59,7 +61,7 @@ struct Begun<R: Read + Drop, W: Write + Drop, L: Opens> {
 
 impl<R: Read + Drop, W: Write + Drop, L: Opens> Promise<(SessionEnd<R, W>, Seat<L>)>
     for Begun<R, W, L> {
-    ghost kept_by = { λ p r. (r.0.id ≡ p.session.value.id) × (r.0.reader_began.value ≡ p.session.value.reader) × (r.0.writer_began.value ≡ p.session.value.writer) };
+    ghost kept_by = { λ p r. (r.0.id ≡ p.session.value.id) × (r.0.reader_began.value ≡ p.session.value.reader) × (r.0.writer_began.value ≡ p.session.value.writer) × (r.1.parts ≡ p.session.value.seat.parts) };
 }
 
 // Starts the last session, then the others, and then waits for it.
@@ -87,6 +89,7 @@ fn serve_from<
     ensures ids { map (λ e. e.id) ends.new.items ≡ map (λ e. e.id) ends.old.items ++ map (λ s. s.id) sessions.items }
     ensures readers { map (λ e. e.reader_began.value) ends.new.items ≡ map (λ e. e.reader_began.value) ends.old.items ++ map (λ s. s.reader) sessions.items }
     ensures writers { map (λ e. e.writer_began.value) ends.new.items ≡ map (λ e. e.writer_began.value) ends.old.items ++ map (λ s. s.writer) sessions.items }
+    ensures parts { All (λ e. IsSome e.writer) ends.new.items → parts_of seats.new.items ≡ parts_of seats.old.items + parts_of (map (λ s. s.seat) sessions.items) }
     ensures room { (vec_len ends.new ≡ vec_len ends.old + vec_len sessions) × (vec_capacity ends.new ≡ vec_capacity ends.old) × (vec_len seats.new ≤ vec_len seats.old + vec_len sessions) × (vec_capacity seats.new ≡ vec_capacity seats.old) }
 {
     let Some(session) = sessions.pop() else {
@@ -121,6 +124,7 @@ fn not_started<R: Read + Drop, W: Write + Drop>(
 ) -> SessionEnd<R, W>
     ensures id { result.id ≡ id }
     ensures began { (result.reader_began ≡ reader_began) × (result.writer_began ≡ writer_began) }
+    ensures writer { result.writer ≡ None }
 {
     SessionEnd {
         id,
@@ -134,7 +138,7 @@ fn not_started<R: Read + Drop, W: Write + Drop>(
 }
 
 /// Serves each session at the desk in a thread of its own, and waits for all of them. Their ends come in the order in
-/// which they were handed in, with the seats of those whose thread could be started.
+/// which they were handed in, with the seats of those whose thread could be started, which have the parts that they had.
 ///
 /// An error is want of memory, before any thread is started: nothing was asked, and sessions and seats are dropped.
 pub fn serve_all<
@@ -154,6 +158,7 @@ pub fn serve_all<
     ensures ids { IfOk result (λ r. map (λ e. e.id) r.0.items ≡ map (λ s. s.id) sessions.items) }
     ensures readers { IfOk result (λ r. map (λ e. e.reader_began.value) r.0.items ≡ map (λ s. s.reader) sessions.items) }
     ensures writers { IfOk result (λ r. map (λ e. e.writer_began.value) r.0.items ≡ map (λ s. s.writer) sessions.items) }
+    ensures parts { IfOk result (λ r. All (λ e. IsSome e.writer) r.0.items → parts_of r.1.items ≡ parts_of (map (λ s. s.seat) sessions.items)) }
 {
     let mut ends = Vec::with_capacity(alloc, sessions.len())?;
     let mut seats = Vec::with_capacity(alloc, sessions.len())?;
@@ -161,8 +166,8 @@ pub fn serve_all<
         thread::scope_env(),
         rt,
         move |scope| -> (Vec<SessionEnd<R, W>>, Vec<Seat<L>>)
-            requires { (vec_len ends + vec_len sessions ≤ vec_capacity ends) × (vec_len seats + vec_len sessions ≤ vec_capacity seats) × (ends.items ≡ []) }
-            ensures { (map (λ e. e.id) result.0.items ≡ map (λ s. s.id) sessions.items) × (map (λ e. e.reader_began.value) result.0.items ≡ map (λ s. s.reader) sessions.items) × (map (λ e. e.writer_began.value) result.0.items ≡ map (λ s. s.writer) sessions.items) }
+            requires { (vec_len ends + vec_len sessions ≤ vec_capacity ends) × (vec_len seats + vec_len sessions ≤ vec_capacity seats) × (ends.items ≡ []) × (seats.items ≡ []) }
+            ensures { (map (λ e. e.id) result.0.items ≡ map (λ s. s.id) sessions.items) × (map (λ e. e.reader_began.value) result.0.items ≡ map (λ s. s.reader) sessions.items) × (map (λ e. e.writer_began.value) result.0.items ≡ map (λ s. s.writer) sessions.items) × (All (λ e. IsSome e.writer) result.0.items → parts_of result.1.items ≡ parts_of (map (λ s. s.seat) sessions.items)) }
         {
             serve_from(
                 scope, rt, alloc, desk, gate, sessions, &mut ends, &mut seats,
