@@ -99,7 +99,7 @@ pub fn link(alloc: Global, capacity: usize) -> Result<(Tx, Rx), AllocError>
 #[derive(Clone, Copy, PartialEq, Eq, Debug)]
 pub struct Gone;
 
-/// How many messages went in at one end of a link and came out at the other. The rest is still in it, or lost with it.
+/// How many messages went in at one end of a link and came out at the other. The rest is lost with it.
 #[derive(Clone, Copy, PartialEq, Eq, Debug)]
 pub struct Settled {
     pub put: u64,

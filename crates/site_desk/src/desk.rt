@@ -25,7 +25,7 @@ use std::alloc::Global;
 use std::sync::ledger::Blank;
 use std::sync::{Mutex, Wait};
 
-/// A site's book behind its one lock. Each call but `finish` is one event under it, and may wait for it.
+/// A site's book behind its one lock. `ask`, `look`, `take` and `next` are each one event under it, and may wait.
 ///
 /// Whenever the lock is free the book's history is legal, its own rights are not negative and, unless it is closed,
 /// its history is what its keeper holds, as far as that is to be trusted.
