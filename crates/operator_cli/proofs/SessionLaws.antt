@@ -77,7 +77,7 @@ session_ran g conn last book behind input old mid new old_err new_err came told 
   behind = behind;
   opened = opened;
   came = came;
-  talked = record { lines = talked.lines; answers = talked.answers; read = talked.read; chain = talked.chain; written = wrote_kept came old mid new talked.answers talked.written kept };
+  talked = record { lines = talked.lines; answers = talked.answers; read = talked.read; unasked = talked.unasked; chain = talked.chain; written = wrote_kept came old mid new talked.answers talked.written kept };
   told = subst (λ r. IsToldAs r old_err new_err status) is (told_as told old_err new_err status (subst (λ r. IfOk r (λ s. s ≡ Done)) (sym is) (ends_well came)) told_fault line flush ended);
   back = sym last_is;
   stored = λ unclosed.

@@ -154,6 +154,7 @@ ends S input rest rest' old new new' before mid after count ended.Quit few h k =
   lines = h.lines;
   answers = h.answers;
   read = quit_behind input rest rest' h.lines k.0 (omega (arith, few, h.counted)) h.short k.2 k.1.0 h.read k.1.1;
+  unasked = λ wants. cc;
   chain = subst (Chain S before h.lines h.answers) (sym k.4) h.chain;
   written = Appends-kept old new new' (flat_map reply_line h.answers) h.written k.3;
 }
@@ -161,6 +162,7 @@ ends S input rest rest' old new new' before mid after count ended.EndOfInput few
   lines = h.lines;
   answers = h.answers;
   read = ends_behind input rest rest' h.lines (most_lines - length h.lines) AtEnd (λ r. r ≡ []) (omega (arith, few, h.counted)) h.short (none_left (most_lines - length h.lines)) h.read (first_empty rest rest' k.0);
+  unasked = λ wants. cc;
   chain = subst (Chain S before h.lines h.answers) (sym k.2) h.chain;
   written = Appends-kept old new new' (flat_map reply_line h.answers) h.written k.1;
 }
@@ -180,6 +182,7 @@ breaks_off S input rest rest' old new new' before mid after count fault.Read few
   lines = h.lines;
   answers = h.answers;
   read = front_of input rest h.lines (omega (arith, few, h.counted)) h.short h.read;
+  unasked = λ wants. cc;
   chain = subst (Chain S before h.lines h.answers) (sym k.1) h.chain;
   written = Appends-kept old new new' (flat_map reply_line h.answers) h.written k.0;
 }
@@ -187,6 +190,7 @@ breaks_off S input rest rest' old new new' before mid after count fault.LineTooL
   lines = h.lines;
   answers = h.answers;
   read = ends_behind input rest rest' h.lines (suc (most_lines - length h.lines - 1)) AtLongLine BeginsTooLong (omega (arith, few, h.counted)) h.short (λ r. taken-long (most_lines - length h.lines - 1) r) h.read k.0;
+  unasked = λ wants. cc;
   chain = subst (Chain S before h.lines h.answers) (sym k.2) h.chain;
   written = Appends-kept old new new' (flat_map reply_line h.answers) h.written k.1;
 }
@@ -195,6 +199,7 @@ breaks_off S input rest rest' old new new' before mid after count fault.Write fe
   answers = h.answers ++ k.0.answered ∷ [];
   read = not_none input (h.lines ++ k.0.line ∷ []) (one_more h.lines k.0.line)
       (front_of input rest' (h.lines ++ k.0.line ∷ []) (omega (arith, few, h.counted, length-append h.lines (k.0.line ∷ []))) (short-push h.lines k.0.line h.short k.0.read.0) (read-push input rest rest' h.lines k.0.line h.read k.0.read.1));
+  unasked = λ wants. cc;
   chain = chain-push S before h.lines h.answers mid k.0.line k.0.answered after h.chain k.0.step;
   written = (h.answers, k.0.answered, k.1.0, k.1.1, refl, k.1.2, Appends-trans old new new' (flat_map reply_line h.answers) k.1.0 h.written k.1.3);
 }
@@ -209,6 +214,7 @@ ends_after_all S input rest rest' old new before after h k = record {
   lines = h.lines;
   answers = h.answers;
   read = ends_behind input rest rest' h.lines 0 AtEnd (λ r. r ≡ []) (omega (arith, h.counted)) h.short (none_left 0) h.read k;
+  unasked = λ wants. cc;
   chain = h.chain;
   written = h.written;
 }
@@ -219,6 +225,7 @@ too_many S input rest rest' old new before after h k = record {
   lines = h.lines;
   answers = h.answers;
   read = ends_behind input rest rest' h.lines 0 AtTooMany (λ r. r ≢ []) (omega (arith, h.counted)) h.short taken-too-many h.read k;
+  unasked = λ wants. cc;
   chain = h.chain;
   written = h.written;
 }
@@ -228,6 +235,7 @@ fails S input rest old new before after h = record {
   lines = h.lines;
   answers = h.answers;
   read = front_of input rest h.lines (omega (arith, h.counted)) h.short h.read;
+  unasked = λ wants. cc;
   chain = h.chain;
   written = h.written;
 }
@@ -238,4 +246,4 @@ nothing_taken (Some x) = refl
 
 -- no buffer could be made
 pub never_began : {A : Type 0} (S : Steps A) (input old : Bytes) (before : A) → Talked S input old old before before (Err fault.Memory)
-never_began S input old before = record { lines = []; answers = []; read = nothing_taken input; chain = refl; written = Appends-nil old }
+never_began S input old before = record { lines = []; answers = []; read = nothing_taken input; unasked = λ wants. refl; chain = refl; written = Appends-nil old }

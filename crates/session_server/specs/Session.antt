@@ -86,10 +86,11 @@ Wrote (Err fault.Write) old new answers =
 Wrote (Err fault.NotStarted) old new answers = ⊥
 Wrote _ old new answers = Appends old new (flat_map reply_line answers)
 
--- A session: the lines that were answered, their answers in order, and their reply lines.
+-- A session: the lines that were answered, their answers in order, and their reply lines. Where it wants memory, none was asked.
 pub record Talked {A : Type 0} (S : Steps A) (input old new : Option (List ℕ)) (before after : A) (result : Result Ended TalkFault) : Type 0 where
   pub lines : List (List ℕ)
   pub answers : List Answered
   pub read : IfSome input (λ xs. EndsAt result lines (taken most_lines (lines_of xs)))
+  pub unasked : result ≡ Err fault.Memory → lines ≡ []
   pub chain : Chain S before lines answers after
   pub written : Wrote result old new answers
