@@ -67,6 +67,10 @@ behind_bytes office h bytes = if nat_lt most_bytes (length bytes) then h else be
 abbrev pub HoldsOnly : State → List Entry → Type 0
 HoldsOnly s h = Keeps h (history_in s.now.trees) (MayLeaveIn s)
 
+-- a stop leaves this history or that one
+abbrev pub LeavesOneOf : List Entry → List Entry → (Option (List Entry) → Type 0) → Type 0
+LeavesOneOf before behind may_leave = (left : Option (List Entry)) → may_leave left → (left ≡ Some before) ⊎ (left ≡ Some behind)
+
 -- the message that is due to a peer, or why there is none
 abbrev pub IsDueText : Office → Site → ℕ → Status → List ℕ → Type 0
 IsDueText office site to Done text = (message : Message) × (IsTrue (is_peer office to) × (next office.me site to ≡ Some message) × (text ≡ message_text message))

@@ -16,7 +16,8 @@ use Rattle.sql_records.specs.declared.fault.InitFault.TheVariants as making
 use Rattle.sql_records.specs.declared.meta.Meta.{Meta}
 use Rattle.sql_records.specs.Faults.{HasDiskCause}
 use Rattle.sql_records.specs.Making.{IsInitFault}
-use Rattle.sql_records.specs.Held.{history_in}
+use Rattle.sql_records.specs.Held.{MayLeaveIn, history_in}
+use Rattle.sql_records.specs.Keeping.{LeavesOnly}
 use Rattle.sql_records.specs.Layout.{HasMeta}
 use Rattle.sql_records.specs.Opening.{IsOpenFault}
 use Rattle.site_desk.specs.SiteView.{office_of}
@@ -62,11 +63,12 @@ module _ {S : Type 0} (g : Ghosts S) (conn : Held S) where
     pub told : fault ≡ of_open_fault cause
     pub found : IsCause cause
 
-  -- the records were opened and are as they were, but their history is not legal, or memory was wanted for it
+  -- the records were opened and are as they were, which a stop leaves, but their history is not legal, or memory was wanted for it
   pub record IsIllegal (after : Held S) (fault : StoreFault) : Type 0 where
     pub cause : ReplayFault
     pub told : fault ≡ of_replay_fault cause
     pub same : HasCleanDisk (state g after) → (state g after).now ≡ (state g conn).now
+    pub rests : HasCleanDisk (state g after) → LeavesOnly (history_in (state g conn).now.trees) (MayLeaveIn (state g after))
     pub ours : HasCleanDisk (state g after) → (meta : Meta) × HasMeta meta (state g conn).now.trees
     pub found : HasCleanDisk (state g after) → (meta : Meta) → HasMeta meta (state g conn).now.trees → IsReplayFault (office_of meta) (history_in (state g conn).now.trees) cause
 

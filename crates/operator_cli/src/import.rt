@@ -6,9 +6,9 @@ ghost use Rattle.sqlite.specs.Held.{state};
 ghost use Rattle.sql_records.specs.Layout.{HasMeta};
 ghost use Rattle.sql_records.specs.declared.meta.Meta.{Meta as Numbers};
 ghost use Rattle.site_desk.specs.SiteView.{office_of};
-ghost use Rattle.operator_cli.specs.Exchanged.{HoldsOnly, IsTakeEnd, IsInput, IsInputEnd, behind_bytes, behind_read, told_of_bytes, told_of_read};
+ghost use Rattle.operator_cli.specs.Exchanged.{HoldsOnly, LeavesOneOf, IsTakeEnd, IsInput, IsInputEnd, behind_bytes, behind_read, told_of_bytes, told_of_read};
 ghost use Rattle.delta_wire.specs.Wire.{message_of};
-ghost use Rattle.sql_records.specs.Held.{history_in};
+ghost use Rattle.sql_records.specs.Held.{MayLeaveIn, history_in};
 ghost use Rattle.operator_cli.specs.Told.{FaultTold, told_status};
 ghost use Rattle.operator_cli.specs.declared.status.Status.TheVariants.{Refused, Failed};
 ghost use Rattle.operator_cli.specs.declared.store_fault.StoreFault.TheVariants.{Memory as WantsMemory, Read as ReadFailed};
@@ -63,6 +63,9 @@ fn take_bytes<K: Keeper>(
     ensures entered { OnOk result (book.new.book.history ≡ behind_read book.old.book.office book.old.book.history (message_of bytes.now)) }
     ensures unclosed { OnOk result (book.old.closed ≡ false → book.new.closed ≡ false) }
     ensures kept { IfOk result (λ told. told_status told ≡ Refused → book.new.keeper ≡ book.old.keeper) }
+    ensures stopped { K.is_trusted book.new.keeper
+        → LeavesOneOf book.old.book.history (behind_read book.old.book.office book.old.book.history (message_of bytes.now)) (K.may_leave book.old.keeper)
+        → LeavesOneOf book.old.book.history (behind_read book.old.book.office book.old.book.history (message_of bytes.now)) (K.may_leave book.new.keeper) }
     ensures fault { IfErr result (IsTakeEnd book.old.closed (told_of_read book.old.book.office book.old.book.history (message_of bytes.now))) }
     ensures trusted { K.is_trusted book.new.keeper → K.is_trusted book.old.keeper }
 {
@@ -90,6 +93,9 @@ fn take_input<K: Keeper, R: Read + Drop>(
         ≡ behind_bytes book.old.book.office book.old.book.history bytes)) }
     ensures unclosed { OnOk result (book.old.closed ≡ false → book.new.closed ≡ false) }
     ensures kept { IfOk result (λ told. told_status told ≡ Refused → book.new.keeper ≡ book.old.keeper) }
+    ensures stopped { IfSome (R.remaining input) (λ bytes. K.is_trusted book.new.keeper
+        → LeavesOneOf book.old.book.history (behind_bytes book.old.book.office book.old.book.history bytes) (K.may_leave book.old.keeper)
+        → LeavesOneOf book.old.book.history (behind_bytes book.old.book.office book.old.book.history bytes) (K.may_leave book.new.keeper)) }
     ensures fault { IfErr result (λ fault. book.old.closed ≡ false → IsInputEnd book.old.book.office book.old.book.history (R.remaining input) fault) }
     ensures trusted { K.is_trusted book.new.keeper → K.is_trusted book.old.keeper }
 {
@@ -114,6 +120,9 @@ fn write_taken<K: Keeper, R: Read + Drop, W: Write>(
         ≡ behind_bytes book.old.book.office book.old.book.history bytes)) }
     ensures unclosed { OnOk result (book.old.closed ≡ false → book.new.closed ≡ false) }
     ensures kept { IfOk result (λ status. status ≡ Refused → book.new.keeper ≡ book.old.keeper) }
+    ensures stopped { IfSome (R.remaining input) (λ bytes. K.is_trusted book.new.keeper
+        → LeavesOneOf book.old.book.history (behind_bytes book.old.book.office book.old.book.history bytes) (K.may_leave book.old.keeper)
+        → LeavesOneOf book.old.book.history (behind_bytes book.old.book.office book.old.book.history bytes) (K.may_leave book.new.keeper)) }
     ensures fault { IfErr result (λ fault. book.old.closed ≡ false → IsInputEnd book.old.book.office book.old.book.history (R.remaining input) fault) }
     ensures ends { IfOk result (λ status. status ≢ Failed) }
     ensures trusted { K.is_trusted book.new.keeper → K.is_trusted book.old.keeper }
@@ -127,7 +136,8 @@ fn write_taken<K: Keeper, R: Read + Drop, W: Write>(
 /// Takes the one message that the input is, and prints `joined`, `nothing-new` or `acked`; what is
 /// no message, and what is refused, is told with status 1 and changes nothing.
 ///
-/// The records are opened before anything is read. A fault is told on `err`, with status 3. The
+/// The records are opened before anything is read. A fault is told on `err`, with status 3, and a
+/// stop then leaves what the records held, or that with what the message brought at its end. The
 /// connection comes back unless its records were refused.
 pub fn import_store<S: Alter + Drop, R: Read + Drop, W: Write, E: Write>(
     alloc: Global,
@@ -148,6 +158,10 @@ pub fn import_store<S: Alter + Drop, R: Read + Drop, W: Write, E: Write>(
         → (meta : Numbers) → HasMeta meta (state S.Store conn).now.trees
         → IfSome (R.remaining input) (λ bytes. HoldsOnly (state S.Store after)
         (behind_bytes (office_of meta) (history_in (state S.Store conn).now.trees) bytes))) }
+    ensures stopped { IfSome result.1 (λ after. HasCleanDisk (state S.Store after)
+        → (meta : Numbers) → HasMeta meta (state S.Store conn).now.trees
+        → IfSome (R.remaining input) (λ bytes. LeavesOneOf (history_in (state S.Store conn).now.trees)
+        (behind_bytes (office_of meta) (history_in (state S.Store conn).now.trees) bytes) (MayLeaveIn (state S.Store after)))) }
     ensures err { FaultTold (E.contents err.old) (E.contents err.new) result.0 }
     ensures cause { IfSome result.1 (λ after. HasCleanDisk (state S.Store after)
         → FailsFor (λ fault. IsIllegal S.Store conn after fault ⊎ EndsOpened S.Store conn (IsImportEnd (R.remaining input)) after fault)

@@ -1,4 +1,4 @@
-use Rattle.std.proofs.Common.{◌≡◌, refl, ap, sym, subst, ◌∙◌}
+use Rattle.std.proofs.Common.{◌≡◌, Some, inl, refl, ap, sym, subst, subst₂, ◌∙◌}
 use Rattle.std.specs.Prelude.{IfOk, List}
 use Rattle.sqlite.specs.State.{HasCleanDisk}
 use Rattle.sqlite.specs.Effect.{Database}
@@ -11,12 +11,12 @@ use Rattle.sql_records.specs.Layout.{HasMeta}
 use Rattle.site_desk.specs.SiteView.{office_of}
 use Rattle.operator_cli.specs.declared.status.Status.{Status}
 use Rattle.operator_cli.specs.declared.status.Status.TheVariants.{Refused}
-use Rattle.operator_cli.specs.Exchanged.{behind_bytes, told_of_bytes}
+use Rattle.operator_cli.specs.Exchanged.{LeavesOneOf, behind_bytes, told_of_bytes}
 use Rattle.operator_cli.specs.Printed.{Printed, IsTellingOf}
 use Rattle.operator_cli.specs.Printed.{IsTakenText}
-use Rattle.operator_cli.specs.Opened.{IsImportEnd}
-use Rattle.operator_cli.proofs.EndLaws.{weaker}
-use Rattle.operator_cli.proofs.ExchangeLaws.{import_end}
+use Rattle.operator_cli.specs.Opened.{IsIllegal, IsImportEnd, IsRefused}
+use Rattle.operator_cli.proofs.EndLaws.{if_back, weaker}
+use Rattle.operator_cli.proofs.ExchangeLaws.{import_end, leaves_as_they_were}
 use Rattle.operator_cli.proofs.OpenedLaws.{book_back, opened_cause, opened_illegal, opened_ours, refused_cause, refused_illegal, refused_lost, refused_ours}
 use Rattle.operator_cli.proofs.PrintLaws.{ends_printed, ends_as, if_some_is, if_some_map, ok_unless_failed}
 use Rattle.operator_cli.proofs.import.import_store.Goals as goal
@@ -97,3 +97,21 @@ returns-in-Ok-clause-cause g c =
     (λ f e meta has. import_end c.in-Ok.book meta (state g.S.Store opened).now.trees (g.R.Read.remaining c.args.input) f (of.office meta (subst (HasMeta meta) now has)) (of.history ∙ ap history_in (sym now)) (e of.unclosed)) c.write_taken-came.ensures.fault in
     opened_cause g.S.Store c.args.conn c.write_taken-came.new.book.keeper.conn c.in-Ok.book (book_back g.S.Store c.args.conn c.write_taken-came.new.book.keeper.conn c.in-Ok.book c.in-Ok.book.keeper c.write_taken-came.new.book.keeper refl c.write_taken-came.ensures.trusted refl c.in-Ok.ensures.book) (IsImportEnd (g.R.Read.remaining c.args.input)) opened (g.E.Write.contents c.args.err.now) (g.E.Write.contents c.close_book.new.err) c.write_taken-came.result c.close_book.result.0 clean same c.in-Ok.ensures.limit ended (λ meta has. tt)
     c.write_taken-came.ensures.ends c.close_book.ensures.line c.close_book.ensures.flush)
+
+pub returns-in-Ok-clause-stopped : goal.returns-in-Ok-clause-stopped
+returns-in-Ok-clause-stopped g c =
+    if_some_is _ _ _ c.close_book.ensures.back (λ clean meta has.
+    let after : IsTrusted g.S.Store c.write_taken-came.new.book.keeper = clean in
+    let first = c.write_taken-came.ensures.trusted after in
+    let of = c.in-Ok.ensures.book first in
+    if_some_map _ _ _ (λ bytes stopped.
+    subst₂ (λ (o : Office) (h : List Entry). LeavesOneOf h (behind_bytes o h bytes) (MayLeaveIn (state g.S.Store c.write_taken-came.new.book.keeper.conn))) (of.office meta has) of.history
+    (stopped after (λ left m. inl ((c.in-Ok.ensures.rests first).alone left m ∙ ap (λ (h : List Entry). Some h) (c.in-Ok.ensures.kept first ∙ sym of.history)))))
+    c.write_taken-came.ensures.stopped)
+
+pub returns-in-Err-clause-stopped : goal.returns-in-Err-clause-stopped
+returns-in-Err-clause-stopped g c =
+    if_back c.in-Err.conn (IsRefused g.S.Store c.args.conn c.in-Err.fault) (λ after. IsIllegal g.S.Store c.args.conn after c.in-Err.fault) _ c.in-Err.ensures.fault
+    (λ after found clean meta has.
+    let h = history_in (state g.S.Store c.args.conn).now.trees in
+    leaves_as_they_were (g.R.Read.remaining c.args.input) h (behind_bytes (office_of meta) h) (MayLeaveIn (state g.S.Store after)) (found.rests clean))

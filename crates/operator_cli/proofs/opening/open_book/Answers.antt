@@ -5,7 +5,8 @@ use Rattle.book_core.specs.declared.entry.Entry.{Entry}
 use Rattle.book_core.specs.Decision.{Office}
 use Rattle.book_core.specs.Legal.{IsLegal}
 use Rattle.book_core.specs.Replay.{IsReplayFault}
-use Rattle.sql_records.specs.Held.{IsOf, Kept, history_in}
+use Rattle.sql_records.specs.Held.{IsOf, Kept, MayLeaveIn, history_in}
+use Rattle.sql_records.specs.Keeping.{LeavesOnly}
 use Rattle.site_desk.specs.SiteView.{office_of}
 use Rattle.operator_cli.proofs.opening.open_book.Goals as goal
 
@@ -51,6 +52,10 @@ returns-in-Err-start-clause-fault g c =
       told = c.of_replay_fault.ensures;
       same = λ clean. ap (λ (h : Held g.row.S.Denot). (state g.S.Store h).now) back
           ∙ c.in-Ok.ensures.same (subst (λ (h : Held g.row.S.Denot). HasCleanDisk (state g.S.Store h)) back clean);
+      rests = λ clean.
+          let trusted = subst (λ (h : Held g.row.S.Denot). HasCleanDisk (state g.S.Store h)) back clean in
+          subst₂ (λ (list : List Entry) (h : Held g.row.S.Denot). LeavesOnly list (MayLeaveIn (state g.S.Store h)))
+          (ap (λ store. history_in store.trees) (c.in-Ok.ensures.same trusted)) (sym back) (c.in-Ok.ensures.leaves trusted);
       ours = λ clean. (_, (c.in-Ok.ensures.holds (subst (λ (h : Held g.row.S.Denot). HasCleanDisk (state g.S.Store h)) back clean)).0.numbers);
       found = λ clean meta has.
           let trusted = subst (λ (h : Held g.row.S.Denot). HasCleanDisk (state g.S.Store h)) back clean in
