@@ -6,6 +6,8 @@ mod book_sessions;
 #[cfg(test)]
 mod desk;
 #[cfg(test)]
+mod desk_answers;
+#[cfg(test)]
 mod ends;
 #[cfg(test)]
 mod keepers;

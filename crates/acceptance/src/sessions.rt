@@ -265,7 +265,8 @@ fn two_sessions_meet<R: Threads + Wait + Abort + Sync, L: Opens + Send + Sync>(
     assert_eq!(rt; meeting.entered.load(Ordering::SeqCst), 2);
 }
 
-// A desk that passes the gate before it has the lock, or once it let go of it, fails here.
+// A desk that passes the gate before it has the lock, or once it let go of it, fails here where the other session comes
+// within the turns that the first one stands there.
 #[test]
 fn gate_is_passed_under_the_lock(rt: HostRuntime) {
     let alloc = rt.alloc();

@@ -110,3 +110,17 @@ fn nothing_comes_where_nobody_sends(rt: HostRuntime) {
     assert_eq!(rt; rx.recv(&rt).err(), Some(Gone));
     assert_eq!(rt; rx.end().got(), 0);
 }
+
+// A link with less room than its capacity waits here for ever, and one that loses what it holds with its sender fails.
+#[test]
+fn what_was_put_comes_though_its_sender_is_gone(rt: HostRuntime) {
+    let alloc = rt.alloc();
+    let (mut tx, mut rx) = link(alloc, 2).expect(&rt, "memory");
+    assert!(rt; tx.send(&rt, message(&rt, alloc, ACK)).is_ok());
+    assert!(rt; tx.send(&rt, message(&rt, alloc, DELTA)).is_ok());
+    drop(tx);
+    assert!(rt; is_text_of(&rt, alloc, rx.recv(&rt), ACK));
+    assert!(rt; is_text_of(&rt, alloc, rx.recv(&rt), DELTA));
+    assert_eq!(rt; rx.recv(&rt).err(), Some(Gone));
+    assert_eq!(rt; rx.end().got(), 2);
+}

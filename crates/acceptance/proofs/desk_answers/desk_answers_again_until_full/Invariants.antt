@@ -1,0 +1,8 @@
+use Rattle.std.specs.Prelude.{length}
+use Rattle.acceptance.proofs.desk_answers.desk_answers_again_until_full.Given as goal
+
+abbrev pub ghosts-filled-L-Opens : goal.ghosts-filled-L-Opens
+ghosts-filled-L-Opens g a = record { opening = length a.book.book.history }
+
+abbrev pub ghosts-filled-L-Ledger : goal.ghosts-filled-L-Ledger
+ghosts-filled-L-Ledger g a = record { name = a.blank.name; parts = a.blank.parts }
