@@ -26,6 +26,8 @@ mod program_words;
 #[cfg(test)]
 mod records;
 #[cfg(test)]
+mod refused_memory;
+#[cfg(test)]
 mod script_lines;
 #[cfg(test)]
 mod scripts;
@@ -33,6 +35,8 @@ mod scripts;
 mod served;
 #[cfg(test)]
 mod sessions;
+#[cfg(test)]
+mod sites;
 #[cfg(test)]
 mod sockets;
 #[cfg(test)]

@@ -1,5 +1,5 @@
 -- The tests by which a peer's delta is judged are the order and the range of the sites, both ways.
-use Rattle.std.proofs.Common.{◌≡◌, ◌≢◌, ℕ, ◌≤◌, Bool, true, false, cond, not, ◌&&◌, List, [], ◌∷◌, Option, Some, None, refl, sym, ap, ◌∙◌, subst, arith, eq-eqb, eqb-true, ne_eqb, ltb-true, ltb-false, leb-false}
+use Rattle.std.proofs.Common.{◌≡◌, ℕ, ◌≤◌, Bool, true, false, cond, not, ◌&&◌, List, [], ◌∷◌, Some, None, refl, sym, ap, ◌∙◌, subst, arith, eq-eqb, eqb-true, ne_eqb, ltb-true, ltb-false, leb-false}
 use Rattle.std.specs.Prelude.{◌==◌, nat_lt, nat_le, IsTrue, IsSome, length}
 use Rattle.std.proofs.lemmas.Bool.{eqb-false, not-true, lt-ltb, le-ltb, and_parts, and_from}
 use Rattle.rights_lattice.specs.declared.cell.Cell.{Cell}
@@ -14,8 +14,7 @@ use Rattle.rights_lattice.proofs.SpotLaws.{same_event_is, same_cell_is, value_in
 use Rattle.delta_mutators.proofs.EndLaws.{lists_of}
 use Rattle.book_core.specs.BookView.{MarksAreWithin}
 use Rattle.book_core.specs.Decision.{Office}
-use Rattle.book_core.specs.declared.plan.JoinFault.TheVariants as fault
-use Rattle.book_core.specs.Joining.{IsPeer, RowAtMost, Joins, Refuses, foreign, is_of_sites, join_if, join_decision}
+use Rattle.book_core.specs.Joining.{IsPeer, foreign, is_of_sites}
 use Rattle.book_core.specs.declared.entry.Entry.{Entry}
 use Rattle.book_core.specs.History.{state_of}
 use Rattle.book_core.specs.Legal.{IsNextJoined}
@@ -151,12 +150,3 @@ fresh office h peer delta b room of_sites none test = (
   λ t. passes office h peer delta room of_sites none (sym test ∙ not-true b t),
   λ next. ap not (test ∙ is_new delta (state_of h) next.news),
 )
-
--- and is joined
-pub decides : (office : Office) (h : List Entry) (peer : ℕ) (delta : State) → nat_le office.limit (length h) ≡ false → is_of_sites office peer delta ≡ true
-    → foreign office.me (state_of h).cells (marks_of delta.cells) ≡ None → is_within delta (state_of h) ≡ false → join_decision office h peer delta ≡ Joins
-decides office h peer delta room of_sites none new =
-    ap (λ b. cond (not b) (Refuses fault.UnknownSite) (join_if (foreign office.me (state_of h).cells (marks_of delta.cells)) (is_within delta (state_of h)) (nat_le office.limit (length h)))) of_sites
-    ∙ ap (λ o. join_if o (is_within delta (state_of h)) (nat_le office.limit (length h))) none
-    ∙ ap (λ b. join_if None b (nat_le office.limit (length h))) new
-    ∙ ap (λ b. join_if None false b) room

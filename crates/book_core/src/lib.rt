@@ -10,4 +10,4 @@ pub mod plan;
 pub use book::Book;
 pub use entry::Entry;
 pub use limit::Limit;
-pub use plan::{JoinFault, JoinPlan, Plan, PlanFault, Planned, ReplayFault};
+pub use plan::{JoinDecision, JoinFault, JoinPlan, Plan, PlanFault, Planned, ReplayFault};

@@ -76,6 +76,17 @@ pub enum JoinPlan {
     New(Planned),
 }
 
+/// What a site does with a peer's delta.
+#[derive(Clone, Copy, PartialEq, Eq, Debug)]
+pub enum JoinDecision {
+    /// It becomes a new entry, where memory suffices.
+    Joins,
+    /// The state has all of it.
+    NothingNew,
+    /// It is not joined, and nothing changes.
+    Refuses(JoinFault),
+}
+
 /// Why a peer's delta is not joined.
 #[derive(Clone, Copy, PartialEq, Eq, Debug, Error)]
 pub enum JoinFault {

@@ -1,26 +1,46 @@
 // What asking, joining and replaying answer, with ample memory; the expected values are worked out by hand.
 use crate::values::{book_of, event, gave, join, mark, number, seats, site};
-use book_core::{Book, Entry, JoinFault, Limit, Plan, PlanFault, ReplayFault};
+use book_core::{Book, Entry, JoinDecision, JoinFault, Limit, Plan, PlanFault, ReplayFault};
 use delta_mutators::{Delta, Item, announce};
 use local_rights::Totals;
 use request_ledger::{Kept, Reply, Request, RequestNumber, SaleState};
-use rights_lattice::{Amount, Cell, Event, SiteId};
+use rights_lattice::{Event, Mark};
 use std::alloc::Global;
 use std::process::Abort;
 
+// A request of plain numbers: a row of them costs no call.
+#[derive(Clone, Copy)]
+enum Said {
+    Announce(Event),
+    Release(Event, u64),
+    Sell(Event, u64),
+    Refund(u64),
+    Cede(Event, u64, u64),
+}
+
 // A request under its number, and what it is answered.
-type Row = (u64, Request, Result<Reply, PlanFault>);
+type Row = (u64, Said, Result<Reply, PlanFault>);
 
-fn release(event: Event, amount: Amount) -> Request {
-    Request::Release { event, amount }
-}
-
-fn sell(event: Event, amount: Amount) -> Request {
-    Request::Sell { event, amount }
-}
-
-fn cede(event: Event, amount: Amount, to: SiteId) -> Request {
-    Request::Cede { event, amount, to }
+fn request(rt: &impl Abort, said: Said) -> Request {
+    match said {
+        Said::Announce(event) => Request::Announce { event },
+        Said::Release(event, amount) => Request::Release {
+            event,
+            amount: seats(rt, amount),
+        },
+        Said::Sell(event, amount) => Request::Sell {
+            event,
+            amount: seats(rt, amount),
+        },
+        Said::Refund(sale) => Request::Refund {
+            sale: number(rt, sale),
+        },
+        Said::Cede(event, amount, to) => Request::Cede {
+            event,
+            amount: seats(rt, amount),
+            to: site(rt, to),
+        },
+    }
 }
 
 // Plans the request and enters what is new.
@@ -41,8 +61,8 @@ fn ask(
 }
 
 fn ask_each(rt: &impl Abort, alloc: Global, book: &mut Book, rows: &[Row]) {
-    for (asked, request, want) in rows {
-        let answer = ask(book, alloc, number(rt, *asked), request);
+    for (asked, said, want) in rows {
+        let answer = ask(book, alloc, number(rt, *asked), &request(rt, *said));
         assert_eq!(rt; answer, *want, "request {asked}");
     }
 }
@@ -72,90 +92,92 @@ fn deliver(
 fn busy_book(rt: &impl Abort, alloc: Global) -> Book {
     let gala = event(rt, b"gala");
     let expo = event(rt, b"expo");
-    let sale = number(rt, 9);
-    let five = seats(rt, 5);
-    let nine = seats(rt, 9);
+    let rows = [
+        (1, Said::Announce(gala), Ok(Reply::Done)),
+        (2, Said::Release(gala, 5), Ok(Reply::Done)),
+        (9, Said::Sell(gala, 5), Ok(Reply::Done)),
+        (9, Said::Sell(gala, 5), Ok(Reply::Done)),
+        (9, Said::Sell(gala, 4), Err(PlanFault::Reused { place: 2 })),
+        (3, Said::Sell(gala, 1), Ok(Reply::Short { left: 0 })),
+        (10, Said::Refund(9), Ok(Reply::Done)),
+        (11, Said::Refund(9), Ok(Reply::Refunded)),
+        (12, Said::Refund(3), Ok(Reply::NoSale)),
+        (13, Said::Cede(gala, 9, 0), Ok(Reply::ToSelf)),
+        (14, Said::Cede(gala, 9, 2), Ok(Reply::NoSite)),
+        (15, Said::Cede(expo, 9, 0), Ok(Reply::Unknown)),
+        (16, Said::Cede(gala, 9, 1), Ok(Reply::Short { left: 5 })),
+        (17, Said::Announce(gala), Ok(Reply::Known)),
+        (18, Said::Release(expo, 5), Ok(Reply::Unknown)),
+        (19, Said::Cede(gala, 4, 1), Ok(Reply::Done)),
+        (20, Said::Sell(gala, 1), Ok(Reply::Done)),
+        (3, Said::Sell(gala, 1), Ok(Reply::Short { left: 0 })),
+    ];
     let mut book = book_of(rt, alloc, 0, 2, 1000);
-    ask_each(
-        rt,
-        alloc,
-        &mut book,
-        &[
-            (1, Request::Announce { event: gala }, Ok(Reply::Done)),
-            (2, release(gala, five), Ok(Reply::Done)),
-            (9, sell(gala, seats(rt, 5)), Ok(Reply::Done)),
-            (9, sell(gala, seats(rt, 5)), Ok(Reply::Done)),
-            (
-                9,
-                sell(gala, seats(rt, 4)),
-                Err(PlanFault::Reused { place: 2 }),
-            ),
-            (3, sell(gala, seats(rt, 1)), Ok(Reply::Short { left: 0 })),
-            (10, Request::Refund { sale }, Ok(Reply::Done)),
-            (11, Request::Refund { sale }, Ok(Reply::Refunded)),
-            (
-                12,
-                Request::Refund {
-                    sale: number(rt, 3),
-                },
-                Ok(Reply::NoSale),
-            ),
-            (13, cede(gala, nine, site(rt, 0)), Ok(Reply::ToSelf)),
-            (14, cede(gala, nine, site(rt, 2)), Ok(Reply::NoSite)),
-            (15, cede(expo, nine, site(rt, 0)), Ok(Reply::Unknown)),
-            (
-                16,
-                cede(gala, nine, site(rt, 1)),
-                Ok(Reply::Short { left: 5 }),
-            ),
-            (17, Request::Announce { event: gala }, Ok(Reply::Known)),
-            (18, release(expo, five), Ok(Reply::Unknown)),
-            (19, cede(gala, seats(rt, 4), site(rt, 1)), Ok(Reply::Done)),
-            (20, sell(gala, seats(rt, 1)), Ok(Reply::Done)),
-            (3, sell(gala, seats(rt, 1)), Ok(Reply::Short { left: 0 })),
-        ],
-    );
+    ask_each(rt, alloc, &mut book, &rows);
     book
+}
+
+// The length of the history, what is left of the event, its totals, and what was ceded of it.
+fn busy_counts(rt: &impl Abort, alloc: Global) -> (usize, u64, Totals, u64) {
+    let gala = event(rt, b"gala");
+    let ceded = gave(rt, 0, 1);
+    let book = busy_book(rt, alloc);
+    (
+        book.len(),
+        book.left(gala),
+        book.totals(gala),
+        book.cell(gala, ceded),
+    )
 }
 
 #[test]
 fn requests_and_their_refusals(rt: HostRuntime) {
-    let gala = event(&rt, b"gala");
-    let book = busy_book(&rt, rt.alloc());
-    assert_eq!(rt; book.len(), 15);
-    assert_eq!(rt; book.left(gala), 0);
     let totals = Totals {
         released: 5,
         sold: 6,
         refunded: 5,
     };
-    assert_eq!(rt; book.totals(gala), totals);
-    let ceded = Cell::Gave {
-        by: book.me(),
-        to: site(&rt, 1),
-    };
-    assert_eq!(rt; book.cell(gala, ceded), 4);
+    assert_eq!(rt; busy_counts(&rt, rt.alloc()), (15, 0, totals, 4));
+}
+
+// Whether each of two events is known, how many are, and the first and the second of them.
+fn known_events(
+    rt: &impl Abort,
+    alloc: Global,
+    gala: Event,
+    expo: Event,
+) -> (bool, bool, usize, Option<Event>, Option<Event>) {
+    let book = busy_book(rt, alloc);
+    (
+        book.knows(gala),
+        book.knows(expo),
+        book.event_count(),
+        book.event_at(0),
+        book.event_at(1),
+    )
 }
 
 #[test]
 fn events_that_are_known(rt: HostRuntime) {
     let gala = event(&rt, b"gala");
-    let book = busy_book(&rt, rt.alloc());
-    assert!(rt; book.knows(gala) && !book.knows(event(&rt, b"expo")));
-    assert_eq!(rt; book.event_count(), 1);
-    assert_eq!(rt; book.event_at(0), Some(gala));
-    assert_eq!(rt; book.event_at(1), None);
+    let expo = event(&rt, b"expo");
+    let known = known_events(&rt, rt.alloc(), gala, expo);
+    assert_eq!(rt; known, (true, false, 1, Some(gala), None));
+}
+
+fn kept_sale(rt: &impl Abort, alloc: Global) -> (Option<SaleState>, Option<Kept>) {
+    let (sale, refund) = (number(rt, 9), number(rt, 10));
+    let book = busy_book(rt, alloc);
+    (book.sale(sale), book.kept(refund))
 }
 
 #[test]
 fn sales_and_replies_that_are_kept(rt: HostRuntime) {
-    let book = busy_book(&rt, rt.alloc());
     let sold = SaleState {
         event: event(&rt, b"gala"),
         seats: seats(&rt, 5),
         given_back: 5,
     };
-    assert_eq!(rt; book.sale(number(&rt, 9)), Some(sold));
     let refund = Kept {
         place: 4,
         request: Request::Refund {
@@ -163,19 +185,23 @@ fn sales_and_replies_that_are_kept(rt: HostRuntime) {
         },
         reply: Reply::Done,
     };
-    assert_eq!(rt; book.kept(number(&rt, 10)), Some(refund));
+    let kept = kept_sale(&rt, rt.alloc());
+    assert_eq!(rt; kept, (Some(sold), Some(refund)));
+}
+
+// How many names and marks the delta of an entry has, and its first mark.
+fn told_at(rt: &impl Abort, alloc: Global, place: usize) -> (usize, usize, Option<Mark>) {
+    let book = busy_book(rt, alloc);
+    let delta = book.entry(place).expect(rt, "an entry").delta();
+    let marks = delta.marks();
+    (delta.names().len(), marks.len(), marks.first().copied())
 }
 
 #[test]
 fn entries_tell_their_deltas(rt: HostRuntime) {
-    let gala = event(&rt, b"gala");
-    let book = busy_book(&rt, rt.alloc());
-    let released = book.entry(1).expect(&rt, "an entry").delta();
-    assert!(rt; released.names().is_empty());
-    let mark = mark(&rt, gala, gave(&rt, 0, 0), 5);
-    assert_eq!(rt; released.marks(), [mark].as_slice());
-    let refused = book.entry(3).expect(&rt, "an entry").delta();
-    assert!(rt; refused.names().is_empty() && refused.marks().is_empty());
+    let released = mark(&rt, event(&rt, b"gala"), gave(&rt, 0, 0), 5);
+    assert_eq!(rt; told_at(&rt, rt.alloc(), 1), (0, 1, Some(released)));
+    assert_eq!(rt; told_at(&rt, rt.alloc(), 3), (0, 0, None));
 }
 
 #[test]
@@ -188,53 +214,53 @@ fn limits_of_a_history(rt: HostRuntime) {
     assert_eq!(rt; Limit::greatest().entries(), Limit::MAX);
 }
 
+// What is left once these rows were asked of the only site.
+fn left_behind(rt: &impl Abort, alloc: Global, gala: Event, rows: &[Row]) -> u64 {
+    let mut book = book_of(rt, alloc, 0, 1, 1_000_000);
+    ask_each(rt, alloc, &mut book, rows);
+    book.left(gala)
+}
+
 #[test]
 fn greatest_cell_value(rt: HostRuntime) {
     let gala = event(&rt, b"gala");
-    let one = seats(&rt, 1);
-    let all = seats(&rt, 1_000_000_000_000);
-    let sale = number(&rt, 4);
-    let mut book = book_of(&rt, rt.alloc(), 0, 1, 1_000_000);
-    ask_each(
-        &rt,
-        rt.alloc(),
-        &mut book,
-        &[
-            (1, Request::Announce { event: gala }, Ok(Reply::Done)),
-            (2, release(gala, all), Ok(Reply::Done)),
-            (3, release(gala, one), Ok(Reply::CellFull)),
-            (4, sell(gala, all), Ok(Reply::Done)),
-            (5, Request::Refund { sale }, Ok(Reply::Done)),
-            (6, sell(gala, one), Ok(Reply::CellFull)),
-        ],
-    );
-    assert_eq!(rt; book.left(gala), 1_000_000_000_000);
+    let rows = [
+        (1, Said::Announce(gala), Ok(Reply::Done)),
+        (2, Said::Release(gala, 1_000_000_000_000), Ok(Reply::Done)),
+        (3, Said::Release(gala, 1), Ok(Reply::CellFull)),
+        (4, Said::Sell(gala, 1_000_000_000_000), Ok(Reply::Done)),
+        (5, Said::Refund(4), Ok(Reply::Done)),
+        (6, Said::Sell(gala, 1), Ok(Reply::CellFull)),
+    ];
+    let left = left_behind(&rt, rt.alloc(), gala, &rows);
+    assert_eq!(rt; left, 1_000_000_000_000);
+}
+
+// The length of a history of at most three entries once these rows were asked and a peer's news met it full.
+fn limited_len(rt: &impl Abort, alloc: Global, rows: &[Row], news: &[Item]) -> usize {
+    let mut book = book_of(rt, alloc, 0, 2, 3);
+    ask_each(rt, alloc, &mut book, rows);
+    deliver(rt, alloc, &mut book, 1, news, Err(JoinFault::Full));
+    book.len()
 }
 
 #[test]
 fn history_limit(rt: HostRuntime) {
     let gala = event(&rt, b"gala");
-    let mut book = book_of(&rt, rt.alloc(), 0, 2, 3);
-    ask_each(
-        &rt,
-        rt.alloc(),
-        &mut book,
-        &[
-            (1, Request::Announce { event: gala }, Ok(Reply::Done)),
-            (2, release(gala, seats(&rt, 10)), Ok(Reply::Done)),
-            (3, cede(gala, seats(&rt, 5), site(&rt, 1)), Ok(Reply::Done)),
-            (4, sell(gala, seats(&rt, 1)), Err(PlanFault::Full)),
-            (2, release(gala, seats(&rt, 10)), Ok(Reply::Done)),
-            (
-                2,
-                release(gala, seats(&rt, 11)),
-                Err(PlanFault::Reused { place: 1 }),
-            ),
-        ],
-    );
     let news = [announce(event(&rt, b"expo"))];
-    deliver(&rt, rt.alloc(), &mut book, 1, &news, Err(JoinFault::Full));
-    assert_eq!(rt; book.len(), 3);
+    let rows = [
+        (1, Said::Announce(gala), Ok(Reply::Done)),
+        (2, Said::Release(gala, 10), Ok(Reply::Done)),
+        (3, Said::Cede(gala, 5, 1), Ok(Reply::Done)),
+        (4, Said::Sell(gala, 1), Err(PlanFault::Full)),
+        (2, Said::Release(gala, 10), Ok(Reply::Done)),
+        (
+            2,
+            Said::Release(gala, 11),
+            Err(PlanFault::Reused { place: 1 }),
+        ),
+    ];
+    assert_eq!(rt; limited_len(&rt, rt.alloc(), &rows, &news), 3);
 }
 
 // The book of the second of two sites, which was sent 100 released seats, of which 40 were ceded to it.
@@ -252,12 +278,29 @@ fn told_book(rt: &impl Abort, alloc: Global, gala: Event) -> Book {
     book
 }
 
+fn told_counts(rt: &impl Abort, alloc: Global, gala: Event) -> (usize, u64) {
+    let book = told_book(rt, alloc, gala);
+    (book.len(), book.left(gala))
+}
+
 #[test]
 fn delta_delivered_twice(rt: HostRuntime) {
     let gala = event(&rt, b"gala");
-    let book = told_book(&rt, rt.alloc(), gala);
-    assert_eq!(rt; book.len(), 1);
-    assert_eq!(rt; book.left(gala), 40);
+    assert_eq!(rt; told_counts(&rt, rt.alloc(), gala), (1, 40));
+}
+
+// The length of the history and what is left once these deltas of the first site were refused.
+fn counts_after_refusals(
+    rt: &impl Abort,
+    alloc: Global,
+    gala: Event,
+    rows: &[(&[Item], JoinFault)],
+) -> (usize, u64) {
+    let mut book = told_book(rt, alloc, gala);
+    for (items, fault) in rows {
+        deliver(rt, alloc, &mut book, 0, items, Err(*fault));
+    }
+    (book.len(), book.left(gala))
 }
 
 #[test]
@@ -269,20 +312,38 @@ fn forged_deltas(rt: HostRuntime) {
         Item::Cell(forged),
     ];
     let of_no_site = [Item::Cell(mark(&rt, gala, gave(&rt, 0, 7), 3))];
-    let foreign_row = Err(JoinFault::ForeignRow { mark: forged });
-    let no_site = Err(JoinFault::UnknownSite);
-    let mut book = told_book(&rt, rt.alloc(), gala);
-    deliver(
-        &rt,
-        rt.alloc(),
-        &mut book,
-        0,
-        &above_the_own_row,
-        foreign_row,
+    let rows = [
+        (
+            above_the_own_row.as_slice(),
+            JoinFault::ForeignRow { mark: forged },
+        ),
+        (of_no_site.as_slice(), JoinFault::UnknownSite),
+    ];
+    let counts = counts_after_refusals(&rt, rt.alloc(), gala, &rows);
+    assert_eq!(rt; counts, (1, 40));
+}
+
+#[test]
+fn decisions_on_deltas(rt: HostRuntime) {
+    let gala = event(&rt, b"gala");
+    let forged = mark(&rt, gala, gave(&rt, 1, 1), 7);
+    let book = told_book(&rt, rt.alloc(), gala);
+    let known = delta_of(&rt, rt.alloc(), &[announce(gala)]);
+    let news = delta_of(&rt, rt.alloc(), &[announce(event(&rt, b"expo"))]);
+    let forgery = delta_of(&rt, rt.alloc(), &[Item::Cell(forged)]);
+    let peer = site(&rt, 0);
+    let foreign_row = JoinFault::ForeignRow { mark: forged };
+    assert_eq!(rt; book.join_decision(peer, &known), JoinDecision::NothingNew);
+    assert_eq!(rt; book.join_decision(peer, &news), JoinDecision::Joins);
+    assert_eq!(rt;
+        book.join_decision(peer, &forgery),
+        JoinDecision::Refuses(foreign_row)
     );
-    deliver(&rt, rt.alloc(), &mut book, 0, &of_no_site, no_site);
+    assert_eq!(rt;
+        book.join_decision(site(&rt, 2), &news),
+        JoinDecision::Refuses(JoinFault::UnknownSite)
+    );
     assert_eq!(rt; book.len(), 1);
-    assert_eq!(rt; book.left(gala), 40);
 }
 
 // The entries of the book, where the reply at the forged place is another.
@@ -307,23 +368,40 @@ fn replay_of(alloc: Global, book: &Book, entries: Vec<Entry>) -> Result<Book, Re
     Book::replay(alloc, book.me(), book.sites(), book.limit(), entries)
 }
 
+// The length of the history, what is left of the event, its totals, and what is kept of a refund.
+fn shown(rt: &impl Abort, book: &Book) -> (usize, u64, Totals, Option<Kept>) {
+    let gala = event(rt, b"gala");
+    let refund = number(rt, 10);
+    (
+        book.len(),
+        book.left(gala),
+        book.totals(gala),
+        book.kept(refund),
+    )
+}
+
+fn replayed(rt: &impl Abort, alloc: Global) -> Book {
+    let book = busy_book(rt, alloc);
+    let entries = entries_of(rt, alloc, &book, None);
+    replay_of(alloc, &book, entries).expect(rt, "a book")
+}
+
 #[test]
 fn history_is_replayed(rt: HostRuntime) {
-    let gala = event(&rt, b"gala");
-    let refund = number(&rt, 10);
-    let book = busy_book(&rt, rt.alloc());
-    let entries = entries_of(&rt, rt.alloc(), &book, None);
-    let again = replay_of(rt.alloc(), &book, entries).expect(&rt, "a book");
-    assert_eq!(rt; again.len(), 15);
-    assert_eq!(rt; again.left(gala), 0);
-    assert_eq!(rt; again.totals(gala), book.totals(gala));
-    assert_eq!(rt; again.kept(refund), book.kept(refund));
+    let before = shown(&rt, &busy_book(&rt, rt.alloc()));
+    let after = shown(&rt, &replayed(&rt, rt.alloc()));
+    assert_eq!(rt; (after.0, after.1), (15, 0));
+    assert_eq!(rt; after, before);
+}
+
+fn fault_of_forged_entry(rt: &impl Abort, alloc: Global, place: usize) -> Option<ReplayFault> {
+    let book = busy_book(rt, alloc);
+    let forged = entries_of(rt, alloc, &book, Some(place));
+    replay_of(alloc, &book, forged).err()
 }
 
 #[test]
 fn forged_entry_is_named(rt: HostRuntime) {
-    let book = busy_book(&rt, rt.alloc());
-    let forged = entries_of(&rt, rt.alloc(), &book, Some(3));
-    let fault = replay_of(rt.alloc(), &book, forged).err();
+    let fault = fault_of_forged_entry(&rt, rt.alloc(), 3);
     assert_eq!(rt; fault, Some(ReplayFault::IllegalAt { place: 3 }));
 }

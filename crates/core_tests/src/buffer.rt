@@ -4,6 +4,7 @@ use crate::values::{book_of, event, gave, join, mark, site};
 use book_core::Book;
 use delta_buffer::interval;
 use delta_mutators::{Delta, Item, announce};
+use rights_lattice::{Event, Mark};
 use std::alloc::Global;
 use std::process::Abort;
 
@@ -22,19 +23,30 @@ fn between(rt: &impl Abort, alloc: Global, book: &Book, from: usize, upto: usize
     interval(alloc, book, from, upto).expect(rt, "memory")
 }
 
+// The interval between two places of a history of these entries has these names and marks.
+fn is_interval(
+    rt: &impl Abort,
+    alloc: Global,
+    items: &[Item],
+    places: (usize, usize),
+    names: &[Event],
+    marks: &[Mark],
+) {
+    let (from, upto) = places;
+    let book = joined_book(rt, alloc, items);
+    let delta = between(rt, alloc, &book, from, upto);
+    assert_eq!(rt; delta.names(), names);
+    assert_eq!(rt; delta.marks(), marks);
+}
+
 #[test]
 fn interval_of_three_entries(rt: HostRuntime) {
+    let alloc = rt.alloc();
     let gala = event(&rt, b"gala");
     let released = mark(&rt, gala, gave(&rt, 0, 0), 100);
     let ceded = mark(&rt, gala, gave(&rt, 0, 1), 40);
     let items = [announce(gala), Item::Cell(released), Item::Cell(ceded)];
-    let book = joined_book(&rt, rt.alloc(), &items);
-    let whole = between(&rt, rt.alloc(), &book, 0, 3);
-    assert_eq!(rt; whole.names(), [gala].as_slice());
-    assert_eq!(rt; whole.marks(), [released, ceded].as_slice());
-    let end = between(&rt, rt.alloc(), &book, 2, 3);
-    assert!(rt; end.names().is_empty());
-    assert_eq!(rt; end.marks(), [ceded].as_slice());
-    let nothing = between(&rt, rt.alloc(), &book, 3, 3);
-    assert!(rt; nothing.names().is_empty() && nothing.marks().is_empty());
+    is_interval(&rt, alloc, &items, (0, 3), &[gala], &[released, ceded]);
+    is_interval(&rt, alloc, &items, (2, 3), &[], &[ceded]);
+    is_interval(&rt, alloc, &items, (3, 3), &[], &[]);
 }

@@ -141,43 +141,75 @@ fn holds(rt: &impl Abort, message: &Message, names: &[Event], marks: &[Mark]) {
     }
 }
 
+// The message of that book to the other site, and what the book itself makes of it.
+fn message_of_cession(
+    rt: &impl Abort,
+    alloc: Global,
+    gala: Event,
+) -> (Message, Result<(), CheckFault>) {
+    let book = ceding_book(rt, alloc, gala);
+    let message = first_message(rt, alloc, &book, 1);
+    let checked = check(&book, &message);
+    (message, checked)
+}
+
 #[test]
 fn message_of_a_cession(rt: HostRuntime) {
     let gala = event(&rt, b"gala");
-    let book = ceding_book(&rt, rt.alloc(), gala);
-    let message = first_message(&rt, rt.alloc(), &book, 1);
-    assert_eq!(rt; header(&message), (0, 1, 4));
-    assert_eq!(rt; check(&book, &message), Err(CheckFault::NotForMe));
     let released = mark(&rt, gala, gave(&rt, 0, 0), 100);
     let ceded = mark(&rt, gala, gave(&rt, 0, 1), 40);
+    let (message, checked) = message_of_cession(&rt, rt.alloc(), gala);
+    assert_eq!(rt; header(&message), (0, 1, 4));
+    assert_eq!(rt; checked, Err(CheckFault::NotForMe));
     holds(&rt, &message, &[gala], &[released, ceded]);
+}
+
+// What the other site makes of the message, what two deliveries of it answer, and what is left there then.
+fn joined_twice(
+    rt: &impl Abort,
+    alloc: Global,
+    message: &Message,
+    gala: Event,
+) -> (
+    Result<(), CheckFault>,
+    Result<bool, JoinFault>,
+    Result<bool, JoinFault>,
+    u64,
+) {
+    let mut other = book_of(rt, alloc, 1, 2, 1_000_000);
+    let checked = check(&other, message);
+    let first = deliver(rt, alloc, &mut other, message);
+    let second = deliver(rt, alloc, &mut other, message);
+    (checked, first, second, other.left(gala))
 }
 
 #[test]
 fn cession_reaches_the_other_site(rt: HostRuntime) {
     let gala = event(&rt, b"gala");
-    let book = ceding_book(&rt, rt.alloc(), gala);
-    let message = first_message(&rt, rt.alloc(), &book, 1);
-    let mut other = book_of(&rt, rt.alloc(), 1, 2, 1_000_000);
-    assert_eq!(rt; check(&other, &message), Ok(()));
-    assert_eq!(rt; deliver(&rt, rt.alloc(), &mut other, &message), Ok(true));
-    assert_eq!(rt; deliver(&rt, rt.alloc(), &mut other, &message), Ok(false));
-    assert_eq!(rt; other.left(gala), 40);
+    let (message, _) = message_of_cession(&rt, rt.alloc(), gala);
+    let joined = joined_twice(&rt, rt.alloc(), &message, gala);
+    assert_eq!(rt; joined, (Ok(()), Ok(true), Ok(false), 40));
+}
+
+// Whether the book of the cession has a message for the peer.
+fn is_due(rt: &impl Abort, alloc: Global, exchange: &Exchange, peer: SiteId) -> bool {
+    let book = ceding_book(rt, alloc, event(rt, b"gala"));
+    due(rt, alloc, exchange, &book, peer).is_some()
 }
 
 #[test]
 fn restart_forgets_acknowledgements(rt: HostRuntime) {
-    let book = ceding_book(&rt, rt.alloc(), event(&rt, b"gala"));
     let peer = site(&rt, 1);
+    let (four, one) = (upto(&rt, 4), upto(&rt, 1));
     let mut exchange = Exchange::fresh();
     assert_eq!(rt; exchange.acked(peer), 0);
-    exchange.ack(peer, upto(&rt, 4));
-    exchange.ack(peer, upto(&rt, 1));
+    exchange.ack(peer, four);
+    exchange.ack(peer, one);
     assert_eq!(rt; exchange.acked(peer), 4);
-    assert!(rt; due(&rt, rt.alloc(), &exchange, &book, peer).is_none());
+    assert!(rt; !is_due(&rt, rt.alloc(), &exchange, peer));
     let fresh = Exchange::fresh();
     assert_eq!(rt; fresh.acked(peer), 0);
-    assert!(rt; due(&rt, rt.alloc(), &fresh, &book, peer).is_some());
+    assert!(rt; is_due(&rt, rt.alloc(), &fresh, peer));
 }
 
 // The header of what a site answers to a delta.
@@ -198,34 +230,55 @@ fn forged_message(rt: &impl Abort, alloc: Global, to: u64, forged: Mark) -> Mess
     }
 }
 
+// What is made of that message, what would answer it, what it is refused with, and what is left then.
+fn forgery_met(
+    rt: &impl Abort,
+    alloc: Global,
+    gala: Event,
+    forged: Mark,
+) -> (
+    Result<(), CheckFault>,
+    Option<(u64, u64, u64)>,
+    Result<bool, JoinFault>,
+    u64,
+) {
+    let message = forged_message(rt, alloc, 1, forged);
+    let answered = answer(&message);
+    let mut book = selling_book(rt, alloc, gala);
+    let checked = check(&book, &message);
+    let refused = deliver(rt, alloc, &mut book, &message);
+    (checked, answered, refused, book.left(gala))
+}
+
 #[test]
 fn book_meets_a_forged_delta(rt: HostRuntime) {
     let gala = event(&rt, b"gala");
-    let mut book = selling_book(&rt, rt.alloc(), gala);
     let forged = mark(&rt, gala, Cell::Used { by: site(&rt, 1) }, 9);
-    let message = forged_message(&rt, rt.alloc(), 1, forged);
-    assert_eq!(rt; check(&book, &message), Ok(()));
-    assert_eq!(rt; answer(&message), Some((1, 0, 1)));
-    let refused = deliver(&rt, rt.alloc(), &mut book, &message);
-    assert_eq!(rt; refused, Err(JoinFault::ForeignRow { mark: forged }));
-    assert_eq!(rt; book.left(gala), 42);
+    let met = forgery_met(&rt, rt.alloc(), gala, forged);
+    let refused = Err(JoinFault::ForeignRow { mark: forged });
+    assert_eq!(rt; met, (Ok(()), Some((1, 0, 1)), refused, 42));
+}
+
+// Each row has a sender, a length that it acknowledges, and what the book makes of it.
+fn check_each(rt: &impl Abort, alloc: Global, rows: &[(u64, u64, Result<(), CheckFault>)]) {
+    let book = selling_book(rt, alloc, event(rt, b"gala"));
+    for (by, entries, want) in rows {
+        let message = Message::Ack {
+            by: site(rt, *by),
+            to: book.me(),
+            upto: upto(rt, *entries),
+        };
+        assert_eq!(rt; check(&book, &message), *want, "of {entries} by {by}");
+    }
 }
 
 #[test]
 fn book_meets_stray_acknowledgements(rt: HostRuntime) {
-    let book = selling_book(&rt, rt.alloc(), event(&rt, b"gala"));
     let rows = [
         (0, 9, Err(CheckFault::StrayAck { len: 4 })),
         (0, 4, Ok(())),
         (2, 4, Err(CheckFault::UnknownSite)),
         (1, 4, Err(CheckFault::NotForMe)),
     ];
-    for (by, entries, want) in rows {
-        let message = Message::Ack {
-            by: site(&rt, by),
-            to: book.me(),
-            upto: upto(&rt, entries),
-        };
-        assert_eq!(rt; check(&book, &message), want, "of {entries} by {by}");
-    }
+    check_each(&rt, rt.alloc(), &rows);
 }

@@ -2,24 +2,28 @@
 use rights_lattice::{
     Cell, Event, Mark, Rights, SiteId, Sites, key_order, merge_marks, merge_names, owner,
 };
+use std::alloc::Global;
 use std::cmp::Ordering;
+use std::process::Abort;
+
+// The number as a site's, and as a count of sites.
+fn as_both(number: u64) -> (Option<u64>, Option<u64>) {
+    let site = SiteId::of(number).map(|site| site.number());
+    let count = Sites::of(number).map(|sites| sites.count());
+    (site, count)
+}
 
 #[test]
 fn sites_have_limits(rt: HostRuntime) {
-    for (number, is_site, is_count) in [
-        (0, true, false),
-        (1, true, true),
-        (16, true, true),
-        (17, true, false),
-        (63, true, false),
-        (64, false, false),
+    for (number, site, count) in [
+        (0, Some(0), None),
+        (1, Some(1), Some(1)),
+        (16, Some(16), Some(16)),
+        (17, Some(17), None),
+        (63, Some(63), None),
+        (64, None, None),
     ] {
-        let site = SiteId::of(number).map(|site| site.number());
-        let count = Sites::of(number).map(|sites| sites.count());
-        let want_site = if is_site { Some(number) } else { None };
-        let want_count = if is_count { Some(number) } else { None };
-        assert_eq!(rt; site, want_site, "site {number}");
-        assert_eq!(rt; count, want_count, "{number} sites");
+        assert_eq!(rt; as_both(number), (site, count), "at {number}");
     }
 }
 
@@ -141,6 +145,16 @@ fn raises_joins_and_copies(rt: HostRuntime) {
     assert_eq!(rt; copy.get(concert, Cell::Back { by: first }), 0);
 }
 
+fn are_merged(rt: &impl Abort, alloc: Global, left: Mark, right: Mark, want: &[Mark]) {
+    let merged = merge_marks(alloc, &[left], &[right]).expect(rt, "memory");
+    assert_eq!(rt; merged.as_slice(), want);
+}
+
+fn are_merged_names(rt: &impl Abort, alloc: Global, left: Event, right: Event, want: &[Event]) {
+    let merged = merge_names(alloc, &[left], &[right]).expect(rt, "memory");
+    assert_eq!(rt; merged.as_slice(), want);
+}
+
 #[test]
 fn merges_marks_and_names(rt: HostRuntime) {
     let site = SiteId::of(1).expect(&rt, "a site");
@@ -161,12 +175,8 @@ fn merges_marks_and_names(rt: HostRuntime) {
         cell: Cell::Used { by: site },
         value: 9,
     };
-    let same_cell = merge_marks(rt.alloc(), &[sold], &[sold_later]).expect(&rt, "memory");
-    assert_eq!(rt; same_cell.as_slice(), [sold_later].as_slice());
-    let two_cells = merge_marks(rt.alloc(), &[sold], &[earlier]).expect(&rt, "memory");
-    assert_eq!(rt; two_cells.as_slice(), [earlier, sold].as_slice());
-    let names = merge_names(rt.alloc(), &[opera], &[ballet]).expect(&rt, "memory");
-    assert_eq!(rt; names.as_slice(), [ballet, opera].as_slice());
-    let one_name = merge_names(rt.alloc(), &[opera], &[opera]).expect(&rt, "memory");
-    assert_eq!(rt; one_name.as_slice(), [opera].as_slice());
+    are_merged(&rt, rt.alloc(), sold, sold_later, &[sold_later]);
+    are_merged(&rt, rt.alloc(), sold, earlier, &[earlier, sold]);
+    are_merged_names(&rt, rt.alloc(), opera, ballet, &[ballet, opera]);
+    are_merged_names(&rt, rt.alloc(), opera, opera, &[opera]);
 }

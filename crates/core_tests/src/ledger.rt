@@ -1,19 +1,22 @@
 use request_ledger::{Kept, Ledger, Reply, Request, RequestNumber, SaleState};
 use rights_lattice::{Amount, Event};
 
+// The number as an amount, and as a request's.
+fn as_both(number: u64) -> (Option<u64>, Option<u64>) {
+    let amount = Amount::of(number).map(|amount| amount.seats());
+    let request = RequestNumber::of(number).map(|request| request.get());
+    (amount, request)
+}
+
 #[test]
 fn amounts_and_numbers_have_limits(rt: HostRuntime) {
-    for (number, is_one) in [
-        (0, false),
-        (1, true),
-        (1_000_000_000_000, true),
-        (1_000_000_000_001, false),
+    for (number, want) in [
+        (0, None),
+        (1, Some(1)),
+        (1_000_000_000_000, Some(1_000_000_000_000)),
+        (1_000_000_000_001, None),
     ] {
-        let amount = Amount::of(number).map(|amount| amount.seats());
-        let request = RequestNumber::of(number).map(|request| request.get());
-        let want = if is_one { Some(number) } else { None };
-        assert_eq!(rt; amount, want, "at {number}");
-        assert_eq!(rt; request, want, "at {number}");
+        assert_eq!(rt; as_both(number), (want, want), "at {number}");
     }
 }
 

@@ -2,6 +2,8 @@
 use crate::values::seats;
 use delta_mutators::{CellFull, Delta, Item, announce, cession, refund, release, sale};
 use rights_lattice::{Cell, Event, MAX_VALUE, Mark, Rights, SiteId, Sites};
+use std::alloc::Global;
+use std::process::Abort;
 
 // The marks of 100 seats released, 40 of them ceded and then 10 more, of a sale of 5 and its refund.
 #[test]
@@ -90,6 +92,16 @@ fn names_and_marks_are_put_at_the_end(rt: HostRuntime) {
     assert_eq!(rt; delta.marks(), [sold].as_slice());
 }
 
+// The copy of a delta that was joined of a name and two values of one cell, the lower of them once more.
+fn joined_copy(rt: &impl Abort, alloc: Global, name: Event, four: Mark, six: Mark) -> Delta {
+    let known = Delta::of(alloc, announce(name)).expect(rt, "memory");
+    let sold = Delta::of(alloc, Item::Cell(four)).expect(rt, "memory");
+    let sold_more = Delta::of(alloc, Item::Cell(six)).expect(rt, "memory");
+    let first = known.join(alloc, &sold_more).expect(rt, "memory");
+    let both = first.join(alloc, &sold).expect(rt, "memory");
+    both.copy(alloc).expect(rt, "memory")
+}
+
 #[test]
 fn makes_joins_and_copies(rt: HostRuntime) {
     let site = SiteId::of(0).expect(&rt, "a site");
@@ -109,12 +121,7 @@ fn makes_joins_and_copies(rt: HostRuntime) {
         cell: Cell::Back { by: site },
         value: 1,
     };
-    let known = Delta::of(rt.alloc(), announce(concert)).expect(&rt, "memory");
-    let sold = Delta::of(rt.alloc(), Item::Cell(four)).expect(&rt, "memory");
-    let sold_more = Delta::of(rt.alloc(), Item::Cell(six)).expect(&rt, "memory");
-    let first = known.join(rt.alloc(), &sold_more).expect(&rt, "memory");
-    let both = first.join(rt.alloc(), &sold).expect(&rt, "memory");
-    let mut copy = both.copy(rt.alloc()).expect(&rt, "memory");
+    let mut copy = joined_copy(&rt, rt.alloc(), concert, four, six);
     assert_eq!(rt; copy.names(), [concert].as_slice());
     assert_eq!(rt; copy.marks(), [six].as_slice());
     assert!(rt; !copy.rises(&Item::Cell(four)));

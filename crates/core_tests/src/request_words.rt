@@ -4,6 +4,12 @@ use delta_wire::{event_at, site_at, value_at};
 use plain_words::{Words, numbered, word};
 use request_ledger::{Reply, Request, RequestNumber, Verb};
 use rights_lattice::{Amount, Event, SiteId};
+use std::process::Abort;
+
+fn is_verb(rt: &impl Abort, verb: Verb, word: &[u8]) {
+    assert_eq!(rt; verb.word(), word);
+    assert_eq!(rt; Verb::read(word), Some(verb));
+}
 
 #[test]
 fn verbs(rt: HostRuntime) {
@@ -28,12 +34,17 @@ fn verbs(rt: HostRuntime) {
     ];
     for (request, verb, word) in cases {
         assert_eq!(rt; request.verb(), verb);
-        assert_eq!(rt; verb.word(), word);
-        assert_eq!(rt; Verb::read(word), Some(verb));
+        is_verb(&rt, verb, word);
     }
     for word in [b"".as_slice(), b"sel", b"sells", b"Sell", b"left"] {
         assert_eq!(rt; Verb::read(word), None);
     }
+}
+
+fn is_reply(rt: &impl Abort, reply: Reply, word: &[u8], number: Option<u64>) {
+    assert_eq!(rt; reply.word(), word);
+    assert_eq!(rt; reply.number(), number);
+    assert_eq!(rt; Reply::read(word, number), Some(reply));
 }
 
 #[test]
@@ -50,9 +61,7 @@ fn replies(rt: HostRuntime) {
         (Reply::NoSite, b"no-site", None),
     ];
     for (reply, word, number) in cases {
-        assert_eq!(rt; reply.word(), word);
-        assert_eq!(rt; reply.number(), number);
-        assert_eq!(rt; Reply::read(word, number), Some(reply));
+        is_reply(&rt, reply, word, number);
     }
     assert_eq!(rt; Reply::read(b"short", None), None);
     assert_eq!(rt; Reply::read(b"done", Some(0)), None);

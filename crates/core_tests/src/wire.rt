@@ -2,11 +2,17 @@
 
 use delta_wire::{WireFault, delta_text, read_delta, read_message, write_message};
 use plain_words::WriteFault;
+use std::alloc::Global;
+use std::process::Abort;
 
 const FIRST: &[u8] = b"delta 0 1 4\nname gala\ngave gala 0 0 100\ngave gala 0 1 40\nend\n";
 
 const SECOND: &[u8] =
     b"delta 1 0 2\nname gala\ngave gala 0 0 100\ngave gala 0 1 40\nused gala 1 40\nend\n";
+
+fn fault_of(alloc: Global, text: &[u8]) -> Option<WireFault> {
+    read_message(alloc, text).err()
+}
 
 #[test]
 fn refused_texts(rt: HostRuntime) {
@@ -28,20 +34,24 @@ fn refused_texts(rt: HostRuntime) {
         (b"delta 0 1 2\nend\nx".as_slice(), WireFault::Trailing),
     ];
     for (text, want) in rows {
-        assert_eq!(rt;
-            read_message(rt.alloc(), text).err(),
-            Some(want),
-            "{text:?}"
-        );
+        assert_eq!(rt; fault_of(rt.alloc(), text), Some(want), "{text:?}");
     }
 }
 
 #[test]
 fn fronts_are_truncated(rt: HostRuntime) {
     for len in 0..FIRST.len() {
-        let read = read_message(rt.alloc(), &FIRST[..len]);
-        assert_eq!(rt; read.err(), Some(WireFault::Truncated), "{len} bytes");
+        let fault = fault_of(rt.alloc(), &FIRST[..len]);
+        assert_eq!(rt; fault, Some(WireFault::Truncated), "{len} bytes");
     }
+}
+
+// What is read of the text is written so again.
+fn is_written_again(rt: &impl Abort, alloc: Global, text: &[u8]) {
+    let message = read_message(alloc, text).expect(rt, "a message");
+    let mut out = Vec::new(alloc);
+    write_message(&message, &mut out).expect(rt, "a text");
+    assert_eq!(rt; out.as_slice(), text);
 }
 
 #[test]
@@ -53,20 +63,32 @@ fn texts_read_and_written(rt: HostRuntime) {
         b"delta 0 1 2\nname gala\ngave gala 0 0 100\nused gala 0 3\nend\n".as_slice(),
     ];
     for text in texts {
-        let message = read_message(rt.alloc(), text).expect(&rt, "a message");
-        let mut out = Vec::new(rt.alloc());
-        write_message(&message, &mut out).expect(&rt, "a text");
-        assert_eq!(rt; out.as_slice(), text);
+        is_written_again(&rt, rt.alloc(), text);
     }
+}
+
+fn write_short(
+    rt: &impl Abort,
+    alloc: Global,
+    text: &[u8],
+    mut short: &mut [u8],
+) -> Result<(), WriteFault> {
+    let message = read_message(alloc, text).expect(rt, "a message");
+    write_message(&message, &mut short)
 }
 
 #[test]
 fn short_writer_keeps_a_front(rt: HostRuntime) {
-    let message = read_message(rt.alloc(), b"ack 1 0 3\nend\n").expect(&rt, "a message");
     let mut short = [0u8; 12];
-    let written = write_message(&message, &mut short.as_mut_slice());
+    let written = write_short(&rt, rt.alloc(), b"ack 1 0 3\nend\n", short.as_mut_slice());
     assert_eq!(rt; written, Err(WriteFault));
     assert_eq!(rt; short.as_slice(), b"ack 1 0 3\nen".as_slice());
+}
+
+fn is_delta_text(rt: &impl Abort, alloc: Global, text: &str) {
+    let delta = read_delta(alloc, text.as_bytes()).expect(rt, "a delta");
+    let written = delta_text(alloc, &delta).expect(rt, "memory");
+    assert_eq!(rt; written.as_str(), text);
 }
 
 #[test]
@@ -76,9 +98,7 @@ fn texts_of_deltas(rt: HostRuntime) {
         "name gala\n",
         "name gala\ngave gala 0 0 100\nused gala 0 3\n",
     ] {
-        let delta = read_delta(rt.alloc(), text.as_bytes()).expect(&rt, "a delta");
-        let written = delta_text(rt.alloc(), &delta).expect(&rt, "memory");
-        assert_eq!(rt; written.as_str(), text);
+        is_delta_text(&rt, rt.alloc(), text);
     }
     let cut = read_delta(rt.alloc(), b"name gala");
     assert_eq!(rt; cut.err(), Some(WireFault::Truncated));

@@ -57,21 +57,15 @@ impl Delta {
         ensures { IfOk result (λ delta. delta ≡ state_of item) }
     {
         match item {
-            Item::Name(event) => {
-                let mut names = Vec::new(alloc);
-                names.push(event)?;
-                Ok(Delta {
-                    names,
-                    marks: Vec::new(alloc),
-                })
-            }
+            Item::Name(event) => Ok(Delta {
+                names: Vec::from_slice(alloc, &[event])?,
+                marks: Vec::new(alloc),
+            }),
             Item::Cell(mark) => {
                 mark.bounds();
-                let mut marks = Vec::new(alloc);
-                marks.push(mark)?;
                 Ok(Delta {
                     names: Vec::new(alloc),
-                    marks,
+                    marks: Vec::from_slice(alloc, &[mark])?,
                 })
             }
         }

@@ -46,6 +46,18 @@ struct Sold {
     took: Duration,
 }
 
+// The requests that the book begins with.
+fn begin(alloc: Global, book: &mut SiteBook<ListKeeper>, gala: Event, seats: Amount) -> Option<()> {
+    let announce = Request::Announce { event: gala };
+    book.ask(alloc, RequestNumber::of(1)?, &announce).ok()?;
+    let release = Request::Release {
+        event: gala,
+        amount: seats,
+    };
+    book.ask(alloc, RequestNumber::of(2)?, &release).ok()?;
+    Some(())
+}
+
 // The book of a site of two with so many seats of an event to sell.
 fn selling_book(alloc: Global, gala: Event, seats: u64) -> Option<SiteBook<ListKeeper>> {
     let meta = Meta {
@@ -53,15 +65,10 @@ fn selling_book(alloc: Global, gala: Event, seats: u64) -> Option<SiteBook<ListK
         sites: Sites::of(2)?,
         limit: Limit::greatest(),
     };
-    let release = Request::Release {
-        event: gala,
-        amount: Amount::of(seats)?,
-    };
+    let seats = Amount::of(seats)?;
     let keeper = ListKeeper::new(alloc);
     let mut book = SiteBook::start(alloc, keeper, Vec::new(alloc), meta).ok()?;
-    let announce = Request::Announce { event: gala };
-    book.ask(alloc, RequestNumber::of(1)?, &announce).ok()?;
-    book.ask(alloc, RequestNumber::of(2)?, &release).ok()?;
+    begin(alloc, &mut book, gala, seats)?;
     Some(book)
 }
 
@@ -129,7 +136,52 @@ fn sell_each<R: Wait, L: Opens>(
     (seat, done)
 }
 
-// Sells one seat at a time in all threads, and ends where the book is what they were told.
+// The seats that come back, and how many sales were done.
+fn gather<L: Opens>(alloc: Global, ends: Vec<(Seat<L>, u64)>) -> Option<(Vec<Seat<L>>, u64)> {
+    let mut seats = Vec::new(alloc);
+    let mut done: u64 = 0;
+    for (seat, sold) in ends {
+        seats.push(seat).ok()?;
+        done = done.saturating_add(sold);
+    }
+    Some((seats, done))
+}
+
+// Sells one seat at a time in all threads.
+fn sell_in_threads<R: Threads + Wait + Sync, L: Opens + Send + Sync>(
+    rt: &R,
+    alloc: Global,
+    desk: &Desk<ListKeeper, L>,
+    seat: Seat<L>,
+    sale: &Request,
+    load: Load,
+) -> Option<(Vec<Seat<L>>, u64)>
+    requires some { 0 < load.threads }
+    requires parts { seat.parts ≡ load.threads }
+{
+    let jobs = jobs(alloc, seat, load).ok()?;
+    let ends = map_vec(rt, jobs, &|job| sell_each(rt, alloc, desk, job, sale)).ok()?;
+    gather(alloc, ends)
+}
+
+// What there is at the end, and the time that it took.
+fn tell<R: Clock>(
+    rt: &R,
+    book: &SiteBook<ListKeeper>,
+    gala: Event,
+    done: u64,
+    began: Instant,
+) -> Option<Sold> {
+    let took = began.elapsed(rt).ok()?;
+    Some(Sold {
+        done,
+        entries: book.book().len(),
+        left: book.book().left(gala),
+        took,
+    })
+}
+
+// Sells at a desk, and ends where the book is what the threads were told.
 fn sell_all<R: Threads + Wait + Clock + Sync, L: Opens + Send + Sync>(
     rt: &R,
     alloc: Global,
@@ -150,22 +202,9 @@ fn sell_all<R: Threads + Wait + Clock + Sync, L: Opens + Send + Sync>(
     };
     let began = Instant::now(rt).ok()?;
     let (desk, seat) = Desk::<ListKeeper, L>::new(book, blank);
-    let jobs = jobs(alloc, seat, load).ok()?;
-    let ends = map_vec(rt, jobs, &|job| sell_each(rt, alloc, &desk, job, &sale)).ok()?;
-    let mut seats = Vec::new(alloc);
-    let mut done: u64 = 0;
-    for (seat, sold) in ends {
-        seats.push(seat).ok()?;
-        done = done.saturating_add(sold);
-    }
+    let (seats, done) = sell_in_threads(rt, alloc, &desk, seat, &sale, load)?;
     let book = desk.finish(seats, &[], &[]).ok()?;
-    let took = began.elapsed(rt).ok()?;
-    Some(Sold {
-        done,
-        entries: book.book().len(),
-        left: book.book().left(gala),
-        took,
-    })
+    tell(rt, &book, gala, done, began)
 }
 
 fn number_in(words: &[String], at: usize, most: u64) -> Option<u64>

@@ -1,5 +1,5 @@
 //! The two ends of a link, while messages go through it and when they are over.
-ghost use Rattle.std.specs.Prelude.{◌≡◌, ◌<◌, [], ◌∷◌, ◌++◌, IfOk, IfErr, MatchResult, IsErr, true, false, length};
+ghost use Rattle.std.specs.Prelude.{◌≡◌, ◌<◌, [], ◌∷◌, ◌++◌, IfOk, MatchResult, IsErr, true, false, length};
 ghost use mathlib.Core.List.{IsPrefix};
 ghost use Rattle.link_queue.specs.End.{end_of, rx_state};
 

@@ -1,15 +1,21 @@
 -- What is told at the end of a command over records.
-use Rattle.std.proofs.Common.{◌≡◌, ◌≢◌, ℕ, List, [], Option, Some, None, Result, Ok, Err, sym, subst, ◌∙◌, append-nil}
+use Rattle.std.proofs.Common.{◌≡◌, ◌≢◌, ℕ, List, [], Option, Some, None, Result, Ok, Err, false, sym, ap, subst, ◌∙◌, append-nil}
 use Rattle.std.specs.Prelude.{IfOk, IfErr, IfSome, MatchOption}
 use Rattle.std.proofs.KnownBytes.{Keeps-refl}
+use Rattle.sqlite.specs.Store.{Ghosts}
+use Rattle.sqlite.specs.State.{HasCleanDisk}
+use Rattle.sqlite.specs.Held.{Held, state}
 use Rattle.plain_words.specs.Writing.{AppendsFront, Writes}
 use Rattle.plain_words.proofs.WriteLaws.{AppendsFront-nothing}
+use Rattle.sql_records.specs.Held.{Kept}
+use Rattle.site_desk.specs.SiteView.{SiteView}
 use Rattle.operator_cli.specs.declared.status.Status.{Status}
 use Rattle.operator_cli.specs.declared.status.Status.TheVariants.{Done, Refused, NotUnderstood, Failed}
 use Rattle.operator_cli.specs.declared.store_fault.StoreFault.{StoreFault}
 use Rattle.operator_cli.specs.declared.store_fault.StoreFault.TheVariants as fault
 use Rattle.operator_cli.specs.declared.told.Told.{Told}
 use Rattle.operator_cli.specs.declared.told.Told.TheVariants.{Made, Joined, NothingNew, Acked, AlreadyThere, NoSite, Nothing, NotFound, TooLong, Unread, NotTaken}
+use Rattle.operator_cli.specs.Exchanged.{HoldsOnly}
 use Rattle.operator_cli.specs.Opened.{FailsFor}
 use Rattle.operator_cli.specs.Told.{store_fault_line, told_status, FaultTold}
 
@@ -62,3 +68,10 @@ weaker P Q (Err f) to h = to f h
 pub if_back : {A : Type 0} (o : Option A) (P : Type 0) (Q R : A → Type 0) → MatchOption o P Q → ((a : A) → Q a → R a) → IfSome o R
 if_back None P Q R h to = tt
 if_back (Some a) P Q R h to = to a h
+
+-- and that holds the history of its book, which is open
+pub holds_behind : {S : Type 0} (g : Ghosts S) (back : Option (Held S)) (book behind : SiteView (Kept S)) → book ≡ behind → back ≡ Some book.keeper.conn
+    → (book.closed ≡ false → IfSome back (λ after. HasCleanDisk (state g after) → HoldsOnly (state g after) book.book.history)) → behind.closed ≡ false → HasCleanDisk (state g book.keeper.conn) → HoldsOnly (state g book.keeper.conn) behind.book.history
+holds_behind g back book behind is came holds unclosed clean =
+    subst (λ (b : SiteView (Kept _)). HoldsOnly (state g book.keeper.conn) b.book.history) is
+    (subst (λ o. IfSome o (λ after. HasCleanDisk (state g after) → HoldsOnly (state g after) book.book.history)) came (holds (ap (λ (b : SiteView (Kept _)). b.closed) is ∙ unclosed)) clean)

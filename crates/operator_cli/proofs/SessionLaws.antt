@@ -1,48 +1,33 @@
 -- What a session over records comes to.
-use Rattle.std.proofs.Common.{◌≡◌, ◌≢◌, ◌⊎◌, inl, inr, ℕ, List, Option, Result, Ok, Err, false, true, refl, sym, ap, subst, ◌∙◌}
+use Rattle.std.proofs.Common.{◌≡◌, ◌≢◌, ◌⊎◌, inl, inr, ℕ, List, Option, Result, Ok, Err, false, refl, sym, subst, ◌∙◌}
 use Rattle.std.specs.Prelude.{IfOk, IfErr, MatchResult}
-use Rattle.std.specs.Io.KnownBytes.{Appends, Keeps}
+use Rattle.std.specs.Io.KnownBytes.{Keeps}
 use Rattle.std.proofs.KnownBytes.{Appends-kept}
 use Rattle.sqlite.specs.Store.{Ghosts}
 use Rattle.sqlite.specs.State.{HasCleanDisk}
 use Rattle.sqlite.specs.Held.{Held, state}
 use Rattle.plain_words.specs.Writing.{AppendsFront}
 use Rattle.sql_records.specs.declared.meta.Meta.{Meta}
-use Rattle.sql_records.specs.Held.{Kept, IsOf, IsTrusted, LeavesSite, MayLeave, MayLeaveIn, kept_in, history_in}
-use Rattle.sql_records.specs.Keeping.{LeavesOnly}
+use Rattle.sql_records.specs.Held.{Kept, IsOf, IsTrusted, LeavesSite, MayLeaveIn}
 use Rattle.sql_records.specs.Layout.{HasMeta}
 use Rattle.site_desk.specs.Answers.{LeavesEither}
 use Rattle.site_desk.specs.SiteView.{SiteView, entry_in}
 use Rattle.desk_lines.specs.declared.answered.Answered.{Answered}
-use Rattle.session_server.specs.BookStep.{BookStep, IsLeft, IsStored}
+use Rattle.session_server.specs.BookStep.{BookStep}
 use Rattle.session_server.specs.Session.{Talked, Wrote}
 use Rattle.session_server.specs.declared.fault.Ended.{Ended}
 use Rattle.session_server.specs.declared.fault.TalkFault.{TalkFault}
 use Rattle.session_server.specs.declared.fault.TalkFault.TheVariants as talk
-use Rattle.session_server.proofs.Books.{talked_left, talked_site, talked_stored}
+use Rattle.session_server.proofs.Books.{talked_shut, talked_site}
 use Rattle.operator_cli.specs.declared.status.Status.{Status}
 use Rattle.operator_cli.specs.declared.status.Status.TheVariants.{Done, Failed}
 use Rattle.operator_cli.specs.declared.store_fault.StoreFault.{StoreFault}
 use Rattle.operator_cli.specs.declared.store_fault.StoreFault.TheVariants as fault
-use Rattle.operator_cli.specs.Exchanged.{IsBookOf}
+use Rattle.operator_cli.specs.Exchanged.{HoldsOnly, IsBookOf}
 use Rattle.operator_cli.specs.Session.{IsToldAs, SessionRan, records, status_of}
 use Rattle.operator_cli.specs.Told.{FaultTold, store_fault_line}
 
--- what the records hold is the history of the book that was opened
-pub stored_at_first : {S : Type 0} (g : Ghosts S) (conn : Held S) (first book : SiteView (Kept S)) → first ≡ book → (IsTrusted g book.keeper → kept_in g book.keeper ≡ history_in (state g conn).now.trees)
-    → (IsTrusted g book.keeper → IsBookOf (state g conn).now.trees book) → IsStored (records g) first
-stored_at_first g conn first book is kept of =
-    subst (IsStored (records g)) (sym is) (λ unclosed clean. (of clean).history ∙ sym (kept clean))
-
--- and a stop leaves that, of the same site
-pub left_at_first : {S : Type 0} (g : Ghosts S) (conn : Held S) (first book : SiteView (Kept S)) → first ≡ book → (IsTrusted g book.keeper → kept_in g book.keeper ≡ history_in (state g conn).now.trees)
-    → (IsTrusted g book.keeper → LeavesOnly (kept_in g book.keeper) (MayLeave g book.keeper)) → (IsTrusted g book.keeper → IsBookOf (state g conn).now.trees book) → book.closed ≡ false → IsLeft (records g) first
-left_at_first g conn first book is kept leaves of unclosed =
-    subst (IsLeft (records g)) (sym is) (record {
-      rests = λ still clean. subst (λ list. LeavesOnly list (MayLeave g book.keeper)) (kept clean ∙ sym (of clean).history) (leaves clean);
-      stopped = λ closed clean. let bad : true ≡ false = sym closed ∙ unclosed in cc;
-    })
-
+-- a stop leaves records of the site of the book that was opened
 pub site_at_first : {S : Type 0} (g : Ghosts S) (conn : Held S) (first book : SiteView (Kept S)) → first ≡ book
     → (IsTrusted g book.keeper → (meta : Meta) → HasMeta meta (state g conn).now.trees → IsOf g book.keeper meta) → (meta : Meta) → HasMeta meta (state g conn).now.trees → IsTrusted g first.keeper → IsOf g first.keeper meta
 site_at_first g conn first book is site meta has = subst (λ b. IsTrusted g b.keeper → IsOf g b.keeper meta) (sym is) (λ clean. site clean meta has)
@@ -70,9 +55,9 @@ wrote_kept (Err talk.NotStarted) a b c answers w k = absurd w
 pub session_ran : {S : Type 0} (g : Ghosts S) (conn last : Held S) (book behind : SiteView (Kept S)) (input old mid new old_err new_err : Option (List ℕ)) (came : Result Ended TalkFault) (told : Result Status StoreFault) (status : Status)
     → IsBookOf (state g conn).now.trees book → Talked (BookStep (records g)) input old mid book behind came → told ≡ status_of came → Keeps mid new → FaultTold old_err new_err status
     → IfErr told (λ f. AppendsFront old_err new_err (store_fault_line f)) → IfOk told (λ s. status ≢ s → AppendsFront old_err new_err (store_fault_line fault.Write)) → MatchResult told (λ s. (status ≡ s) ⊎ (status ≡ Failed)) (λ f. status ≡ Failed)
-    → IsStored (records g) book → IsLeft (records g) book → ((meta : Meta) → HasMeta meta (state g conn).now.trees → IsTrusted g book.keeper → IsOf g book.keeper meta)
+    → (behind.closed ≡ false → HoldsOnly (state g last) behind.book.history) → ((meta : Meta) → HasMeta meta (state g conn).now.trees → IsTrusted g book.keeper → IsOf g book.keeper meta)
     → last ≡ behind.keeper.conn → HasCleanDisk (state g last) → SessionRan g conn input old new old_err new_err last status
-session_ran g conn last book behind input old mid new old_err new_err came told status opened talked is kept told_fault line flush ended stored left site last_is clean = let trusted = subst (λ h. HasCleanDisk (state g h)) last_is clean in record {
+session_ran g conn last book behind input old mid new old_err new_err came told status opened talked is kept told_fault line flush ended holds site last_is clean = let trusted = subst (λ h. HasCleanDisk (state g h)) last_is clean in record {
   book = book;
   behind = behind;
   opened = opened;
@@ -80,13 +65,10 @@ session_ran g conn last book behind input old mid new old_err new_err came told 
   talked = record { lines = talked.lines; answers = talked.answers; read = talked.read; unasked = talked.unasked; chain = talked.chain; written = wrote_kept came old mid new talked.answers talked.written kept };
   told = subst (λ r. IsToldAs r old_err new_err status) is (told_as told old_err new_err status (subst (λ r. IfOk r (λ s. s ≡ Done)) (sym is) (ends_well came)) told_fault line flush ended);
   back = sym last_is;
-  stored = λ unclosed.
-      ap (λ h. history_in (state g h).now.trees) last_is
-      ∙ sym (talked_stored (records g) input old mid book behind came talked stored unclosed trusted);
-  rests = λ unclosed. subst (λ h. LeavesOnly behind.book.history (MayLeaveIn (state g h))) (sym last_is) ((talked_left (records g) input old mid book behind came talked left).rests unclosed trusted);
+  holds = holds;
   stopped = λ closed.
-      let found = (talked_left (records g) input old mid book behind came talked left).stopped closed trusted in
-      (found.0, found.1, subst (λ h. LeavesEither behind.book.history (entry_in behind.book found.0 found.1) (MayLeaveIn (state g h))) (sym last_is) found.2);
+      let found = talked_shut (records g) input old mid book behind came talked opened.unclosed closed in
+      (found.0, found.1, found.2, subst (λ h. LeavesEither behind.book.history (entry_in behind.book found.0 found.1) (MayLeaveIn (state g h))) (sym last_is) (found.3 trusted));
   site = λ meta has. subst (λ h. LeavesSite (state g h) meta) (sym last_is) (talked_site (records g) input old mid book behind came talked meta (site meta has) trusted);
 }
 

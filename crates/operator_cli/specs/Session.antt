@@ -3,17 +3,18 @@ use Rattle.std.specs.Prelude.{◌≡◌, ◌⊎◌, ℕ, false, true, List, Opti
 use Rattle.std.specs.Io.KnownBytes.{Keeps}
 use Rattle.plain_words.specs.Writing.{AppendsFront}
 use Rattle.sqlite.specs.Store.{Ghosts}
-use Rattle.sqlite.specs.State.{HasCleanDisk}
 use Rattle.sqlite.specs.Held.{Held, state}
 use Rattle.request_ledger.specs.declared.request.Request.{Request}
 use Rattle.sql_records.specs.declared.meta.Meta.{Meta}
-use Rattle.sql_records.specs.Held.{Kept, IsOf, IsTrusted, LeavesSite, MayLeave, MayLeaveIn, kept_in, history_in}
-use Rattle.sql_records.specs.Keeping.{LeavesOnly}
+use Rattle.sql_records.specs.Held.{Kept, IsOf, IsTrusted, LeavesSite, MayLeave, MayLeaveIn, kept_in}
 use Rattle.sql_records.specs.Layout.{HasMeta}
+use Rattle.site_desk.specs.declared.fault.AskFault.TheVariants as ask
 use Rattle.site_desk.specs.Answers.{LeavesEither}
 use Rattle.site_desk.specs.SiteView.{SiteView, entry_in}
+use Rattle.desk_lines.specs.declared.line.Line.TheVariants.{Ask}
+use Rattle.desk_lines.specs.declared.answered.Answered.TheVariants.{Refused}
 use Rattle.session_server.specs.BookStep.{BookStep, Keeping}
-use Rattle.session_server.specs.Session.{Talked}
+use Rattle.session_server.specs.Session.{Talked, WasAnswered}
 use Rattle.session_server.specs.declared.fault.Ended.{Ended}
 use Rattle.session_server.specs.declared.fault.TalkFault.{TalkFault}
 use Rattle.session_server.specs.declared.fault.TalkFault.TheVariants as talk
@@ -21,7 +22,7 @@ use Rattle.operator_cli.specs.declared.status.Status.{Status}
 use Rattle.operator_cli.specs.declared.status.Status.TheVariants.{Done, Failed}
 use Rattle.operator_cli.specs.declared.store_fault.StoreFault.{StoreFault}
 use Rattle.operator_cli.specs.declared.store_fault.StoreFault.TheVariants as fault
-use Rattle.operator_cli.specs.Exchanged.{IsBookOf}
+use Rattle.operator_cli.specs.Exchanged.{HoldsOnly, IsBookOf}
 use Rattle.operator_cli.specs.Told.{store_fault_line}
 
 abbrev pub of_talk_fault : TalkFault → StoreFault
@@ -46,7 +47,7 @@ IsToldAs (Err f) old_err new_err status = (status ≡ Failed) × AppendsFront ol
 abbrev pub records : {S : Type 0} → Ghosts S → Keeping (Kept S)
 records g = record { failed = λ k. k.failures; is_trusted = IsTrusted g; kept = kept_in g; may_leave = MayLeave g; is_of = IsOf g }
 
--- A session over records: their book, open as it is when they are opened, answered the lines of the input, and its connection comes back. Unless it is closed behind them, the records hold its history, which a stop leaves; where it is closed, a stop leaves that history with the entry of one request at its end or without. Whatever a stop leaves is of the same site.
+-- A session over records: their book, open as it is when they are opened, answered the lines of the input, and its connection comes back. Unless it is closed behind them, the records hold its history, which a stop leaves; where it is closed, a line that asked something was answered `store`, and a stop leaves that history with that request's entry at its end or without. Whatever a stop leaves is of the same site.
 pub record SessionRan {S : Type 0} (g : Ghosts S) (conn : Held S) (input old_out new_out old_err new_err : Option (List ℕ)) (after : Held S) (status : Status) : Type 0 where
   pub book : SiteView (Kept S)
   pub behind : SiteView (Kept S)
@@ -55,7 +56,6 @@ pub record SessionRan {S : Type 0} (g : Ghosts S) (conn : Held S) (input old_out
   pub talked : Talked (BookStep (records g)) input old_out new_out book behind came
   pub told : IsToldAs (status_of came) old_err new_err status
   pub back : behind.keeper.conn ≡ after
-  pub stored : behind.closed ≡ false → history_in (state g after).now.trees ≡ behind.book.history
-  pub rests : behind.closed ≡ false → LeavesOnly behind.book.history (MayLeaveIn (state g after))
-  pub stopped : behind.closed ≡ true → (number : ℕ) × (request : Request) × LeavesEither behind.book.history (entry_in behind.book number request) (MayLeaveIn (state g after))
+  pub holds : behind.closed ≡ false → HoldsOnly (state g after) behind.book.history
+  pub stopped : behind.closed ≡ true → (number : ℕ) × (request : Request) × WasAnswered talked.lines talked.answers (Ask number request) (Refused ask.Store) × LeavesEither behind.book.history (entry_in behind.book number request) (MayLeaveIn (state g after))
   pub site : (meta : Meta) → HasMeta meta (state g conn).now.trees → LeavesSite (state g after) meta

@@ -1,8 +1,11 @@
 //! The end of a command over records.
 
-ghost use Rattle.std.specs.Prelude.{◌≡◌, ◌≢◌, ◌⊎◌, IfOk, IfErr, MatchResult, Some};
+ghost use Rattle.std.specs.Prelude.{◌≡◌, ◌≢◌, ◌⊎◌, IfOk, IfErr, IfSome, MatchResult, Some, false};
 ghost use Rattle.std.specs.Io.KnownBytes.{Keeps};
 ghost use Rattle.plain_words.specs.Writing.{Writes, AppendsFront};
+ghost use Rattle.sqlite.specs.Held.{state};
+ghost use Rattle.sqlite.specs.State.{HasCleanDisk};
+ghost use Rattle.operator_cli.specs.Exchanged.{HoldsOnly};
 ghost use Rattle.operator_cli.specs.Told.{store_fault_line, FaultTold};
 ghost use Rattle.operator_cli.specs.declared.status.Status.TheVariants.{Failed};
 ghost use Rattle.operator_cli.specs.declared.store_fault.StoreFault.TheVariants.{Write as WriteFailed};
@@ -50,6 +53,7 @@ fn tell_fault<E: Write>(fault: StoreFault, err: &mut E) -> Status
 }
 
 /// The end of a command over the book of a site: its status, and the connection, which comes back.
+/// Unless the book is closed, the connection holds its history, and a stop leaves that.
 pub(crate) fn close_book<S: Alter + Drop, W: Write, E: Write>(
     came: Result<Status, StoreFault>,
     book: SiteBook<Records<S>>,
@@ -62,7 +66,10 @@ pub(crate) fn close_book<S: Alter + Drop, W: Write, E: Write>(
     ensures line { IfErr came (λ fault. AppendsFront (E.contents err.old) (E.contents err.new) (store_fault_line fault)) }
     ensures flush { IfOk came (λ status. result.0 ≢ status → AppendsFront (E.contents err.old) (E.contents err.new) (store_fault_line WriteFailed)) }
     ensures status { MatchResult came (λ status. (result.0 ≡ status) ⊎ (result.0 ≡ Failed)) (λ _. result.0 ≡ Failed) }
+    ensures holds { book.closed ≡ false → IfSome result.1 (λ after. HasCleanDisk (state S.Store after) → HoldsOnly (state S.Store after) book.book.history) }
 {
+    // What the book says of its keeper.
+    let _closed = book.is_closed();
     let conn = book.into_keeper().close();
     (ended(came, out, err), Some(conn))
 }

@@ -173,8 +173,6 @@ pub fn import_store<S: Alter + Drop, R: Read + Drop, W: Write, E: Write>(
     match open_book(alloc, conn) {
         Ok(mut book) => {
             let came = write_taken(alloc, &mut book, input, out);
-            // What the book says of a stop.
-            let _closed = book.is_closed();
             close_book(came, book, out, err)
         }
         Err((fault, conn)) => (ended(Err(fault), out, err), conn),

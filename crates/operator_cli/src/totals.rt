@@ -1,6 +1,6 @@
 //! The lines of totals at the end of a script.
 
-ghost use Rattle.std.specs.Prelude.{◌≡◌, ◌≤◌, ◌<◌, length, Err, IfErr};
+ghost use Rattle.std.specs.Prelude.{◌≡◌, ◌≤◌, ◌<◌, Err, IfErr};
 ghost use Rattle.std.specs.Io.KnownBytes.{Keeps};
 ghost use Rattle.operator_cli.specs.declared.fault.ScriptFault.TheVariants.{Memory};
 ghost use Rattle.plain_words.specs.Writing.{Writes};

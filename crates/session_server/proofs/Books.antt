@@ -1,5 +1,5 @@
 -- What a session leaves of a book, whatever it was asked. For callers.
-use Rattle.std.proofs.Common.{◌≡◌, inl, inr, ℕ, List, Option, Some, None, Result, Ok, Err, ap, sym, subst, subst₂}
+use Rattle.std.proofs.Common.{◌≡◌, ◌⊎◌, inl, inr, ℕ, suc, Bool, true, false, List, [], ◌∷◌, Option, Some, None, Result, Ok, Err, refl, ap, sym, ◌∙◌, subst, subst₂}
 use Rattle.std.specs.Prelude.{IfErr, OnErr}
 use Rattle.request_ledger.specs.declared.request.Request.{Request}
 use Rattle.book_core.specs.declared.entry.Entry.{Entry}
@@ -14,10 +14,12 @@ use Rattle.site_desk.specs.SiteView.{SiteView, entry_in}
 use Rattle.desk_lines.specs.declared.line.Line.{Line}
 use Rattle.desk_lines.specs.declared.line.Line.TheVariants.{Ask, Left, Totals, Quit}
 use Rattle.desk_lines.specs.declared.answered.Answered.{Answered}
+use Rattle.desk_lines.specs.declared.answered.Answered.TheVariants.{Refused}
+use Rattle.desk_lines.specs.Reading.{session_line_of}
 use Rattle.session_server.specs.declared.fault.Ended.{Ended}
 use Rattle.session_server.specs.declared.fault.TalkFault.{TalkFault}
-use Rattle.session_server.specs.BookStep.{BookStep, Comes, IsLeft, IsStored, Keeping}
-use Rattle.session_server.specs.Session.{Answers, Talked}
+use Rattle.session_server.specs.BookStep.{BookStep, Comes, IsLeftAt, Keeping, answered_of}
+use Rattle.session_server.specs.Session.{Answers, Chain, Talked, WasAnswered}
 use Rattle.session_server.proofs.Sessions.{chain_keeps}
 
 if_err : {X F : Type 0} (r : Result X F) (P : F → Type 0) (fault : F) → IfErr r P → r ≡ Err fault → P fault
@@ -26,6 +28,13 @@ if_err (Err f) P fault h e = subst P (let is = e in cc) h
 
 on_err : {X F : Type 0} (r : Result X F) (P : Type 0) (fault : F) → OnErr r P → r ≡ Err fault → P
 on_err r P fault h e = if_err r (λ _. P) fault h e
+
+is_either : (b : Bool) → (b ≡ false) ⊎ (b ≡ true)
+is_either false = inl refl
+is_either true = inr refl
+
+unshut : {K : Type 0} (a b : SiteView K) → b ≡ a → a.closed ≡ false → b.closed ≡ true → ⊥
+unshut a b is unclosed shut = let bad : true ≡ false = sym shut ∙ ap (λ (s : SiteView _). s.closed) is ∙ unclosed in cc
 
 module _ {K : Type 0} (k : Keeping K) where
   -- of all lines a request alone changes the book
@@ -37,25 +46,61 @@ module _ {K : Type 0} (k : Keeping K) where
   step_keeps P asked a (Some Quit) answered b h p = absurd h
   step_keeps P asked a None answered b h p = subst P (sym h.1) p
 
-  came_left : (a b : SiteView K) (number : ℕ) (request : Request) (came : Result Answer AskFault) → Comes k a b number request came → IsLeft k a → IsLeft k b
-  came_left a b number request came h left = record {
-    rests = h.rests;
-    stopped = λ closed trusted. elim (h.closes.0 closed) [
-      | inl was ↦ (
-          let refused = h.shut.1 was in
-          let history = ap (λ (s : Site). s.history) (on_err came _ ask.Closed h.unchanged refused) in
-          let keeper = if_err came _ ask.Closed h.untouched refused (λ e. cc) in
-          let found = left.stopped was (subst k.is_trusted keeper trusted) in (
-            found.0,
-            found.1,
-            subst₂ (λ (o : Office) (l : List Entry). LeavesEither l (entry_of_ask o l found.0 found.1) (k.may_leave b.keeper)) (sym h.office) (sym history)
-                (subst (λ x. LeavesEither a.book.history (entry_in a.book found.0 found.1) (k.may_leave x)) (sym keeper) found.2),
-          ))
-      | inr store ↦ (
-          let history = ap (λ (s : Site). s.history) (on_err came _ ask.Store h.unchanged store) in
-          (number, request, subst₂ (λ (o : Office) (l : List Entry). LeavesEither l (entry_of_ask o l number request) (k.may_leave b.keeper)) (sym h.office) (sym history) (h.stopped store trusted)))
-    ];
-  }
+  abbrev IsShutBy : ℕ → Request → SiteView K → Type 0
+  IsShutBy number request s = (s.closed ≡ true) × IsLeftAt k s number request
+
+  -- no request changes what a stop leaves of a book that is closed
+  came_left : (number : ℕ) (request : Request) (a b : SiteView K) (n : ℕ) (r : Request) (came : Result Answer AskFault) → Comes k a b n r came
+      → IsShutBy number request a → IsShutBy number request b
+  came_left number request a b n r came h left =
+      let refused = h.shut.1 left.0 in
+      let history = ap (λ (s : Site). s.history) (on_err came _ ask.Closed h.unchanged refused) in
+      let keeper = if_err came _ ask.Closed h.untouched refused (λ e. cc) in (
+        h.closes.1 (inl left.0),
+        (λ trusted.
+            subst₂ (λ (o : Office) (l : List Entry). LeavesEither l (entry_of_ask o l number request) (k.may_leave b.keeper)) (sym h.office) (sym history)
+            (subst (λ x. LeavesEither a.book.history (entry_in a.book number request) (k.may_leave x)) (sym keeper) (left.1 (subst k.is_trusted keeper trusted)))),
+      )
+
+  -- what closes an open book is a request that is answered `store`
+  abbrev Shuts : SiteView K → Option Line → Answered → Type 0
+  Shuts b o answered = (number : ℕ) × (request : Request) × (o ≡ Some (Ask number request)) × (answered ≡ Refused ask.Store) × IsLeftAt k b number request
+
+  came_shut : (a b : SiteView K) (number : ℕ) (request : Request) (answered : Answered) (came : Result Answer AskFault) → Comes k a b number request came → answered ≡ answered_of came
+      → a.closed ≡ false → b.closed ≡ true → Shuts b (Some (Ask number request)) answered
+  came_shut a b number request answered came h is unclosed shut = elim (h.closes.0 shut) [
+    | inl was ↦ (let bad : true ≡ false = sym was ∙ unclosed in cc)
+    | inr store ↦ (
+        let history = ap (λ (s : Site). s.history) (on_err came _ ask.Store h.unchanged store) in (
+          number,
+          request,
+          refl,
+          is ∙ ap answered_of store,
+          (λ trusted. subst₂ (λ (o : Office) (l : List Entry). LeavesEither l (entry_of_ask o l number request) (k.may_leave b.keeper)) (sym h.office) (sym history) (h.stopped store trusted)),
+        ))
+  ]
+
+  step_shut : (a : SiteView K) (o : Option Line) (answered : Answered) (b : SiteView K) → Answers (BookStep k) a o answered b → a.closed ≡ false → b.closed ≡ true → Shuts b o answered
+  step_shut a (Some (Ask number request)) answered b h unclosed shut = came_shut a b number request answered h.0 h.1 h.2 unclosed shut
+  step_shut a (Some (Left event)) answered b h unclosed shut = absurd (unshut a b h.0 unclosed shut)
+  step_shut a (Some (Totals event)) answered b h unclosed shut = absurd (unshut a b h.0 unclosed shut)
+  step_shut a (Some Quit) answered b h unclosed shut = absurd h
+  step_shut a None answered b h unclosed shut = absurd (unshut a b h.1 unclosed shut)
+
+  chain_shut : (a : SiteView K) (lines : List (List ℕ)) (answers : List Answered) (b : SiteView K) → Chain (BookStep k) a lines answers b → a.closed ≡ false → b.closed ≡ true
+      → (number : ℕ) × (request : Request) × WasAnswered lines answers (Ask number request) (Refused ask.Store) × IsLeftAt k b number request
+  chain_shut a [] [] b h unclosed shut = absurd (unshut a b h unclosed shut)
+  chain_shut a (line ∷ lines) (x ∷ answers) b h unclosed shut = elim (is_either h.0.closed) [
+    | inl still ↦ (
+        let found = chain_shut h.0 lines answers b h.2 still shut in
+        (found.0, found.1, record { place = suc found.2.place; line = found.2.line; stands = found.2.stands; asks = found.2.asks; given = found.2.given }, found.3))
+    | inr now ↦ (
+        let found = step_shut a (session_line_of line) x h.0 h.1 unclosed now in
+        let kept = chain_keeps (BookStep k) (IsShutBy found.0 found.1) (step_keeps (IsShutBy found.0 found.1) (came_left found.0 found.1)) h.0 lines answers b h.2 (now, found.4) in
+        (found.0, found.1, record { place = 0; line = line; stands = refl; asks = found.2; given = ap (λ (given : Answered). Some given) found.3 }, kept.1))
+  ]
+  chain_shut a [] (x ∷ answers) b h unclosed shut = absurd h
+  chain_shut a (line ∷ lines) [] b h unclosed shut = absurd h
 
   module _ (input old new : Option (List ℕ)) (a b : SiteView K) (r : Result Ended TalkFault) (t : Talked (BookStep k) input old new a b r) where
     -- what a request keeps, a session keeps
@@ -66,13 +111,9 @@ module _ {K : Type 0} (k : Keeping K) where
     pub talked_trusted : k.is_trusted b.keeper → k.is_trusted a.keeper
     talked_trusted = talked_keeps (λ s. k.is_trusted s.keeper → k.is_trusted a.keeper) (λ c d number request came h was trusted. was (h.trusted trusted)) (λ trusted. trusted)
 
-    -- where it was stored before, it is so behind it
-    pub talked_stored : IsStored k a → IsStored k b
-    talked_stored = talked_keeps (IsStored k) (λ c d number request came h was. h.stored)
-
-    -- what a stop leaves of it behind the session
-    pub talked_left : IsLeft k a → IsLeft k b
-    talked_left = talked_keeps (IsLeft k) came_left
+    -- what closes it is a line that is answered `store`
+    pub talked_shut : a.closed ≡ false → b.closed ≡ true → (number : ℕ) × (request : Request) × WasAnswered t.lines t.answers (Ask number request) (Refused ask.Store) × IsLeftAt k b number request
+    talked_shut = chain_shut a t.lines t.answers b t.chain
 
     -- a stop leaves records of the same site
     pub talked_site : (meta : Meta) → (k.is_trusted a.keeper → k.is_of a.keeper meta) → k.is_trusted b.keeper → k.is_of b.keeper meta

@@ -1,3 +1,5 @@
 pub mod Books
+pub mod Exchanges
+pub mod Maps
 pub mod Seats
 pub mod Sessions

@@ -35,14 +35,9 @@ pub record Keeping (K : Type 0) : Type 1 where
   pub may_leave : K → Option (List Entry) → Type 0
   pub is_of : K → Meta → Type 0
 
--- an open book's history is what its keeper keeps, as far as it is to be trusted
-abbrev pub IsStored : {K : Type 0} → Keeping K → SiteView K → Type 0
-IsStored k s = s.closed ≡ false → k.is_trusted s.keeper → s.book.history ≡ k.kept s.keeper
-
--- What a stop leaves of a book, as far as its keeper is to be trusted: its history while it is open; once it is closed its history with the entry of one request at the end, or without.
-pub record IsLeft {K : Type 0} (k : Keeping K) (s : SiteView K) : Type 0 where
-  pub rests : s.closed ≡ false → k.is_trusted s.keeper → LeavesOnly s.book.history (k.may_leave s.keeper)
-  pub stopped : s.closed ≡ true → k.is_trusted s.keeper → (number : ℕ) × (request : Request) × LeavesEither s.book.history (entry_in s.book number request) (k.may_leave s.keeper)
+-- A stop leaves the history of a book that this request closed, with the request's entry at the end or without, as far as its keeper is to be trusted.
+abbrev pub IsLeftAt : {K : Type 0} → Keeping K → SiteView K → ℕ → Request → Type 0
+IsLeftAt k s number request = k.is_trusted s.keeper → LeavesEither s.book.history (entry_in s.book number request) (k.may_leave s.keeper)
 
 -- A request came to this, once: a site's answer with its entry entered, or a fault that left the site as it was and, where it is of the store, closed.
 pub record Comes {K : Type 0} (k : Keeping K) (old new : SiteView K) (number : ℕ) (request : Request) (came : Result Answer AskFault) : Type 0 where
@@ -55,7 +50,7 @@ pub record Comes {K : Type 0} (k : Keeping K) (old new : SiteView K) (number : �
   pub again : IfOk came (λ answer. answer.fresh ≡ false → new.keeper ≡ old.keeper)
   pub shut : (came ≡ Err ask.Closed) ↔ (old.closed ≡ true)
   pub closes : (new.closed ≡ true) ↔ ((old.closed ≡ true) ⊎ (came ≡ Err ask.Store))
-  pub stored : IsStored k new
+  pub stored : new.closed ≡ false → k.is_trusted new.keeper → new.book.history ≡ k.kept new.keeper
   pub rests : new.closed ≡ false → k.is_trusted new.keeper → LeavesOnly new.book.history (k.may_leave new.keeper)
   pub stopped : came ≡ Err ask.Store → k.is_trusted new.keeper → LeavesEither old.book.history (entry_in old.book number request) (k.may_leave new.keeper)
   pub site : k.is_trusted new.keeper → (meta : Meta) → k.is_of old.keeper meta → k.is_of new.keeper meta

@@ -1,5 +1,5 @@
 -- What a session reads, answers and writes. (Our own.)
-use Rattle.std.specs.Prelude.{◌≡◌, ◌≢◌, ℕ, List, [], ◌∷◌, ◌++◌, length, ◌≤◌, Option, Some, None, Result, Ok, Err, IfSome}
+use Rattle.std.specs.Prelude.{◌≡◌, ◌≢◌, ℕ, List, [], ◌∷◌, ◌++◌, length, slice_get, ◌≤◌, Option, Some, None, Result, Ok, Err, IfSome}
 use Rattle.std.specs.List.{flat_map}
 use Rattle.std.specs.Io.KnownBytes.{Appends, Keeps}
 use Rattle.plain_words.specs.Input.{longest_line, lines_of, Between, BeginsTooLong, AtEnd, AtLongLine, AtTooMany, Taken, taken}
@@ -40,6 +40,14 @@ Chain S before [] [] after = after ≡ before
 Chain {A} S before (line ∷ lines) (answered ∷ answers) after = (mid : A) × Answers S before (session_line_of line) answered mid × Chain S mid lines answers after
 Chain S before [] (answered ∷ answers) after = ⊥
 Chain S before (line ∷ lines) [] after = ⊥
+
+-- a line that asks this was given this answer
+pub record WasAnswered (lines : List (List ℕ)) (answers : List Answered) (asked : Line) (answered : Answered) : Type 0 where
+  pub place : ℕ
+  pub line : List ℕ
+  pub stands : slice_get lines place ≡ Some line
+  pub asks : session_line_of line ≡ Some asked
+  pub given : slice_get answers place ≡ Some answered
 
 -- the answer to a line, and none to the last
 abbrev pub LineAnswered : {A : Type 0} → Steps A → List ℕ → A → A → Option Answered → Type 0

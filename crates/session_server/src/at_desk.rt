@@ -1,7 +1,6 @@
 //! A seat at a desk as what answers a session.
 
 ghost use Rattle.std.specs.Prelude.{◌≡◌, [], MatchResult};
-ghost use Rattle.site_desk.specs.Seats.{Held};
 ghost use Rattle.session_server.specs.SeatStep.{IsLookAt, SeatStep, ShowsNothing};
 ghost use Rattle.desk_lines.specs.declared.line.Line.TheVariants.{Ask, Left, Totals as TotalsOf};
 

@@ -1,5 +1,5 @@
 //! What lies under a desk's lock.
-ghost use Rattle.std.specs.Prelude.{◌≡◌, ◌↔◌, All, Err, IsSome, ℕ, ◌+◌, ◌<◌, ◌≤◌, true, false, length, IsTrue, IfOk, IfErr, OnErr, OnOk, if◌then◌else◌};
+ghost use Rattle.std.specs.Prelude.{◌≡◌, ◌≢◌, ◌↔◌, ◌⊎◌, All, Err, IsSome, ◌+◌, ◌<◌, ◌≤◌, true, false, length, IsTrue, IfOk, IfErr, OnErr, OnOk, if◌then◌else◌};
 ghost use Rattle.rights_lattice.specs.State.{knows};
 ghost use Rattle.book_core.specs.History.{state_of};
 ghost use Rattle.book_core.specs.Legal.{IsLegal};
@@ -86,11 +86,14 @@ impl<K: Keeper, L: Opens> Locked<K, L> {
         number: RequestNumber,
         request: &Request,
     ) -> Result<(Answer, Receipt), AskFault>
+        ensures office { self.new.book.office ≡ self.old.book.office }
         ensures answer { IfOk result (λ r. IsAnswer (decision_in self.old.book number request.now) (length self.old.book.history) r.0) }
         ensures entered { OnOk result (site_of self.new ≡ with_entry (entry_in self.old.book number request.now) (site_of self.old)) }
         ensures closed { (result ≡ Err AskFault.Closed) ↔ (self.old.closed ≡ true) }
         ensures fault { IfErr result (IsAskFault self.old.closed (decision_in self.old.book number request.now) (K.failed self.old.keeper) (K.failed self.new.keeper)) }
         ensures unchanged { OnErr result (site_of self.new ≡ site_of self.old) }
+        ensures untouched { IfErr result (λ fault. fault ≢ AskFault.Store → self.new.keeper ≡ self.old.keeper) }
+        ensures closes { (self.new.closed ≡ true) ↔ ((self.old.closed ≡ true) ⊎ (result ≡ Err AskFault.Store)) }
         ensures receipt { IfOk result (λ r. r.1 ≡ record { number = number; request = request.now; reply = r.0.reply; place = r.0.place }) }
         ensures share { IfOk result (λ r. seat.new ≡ held seat.old.parts (if r.0.fresh then seat.old.count + 1 else seat.old.count)) }
         ensures kept { OnErr result (seat.new ≡ seat.old) }
@@ -142,11 +145,14 @@ impl<K: Keeper, L: Opens> Locked<K, L> {
 
     /// Takes a peer's message.
     pub fn take(&mut self, message: Message) -> Result<Taken, TakeFault>
+        ensures office { self.new.book.office ≡ self.old.book.office }
         ensures taken { IfOk result (IsTaken (verdict_in self.old.book message) (ack_for message)) }
         ensures changed { OnOk result (site_of self.new ≡ site_after (verdict_in self.old.book message) message (site_of self.old)) }
         ensures closed { (result ≡ Err TakeFault.Closed) ↔ (self.old.closed ≡ true) }
         ensures fault { IfErr result (IsTakeFault self.old.closed (verdict_in self.old.book message) (K.failed self.old.keeper) (K.failed self.new.keeper)) }
         ensures unchanged { OnErr result (site_of self.new ≡ site_of self.old) }
+        ensures untouched { IfErr result (λ fault. fault ≢ TakeFault.Store → self.new.keeper ≡ self.old.keeper) }
+        ensures closes { (self.new.closed ≡ true) ↔ ((self.old.closed ≡ true) ⊎ (result ≡ Err TakeFault.Store)) }
     {
         self.book.take(message)
     }

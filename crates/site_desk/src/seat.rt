@@ -1,5 +1,5 @@
 //! A session's share of the count of requests that were newly entered at a desk.
-ghost use Rattle.std.specs.Prelude.{◌≡◌, ℕ, ◌+◌, ◌-◌, ◌<◌, ◌≤◌};
+ghost use Rattle.std.specs.Prelude.{◌≡◌, ℕ, ◌-◌, ◌<◌};
 ghost use Rattle.site_desk.specs.Seats.{held};
 
 use std::marker::{Brand, Model};

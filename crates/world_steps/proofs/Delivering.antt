@@ -1,11 +1,13 @@
 -- A delivery: what taking a message that was sent does.
-use Rattle.std.proofs.Common.{◌≡◌, ℕ, ◌<◌, List, Some, refl, sym, ap, ◌∙◌, arith, length, get_or, set, map}
-use Rattle.std.specs.Prelude.{slice_get, Result, Ok}
+use Rattle.std.proofs.Common.{◌≡◌, ℕ, ◌<◌, List, Option, Some, None, refl, subst, sym, ap, ◌∙◌, arith, length, get_or, set, map}
+use Rattle.std.specs.Prelude.{slice_get, Result, Ok, IsSome, IsSomeAnd}
 use Rattle.std.proofs.lemmas.Option.{slice_get_read}
 use Rattle.book_core.specs.Decision.{Office}
+use Rattle.book_core.specs.declared.entry.Entry.{Entry}
+use Rattle.site_exchange.specs.declared.message.CheckFault.{CheckFault}
 use Rattle.site_exchange.specs.declared.message.Message.{Message}
 use Rattle.site_exchange.specs.declared.message.Message.TheVariants.{Delta, Ack}
-use Rattle.site_exchange.specs.Exchange.{Site, Verdict, receiver, verdict}
+use Rattle.site_exchange.specs.Exchange.{Site, Verdict, Joins, receiver, check, verdict, verdict_if}
 use Rattle.site_exchange.specs.Taking.{site_after, given_back}
 use Rattle.world_steps.specs.declared.node.Node.{Node}
 use Rattle.world_steps.specs.declared.node.Taken.{Taken}
@@ -13,11 +15,11 @@ use Rattle.world_steps.specs.declared.step.Step.TheVariants.{Deliver}
 use Rattle.world_steps.specs.declared.step.Outcome.{Outcome}
 use Rattle.world_steps.specs.declared.step.WorldFault.{WorldFault}
 use Rattle.world_steps.specs.Nodes.{site_of, limit_of, verdict_told}
-use Rattle.world_steps.specs.Outcomes.{outcome, delivered_as, taken_as}
+use Rattle.world_steps.specs.Outcomes.{outcome, delivered_as, taken_as, MayGrow}
 use Rattle.world_steps.specs.Reaching.{world_of, IsKept}
 use Rattle.world_steps.specs.World.{World, count, site_at, history_at, office_at, with_sent, judged, delivered, after}
 use Rattle.world_steps.proofs.Reached.{sound_in}
-use Rattle.world_steps.proofs.Sites.{at_place, made_at, length-sites}
+use Rattle.world_steps.proofs.Sites.{at_place, found_at, made_at, length-sites}
 use Rattle.world_steps.proofs.Worlds.{IsSound}
 
 -- the message read at a place is the one that was sent
@@ -33,6 +35,60 @@ receiver_below nodes sent index i message kept found is =
     let w : World = world_of nodes sent in
     omega (arith, is, receiver_there w message ((sound_in w kept.reached).sent index message found), length-sites nodes)
 
+one_at : {T : Type 0} (o : Option T) (a b : T) → o ≡ Some a → o ≡ Some b → a ≡ b
+one_at o a b is_a is_b = cc
+
+-- a message that is read again is the same
+pub same_message : (sent now : List Message) (index : ℕ) (message again : Message) → now ≡ sent → index < length sent → message ≡ get_or sent index message → again ≡ get_or now index again
+    → again ≡ message
+same_message sent now index message again same l is is_again =
+    one_at (slice_get sent index) again message (message_at sent now index again same l is_again) (message_at sent sent index message refl l is)
+
+-- so is a site
+pub same_node : (nodes : List Node) (i : ℕ) (node again : Node) → i < length nodes → node ≡ get_or nodes i node → again ≡ get_or nodes i again → node ≡ again
+same_node nodes i node again l is is_again = one_at (slice_get nodes i) node again (found_at nodes i node l is) (found_at nodes i again l is_again)
+
+-- a message that was sent, and the place of its receiver
+pub record IsFor (nodes : List Node) (sent : List Message) (index i : ℕ) (message : Message) : Type 0 where
+  pub sent_is : slice_get sent index ≡ Some message
+  pub to : i ≡ receiver message
+  pub below : i < length nodes
+
+pub is_for : (nodes : List Node) (sent : List Message) (index i : ℕ) (message : Message) → IsKept nodes sent → index < length sent → message ≡ get_or sent index message → i ≡ receiver message
+    → IsFor nodes sent index i message
+is_for nodes sent index i message kept l is to =
+    let found = message_at sent sent index message refl l is in
+    record { sent_is = found; to = to; below = receiver_below nodes sent index i message kept found to }
+
+judged_is : (nodes : List Node) (sent : List Message) (i : ℕ) (message : Message) (old : Node) → IsKept nodes sent → i ≡ receiver message → i < length nodes → old ≡ get_or nodes i old
+    → verdict old.book.office old.book.history message ≡ judged (world_of nodes sent) message
+judged_is nodes sent i message old kept to l is =
+    let w : World = world_of nodes sent in
+    let here = at_place nodes sent i old kept l is in
+    ap (λ (f : Office). verdict f old.book.history message) (sym here.office)
+    ∙ ap (λ (s : Site). verdict (office_at w i) s.history message) (sym here.site)
+    ∙ ap (λ k. verdict (office_at w k) (history_at w k) message) to
+
+-- a delivery that wants memory is one that is acknowledged
+pub deliver_wants : (nodes : List Node) (sent : List Message) (index i : ℕ) (message : Message) (old : Node) → IsKept nodes sent → slice_get sent index ≡ Some message
+    → i ≡ receiver message → i < length nodes → old ≡ get_or nodes i old
+    → IsSome (given_back (verdict old.book.office old.book.history message) message) → MayGrow (world_of nodes sent) (Deliver index)
+deliver_wants nodes sent index i message old kept sent_is to l is acknowledged =
+    let w : World = world_of nodes sent in
+    subst (λ (o : Option Message). IsSomeAnd o (λ m. IsSome (given_back (judged w m) m))) (sym sent_is)
+    (subst (λ (v : Verdict). IsSome (given_back v message)) (judged_is nodes sent i message old kept to l is) acknowledged)
+
+-- a message whose delta is joined is acknowledged
+pub joined_is_acknowledged : (office : Office) (h : List Entry) (message : Message) → verdict office h message ≡ Joins → IsSome (given_back (verdict office h message) message)
+joined_is_acknowledged office h (Delta by to upto delta) e =
+    let message = Delta by to upto delta in
+    subst (λ (v : Verdict). IsSome (given_back v message)) (sym e) refl
+joined_is_acknowledged office h (Ack by to upto) e = absurd (go (check office h (Ack by to upto)) e)
+  where
+    go : (o : Option CheckFault) → verdict_if o office h (Ack by to upto) ≡ Joins → ⊥
+    go None found = cc
+    go (Some fault) found = cc
+
 -- what a delivery gives
 pub record IsDelivered (nodes : List Node) (sent : List Message) (now : List Node) (sent_now : List Message) (index : ℕ) (given : Outcome) : Type 0 where
   pub kept : IsKept now sent_now
@@ -47,10 +103,7 @@ pub deliver_gives : (nodes : List Node) (sent : List Message) (index i : ℕ) (m
 deliver_gives nodes sent index i message old new taken kept sent_is to l is office taken_is changed =
     let w : World = world_of nodes sent in
     let here = at_place nodes sent i old kept l is in
-    let verdict_is : verdict old.book.office old.book.history message ≡ judged w message =
-    ap (λ (f : Office). verdict f old.book.history message) (sym here.office)
-    ∙ ap (λ (s : Site). verdict (office_at w i) s.history message) (sym here.site)
-    ∙ ap (λ k. verdict (office_at w k) (history_at w k) message) to in
+    let verdict_is = judged_is nodes sent i message old kept to l is in
     let told_is : verdict_told taken ≡ judged w message = taken_is ∙ verdict_is in
     let site_is : site_of new ≡ site_after (judged w message) message (site_at w i) =
     changed ∙ ap (λ v. site_after v message (site_of old)) verdict_is ∙ ap (λ (s : Site). site_after (judged w message) message s) (sym here.site) in

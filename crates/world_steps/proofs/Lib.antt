@@ -7,7 +7,6 @@ pub mod Reached
 pub mod Seats
 pub mod Sites
 pub mod Steps
-pub mod Taking
 pub mod Worlds
 mod FlatList
 mod Names

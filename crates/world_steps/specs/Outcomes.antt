@@ -7,7 +7,8 @@ use Rattle.book_core.specs.Decision.{Office, decision}
 use Rattle.book_core.specs.Plans.{IsFresh}
 use Rattle.site_exchange.specs.declared.message.Message.{Message}
 use Rattle.site_exchange.specs.Exchange as exchange
-use Rattle.site_exchange.specs.Exchange.{Verdict, next, IsDelta}
+use Rattle.site_exchange.specs.Exchange.{Verdict, next, verdict}
+use Rattle.site_exchange.specs.Taking.{given_back}
 use Rattle.world_steps.specs.declared.step.Input.{Input}
 use Rattle.world_steps.specs.declared.step.Input.TheVariants as input
 use Rattle.world_steps.specs.declared.step.Step.{Step}
@@ -60,16 +61,16 @@ IsDue w step Memory = IsOk (outcome w step)
 IsDue w step NoSite = outcome w step ≡ Err NoSite
 IsDue w step NoMessage = outcome w step ≡ Err NoMessage
 
--- Storing what an input adds may want memory where it is a request that is new, or a delta.
+-- Storing what an input adds may want memory where it is a request that is new, or a delta that the site joins.
 abbrev pub MayStore : Office → List Entry → List Message → Input → Type 0
 MayStore office h sent (input.Request number request) = IsFresh (decision office h number request)
-MayStore office h sent (input.Take index) = IsSomeAnd (slice_get sent index) IsDelta
+MayStore office h sent (input.Take index) = IsSomeAnd (slice_get sent index) (λ message. verdict office h message ≡ exchange.Joins)
 
 -- Making the step may want memory: a kept number and a full history want none, nor does a send where nothing is due,
--- a delivered acknowledgement, starting anew, or a stop that stores nothing.
+-- a delivery where no acknowledgement is due, starting anew, or a stop that stores nothing.
 abbrev pub MayGrow : World → Step → Type 0
 MayGrow w (Ask i number request) = IsFresh (decision (office_at w i) (history_at w i) number request)
 MayGrow w (Send i j) = IsSome (next i (site_at w i) j)
-MayGrow w (Deliver index) = IsSomeAnd (slice_get w.sent index) IsDelta
+MayGrow w (Deliver index) = IsSomeAnd (slice_get w.sent index) (λ message. IsSome (given_back (judged w message) message))
 MayGrow w (Restart i) = ⊥
 MayGrow w (Stop i in_hand stored) = (stored ≡ true) × MayStore (office_at w i) (history_at w i) w.sent in_hand

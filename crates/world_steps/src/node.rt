@@ -1,16 +1,18 @@
 //! One site of a world: its book, and what its peers have acknowledged.
-ghost use Rattle.std.specs.Prelude.{◌≡◌, IfOk, IfErr, OnOk, OnErr, IsTrue, Err};
+ghost use Rattle.std.specs.Prelude.{[], ◌∷◌, ◌++◌, ◌≡◌, IfOk, IfErr, OnOk, OnErr, IsTrue, Err};
 ghost use Rattle.book_core.specs.Decision.{decision, entry_of_ask};
 ghost use Rattle.book_core.specs.Plans.{IsFresh};
-ghost use Rattle.book_core.specs.Joining.{entry_of_join, join_decision};
-ghost use Rattle.site_exchange.specs.Exchange.{IsDelta, entry_of_take, verdict, verdict_of};
+ghost use Rattle.book_core.specs.Joining as join;
+ghost use Rattle.book_core.specs.Joining.{join_decision};
+ghost use Rattle.book_core.specs.declared.entry.Entry.TheVariants.{Joined};
+ghost use Rattle.site_exchange.specs.Exchange.{Joins, entry_of_take, verdict};
 ghost use Rattle.site_exchange.specs.Taking.{extended, site_after, stopped_with, with_entry};
 ghost use Rattle.world_steps.specs.World.{entry_of_input, is_there};
 ghost use Rattle.world_steps.specs.Outcomes.{answered, MayStore};
 ghost use Rattle.world_steps.specs.Nodes.{site_of, verdict_told};
 
 use crate::step::{Input, Outcome, WorldFault};
-use book_core::{Book, JoinFault, JoinPlan, Plan, PlanFault};
+use book_core::{Book, JoinDecision, JoinPlan, Plan, PlanFault};
 use delta_mutators::Delta;
 use request_ledger::{Request, RequestNumber};
 use rights_lattice::SiteId;
@@ -24,16 +26,16 @@ pub struct Node {
     pub exchange: Exchange,
 }
 
-/// What a site did with a message.
+/// What a site does with a message.
 #[derive(Clone, Copy, PartialEq, Eq, Debug)]
 pub enum Taken {
-    /// The delta was joined.
+    /// The delta is joined.
     Joined,
-    /// The site had all of the delta.
+    /// The site has all of the delta.
     NothingNew,
-    /// The acknowledgement was taken.
+    /// The acknowledgement is taken.
     Acked,
-    /// Nothing changed.
+    /// Nothing changes.
     Refused(TakeFault),
 }
 
@@ -63,50 +65,57 @@ pub fn ask(
     }
 }
 
-/// Takes a message at a site: checks it, and joins its delta or takes its acknowledgement.
-pub fn take(node: &mut Node, alloc: Global, message: &Message) -> Result<Taken, AllocError>
-    ensures office { node.new.book.office ≡ node.old.book.office }
-    ensures taken { IfOk result (λ t. verdict_told t ≡ verdict node.old.book.office node.old.book.history message.now) }
-    ensures changed { OnOk result (site_of node.new ≡ site_after (verdict node.old.book.office node.old.book.history message.now) message.now (site_of node.old)) }
-    ensures wanted { OnErr result (IsDelta message.now) }
-    ensures unchanged { OnErr result (site_of node.new ≡ site_of node.old) }
+/// What a site does with a message, by what it holds now.
+pub fn judge(book: &Book, message: &Message) -> Taken
+    ensures { verdict_told result ≡ verdict book.now.office book.now.history message.now }
 {
-    match check(&node.book, message) {
-        Ok(()) => {}
-        Err(fault) => return Ok(Taken::Refused(TakeFault::from(fault))),
+    if let Err(fault) = check(book, message) {
+        return Taken::Refused(TakeFault::from(fault));
     }
     match message {
-        Message::Ack { by, upto, .. } => {
-            node.exchange.ack(*by, *upto);
-            Ok(Taken::Acked)
-        }
-        Message::Delta { by, delta, .. } => {
-            let delta = delta.copy(alloc)?;
-            join(&mut node.book, *by, delta)
-        }
+        Message::Ack { .. } => Taken::Acked,
+        Message::Delta { by, delta, .. } => match book.join_decision(*by, delta) {
+            JoinDecision::Joins => Taken::Joined,
+            JoinDecision::NothingNew => Taken::NothingNew,
+            JoinDecision::Refuses(fault) => Taken::Refused(TakeFault::from(fault)),
+        },
     }
 }
 
-// Joins a peer's delta, where it holds something new.
-fn join(book: &mut Book, peer: SiteId, delta: Delta) -> Result<Taken, AllocError>
+/// Takes a message at a site: joins its delta or takes its acknowledgement, as the site judges it.
+pub fn take(node: &mut Node, alloc: Global, message: &Message) -> Result<(), AllocError>
+    ensures office { node.new.book.office ≡ node.old.book.office }
+    ensures changed { OnOk result (site_of node.new ≡ site_after (verdict node.old.book.office node.old.book.history message.now) message.now (site_of node.old)) }
+    ensures wanted { OnErr result (verdict node.old.book.office node.old.book.history message.now ≡ Joins) }
+    ensures unchanged { OnErr result (site_of node.new ≡ site_of node.old) }
+{
+    match (judge(&node.book, message), message) {
+        (Taken::Joined, Message::Delta { by, delta, .. }) => {
+            join(&mut node.book, alloc, *by, delta)
+        }
+        (Taken::Acked, Message::Ack { by, upto, .. }) => {
+            node.exchange.ack(*by, *upto);
+            Ok(())
+        }
+        _ => Ok(()),
+    }
+}
+
+// Joins a copy of a peer's delta.
+fn join(book: &mut Book, alloc: Global, peer: SiteId, delta: &Delta) -> Result<(), AllocError>
+    requires { join_decision book.old.office book.old.history peer delta.now ≡ join.Joins }
     ensures office { book.new.office ≡ book.old.office }
-    ensures taken { IfOk result (λ t. verdict_told t ≡ verdict_of (join_decision book.old.office book.old.history peer delta)) }
-    ensures changed { OnOk result (book.new.history ≡ extended (entry_of_join book.old.office book.old.history peer delta) book.old.history) }
+    ensures joined { OnOk result (book.new.history ≡ book.old.history ++ Joined peer delta.now ∷ []) }
     ensures unchanged { OnErr result (book.new.history ≡ book.old.history) }
 {
-    match book.plan_join(peer, delta) {
-        Ok(JoinPlan::NothingNew) => Ok(Taken::NothingNew),
+    let copy = delta.copy(alloc)?;
+    match book.plan_join(peer, copy) {
         Ok(JoinPlan::New(planned)) => {
             book.enter(planned);
-            Ok(Taken::Joined)
+            Ok(())
         }
-        Err(refused) => {
-            let (_delta, fault) = refused;
-            match fault {
-                JoinFault::Memory => Err(AllocError),
-                fault => Ok(Taken::Refused(TakeFault::from(fault))),
-            }
-        }
+        Ok(JoinPlan::NothingNew) => unreachable!(),
+        Err(_) => Err(AllocError),
     }
 }
 
@@ -175,21 +184,11 @@ fn store_request(
 fn store_delta(book: &mut Book, alloc: Global, message: &Message) -> Result<(), AllocError>
     ensures office { book.new.office ≡ book.old.office }
     ensures stored { OnOk result (book.new.history ≡ extended (entry_of_take book.old.office book.old.history message.now) book.old.history) }
-    ensures wanted { OnErr result (IsDelta message.now) }
+    ensures wanted { OnErr result (verdict book.old.office book.old.history message.now ≡ Joins) }
     ensures unchanged { OnErr result (book.new.history ≡ book.old.history) }
 {
-    match check(book, message) {
-        Ok(()) => {}
-        Err(_) => return Ok(()),
-    }
-    match message {
-        Message::Ack { .. } => Ok(()),
-        Message::Delta { by, delta, .. } => {
-            let delta = delta.copy(alloc)?;
-            match join(book, *by, delta) {
-                Ok(_) => Ok(()),
-                Err(fault) => Err(fault),
-            }
-        }
+    match (judge(book, message), message) {
+        (Taken::Joined, Message::Delta { by, delta, .. }) => join(book, alloc, *by, delta),
+        _ => Ok(()),
     }
 }

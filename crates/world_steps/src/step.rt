@@ -83,7 +83,8 @@ pub enum WorldFault {
     /// No message with this index was ever sent.
     #[error("no such message")]
     NoMessage,
-    /// A growth was refused; only a step that is not refused otherwise gets this.
+    /// A growth was refused. Only a step that is not refused otherwise gets this: a new request, a send where something
+    /// is due, a delivery where an acknowledgement is due, and a stop that stores a new entry.
     #[error("out of memory")]
     Memory,
 }

@@ -2,7 +2,7 @@
 ghost use Rattle.std.specs.Prelude.{IfOk, IfErr, IfSome, OnOk, OnErr, IsSome, option_copied, ◌↔◌, ◌≡◌, ◌+◌, ◌<◌, ◌≤◌, ◌&&◌, ◌==◌, not, nat_lt, List, length, map, take, Ok, Err, IsTrue, IsSomeAnd, slice_get, vec_len, vec_capacity};
 ghost use Rattle.book_core.specs.History.{state_of};
 ghost use Rattle.book_core.specs.Operations.{outstanding, released, sold, refunded};
-ghost use Rattle.site_exchange.specs.Exchange.{IsDelta, receiver};
+ghost use Rattle.site_exchange.specs.Exchange.{receiver};
 ghost use Rattle.site_exchange.specs.Taking.{given_back};
 ghost use Rattle.world_steps.specs.World.{IsReached, after, all_operations, count, events_of, history_at, is_there, office_at, opening, run, totals_of, with_sent};
 ghost use Rattle.world_steps.specs.Promises.{HoldsPromises};
@@ -11,7 +11,7 @@ ghost use Rattle.world_steps.specs.declared.step.Outcome.{Outcome};
 ghost use Rattle.world_steps.specs.Outcomes.{outcome, outcomes, sent_as, taken_as, IsDue, MayGrow};
 ghost use Rattle.world_steps.specs.Nodes.{verdict_told};
 
-use crate::node::{Node, Taken, ask, stop, take};
+use crate::node::{Node, Taken, ask, judge, stop, take};
 use crate::step::{Input, Outcome, Step, WorldFault};
 use book_core::{Book, Limit};
 use local_rights::Totals;
@@ -251,18 +251,18 @@ impl World {
         if index >= self.sent.len() {
             return Err(WorldFault::NoMessage);
         }
+        let message = &self.sent[index];
+        let place = receiver(message).number() as usize;
+        let taken = judge(&self.sites[place].book, message);
+        let ack = given_back(&taken, message);
         // Room first, so that nothing can fail once the message is taken.
-        let is_answered = is_delta(&self.sent[index]);
-        if make_room(&mut self.sent, is_answered).is_err() {
+        if make_room(&mut self.sent, ack.is_some()).is_err() {
             return Err(WorldFault::Memory);
         }
-        let message = &self.sent[index];
-        let node = &mut self.sites[receiver(message).number() as usize];
-        let taken = match take(node, alloc, message) {
-            Ok(taken) => taken,
-            Err(_) => return Err(WorldFault::Memory),
-        };
-        let ack = given_back(&taken, message);
+        let node = &mut self.sites[place];
+        if take(node, alloc, &self.sent[index]).is_err() {
+            return Err(WorldFault::Memory);
+        }
         let outcome = taken_as(&taken, self.sent.len());
         put(&mut self.sent, ack);
         Ok(outcome)
@@ -383,12 +383,6 @@ fn receiver(message: &Message) -> SiteId
     match message {
         Message::Delta { to, .. } | Message::Ack { to, .. } => *to,
     }
-}
-
-fn is_delta(message: &Message) -> bool
-    ensures { IsTrue result ↔ IsDelta message.now }
-{
-    matches!(message, Message::Delta { .. })
 }
 
 // What sending is answered, where the message gets this index.

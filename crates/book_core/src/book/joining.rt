@@ -5,7 +5,7 @@ ghost use Rattle.rights_lattice.specs.Cells.{value_at};
 ghost use Rattle.rights_lattice.specs.State.{is_within, knows};
 ghost use Rattle.rights_lattice.specs.RightsView.{are_within, is_cell_of};
 ghost use Rattle.book_core.specs.History.{state_of, delta_of};
-ghost use Rattle.book_core.specs.Joining.{foreign, is_foreign, is_of_sites, join_decision};
+ghost use Rattle.book_core.specs.Joining.{decision_told, foreign, is_foreign, is_of_sites, join_decision};
 ghost use Rattle.book_core.specs.OwnRow.{HasOwnRights, KeepsOwnRow};
 ghost use Rattle.book_core.specs.Plans.{IsJoinPlan, IsJoinFault, LeavesJoinRoom};
 ghost use Rattle.book_core.specs.BookView.{HasRoomFor};
@@ -13,7 +13,7 @@ ghost use Rattle.book_core.specs.declared.entry.Entry.TheVariants.{Joined};
 
 use crate::book::Book;
 use crate::entry::Entry;
-use crate::plan::{JoinFault, JoinPlan, Planned};
+use crate::plan::{JoinDecision, JoinFault, JoinPlan, Planned};
 use delta_mutators::Delta;
 use rights_lattice::{Cell, Event, Mark, Rights, SiteId, Sites, owner};
 
@@ -33,23 +33,39 @@ impl Book {
             → HasRoomFor self.old.room (Joined peer delta) → ⊥) }
         ensures has_rights { HasOwnRights self.new }
     {
-        if !self.is_of_sites(peer, &delta) {
-            return Err((delta, JoinFault::UnknownSite));
-        }
-        if let Some(mark) = foreign(&self.rights, self.me, delta.marks()) {
-            return Err((delta, JoinFault::ForeignRow { mark }));
-        }
-        if self.has_all_of(&delta) {
-            return Ok(JoinPlan::NothingNew);
-        }
-        if self.is_full() {
-            return Err((delta, JoinFault::Full));
+        // The prover opens the book, whose type says that its history is legal.
+        let _ = &self.me;
+        match self.join_decision(peer, &delta) {
+            JoinDecision::Joins => {}
+            JoinDecision::NothingNew => return Ok(JoinPlan::NothingNew),
+            JoinDecision::Refuses(fault) => return Err((delta, fault)),
         }
         let entry = Entry::Joined { peer, delta };
         if self.reserve(&entry).is_err() {
             return Err((delta_in(entry), JoinFault::Memory));
         }
         Ok(JoinPlan::New(Planned { entry }))
+    }
+
+    /// The decision on a peer's delta: the first that applies. It reads the delta where it lies, and wants no memory.
+    ///
+    /// `plan_join` follows it, so memory may be wanted of a delta that joins, and of no other.
+    pub fn join_decision(&self, peer: SiteId, delta: &Delta) -> JoinDecision
+        ensures { decision_told result ≡ join_decision self.now.office self.now.history peer delta.now }
+    {
+        if !self.is_of_sites(peer, delta) {
+            return JoinDecision::Refuses(JoinFault::UnknownSite);
+        }
+        if let Some(mark) = foreign(&self.rights, self.me, delta.marks()) {
+            return JoinDecision::Refuses(JoinFault::ForeignRow { mark });
+        }
+        if self.has_all_of(delta) {
+            return JoinDecision::NothingNew;
+        }
+        if self.is_full() {
+            return JoinDecision::Refuses(JoinFault::Full);
+        }
+        JoinDecision::Joins
     }
 
     pub(super) fn is_of_sites(&self, peer: SiteId, delta: &Delta) -> bool

@@ -1,11 +1,10 @@
 use Rattle.std.proofs.Common.{◌≡◌, refl, ap, sym, subst, ◌∙◌}
 use Rattle.std.specs.Prelude.{IfOk}
-use Rattle.sqlite.specs.State.{HasCleanDisk}
 use Rattle.sqlite.specs.Effect.{Database}
-use Rattle.sqlite.specs.Held.{Held, state}
+use Rattle.sqlite.specs.Held.{state}
 use Rattle.book_core.specs.Decision.{Office}
 use Rattle.site_exchange.specs.Exchange.{Site}
-use Rattle.sql_records.specs.Held.{IsTrusted, Kept}
+use Rattle.sql_records.specs.Held.{IsTrusted}
 use Rattle.sql_records.specs.Layout.{HasMeta}
 use Rattle.site_desk.specs.SiteView.{office_of, site_of}
 use Rattle.operator_cli.specs.Exchanged.{IsDueText, site_in}

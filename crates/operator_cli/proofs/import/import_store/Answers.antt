@@ -1,21 +1,19 @@
 use Rattle.std.proofs.Common.{◌≡◌, Some, inl, refl, ap, sym, subst, subst₂, ◌∙◌}
 use Rattle.std.specs.Prelude.{IfOk, List}
-use Rattle.sqlite.specs.State.{HasCleanDisk}
 use Rattle.sqlite.specs.Effect.{Database}
-use Rattle.sqlite.specs.Held.{Held, state}
+use Rattle.sqlite.specs.Held.{state}
 use Rattle.book_core.specs.declared.entry.Entry.{Entry}
 use Rattle.book_core.specs.Decision.{Office}
 use Rattle.sql_records.specs.Held.{IsTrusted, Kept, MayLeaveIn, history_in}
-use Rattle.sql_records.specs.Keeping.{LeavesOnly}
 use Rattle.sql_records.specs.Layout.{HasMeta}
 use Rattle.site_desk.specs.SiteView.{office_of}
 use Rattle.operator_cli.specs.declared.status.Status.{Status}
 use Rattle.operator_cli.specs.declared.status.Status.TheVariants.{Refused}
-use Rattle.operator_cli.specs.Exchanged.{LeavesOneOf, behind_bytes, told_of_bytes}
+use Rattle.operator_cli.specs.Exchanged.{HoldsOnly, LeavesOneOf, behind_bytes, told_of_bytes}
 use Rattle.operator_cli.specs.Printed.{Printed, IsTellingOf}
 use Rattle.operator_cli.specs.Printed.{IsTakenText}
 use Rattle.operator_cli.specs.Opened.{IsIllegal, IsImportEnd, IsRefused}
-use Rattle.operator_cli.proofs.EndLaws.{if_back, weaker}
+use Rattle.operator_cli.proofs.EndLaws.{holds_behind, if_back, weaker}
 use Rattle.operator_cli.proofs.ExchangeLaws.{import_end, leaves_as_they_were}
 use Rattle.operator_cli.proofs.OpenedLaws.{book_back, opened_cause, opened_illegal, opened_ours, refused_cause, refused_illegal, refused_lost, refused_ours}
 use Rattle.operator_cli.proofs.PrintLaws.{ends_printed, ends_as, if_some_is, if_some_map, ok_unless_failed}
@@ -52,14 +50,11 @@ returns-in-Ok-clause-holds g c =
     if_some_is _ _ _ c.close_book.ensures.back (λ clean alive meta has.
     let after : IsTrusted g.S.Store c.write_taken-came.new.book.keeper = clean in
     let of = c.in-Ok.ensures.book (c.write_taken-came.ensures.trusted after) in
-    let unclosed = c.is_closed-closed.ensures.closed ∙ ok_unless_failed _ c.write_taken-came.result c.close_book.result.0 c.write_taken-came.ensures.unclosed c.close_book.ensures.status alive of.unclosed in
+    let unclosed = ok_unless_failed _ c.write_taken-came.result c.close_book.result.0 c.write_taken-came.ensures.unclosed c.close_book.ensures.status alive of.unclosed in
     if_some_map _ _ _ (λ bytes entered.
     let behind = ok_unless_failed _ c.write_taken-came.result c.close_book.result.0 entered c.close_book.ensures.status alive ∙ (λ i. behind_bytes (of.office meta has i) (of.history i) bytes) in
-    record {
-      is = sym (c.is_closed-closed.ensures.kept unclosed after) ∙ behind;
-      leaves = subst (λ (h : List Entry). LeavesOnly h (MayLeaveIn (state g.S.Store c.write_taken-came.new.book.keeper.conn))) behind
-          (c.is_closed-closed.ensures.rests unclosed after);
-    })
+    subst (HoldsOnly (state g.S.Store c.write_taken-came.new.book.keeper.conn)) behind
+    (holds_behind g.S.Store c.close_book.result.1 c.write_taken-came.new.book c.write_taken-came.new.book refl c.close_book.ensures.back c.close_book.ensures.holds unclosed clean))
     c.write_taken-came.ensures.entered)
 
 pub returns-in-Err-clause-lost : goal.returns-in-Err-clause-lost

@@ -1,67 +1,106 @@
 use Rattle.std.proofs.Common.{◌≡◌, ◌<◌, List, subst, sym, ◌∙◌, ap, length, rules}
-use Rattle.std.specs.Prelude.{Some, Ok, Result, slice_get, slice_set}
+use Rattle.std.specs.Prelude.{Some, Ok, Result, IsSome, slice_get, slice_set}
 use Rattle.site_exchange.specs.declared.message.Message.{Message}
-use Rattle.site_exchange.specs.Exchange.{receiver}
-use Rattle.site_exchange.specs.Taking.{given_back}
+use Rattle.site_exchange.specs.Exchange.{verdict, Joins, Verdict}
+use Rattle.site_exchange.specs.Taking.{given_back, site_after}
+use Rattle.world_steps.specs.declared.node.Node.{Node}
 use Rattle.world_steps.specs.declared.step.Step.TheVariants.{Deliver}
 use Rattle.world_steps.specs.declared.step.Outcome.{Outcome}
 use Rattle.world_steps.specs.declared.step.WorldFault.{WorldFault}
-use Rattle.world_steps.specs.Nodes.{verdict_told}
-use Rattle.world_steps.specs.Outcomes.{outcome, taken_as}
+use Rattle.world_steps.specs.declared.step.WorldFault.TheVariants.{Memory}
+use Rattle.world_steps.specs.Nodes.{site_of, verdict_told}
+use Rattle.world_steps.specs.Outcomes.{outcome, taken_as, IsDue, MayGrow}
 use Rattle.world_steps.specs.Reaching.{world_of, IsKept}
 use Rattle.world_steps.specs.World.{World, after, with_sent}
+use Rattle.world_steps.proofs.Making.{sent_is_due}
 use Rattle.world_steps.proofs.Sites.{kept_same, same_world, found_at}
-use Rattle.world_steps.proofs.Delivering.{IsDelivered, deliver_gives, receiver_below, message_at}
+use Rattle.world_steps.proofs.Delivering.{IsDelivered, deliver_gives, deliver_wants, joined_is_acknowledged, IsFor, is_for, same_message, same_node}
 use Rattle.world_steps.proofs.world.World.deliver.Goals as goal
+
+pub index-requires : goal.index-requires
+index-requires c =
+    let there = is_for c.self.inside.sites.items c.self.inside.sent.items c.args.index c.number-place.result c.index-message.result.now c.self.invariant (search rules) c.index-message.ensures (c.number-place.ensures.number ∙ c.receiver.ensures) in
+    let below : c.number-place.result < length c.self.inside.sites.items = there.below in
+    search rules
 
 pub index_mut-node-requires : goal.index_mut-node-requires
 index_mut-node-requires c =
-    let below : c.number.result < length c.self.inside.sites.items =
-    receiver_below c.self.inside.sites.items c.self.inside.sent.items c.args.index c.number.result c.index-message.result.now c.self.invariant
-    (message_at c.self.inside.sent.items c.make_room.new.sent.items c.args.index c.index-message.result.now c.make_room.ensures.items (search rules) c.index-message.ensures) (c.number.ensures.number ∙ c.receiver.ensures) in
+    let there = is_for c.self.inside.sites.items c.self.inside.sent.items c.args.index c.number-place.result c.index-message.result.now c.self.invariant (search rules) c.index-message.ensures (c.number-place.ensures.number ∙ c.receiver.ensures) in
+    let below : c.number-place.result < length c.self.inside.sites.items = there.below in
     search rules
 
-node_in_err : (c : goal.In-Err) → slice_get c.self.inside.sites.items c.number.result ≡ Some c.index_mut-node.result.now
-node_in_err c =
-    found_at c.self.inside.sites.items c.number.result c.index_mut-node.result.now
-    (receiver_below c.self.inside.sites.items c.self.inside.sent.items c.args.index c.number.result c.index-message.result.now c.self.invariant
-    (message_at c.self.inside.sent.items c.make_room.new.sent.items c.args.index c.index-message.result.now c.make_room.ensures.items (search rules) c.index-message.ensures) (c.number.ensures.number ∙ c.receiver.ensures))
-    c.index_mut-node.ensures.value
+pub returns-then-is_err-clause-fault : goal.returns-then-is_err-clause-fault
+returns-then-is_err-clause-fault c =
+    subst (λ (w : World). IsDue w (Deliver c.args.index) Memory) c.self.view_is (sent_is_due (world_of c.self.inside.sites.items c.self.inside.sent.items) c.args.index (search rules))
 
-pub invariant_of-self-in-Err : goal.invariant_of-self-in-Err
-invariant_of-self-in-Err c =
-    subst (λ (sent : List Message). IsKept (slice_set c.self.inside.sites.items c.number.result c.take.new.node) sent) (sym c.make_room.ensures.items)
-    (kept_same c.self.inside.sites.items c.self.inside.sent.items c.number.result c.index_mut-node.result.now c.take.new.node c.self.invariant (node_in_err c) c.in-Err.ensures.office c.in-Err.ensures.unchanged)
+pub returns-then-is_err-2-clause-fault : goal.returns-then-is_err-2-clause-fault
+returns-then-is_err-2-clause-fault c =
+    subst (λ (w : World). IsDue w (Deliver c.args.index) Memory) c.self.view_is (sent_is_due (world_of c.self.inside.sites.items c.self.inside.sent.items) c.args.index (search rules))
 
-pub returns-in-Err-clause-unchanged : goal.returns-in-Err-clause-unchanged
-returns-in-Err-clause-unchanged c =
-    ap (world_of (slice_set c.self.inside.sites.items c.number.result c.take.new.node)) c.make_room.ensures.items
-    ∙ same_world c.self.inside.sites.items c.self.inside.sent.items c.number.result c.index_mut-node.result.now c.take.new.node (node_in_err c) c.in-Err.ensures.office c.in-Err.ensures.unchanged
+pub returns-then-is_err-clause-memory : goal.returns-then-is_err-clause-memory
+returns-then-is_err-clause-memory c refused =
+    let there = is_for c.self.inside.sites.items c.self.inside.sent.items c.args.index c.number-place.result c.index-message.result.now c.self.invariant (search rules) c.index-message.ensures (c.number-place.ensures.number ∙ c.receiver.ensures) in
+    let acknowledged : IsSome c.given_back-ack.result = search rules in
+    subst (λ (w : World). MayGrow w (Deliver c.args.index)) c.self.view_is
+    (deliver_wants c.self.inside.sites.items c.self.inside.sent.items c.args.index c.number-place.result c.index-message.result.now c.index.result.now
+    c.self.invariant there.sent_is there.to there.below c.index.ensures
+    (subst IsSome (c.given_back-ack.ensures ∙ ap (λ (v : Verdict). given_back v c.index-message.result.now) c.judge-taken.ensures) acknowledged))
+
+in_err : (c : goal.Joined-ack-3) → IsFor c.self.inside.sites.items c.self.inside.sent.items c.args.index c.number-place.result c.index-message.result.now
+in_err c = is_for c.self.inside.sites.items c.self.inside.sent.items c.args.index c.number-place.result c.index-message.result.now c.self.invariant (search rules) c.index-message.ensures (c.number-place.ensures.number ∙ c.receiver.ensures)
+
+node_in_err : (c : goal.Joined-ack-3) → slice_get c.self.inside.sites.items c.number-place.result ≡ Some c.index_mut-node.result.now
+node_in_err c = found_at c.self.inside.sites.items c.number-place.result c.index_mut-node.result.now (in_err c).below c.index_mut-node.ensures.value
+
+pub returns-then-is_err-2-clause-memory : goal.returns-then-is_err-2-clause-memory
+returns-then-is_err-2-clause-memory c refused =
+    let book = c.index_mut-node.result.now.book in
+    let joins : verdict book.office book.history c.index-2.result.now ≡ Joins = search rules in
+    let same = same_message c.self.inside.sent.items c.make_room.new.sent.items c.args.index c.index-message.result.now c.index-2.result.now c.make_room.ensures.items (search rules) c.index-message.ensures c.index-2.ensures in
+    subst (λ (w : World). MayGrow w (Deliver c.args.index)) c.self.view_is
+    (deliver_wants c.self.inside.sites.items c.self.inside.sent.items c.args.index c.number-place.result c.index-message.result.now c.index_mut-node.result.now
+    c.self.invariant (in_err c).sent_is (in_err c).to (in_err c).below c.index_mut-node.ensures.value
+    (joined_is_acknowledged book.office book.history c.index-message.result.now
+    (subst (λ (m : Message). verdict book.office book.history m ≡ Joins) same joins)))
+
+pub invariant_of-self-then-is_err-2 : goal.invariant_of-self-then-is_err-2
+invariant_of-self-then-is_err-2 c =
+    subst (λ (sent : List Message). IsKept (slice_set c.self.inside.sites.items c.number-place.result c.take.new.node) sent) (sym c.make_room.ensures.items)
+    (kept_same c.self.inside.sites.items c.self.inside.sent.items c.number-place.result c.index_mut-node.result.now c.take.new.node c.self.invariant (node_in_err c) c.take.ensures.office (search rules))
+
+pub returns-then-is_err-2-clause-unchanged : goal.returns-then-is_err-2-clause-unchanged
+returns-then-is_err-2-clause-unchanged c =
+    ap (world_of (slice_set c.self.inside.sites.items c.number-place.result c.take.new.node)) c.make_room.ensures.items
+    ∙ same_world c.self.inside.sites.items c.self.inside.sent.items c.number-place.result c.index_mut-node.result.now c.take.new.node (node_in_err c) c.take.ensures.office (search rules)
     ∙ c.self.view_is
 
-given : (c : goal.After-put) → IsDelivered c.self.inside.sites.items c.self.inside.sent.items (slice_set c.self.inside.sites.items c.number.result c.take.new.node) (with_sent c.self.inside.sent.items (given_back (verdict_told c.in-Ok.taken) c.index-message.result.now)) c.args.index (taken_as (verdict_told c.in-Ok.taken) (length c.self.inside.sent.items))
+given : (c : goal.After-put) → IsDelivered c.self.inside.sites.items c.self.inside.sent.items (slice_set c.self.inside.sites.items c.number-place.result c.take.new.node) (with_sent c.self.inside.sent.items (given_back (verdict_told c.judge-taken.result) c.index-message.result.now)) c.args.index (taken_as (verdict_told c.judge-taken.result) (length c.self.inside.sent.items))
 given c =
-    let sent_is : slice_get c.self.inside.sent.items c.args.index ≡ Some c.index-message.result.now =
-    message_at c.self.inside.sent.items c.make_room.new.sent.items c.args.index c.index-message.result.now c.make_room.ensures.items (search rules) c.index-message.ensures in
-    let to : c.number.result ≡ receiver c.index-message.result.now = c.number.ensures.number ∙ c.receiver.ensures in
-    deliver_gives c.self.inside.sites.items c.self.inside.sent.items c.args.index c.number.result c.index-message.result.now c.index_mut-node.result.now c.take.new.node c.in-Ok.taken
-    c.self.invariant sent_is to (receiver_below c.self.inside.sites.items c.self.inside.sent.items c.args.index c.number.result c.index-message.result.now c.self.invariant sent_is to)
-    c.index_mut-node.ensures.value c.in-Ok.ensures.office c.in-Ok.ensures.taken c.in-Ok.ensures.changed
+    let old : Node = c.index_mut-node.result.now in
+    let there = is_for c.self.inside.sites.items c.self.inside.sent.items c.args.index c.number-place.result c.index-message.result.now c.self.invariant (search rules) c.index-message.ensures (c.number-place.ensures.number ∙ c.receiver.ensures) in
+    let changed : site_of c.take.new.node ≡ site_after (verdict old.book.office old.book.history c.index-2.result.now) c.index-2.result.now (site_of old) = search rules in
+    deliver_gives c.self.inside.sites.items c.self.inside.sent.items c.args.index c.number-place.result c.index-message.result.now old c.take.new.node c.judge-taken.result
+    c.self.invariant there.sent_is there.to there.below c.index_mut-node.ensures.value c.take.ensures.office
+    (c.judge-taken.ensures
+    ∙ ap (λ (n : Node). verdict n.book.office n.book.history c.index-message.result.now) (same_node c.self.inside.sites.items c.number-place.result c.index.result.now old there.below c.index.ensures c.index_mut-node.ensures.value))
+    (changed
+    ∙ ap (λ (m : Message). site_after (verdict old.book.office old.book.history m) m (site_of old))
+    (same_message c.self.inside.sent.items c.make_room.new.sent.items c.args.index c.index-message.result.now c.index-2.result.now c.make_room.ensures.items (search rules) c.index-message.ensures c.index-2.ensures))
 
-sent_now : (c : goal.After-put) → with_sent c.self.inside.sent.items (given_back (verdict_told c.in-Ok.taken) c.index-message.result.now) ≡ c.put.new.sent.items
+sent_now : (c : goal.After-put) → with_sent c.self.inside.sent.items (given_back (verdict_told c.judge-taken.result) c.index-message.result.now) ≡ c.put.new.sent.items
 sent_now c =
     (λ k. with_sent (sym c.make_room.ensures.items k) (sym c.given_back-ack.ensures k)) ∙ sym c.put.ensures
 
 pub invariant_of-self-2 : goal.invariant_of-self-2
-invariant_of-self-2 c = subst (λ (sent : List Message). IsKept (slice_set c.self.inside.sites.items c.number.result c.take.new.node) sent) (sent_now c) (given c).kept
+invariant_of-self-2 c = subst (λ (sent : List Message). IsKept (slice_set c.self.inside.sites.items c.number-place.result c.take.new.node) sent) (sent_now c) (given c).kept
 
 pub returns-clause-outcome : goal.returns-clause-outcome
 returns-clause-outcome c =
     subst (λ (w : World). outcome w (Deliver c.args.index) ≡ Ok c.taken_as-outcome.result) c.self.view_is
-    ((given c).outcome ∙ ap (λ (o : Outcome). let r : Result Outcome WorldFault = Ok o in r) (ap (taken_as (verdict_told c.in-Ok.taken)) (search rules) ∙ sym c.taken_as-outcome.ensures))
+    ((given c).outcome ∙ ap (λ (o : Outcome). let r : Result Outcome WorldFault = Ok o in r) (ap (taken_as (verdict_told c.judge-taken.result)) (search rules) ∙ sym c.taken_as-outcome.ensures))
 
 pub returns-clause-made : goal.returns-clause-made
 returns-clause-made c =
-    let now : World = world_of (slice_set c.self.inside.sites.items c.number.result c.take.new.node) c.put.new.sent.items in
+    let now : World = world_of (slice_set c.self.inside.sites.items c.number-place.result c.take.new.node) c.put.new.sent.items in
     subst (λ (w : World). now ≡ after w (Deliver c.args.index)) c.self.view_is
-    (ap (world_of (slice_set c.self.inside.sites.items c.number.result c.take.new.node)) (sym (sent_now c)) ∙ (given c).made)
+    (ap (world_of (slice_set c.self.inside.sites.items c.number-place.result c.take.new.node)) (sym (sent_now c)) ∙ (given c).made)

@@ -1,0 +1,229 @@
+//! Sites of one process at once, over keepers in memory, worked out by hand, with ample memory.
+//!
+//! Each test ends by itself, and finds the same whatever the schedule.
+
+use crate::values::{event, gala, number, seats, site};
+use book_core::Limit;
+use request_ledger::{Reply, Request};
+use rights_lattice::{SiteId, Sites};
+use session_server::{LinkEnd, Site, SiteEnd, Visit, run_all};
+use site_desk::{Gate, NoGate, Place, SiteBook};
+use sql_records::{ListKeeper, Meta};
+use std::alloc::Global;
+use std::process::Abort;
+use std::sync::Wait;
+use std::sync::atomic::{AtomicU64, Ordering};
+use std::thread::{Threads, yield_now};
+
+// The book of no entries of a site of two.
+fn empty_book(rt: &impl Abort, alloc: Global, me: u64, limit: u64) -> SiteBook<ListKeeper> {
+    let meta = Meta {
+        me: site(rt, me),
+        sites: Sites::of(2).expect(rt, "a count"),
+        limit: Limit::of(limit).expect(rt, "a limit"),
+    };
+    assert!(rt; meta.me.number() < meta.sites.count());
+    match SiteBook::start(alloc, ListKeeper::new(alloc), Vec::new(alloc), meta) {
+        Ok(book) => book,
+        Err(_) => panic!(rt; "an empty history is legal"),
+    }
+}
+
+fn asked(
+    rt: &impl Abort,
+    alloc: Global,
+    book: &mut SiteBook<ListKeeper>,
+    under: u64,
+    request: Request,
+) {
+    let answer = book
+        .ask(alloc, number(rt, under), &request)
+        .expect(rt, "an answer");
+    assert_eq!(rt; answer.reply, Reply::Done);
+}
+
+// The book of site 0, which released 100 seats and ceded 40 of them to site 1.
+fn ceding_book(rt: &impl Abort, alloc: Global) -> SiteBook<ListKeeper> {
+    let mut book = empty_book(rt, alloc, 0, 10);
+    let event = gala(rt);
+    let (amount, ceded) = (seats(rt, 100), seats(rt, 40));
+    let to = site(rt, 1);
+    asked(rt, alloc, &mut book, 1, Request::Announce { event });
+    asked(rt, alloc, &mut book, 2, Request::Release { event, amount });
+    asked(
+        rt,
+        alloc,
+        &mut book,
+        3,
+        Request::Cede {
+            event,
+            amount: ceded,
+            to,
+        },
+    );
+    book
+}
+
+// Site 0, which ceded, and site 1 exchange for one round, with no session: what site 1 has then, the
+// links, and whether site 0 still has something for site 1.
+fn exchanged<R: Threads + Wait + Abort + Sync>(
+    rt: &R,
+    alloc: Global,
+    one: SiteBook<ListKeeper>,
+) -> (SiteBook<ListKeeper>, Vec<LinkEnd>, bool) {
+    let mut sites: Vec<Site<ListKeeper, &[u8], Vec<u8>>> = Vec::new(alloc);
+    let zero = ceding_book(rt, alloc);
+    sites
+        .push(Site {
+            book: zero,
+            sessions: Vec::new(alloc),
+        })
+        .expect(rt, "memory");
+    sites
+        .push(Site {
+            book: one,
+            sessions: Vec::new(alloc),
+        })
+        .expect(rt, "memory");
+    let (mut ends, links) = run_all(rt, alloc, sites, 1, 4, &NoGate).expect(rt, "threads");
+    let SiteEnd { book, finished, .. } = ends.pop().expect(rt, "site 1");
+    assert_eq!(rt; finished, Ok(()));
+    let zero = ends.pop().expect(rt, "site 0");
+    assert_eq!(rt; zero.finished, Ok(()));
+    let due = zero.book.next(alloc, site(rt, 1)).expect(rt, "memory");
+    assert!(rt; ends.is_empty());
+    (book, links, due.is_some())
+}
+
+fn link_end(rt: &impl Abort, by: u64, to: u64, acks: bool, put: u64, refused: u64) -> LinkEnd {
+    LinkEnd {
+        by: site(rt, by),
+        to: site(rt, to),
+        acks,
+        put,
+        got: put,
+        refused,
+    }
+}
+
+// A thread that never sends or never receives fails here.
+#[test]
+fn a_cession_goes_over_a_link(rt: HostRuntime) {
+    let alloc = rt.alloc();
+    let (book, links, is_due) = exchanged(&rt, alloc, empty_book(&rt, alloc, 1, 10));
+    assert!(rt; !is_due);
+    let seen = book.look(gala(&rt)).expect(&rt, "a look");
+    assert_eq!(rt; seen.left, 40);
+    assert_eq!(rt; links.len(), 4);
+    assert_eq!(rt; links[0], link_end(&rt, 0, 1, false, 1, 0));
+    assert_eq!(rt; links[3], link_end(&rt, 1, 0, true, 1, 0));
+}
+
+// What is refused is counted and not acknowledged.
+#[test]
+fn a_full_site_refuses_a_delta(rt: HostRuntime) {
+    let alloc = rt.alloc();
+    let mut full = empty_book(&rt, alloc, 1, 1);
+    let expo = event(&rt, b"expo");
+    asked(&rt, alloc, &mut full, 1, Request::Announce { event: expo });
+    let (book, links, is_due) = exchanged(&rt, alloc, full);
+    assert!(rt; is_due);
+    assert_eq!(rt; book.book().len(), 1);
+    assert_eq!(rt; links.len(), 4);
+    assert_eq!(rt; links[0], link_end(&rt, 0, 1, false, 1, 1));
+    assert_eq!(rt; links[3], link_end(&rt, 1, 0, true, 0, 0));
+}
+
+// Holds session 1 before its line until session 0 is inside site 0, and session 0 there until session 1 is answered.
+#[derive(Drop)]
+struct Crossing {
+    inside: AtomicU64,
+    answered: AtomicU64,
+    missed: AtomicU64,
+}
+
+impl Crossing {
+    // Waits until the flag is raised, and notes where the turns run out.
+    fn wait_for(&self, flag: &AtomicU64) {
+        for _ in 0..1_000_000u64 {
+            if flag.load(Ordering::SeqCst) == 1 {
+                return;
+            }
+            yield_now();
+        }
+        self.missed.store(1, Ordering::SeqCst);
+    }
+
+    // At site 0 alone: tells session 1 to go on, and waits for its answer.
+    fn hold(&self, site: SiteId) {
+        if site.number() == 0 {
+            self.inside.store(1, Ordering::SeqCst);
+            self.wait_for(&self.answered);
+        }
+    }
+}
+
+impl Gate for Crossing {
+    fn pass<R: Wait>(&self, _rt: &R, place: Place) {
+        match place {
+            Place::Asking {
+                session: 1,
+                line: 1,
+            } => self.wait_for(&self.inside),
+            Place::Inside { site } => self.hold(site),
+            Place::Answered {
+                session: 1,
+                line: 1,
+            } => self.answered.store(1, Ordering::SeqCst),
+            _ => {}
+        }
+    }
+}
+
+// An empty site to which one session comes.
+fn visited<'a>(
+    rt: &impl Abort,
+    alloc: Global,
+    me: u64,
+    reader: &'a [u8],
+) -> Site<ListKeeper, &'a [u8], Vec<u8>> {
+    let mut sessions = Vec::new(alloc);
+    let visit = Visit {
+        id: me,
+        reader,
+        writer: Vec::new(alloc),
+    };
+    sessions.push(visit).expect(rt, "memory");
+    Site {
+        book: empty_book(rt, alloc, me, 10),
+        sessions,
+    }
+}
+
+// One lock for all sites, or one thread, fails here: each site's session waits for the other's.
+#[test]
+fn two_sites_sell_at_once(rt: HostRuntime) {
+    let alloc = rt.alloc();
+    let gate = Crossing {
+        inside: AtomicU64::new(0),
+        answered: AtomicU64::new(0),
+        missed: AtomicU64::new(0),
+    };
+    let mut sites = Vec::new(alloc);
+    let there = visited(&rt, alloc, 0, b"announce 1 gala\n");
+    sites.push(there).expect(&rt, "memory");
+    let here = visited(&rt, alloc, 1, b"announce 1 expo\n");
+    sites.push(here).expect(&rt, "memory");
+    let (ends, links) = run_all(&rt, alloc, sites, 0, 1, &gate).expect(&rt, "threads");
+    assert_eq!(rt; (ends.len(), links.len()), (2, 4));
+    for end in &ends {
+        assert_eq!(rt; end.finished, Ok(()));
+        assert_eq!(rt; end.book.book().len(), 1);
+        assert_eq!(rt; end.sessions.len(), 1);
+        for session in &end.sessions {
+            let written = session.writer.as_ref().expect(&rt, "a thread");
+            assert_eq!(rt; written.as_slice(), b"done\n".as_slice());
+        }
+    }
+    assert_eq!(rt; gate.missed.load(Ordering::SeqCst), 0);
+}

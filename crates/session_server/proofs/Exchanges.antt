@@ -1,0 +1,123 @@
+-- An exchange, message by message and peer by peer.
+use Rattle.std.proofs.Common.{◌≡◌, ℕ, ◌+◌, ◌≤◌, List, [], ◌∷◌, ◌++◌, length, inl, inr, Option, Some, None, refl, sym, ap, ◌∙◌, subst, arith}
+use Rattle.std.specs.Prelude.{◌⊎◌, MatchResult, map}
+use Rattle.std.proofs.Common.{Result, Ok, Err}
+use Rattle.std.proofs.lemmas.List.{append-nil, length_push}
+use Rattle.std.specs.List.{filter_map, AllZip, cons_option}
+use Rattle.std.proofs.lemmas.List.Elements.{filter_map-append}
+use Rattle.link_queue.specs.End.{End, end_of}
+use Rattle.site_exchange.specs.declared.message.Message.{Message}
+use Rattle.site_exchange.specs.Exchange.{ack_for}
+use Rattle.session_server.specs.Exchanged.{IsSubsequence, Acknowledges, Exchanged, Sent, Received, HasSent, HasReceived, outgoing, incoming}
+use Rattle.session_server.specs.declared.peer.Peer.{Peer}
+use Rattle.session_server.specs.declared.peer.PeerEnd.{PeerEnd}
+use Rattle.session_server.specs.declared.sending.Outgoing.{Outgoing}
+use Rattle.session_server.specs.declared.sending.OutgoingEnd.{OutgoingEnd}
+use Rattle.session_server.specs.declared.receiving.Incoming.{Incoming}
+use Rattle.session_server.specs.declared.receiving.IncomingEnd.{IncomingEnd}
+
+pub subsequence_end : {X : Type 0} (xs ys zs : List X) → IsSubsequence xs ys → IsSubsequence xs (ys ++ zs)
+subsequence_end [] ys zs h = tt
+subsequence_end (x ∷ xs) [] zs h = absurd h
+subsequence_end (x ∷ xs) (y ∷ ys) zs (inl h) = inl (h.0, subsequence_end xs ys zs h.1)
+subsequence_end (x ∷ xs) (y ∷ ys) zs (inr h) = inr (subsequence_end (x ∷ xs) ys zs h)
+
+pub subsequence_push : {X : Type 0} (xs ys : List X) (z : X) → IsSubsequence xs ys → IsSubsequence (xs ++ z ∷ []) (ys ++ z ∷ [])
+subsequence_push [] [] z h = inl (refl, tt)
+subsequence_push [] (y ∷ ys) z h = inr (subsequence_push [] ys z tt)
+subsequence_push (x ∷ xs) [] z h = absurd h
+subsequence_push (x ∷ xs) (y ∷ ys) z (inl h) = inl (h.0, subsequence_push xs ys z h.1)
+subsequence_push (x ∷ xs) (y ∷ ys) z (inr h) = inr (subsequence_push (x ∷ xs) ys z h)
+
+pub all_zip_push : {A B : Type 0} (R : A → B → Type 0) (xs : List A) (ys : List B) (x : A) (y : B) → AllZip R xs ys → R x y → AllZip R (xs ++ x ∷ []) (ys ++ y ∷ [])
+all_zip_push R [] [] x y h r = (r, tt)
+all_zip_push R [] (b ∷ bs) x y h r = absurd h
+all_zip_push R (a ∷ rest) [] x y h r = absurd h
+all_zip_push R (a ∷ rest) (b ∷ bs) x y h r = (h.0, all_zip_push R rest bs x y h.1 r)
+
+associative : {X : Type 0} (xs ys zs : List X) → (xs ++ ys) ++ zs ≡ xs ++ (ys ++ zs)
+associative [] ys zs = refl
+associative (x ∷ xs) ys zs = ap (λ t. x ∷ t) (associative xs ys zs)
+
+-- one more at the end
+one_more : {X : Type 0} (xs ys now now' : List X) (y : X) → now ≡ xs ++ ys → now' ≡ now ++ y ∷ [] → now' ≡ xs ++ (ys ++ y ∷ [])
+one_more xs ys now now' y p q = q ∙ ap (λ l. l ++ y ∷ []) p ∙ associative xs ys (y ∷ [])
+
+pub nothing_came : (came sent : List Message) → Acknowledges came sent 0 came sent
+nothing_came came sent = record { got = []; put = []; more_came = sym (append-nil came); more_sent = sym (append-nil sent); due = tt; counted = omega (arith) }
+
+-- a message came, and its acknowledgement was sent
+pub sent_for : (came sent came1 sent1 came2 sent2 : List Message) (refused : ℕ) (m a : Message) → Acknowledges came sent refused came1 sent1
+    → Some a ≡ ack_for m → came2 ≡ came1 ++ m ∷ [] → sent2 ≡ sent1 ++ a ∷ [] → Acknowledges came sent refused came2 sent2
+sent_for came sent came1 sent1 came2 sent2 refused m a h is p q = record {
+  got = h.got ++ m ∷ [];
+  put = h.put ++ a ∷ [];
+  more_came = one_more came h.got came1 came2 m h.more_came p;
+  more_sent = one_more sent h.put sent1 sent2 a h.more_sent q;
+  due = subst (IsSubsequence (h.put ++ a ∷ [])) (ap (λ o. filter_map ack_for h.got ++ cons_option o []) is ∙ sym (filter_map-append ack_for h.got (m ∷ []))) (subsequence_push h.put (filter_map ack_for h.got) a h.due);
+  counted = omega (arith, h.counted, length_push h.put a, length_push h.got m);
+}
+
+-- a message came, and nothing was sent for it; it may have been refused
+pub came_more : (came sent came1 sent1 came2 sent2 : List Message) (refused refused2 : ℕ) (m : Message) → Acknowledges came sent refused came1 sent1
+    → came2 ≡ came1 ++ m ∷ [] → sent2 ≡ sent1 → refused2 ≤ refused + 1 → Acknowledges came sent refused2 came2 sent2
+came_more came sent came1 sent1 came2 sent2 refused refused2 m h p q r = record {
+  got = h.got ++ m ∷ [];
+  put = h.put;
+  more_came = one_more came h.got came1 came2 m h.more_came p;
+  more_sent = q ∙ h.more_sent;
+  due = subst (IsSubsequence h.put) (sym (filter_map-append ack_for h.got (m ∷ []))) (subsequence_end h.put (filter_map ack_for h.got) (filter_map ack_for (m ∷ [])) h.due);
+  counted = omega (arith, h.counted, length_push h.got m, r);
+}
+
+-- the acknowledgement was sent, or it came back
+pub sent_or_back : (came sent came1 came2 : List Message) (tx tx2 : End) (refused : ℕ) (m a : Message) (result : Result (Unit {0}) Message) → Acknowledges came sent refused came1 tx.messages
+    → Some a ≡ ack_for m → came2 ≡ came1 ++ m ∷ [] → MatchResult result (λ _. tx2 ≡ end_of tx.link (tx.messages ++ a ∷ [])) (λ back. (back ≡ a) × (tx2 ≡ tx))
+    → (tx2.link ≡ tx.link) × Acknowledges came sent refused came2 tx2.messages
+sent_or_back came sent came1 came2 tx tx2 refused m a (Ok done) h is p q = (ap (λ e. e.link) q, sent_for came sent came1 tx.messages came2 tx2.messages refused m a h is p (ap (λ e. e.messages) q))
+sent_or_back came sent came1 came2 tx tx2 refused m a (Err back) h is p q = (ap (λ e. e.link) q.1, came_more came sent came1 tx.messages came2 tx2.messages refused refused m h p (ap (λ e. e.messages) q.1) (omega (arith)))
+
+pub sent_from : (xs ys : List Outgoing) (es : List OutgoingEnd) → map (λ o. o.to) ys ≡ map (λ o. o.to) xs → map (λ o. o.tx.link) ys ≡ map (λ o. o.tx.link) xs → AllZip Sent ys es → AllZip Sent xs es
+sent_from [] [] es p q h = h
+sent_from [] (y ∷ ys) es p q h = cc
+sent_from (x ∷ xs) [] es p q h = cc
+sent_from (x ∷ xs) (y ∷ ys) [] p q h = absurd h
+sent_from (x ∷ xs) (y ∷ ys) (e ∷ es) p q h = (record { to = h.0.to ∙ head_same _ _ _ _ p; link = h.0.link ∙ head_same _ _ _ _ q }, sent_from xs ys es (tail_same _ _ _ _ p) (tail_same _ _ _ _ q) h.1)
+  where
+    head_same : {X : Type 0} (a b : X) (xs ys : List X) → a ∷ xs ≡ b ∷ ys → a ≡ b
+    head_same a b xs ys e = cc
+
+    tail_same : {X : Type 0} (a b : X) (xs ys : List X) → a ∷ xs ≡ b ∷ ys → xs ≡ ys
+    tail_same a b xs ys e = cc
+
+-- the same by other names
+told : (came sent : List Message) (n n2 : ℕ) (rx rx2 tx tx2 : End) → n2 ≡ n → rx2 ≡ rx → tx2 ≡ tx → Acknowledges came sent n rx.messages tx.messages → Acknowledges came sent n2 rx2.messages tx2.messages
+told came sent n n2 rx rx2 tx tx2 a b c h =
+    subst (λ (m : ℕ). Acknowledges came sent m rx2.messages tx2.messages) (sym a)
+    (subst (λ (r : End). Acknowledges came sent n r.messages tx2.messages) (sym b)
+    (subst (λ (t : End). Acknowledges came sent n rx.messages t.messages) (sym c) h))
+
+pub exchanged : (ps : List Peer) (os : List OutgoingEnd) (is : List IncomingEnd) (es : List PeerEnd)
+    → AllZip Sent (map outgoing ps) os → AllZip Received (map incoming ps) is → AllZip HasSent os es → AllZip HasReceived is es → AllZip Exchanged ps es
+exchanged [] [] [] [] s r hs hr = tt
+exchanged [] [] [] (e ∷ es) s r hs hr = absurd hs
+exchanged [] [] (i ∷ is) es s r hs hr = absurd r
+exchanged [] (o ∷ os) is es s r hs hr = absurd s
+exchanged (p ∷ ps) [] is es s r hs hr = absurd s
+exchanged (p ∷ ps) (o ∷ os) [] es s r hs hr = absurd r
+exchanged (p ∷ ps) (o ∷ os) (i ∷ is) [] s r hs hr = absurd hs
+exchanged (p ∷ ps) (o ∷ os) (i ∷ is) (e ∷ es) s r hs hr = (one p o i e s.0 r.0 hs.0 hr.0, exchanged ps os is es s.1 r.1 hs.1 hr.1)
+  where
+    one : (p : Peer) (o : OutgoingEnd) (i : IncomingEnd) (e : PeerEnd) → Sent (outgoing p) o → Received (incoming p) i → HasSent o e → HasReceived i e → Exchanged p e
+    one p o i e s r hs hr = record {
+      to = hs.to ∙ s.to;
+      delta_tx = ap (λ t. t.link) hs.delta_tx ∙ s.link;
+      ack_tx = ap (λ t. t.link) hr.ack_tx ∙ r.ack_tx;
+      delta_rx = ap (λ t. t.link) hr.delta_rx ∙ r.delta_rx;
+      ack_rx = ap (λ t. t.link) hr.ack_rx ∙ r.ack_rx;
+      acknowledged = told _ _ _ _ _ _ _ _ hr.refused hr.delta_rx hr.ack_tx r.acknowledged;
+    }
+
+-- one pair more at the ends of two lists
+pub paired : {A B : Type 0} (R : A → B → Type 0) (xs xs' : List A) (ys ys' : List B) (x : A) (y : B) → xs ≡ xs' ++ x ∷ [] → ys ≡ ys' ++ y ∷ [] → AllZip R xs' ys' → R x y → AllZip R xs ys
+paired R xs xs' ys ys' x y p q h r = subst (λ l. AllZip R l ys) (sym p) (subst (λ l. AllZip R (xs' ++ x ∷ []) l) (sym q) (all_zip_push R xs' ys' x y h r))

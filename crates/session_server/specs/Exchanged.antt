@@ -1,0 +1,67 @@
+-- What an exchange leaves of the links to a peer. (That a replica acknowledges what it joined: JPDC 2018; the links: our own.)
+use Rattle.std.specs.Prelude.{◌≡◌, ℕ, ◌+◌, ◌≤◌, List, [], ◌∷◌, ◌++◌, length, ◌⊎◌}
+use Rattle.std.specs.List.{filter_map}
+use Rattle.site_exchange.specs.declared.message.Message.{Message}
+use Rattle.site_exchange.specs.Exchange.{ack_for}
+use Rattle.session_server.specs.declared.peer.Peer.{Peer}
+use Rattle.session_server.specs.declared.peer.PeerEnd.{PeerEnd}
+use Rattle.session_server.specs.declared.sending.Outgoing.{Outgoing}
+use Rattle.session_server.specs.declared.sending.OutgoingEnd.{OutgoingEnd}
+use Rattle.session_server.specs.declared.receiving.Incoming.{Incoming}
+use Rattle.session_server.specs.declared.receiving.IncomingEnd.{IncomingEnd}
+
+-- the first list is the second with some elements left out
+abbrev pub IsSubsequence : {X : Type 0} → List X → List X → Type 0
+IsSubsequence [] ys = Unit {0}
+IsSubsequence (x ∷ xs) [] = ⊥
+IsSubsequence (x ∷ xs) (y ∷ ys) = ((x ≡ y) × IsSubsequence xs ys) ⊎ IsSubsequence (x ∷ xs) ys
+
+-- Since there were these messages, more came and more were sent: what was sent acknowledges messages that came, in their
+-- order, and with those that were refused they are no more than came.
+pub record Acknowledges (came sent : List Message) (refused : ℕ) (came_now sent_now : List Message) : Type 0 where
+  pub got : List Message
+  pub put : List Message
+  pub more_came : came_now ≡ came ++ got
+  pub more_sent : sent_now ≡ sent ++ put
+  pub due : IsSubsequence put (filter_map ack_for got)
+  pub counted : length put + refused ≤ length got
+
+-- the ends are those of the peer's links, and what was sent back acknowledges what came
+pub record Exchanged (peer : Peer) (end : PeerEnd) : Type 0 where
+  pub to : end.to ≡ peer.to
+  pub delta_tx : end.delta_tx.link ≡ peer.delta_tx.link
+  pub ack_tx : end.ack_tx.link ≡ peer.ack_tx.link
+  pub delta_rx : end.delta_rx.link ≡ peer.delta_rx.link
+  pub ack_rx : end.ack_rx.link ≡ peer.ack_rx.link
+  pub acknowledged : Acknowledges peer.delta_rx.messages peer.ack_tx.messages end.deltas_refused end.delta_rx.messages end.ack_tx.messages
+
+-- what goes to a peer, and what comes from it
+abbrev pub outgoing : Peer → Outgoing
+outgoing peer = record { to = peer.to; tx = peer.delta_tx }
+
+abbrev pub incoming : Peer → Incoming
+incoming peer = record { delta_rx = peer.delta_rx; ack_tx = peer.ack_tx; ack_rx = peer.ack_rx }
+
+-- the end of a link that was sent on
+pub record Sent (out : Outgoing) (end : OutgoingEnd) : Type 0 where
+  pub to : end.to ≡ out.to
+  pub link : end.tx.link ≡ out.tx.link
+
+-- the ends of the links that were received on, with what was acknowledged
+pub record Received (before : Incoming) (after : IncomingEnd) : Type 0 where
+  pub delta_rx : after.delta_rx.link ≡ before.delta_rx.link
+  pub ack_tx : after.ack_tx.link ≡ before.ack_tx.link
+  pub ack_rx : after.ack_rx.link ≡ before.ack_rx.link
+  pub acknowledged : Acknowledges before.delta_rx.messages before.ack_tx.messages after.deltas_refused after.delta_rx.messages after.ack_tx.messages
+
+-- the part of a peer's end that was sent on, and the part that was received on
+pub record HasSent (out : OutgoingEnd) (end : PeerEnd) : Type 0 where
+  pub to : end.to ≡ out.to
+  pub delta_tx : end.delta_tx ≡ out.tx
+
+pub record HasReceived (before : IncomingEnd) (end : PeerEnd) : Type 0 where
+  pub delta_rx : end.delta_rx ≡ before.delta_rx
+  pub ack_tx : end.ack_tx ≡ before.ack_tx
+  pub ack_rx : end.ack_rx ≡ before.ack_rx
+  pub refused : end.deltas_refused ≡ before.deltas_refused
+  pub acks_refused : end.acks_refused ≡ before.acks_refused

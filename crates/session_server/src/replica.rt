@@ -1,0 +1,50 @@
+//! A desk as its links see it.
+
+ghost use Rattle.std.specs.Prelude.{◌≡◌, IfOk, IfSome};
+ghost use Rattle.site_exchange.specs.Exchange.{ack_for, receiver};
+
+use rights_lattice::SiteId;
+use site_desk::{Desk, Opens, Taken};
+use site_exchange::Message;
+use sql_records::Keeper;
+use std::alloc::Global;
+use std::sync::Wait;
+
+// Why a message was not taken: links count it, and no more.
+#[derive(Clone, Copy, PartialEq, Eq, Debug)]
+pub(crate) struct Refused;
+
+// A replica that threads share, of which messages are asked and to which they come.
+pub(crate) trait Replica {
+    // The message that is due to a peer, if there is one and it could be made.
+    fn next<R: Wait>(&self, rt: &R, to: SiteId) -> Option<Message>
+        ensures { IfSome result (λ message. receiver message ≡ to) };
+
+    // Takes a message, and gives the acknowledgement that is due for it.
+    fn take<R: Wait>(&self, rt: &R, message: Message) -> Result<Option<Message>, Refused>
+        ensures { IfOk result (λ ack. ack ≡ ack_for message) };
+}
+
+// The replica behind a desk.
+#[derive(Drop)]
+pub(crate) struct DeskReplica<'a, K: Keeper, L: Opens> {
+    pub(crate) alloc: Global,
+    pub(crate) desk: &'a Desk<K, L>,
+}
+
+impl<'a, K: Keeper, L: Opens> Replica for DeskReplica<'a, K, L> {
+    fn next<R: Wait>(&self, rt: &R, to: SiteId) -> Option<Message> {
+        match self.desk.next(rt, self.alloc, to) {
+            Ok(message) => message,
+            Err(_) => None,
+        }
+    }
+
+    fn take<R: Wait>(&self, rt: &R, message: Message) -> Result<Option<Message>, Refused> {
+        match self.desk.take(rt, message) {
+            Ok(Taken::Joined { ack } | Taken::NothingNew { ack }) => Ok(Some(ack)),
+            Ok(Taken::Acked) => Ok(None),
+            Err(_) => Err(Refused),
+        }
+    }
+}

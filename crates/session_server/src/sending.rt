@@ -1,0 +1,101 @@
+//! The thread that sends to all peers.
+
+ghost use Rattle.std.specs.Prelude.{◌≡◌, ◌≤◌, [], map, vec_len, vec_capacity};
+ghost use Rattle.std.specs.List.{AllZip};
+ghost use Rattle.session_server.specs.Exchanged.{Sent};
+
+use crate::replica::Replica;
+use link_queue::{Tx, TxEnd};
+use rights_lattice::SiteId;
+use std::snapshot::Snapshot;
+use std::sync::Wait;
+use std::thread::Promise;
+
+// What goes to a peer.
+#[derive(Drop)]
+pub(crate) struct Outgoing {
+    pub(crate) to: SiteId,
+    pub(crate) tx: Tx,
+}
+
+#[derive(Drop)]
+pub(crate) struct OutgoingEnd {
+    pub(crate) to: SiteId,
+    pub(crate) tx: TxEnd,
+}
+
+// The links that the sending thread was begun with.
+#[derive(Drop)]
+pub(crate) struct LinksOf {
+    pub(crate) outs: Snapshot<Vec<Outgoing>>,
+}
+
+impl Promise<Vec<OutgoingEnd>> for LinksOf {
+    ghost kept_by = { λ p r. AllZip Sent p.outs.value.items r.items × (vec_len r ≡ vec_len p.outs.value) };
+}
+
+// Sends for so many rounds, and ends each link.
+#[tactic(auto, using(crate::proofs::Exchanges::sent_from))]
+pub(crate) fn send_all<S: Replica, R: Wait>(
+    rt: &R,
+    replica: &S,
+    outs: Vec<Outgoing>,
+    ends: Vec<OutgoingEnd>,
+    rounds: u64,
+) -> Vec<OutgoingEnd>
+    requires room { vec_len outs ≤ vec_capacity ends }
+    requires empty { ends.items ≡ [] }
+    ensures sent { AllZip Sent outs.items result.items }
+    ensures len { vec_len result ≡ vec_len outs }
+{
+    let mut outs = outs;
+    let mut ends = ends;
+    send_rounds(rt, replica, &mut outs, rounds);
+    end_from(rt, outs, &mut ends);
+    ends
+}
+
+fn send_rounds<S: Replica, R: Wait>(rt: &R, replica: &S, outs: &mut Vec<Outgoing>, rounds: u64)
+    ensures to { map (λ o. o.to) outs.new.items ≡ map (λ o. o.to) outs.old.items }
+    ensures link { map (λ o. o.tx.link) outs.new.items ≡ map (λ o. o.tx.link) outs.old.items }
+    ensures len { vec_len outs.new ≡ vec_len outs.old }
+{
+    for _ in 0..rounds {
+        send_round(rt, replica, outs);
+    }
+}
+
+// One round: what is next for each peer is sent.
+fn send_round<S: Replica, R: Wait>(rt: &R, replica: &S, outs: &mut Vec<Outgoing>)
+    ensures to { map (λ o. o.to) outs.new.items ≡ map (λ o. o.to) outs.old.items }
+    ensures link { map (λ o. o.tx.link) outs.new.items ≡ map (λ o. o.tx.link) outs.old.items }
+    ensures len { vec_len outs.new ≡ vec_len outs.old }
+{
+    for k in 0..outs.len() {
+        send_next(rt, replica, &mut outs[k]);
+    }
+}
+
+// Sends what is next for one peer. A message that comes back is due again in the next round.
+fn send_next<S: Replica, R: Wait>(rt: &R, replica: &S, out: &mut Outgoing)
+    ensures { (out.new.to ≡ out.old.to) × (out.new.tx.link ≡ out.old.tx.link) }
+{
+    if let Some(message) = replica.next(rt, out.to) {
+        let _ = out.tx.send(rt, message);
+    }
+}
+
+// Ends the last link after the others.
+fn end_from<R: Wait>(rt: &R, mut outs: Vec<Outgoing>, ends: &mut Vec<OutgoingEnd>)
+    requires empty { ends.old.items ≡ [] }
+    requires room { vec_len outs ≤ vec_capacity ends.old }
+    ensures sent { AllZip Sent outs.items ends.new.items }
+    ensures room { (vec_len ends.new ≡ vec_len outs) × (vec_capacity ends.new ≡ vec_capacity ends.old) }
+{
+    let Some(Outgoing { to, tx }) = outs.pop() else {
+        return;
+    };
+    end_from(rt, outs, ends);
+    let tx = tx.end(rt);
+    ends.push_reserved(OutgoingEnd { to, tx });
+}
