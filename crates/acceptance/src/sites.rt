@@ -5,7 +5,7 @@
 use crate::values::{event, gala, number, seats, site};
 use book_core::Limit;
 use request_ledger::{Reply, Request};
-use rights_lattice::{SiteId, Sites};
+use rights_lattice::Sites;
 use session_server::{LinkEnd, Site, SiteEnd, Visit, run_all};
 use site_desk::{Gate, NoGate, Place, SiteBook};
 use sql_records::{ListKeeper, Meta};
@@ -15,11 +15,17 @@ use std::sync::Wait;
 use std::sync::atomic::{AtomicU64, Ordering};
 use std::thread::{Threads, yield_now};
 
-// The book of no entries of a site of two.
-fn empty_book(rt: &impl Abort, alloc: Global, me: u64, limit: u64) -> SiteBook<ListKeeper> {
+// The book of no entries of one of so many sites.
+fn empty_book(
+    rt: &impl Abort,
+    alloc: Global,
+    me: u64,
+    among: u64,
+    limit: u64,
+) -> SiteBook<ListKeeper> {
     let meta = Meta {
         me: site(rt, me),
-        sites: Sites::of(2).expect(rt, "a count"),
+        sites: Sites::of(among).expect(rt, "a count"),
         limit: Limit::of(limit).expect(rt, "a limit"),
     };
     assert!(rt; meta.me.number() < meta.sites.count());
@@ -43,8 +49,8 @@ fn asked(
 }
 
 // The book of site 0, which released 100 seats and ceded 40 of them to site 1.
-fn ceding_book(rt: &impl Abort, alloc: Global) -> SiteBook<ListKeeper> {
-    let mut book = empty_book(rt, alloc, 0, 10);
+fn ceding_book(rt: &impl Abort, alloc: Global, among: u64) -> SiteBook<ListKeeper> {
+    let mut book = empty_book(rt, alloc, 0, among, 10);
     let event = gala(rt);
     let (amount, ceded) = (seats(rt, 100), seats(rt, 40));
     let to = site(rt, 1);
@@ -72,7 +78,7 @@ fn exchanged<R: Threads + Wait + Abort + Sync>(
     one: SiteBook<ListKeeper>,
 ) -> (SiteBook<ListKeeper>, Vec<LinkEnd>, bool) {
     let mut sites: Vec<Site<ListKeeper, &[u8], Vec<u8>>> = Vec::new(alloc);
-    let zero = ceding_book(rt, alloc);
+    let zero = ceding_book(rt, alloc, 2);
     sites
         .push(Site {
             book: zero,
@@ -110,7 +116,7 @@ fn link_end(rt: &impl Abort, by: u64, to: u64, acks: bool, put: u64, refused: u6
 #[test]
 fn a_cession_goes_over_a_link(rt: HostRuntime) {
     let alloc = rt.alloc();
-    let (book, links, is_due) = exchanged(&rt, alloc, empty_book(&rt, alloc, 1, 10));
+    let (book, links, is_due) = exchanged(&rt, alloc, empty_book(&rt, alloc, 1, 2, 10));
     assert!(rt; !is_due);
     let seen = book.look(gala(&rt)).expect(&rt, "a look");
     assert_eq!(rt; seen.left, 40);
@@ -123,7 +129,7 @@ fn a_cession_goes_over_a_link(rt: HostRuntime) {
 #[test]
 fn a_full_site_refuses_a_delta(rt: HostRuntime) {
     let alloc = rt.alloc();
-    let mut full = empty_book(&rt, alloc, 1, 1);
+    let mut full = empty_book(&rt, alloc, 1, 2, 1);
     let expo = event(&rt, b"expo");
     asked(&rt, alloc, &mut full, 1, Request::Announce { event: expo });
     let (book, links, is_due) = exchanged(&rt, alloc, full);
@@ -132,6 +138,55 @@ fn a_full_site_refuses_a_delta(rt: HostRuntime) {
     assert_eq!(rt; links.len(), 4);
     assert_eq!(rt; links[0], link_end(&rt, 0, 1, false, 1, 1));
     assert_eq!(rt; links[3], link_end(&rt, 1, 0, true, 0, 0));
+}
+
+// A site with no session.
+fn quiet(book: SiteBook<ListKeeper>, alloc: Global) -> Site<ListKeeper, &'static [u8], Vec<u8>> {
+    Site {
+        book,
+        sessions: Vec::new(alloc),
+    }
+}
+
+// Three sites, of which site 0 ceded 40 seats to site 1 and 20 to site 2, exchange for one round.
+fn exchanged_by_three<R: Threads + Wait + Abort + Sync>(
+    rt: &R,
+    alloc: Global,
+) -> Vec<SiteEnd<ListKeeper, &'static [u8], Vec<u8>>> {
+    let mut zero = ceding_book(rt, alloc, 3);
+    let cede = Request::Cede {
+        event: gala(rt),
+        amount: seats(rt, 20),
+        to: site(rt, 2),
+    };
+    asked(rt, alloc, &mut zero, 4, cede);
+    let mut sites = Vec::new(alloc);
+    sites.push(quiet(zero, alloc)).expect(rt, "memory");
+    for me in 1..3u64 {
+        let book = empty_book(rt, alloc, me, 3, 10);
+        sites.push(quiet(book, alloc)).expect(rt, "memory");
+    }
+    let (ends, links) = run_all(rt, alloc, sites, 1, 4, &NoGate).expect(rt, "threads");
+    assert_eq!(rt; (ends.len(), links.len()), (3, 12));
+    ends
+}
+
+// What a site may sell behind an exchange.
+fn left_of(rt: &impl Abort, end: Option<SiteEnd<ListKeeper, &[u8], Vec<u8>>>) -> u64 {
+    let SiteEnd { book, finished, .. } = end.expect(rt, "a site");
+    assert_eq!(rt; finished, Ok(()));
+    book.look(gala(rt)).expect(rt, "a look").left
+}
+
+// A thread that sends one peer's message to another fails here.
+#[test]
+fn each_peer_is_sent_its_own_message(rt: HostRuntime) {
+    let alloc = rt.alloc();
+    let mut ends = exchanged_by_three(&rt, alloc);
+    assert_eq!(rt; left_of(&rt, ends.pop()), 20);
+    assert_eq!(rt; left_of(&rt, ends.pop()), 40);
+    assert_eq!(rt; left_of(&rt, ends.pop()), 40);
+    assert!(rt; ends.is_empty());
 }
 
 // Holds session 1 before its line until session 0 is inside site 0, and session 0 there until session 1 is answered.
@@ -154,9 +209,9 @@ impl Crossing {
         self.missed.store(1, Ordering::SeqCst);
     }
 
-    // At site 0 alone: tells session 1 to go on, and waits for its answer.
-    fn hold(&self, site: SiteId) {
-        if site.number() == 0 {
+    // The first inside a site, which is session 0 since the other waits, lets session 1 go on and waits for its answer.
+    fn hold(&self) {
+        if self.inside.load(Ordering::SeqCst) == 0 {
             self.inside.store(1, Ordering::SeqCst);
             self.wait_for(&self.answered);
         }
@@ -170,7 +225,7 @@ impl Gate for Crossing {
                 session: 1,
                 line: 1,
             } => self.wait_for(&self.inside),
-            Place::Inside { site } => self.hold(site),
+            Place::Inside { .. } => self.hold(),
             Place::Answered {
                 session: 1,
                 line: 1,
@@ -195,7 +250,7 @@ fn visited<'a>(
     };
     sessions.push(visit).expect(rt, "memory");
     Site {
-        book: empty_book(rt, alloc, me, 10),
+        book: empty_book(rt, alloc, me, 2, 10),
         sessions,
     }
 }
