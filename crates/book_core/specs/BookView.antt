@@ -1,7 +1,7 @@
 -- What contracts see of a book. (Our own.)
 use Rattle.std.specs.Prelude.{◌≡◌, ℕ, ◌≤◌, ◌<◌, List, length, None}
 use Rattle.request_ledger.specs.Ledger.{Keeping, kept_under, IsRefundable}
-use Rattle.rights_lattice.specs.Cells.{Cells, Valued, marks_of, greatest}
+use Rattle.rights_lattice.specs.Cells.{Cells, Valued, RowAtOrBelow, marks_of, greatest}
 use Rattle.rights_lattice.specs.RightsView.{IsCellOf}
 use Rattle.rights_lattice.specs.declared.cell.Cell.{Cell}
 use Rattle.rights_lattice.specs.State.{names_in_order}
@@ -22,6 +22,10 @@ pub record BookView : Type 0 where
   pub office : Office
   pub history : List Entry
   pub room : Room
+
+-- what the viewer shows of the owner's row is at or below what the owner shows of it
+abbrev pub SeesWithin : BookView → BookView → Type 0
+SeesWithin viewer owner = RowAtOrBelow owner.office.me (state_of viewer.history).cells (state_of owner.history).cells
 
 -- how many request numbers an entry takes
 abbrev pub numbers_in : Entry → ℕ

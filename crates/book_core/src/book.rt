@@ -1,5 +1,5 @@
 //! The book of a site.
-ghost use Rattle.std.specs.Prelude.{vec_len, vec_capacity, nat_le, IsOk, IfOk, IfErr, OnOk, ◌++◌, ◌∷◌, ◌≡◌, ℕ, ◌<◌, ◌≤◌, [], length, slice_get, Some, None};
+ghost use Rattle.std.specs.Prelude.{vec_len, vec_capacity, nat_le, IsTrue, ◌↔◌, IsOk, IfOk, IfErr, OnOk, ◌++◌, ◌∷◌, ◌≡◌, ℕ, ◌<◌, ◌≤◌, [], length, slice_get, Some, None};
 ghost use Rattle.std.specs.Option.{option_copied};
 ghost use Rattle.rights_lattice.specs.Cells.{value_at, raise_all, max_value};
 ghost use Rattle.rights_lattice.specs.State.{knows};
@@ -8,7 +8,7 @@ ghost use Rattle.request_ledger.specs.Ledger.{kept_under, IsRefundable};
 ghost use Rattle.book_core.specs.History.{state_of, kept, sale_of, names_of, asked_from};
 ghost use Rattle.book_core.specs.Decision.{own_left};
 ghost use Rattle.book_core.specs.Legal.{IsLegal};
-ghost use Rattle.book_core.specs.BookView.{HasRoomFor, IsUnkept, KeepsRefunds, MakesNoRoom, MarksAreWithin, numbers_in};
+ghost use Rattle.book_core.specs.BookView.{HasRoomFor, IsUnkept, KeepsRefunds, MakesNoRoom, MarksAreWithin, SeesWithin, numbers_in};
 ghost use Rattle.book_core.specs.OwnRow.{HasOwnRights, LeavesOwnRow};
 ghost use Rattle.book_core.specs.Plans.{IsReady};
 ghost use Rattle.book_core.specs.declared.entry.Entry.TheVariants.{Asked};
@@ -161,6 +161,14 @@ impl Book {
         ensures refunded { result.refunded ≡ refunded_in (state_of self.now.history).cells event }
     {
         totals(&self.rights, event)
+    }
+
+    /// Whether what this book shows of the owner's row is at most what the owner's own book shows of it, as it is
+    /// where each delta that was joined was made by these sites.
+    pub fn sees_within(&self, owner: &Book) -> bool
+        ensures { IsTrue result ↔ SeesWithin self.now owner.now }
+    {
+        self.rights.row_at_or_below(owner.me, &owner.rights)
     }
 
     /// The place, the request and the reply that are kept under a number.

@@ -1,7 +1,8 @@
 -- A walk over marks, zeros included: what it joins, and what it compares.
-use Rattle.std.proofs.Common.{◌≡◌, ℕ, zero, suc, ◌+◌, ◌/◌, ◌%◌, ◌≤◌, ◌<◌, Bool, true, false, cond, T, List, [], ◌∷◌, length, take, get_or, refl, sym, ap, ◌∙◌, subst, arith}
+use Rattle.std.proofs.Common.{◌≡◌, ◌≢◌, ℕ, zero, suc, ◌+◌, ◌/◌, ◌%◌, ◌≤◌, ◌<◌, Bool, true, false, cond, T, List, [], ◌∷◌, length, take, get_or, refl, sym, ap, ◌∙◌, subst, arith}
 use Rattle.std.specs.Prelude.{max, IsTrue, ◌==◌}
 use Rattle.std.proofs.lemmas.Nat.{div_below, mod_below}
+use Rattle.std.proofs.lemmas.Bool.Decides.{nat_tests}
 use Rattle.std.proofs.lemmas.List.{take_all, get_or_read}
 use Rattle.rights_lattice.specs.Cells.{Key, key_cmp, Cells, Valued, value_at, all_zero, raise, raise_all, marks_of, greatest, value_in, is_of, AtOrBelow}
 use Rattle.rights_lattice.specs.Cells as cells
@@ -9,6 +10,7 @@ use Rattle.rights_lattice.specs.RightsView.{IsCellOf}
 use Rattle.rights_lattice.specs.Dense.{width_of, cell_at, slot, slots, AreBlocks}
 use Rattle.rights_lattice.proofs.DenseLaws.{within-cell_at, width_positive}
 use Rattle.rights_lattice.specs.declared.cell.Cell.{Cell}
+use Rattle.rights_lattice.specs.Cell.{owner_of}
 use Rattle.rights_lattice.proofs.CellLaws.{same_cells, value_at-join, of_same}
 use Rattle.rights_lattice.proofs.RightsLaws.{value_at-marks, greatest-take_more, member_value}
 
@@ -24,6 +26,24 @@ at_most_more Y ms i m lt is le h e c =
       | false ↦ λ t. omega arith
     ] refl in
     omega (arith, at, h e c, greatest-take_more ms i m e c lt is)
+
+-- the same on the row of one site, where the mark is of that row or not
+pub row_more : (site : ℕ) (Y : Cells) (ms : List Valued) (i : ℕ) (m : Valued) → i < length ms → m ≡ get_or ms i m → (owner_of m.cell ≡ site → m.value ≤ value_at Y m.event m.cell)
+    → ((e : List ℕ) (c : Cell) → owner_of c ≡ site → greatest (take i ms) e c ≤ value_at Y e c) → (e : List ℕ) (c : Cell) → owner_of c ≡ site → greatest (take (i + 1) ms) e c ≤ value_at Y e c
+row_more site Y ms i m lt is le h e c own =
+    let at : value_in m e c ≤ value_at Y e c = elim (is_of m e c) as (λ b. is_of m e c ≡ b → cond b m.value 0 ≤ value_at Y e c) [
+      | true ↦ λ t.
+          let same = of_same m e c t in
+          subst (λ (k : Key). m.value ≤ value_at Y k.0 k.1) (sym same) (le (sym (ap (λ (k : Key). owner_of k.1) same) ∙ own))
+      | false ↦ λ t. omega arith
+    ] refl in
+    omega (arith, at, h e c own, greatest-take_more ms i m e c lt is)
+
+pub same_site : (a b : ℕ) (same : Bool) → same ≡ (a == b) → same ≡ true → a ≡ b
+same_site a b same is t = let e : (a == b) ≡ true = sym is ∙ t in grind (arith, nat_tests)
+
+pub other_site : (a b : ℕ) (same : Bool) → same ≡ (a == b) → same ≡ false → a ≢ b
+other_site a b same is f = let e : (a == b) ≡ false = sym is ∙ f in grind (arith, nat_tests)
 
 pub one_if_zero : (v : ℕ) → v ≡ 0 → cond (v == 0) 1 0 ≡ suc zero
 one_if_zero zero h = refl

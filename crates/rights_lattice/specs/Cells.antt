@@ -1,12 +1,12 @@
 -- The values of the cells of all events: a finite map in which absent is 0. The cells are those of SRDS 2015,
 -- with `Back` of our own; the order and the join are those of state-based replicated data (RR-7506).
-use Rattle.std.specs.Prelude.{refl, ℕ, ◌+◌, ◌-◌, ◌≤◌, max, Bool, cond, nat_le, List, [], ◌∷◌, map, Option, Some, None}
+use Rattle.std.specs.Prelude.{refl, ◌≡◌, ℕ, ◌+◌, ◌-◌, ◌≤◌, max, Bool, cond, nat_le, List, [], ◌∷◌, map, Option, Some, None}
 use Rattle.std.specs.Ordering.{nat_cmp, on, then_cmp, eq_by_cmp}
 use Rattle.std.specs.declared.cmp.Ordering.{Ordering}
 use Rattle.std.specs.Cmp.Lexicographic.{slice_cmp}
 use Rattle.std.specs.Coded.{Coded, code_by, coded_ℕ, coded_list, coded×}
 use Rattle.std.specs.FinMap as finite
-use Rattle.rights_lattice.specs.Cell.{cell_cmp}
+use Rattle.rights_lattice.specs.Cell.{cell_cmp, owner_of}
 use Rattle.rights_lattice.specs.CellOrder.{coded_cell}
 use Rattle.rights_lattice.specs.declared.cell.Cell.{Cell}
 
@@ -70,6 +70,10 @@ join X Y = raise_all X (marks_of Y)
 -- cell by cell
 abbrev pub AtOrBelow : Cells → Cells → Type 0
 AtOrBelow X Y = (event : List ℕ) (cell : Cell) → value_at X event cell ≤ value_at Y event cell
+
+-- cell by cell on the row of one site
+abbrev pub RowAtOrBelow : ℕ → Cells → Cells → Type 0
+RowAtOrBelow owner X Y = (event : List ℕ) (cell : Cell) → owner_of cell ≡ owner → value_at X event cell ≤ value_at Y event cell
 
 -- whether a mark is of this cell of this event
 abbrev pub is_of : Valued → List ℕ → Cell → Bool

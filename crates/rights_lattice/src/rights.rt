@@ -1,13 +1,13 @@
 // The state of rights.
 ghost use Rattle.std.specs.Prelude.{◌≡◌, ◌+◌, ◌<◌, ◌≤◌, ◌↔◌, ◌==◌, IsTrue, IsOk, OnOk, IfOk, if◌then◌else◌};
-ghost use Rattle.rights_lattice.specs.Cells.{max_value, value_at, all_zero, raise, join, AtOrBelow};
+ghost use Rattle.rights_lattice.specs.Cells.{max_value, value_at, all_zero, raise, join, AtOrBelow, RowAtOrBelow};
 ghost use Rattle.rights_lattice.specs.RightsView.{IsCellOf, IsWithin, missing};
 
 use crate::blocks::{add_block, is_cell_of, mark_at, offset, place, raise_at, width};
-use crate::cell::Cell;
+use crate::cell::{Cell, owner};
 use crate::event::Event;
 use crate::mark::Mark;
-use crate::site::Sites;
+use crate::site::{SiteId, Sites};
 use std::alloc::{AllocError, Global};
 use std::marker::Model;
 
@@ -138,6 +138,20 @@ impl Rights {
         for i in 0..self.values.len() {
             if let Some(mark) = mark_at(self.sites, &self.events, &self.values, i) {
                 if other.get(mark.event, mark.cell) < mark.value {
+                    return false;
+                }
+            }
+        }
+        true
+    }
+
+    /// Whether each cell of a site's row is at most that of the other state.
+    pub fn row_at_or_below(&self, site: SiteId, other: &Rights) -> bool
+        ensures { IsTrue result ↔ RowAtOrBelow site self.now.cells other.now.cells }
+    {
+        for i in 0..self.values.len() {
+            if let Some(mark) = mark_at(self.sites, &self.events, &self.values, i) {
+                if owner(mark.cell) == site && other.get(mark.event, mark.cell) < mark.value {
                     return false;
                 }
             }

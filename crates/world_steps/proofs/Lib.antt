@@ -1,3 +1,4 @@
+pub mod Audits
 pub mod Balance
 pub mod Delivering
 pub mod Making

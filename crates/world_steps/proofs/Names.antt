@@ -19,19 +19,8 @@ use Rattle.rights_lattice.proofs.MarkLaws.{names_of-none, names_in_order-names_o
 use Rattle.event_catalogue.proofs.NameLaws.{or_comm}
 use Rattle.book_core.specs.declared.entry.Entry.{Entry}
 use Rattle.book_core.specs.History.{state_of, names_of}
-use Rattle.world_steps.specs.declared.node.Node.{Node}
-use Rattle.site_exchange.specs.declared.message.Message.{Message}
-use Rattle.world_steps.specs.Nodes.{site_of}
 use Rattle.book_core.proofs.NameLaws.{known_names}
-use Rattle.world_steps.specs.World.{count, no_site, history_at, known_below, events_of}
-use Rattle.world_steps.specs.Reaching.{world_of}
-use Rattle.world_steps.proofs.Sites.{length-sites}
-use Rattle.world_steps.proofs.Totals.{history_in}
-
--- the names that the first n nodes know
-abbrev pub known_in : ℕ → List Node → Names
-known_in zero nodes = no_names
-known_in (suc n) nodes = join_names (known_in n nodes) (state_of ((get_or (map site_of nodes) n no_site).history)).names
+use Rattle.world_steps.specs.World.{known_below}
 
 keys-put : (name : List ℕ) (es : List (List ℕ × Unit {0})) → map (λ e. e.0) (put (slice_cmp nat_cmp) name tt es) ≡ insert_key (slice_cmp nat_cmp) (map (λ e. e.0) es) name
 keys-put name [] = refl
@@ -100,22 +89,11 @@ all_added old now h k known all before start =
 pub none_known : names_in_order no_names ≡ []
 none_known = ap (λ (N : Names). names_in_order N) (sym names_of-none) ∙ names_in_order-names_of [] refl
 
--- the names of one more book
-pub known_more : (items : List Node) (i : ℕ) (node : Node) (now new : List (List ℕ)) → i < length items → node ≡ get_or items i node
-    → now ≡ names_in_order (known_in i items) → ((known : Names) → now ≡ names_in_order known → new ≡ names_in_order (join_names known (state_of node.book.history).names))
-    → new ≡ names_in_order (known_in (i + 1) items)
-known_more items i node now new l is before adds =
-    adds (known_in i items) before
-    ∙ ap (λ (h : List Entry). names_in_order (join_names (known_in i items) (state_of h).names)) (sym (history_in items i node l is))
-    ∙ ap (λ n. names_in_order (known_in n items)) (let e : suc i ≡ i + 1 = omega arith in e)
-
-known_below-in : (nodes : List Node) (sent : List Message) (n : ℕ) → known_in n nodes ≡ known_below n (world_of nodes sent)
-known_below-in nodes sent zero = refl
-known_below-in nodes sent (suc n) = ap (λ (N : Names). join_names N (state_of (history_at (world_of nodes sent) n)).names) (known_below-in nodes sent n)
-
--- the names of all nodes are those of the world
-pub known_whole : (nodes : List Node) (sent : List Message) (items : List Node) (i : ℕ) → items ≡ nodes → i ≤ length items → length items ≤ i → names_in_order (known_in i items) ≡ events_of (world_of nodes sent)
-known_whole nodes sent items i same le ge =
-    ap (λ (ns : List Node). names_in_order (known_in i ns)) same
-    ∙ ap (λ (N : Names). names_in_order N) (known_below-in nodes sent i)
-    ∙ ap (λ n. names_in_order (known_below n (world_of nodes sent))) (let e : i ≡ count (world_of nodes sent) = omega (arith, ap length same, length-sites nodes) in e)
+-- the names of one more site
+pub known_more : (h : ℕ → List Entry) (i : ℕ) (history : List Entry) (now new : List (List ℕ)) → h i ≡ history
+    → now ≡ names_in_order (known_below i h) → ((known : Names) → now ≡ names_in_order known → new ≡ names_in_order (join_names known (state_of history).names))
+    → new ≡ names_in_order (known_below (i + 1) h)
+known_more h i history now new is before adds =
+    adds (known_below i h) before
+    ∙ ap (λ (g : List Entry). names_in_order (join_names (known_below i h) (state_of g).names)) (sym is)
+    ∙ ap (λ n. names_in_order (known_below n h)) (let e : suc i ≡ i + 1 = omega arith in e)

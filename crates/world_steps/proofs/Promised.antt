@@ -35,7 +35,8 @@ never_oversold w sound few event =
       not_oversold (history_at w) (λ _. count w) (λ i. get_or w.limits i 0) (count w) event few (no_history w) sound.legal (λ i cell. sound_views w sound i event cell),
     )
 
-refunds_below : (m n : ℕ) (limit : ℕ → ℕ) (h : ℕ → List Entry) (event : List ℕ) → ((i : ℕ) → IsLegal (office_of i n (limit i)) (h i)) → refunded event (operations_below m h) ≤ sold event (operations_below m h)
+-- where each history is legal, no more is given back than was sold
+pub refunds_below : (m n : ℕ) (limit : ℕ → ℕ) (h : ℕ → List Entry) (event : List ℕ) → ((i : ℕ) → IsLegal (office_of i n (limit i)) (h i)) → refunded event (operations_below m h) ≤ sold event (operations_below m h)
 refunds_below zero n limit h event legal = omega arith
 refunds_below (suc m) n limit h event legal =
     omega (

@@ -28,7 +28,7 @@ use Rattle.world_steps.proofs.Worlds.{Sound, sound_views}
 use Rattle.world_steps.proofs.Reached.{no_history}
 
 -- the cells that a legal history raises are of sites below the count
-legal_within : (office : Office) (h : List Entry) → office.me < office.sites → IsLegal office h
+pub legal_within : (office : Office) (h : List Entry) → office.me < office.sites → IsLegal office h
     → (event : List ℕ) (cell : Cell) → 1 ≤ value_at (state_of h).cells event cell → IsCellOf office.sites cell
 legal_within office h me legal =
     legal_along office (λ g. (event : List ℕ) (cell : Cell) → 1 ≤ value_at (state_of g).cells event cell → IsCellOf office.sites cell)

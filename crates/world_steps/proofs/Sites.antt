@@ -12,7 +12,7 @@ use Rattle.world_steps.specs.declared.node.Node.{Node}
 use Rattle.world_steps.specs.declared.step.Step.{Step}
 use Rattle.world_steps.specs.Nodes.{site_of, limit_of}
 use Rattle.world_steps.specs.Reaching.{world_of, IsKept}
-use Rattle.world_steps.specs.World.{World, opened, opening, count, no_site, site_at, office_at, at_site, after, IsReached}
+use Rattle.world_steps.specs.World.{World, opened, opening, count, no_site, site_at, history_at, office_at, at_site, after, IsReached}
 use Rattle.world_steps.proofs.Reached.{reached_after}
 
 -- site i before any step
@@ -92,6 +92,10 @@ limit_found (n ∷ nodes) (suc i) old found = limit_found nodes i old found
 pub length-sites : (nodes : List Node) → length (map site_of nodes) ≡ length nodes
 length-sites [] = refl
 length-sites (n ∷ nodes) = ap suc (length-sites nodes)
+
+-- the history of a site of the program
+pub history_found : (nodes : List Node) (sent : List Message) (i : ℕ) (node : Node) → slice_get nodes i ≡ Some node → history_at (world_of nodes sent) i ≡ node.book.history
+history_found nodes sent i node found = ap (λ (s : Site). s.history) (site_found nodes i node found)
 
 -- each book is of the site that its place names, among n
 abbrev IsInPlace : ℕ → ℕ → Node → Type 0

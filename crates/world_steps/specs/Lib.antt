@@ -1,3 +1,4 @@
+pub mod Audit
 pub mod Nodes
 pub mod Outcomes
 pub mod Promises

@@ -113,18 +113,27 @@ run (step ∷ steps) w = run steps (after w step)
 abbrev pub all_operations : World → List Operation
 all_operations w = operations_below (count w) (history_at w)
 
+-- what the sites below n with these histories released, sold and took back of an event
+abbrev pub totals_below : ℕ → (ℕ → List Entry) → List ℕ → Totals
+totals_below n h event =
+    record { released = released event (operations_below n h); sold = sold event (operations_below n h); refunded = refunded event (operations_below n h) }
+
+-- the names that the sites below n with these histories know
+abbrev pub known_below : ℕ → (ℕ → List Entry) → Names
+known_below zero h = no_names
+known_below (suc n) h = join_names (known_below n h) (state_of (h n)).names
+
+-- the same, rising, each once
+abbrev pub events_below : ℕ → (ℕ → List Entry) → List (List ℕ)
+events_below n h = names_in_order (known_below n h)
+
 -- what all sites released, sold and took back of an event
 abbrev pub totals_of : World → List ℕ → Totals
-totals_of w event = record { released = released event (all_operations w); sold = sold event (all_operations w); refunded = refunded event (all_operations w) }
-
--- the names that the sites below n know
-abbrev pub known_below : ℕ → World → Names
-known_below zero w = no_names
-known_below (suc n) w = join_names (known_below n w) (state_of (history_at w n)).names
+totals_of w = totals_below (count w) (history_at w)
 
 -- the names that a site knows, rising, each once
 abbrev pub events_of : World → List (List ℕ)
-events_of w = names_in_order (known_below (count w) w)
+events_of w = events_below (count w) (history_at w)
 
 -- the world that these steps lead to, of sites with these limits
 abbrev pub reached : List ℕ → List Step → World

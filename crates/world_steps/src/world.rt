@@ -1,22 +1,21 @@
 //! All sites of one world, and all messages that they ever sent.
 ghost use Rattle.std.specs.Prelude.{IfOk, IfErr, IfSome, OnOk, OnErr, IsSome, option_copied, ◌↔◌, ◌≡◌, ◌+◌, ◌<◌, ◌≤◌, ◌&&◌, ◌==◌, not, nat_lt, List, length, map, take, Ok, Err, IsTrue, IsSomeAnd, slice_get, vec_len, vec_capacity};
-ghost use Rattle.book_core.specs.History.{state_of};
 ghost use Rattle.book_core.specs.Operations.{outstanding, released, sold, refunded};
 ghost use Rattle.site_exchange.specs.Exchange.{receiver};
 ghost use Rattle.site_exchange.specs.Taking.{given_back};
 ghost use Rattle.world_steps.specs.World.{IsReached, after, all_operations, count, events_of, history_at, is_there, office_at, opening, run, totals_of, with_sent};
 ghost use Rattle.world_steps.specs.Promises.{HoldsPromises};
-ghost use Rattle.world_steps.specs.Reaching.{AddsNames};
 ghost use Rattle.world_steps.specs.declared.step.Outcome.{Outcome};
 ghost use Rattle.world_steps.specs.Outcomes.{outcome, outcomes, sent_as, taken_as, IsDue, MayGrow};
 ghost use Rattle.world_steps.specs.Nodes.{verdict_told};
 
+use crate::books::{add_names, listed, with_own};
 use crate::node::{Node, Taken, ask, judge, stop, take};
 use crate::step::{Input, Outcome, Step, WorldFault};
 use book_core::{Book, Limit};
 use local_rights::Totals;
 use request_ledger::{Request, RequestNumber};
-use rights_lattice::{Cell, Event, SiteId, Sites};
+use rights_lattice::{Event, SiteId, Sites};
 use site_exchange::{Exchange, Message, TakeFault, ack_for};
 use std::alloc::{AllocError, Global};
 use std::collections::BTreeSet;
@@ -308,21 +307,15 @@ impl World {
         ensures never_oversold { outstanding event (all_operations self.now) ≤ released event (all_operations self.now) }
         ensures refunds { refunded event (all_operations self.now) ≤ sold event (all_operations self.now) }
     {
-        let mut released = 0;
-        let mut sold = 0;
-        let mut refunded = 0;
+        let mut totals = Totals {
+            released: 0,
+            sold: 0,
+            refunded: 0,
+        };
         for node in &self.sites {
-            let book = &node.book;
-            let me = book.me();
-            released += book.cell(event, Cell::Gave { by: me, to: me });
-            sold += book.cell(event, Cell::Used { by: me });
-            refunded += book.cell(event, Cell::Back { by: me });
+            totals = with_own(totals, &node.book, event);
         }
-        Totals {
-            released,
-            sold,
-            refunded,
-        }
+        totals
     }
 
     /// The names that a site knows, rising, each once.
@@ -354,26 +347,6 @@ impl World {
             None => None,
         }
     }
-}
-
-// The names of a set, rising.
-fn listed(alloc: Global, names: &BTreeSet<Event>) -> Result<Vec<Event>, AllocError>
-    ensures { IfOk result (λ list. list.items ≡ names.now.keys) }
-{
-    names.iter().copied().collect(alloc)
-}
-
-// Adds the names that a book knows.
-fn add_names(names: &mut BTreeSet<Event>, book: &Book) -> Result<(), AllocError>
-    ensures { OnOk result (AddsNames names.old.keys names.new.keys (state_of book.now.history).names) }
-{
-    'names: for place in 0..book.event_count() {
-        let Some(event) = book.event_at(place) else {
-            unreachable!()
-        };
-        names.insert(event)?;
-    }
-    Ok(())
 }
 
 // To whom a message goes.

@@ -1,60 +1,62 @@
-use Rattle.std.proofs.Common.{◌≡◌, ℕ, List, arith, sym, subst}
-use Rattle.rights_lattice.specs.declared.cell.Cell.TheVariants.{Gave, Used, Back}
+use Rattle.std.proofs.Common.{◌≡◌, ℕ, ◌+◌, ◌*◌, ◌≤◌, List, arith, sym, ap, ◌∙◌, subst, length, get_or}
+use Rattle.std.specs.Prelude.{slice_get, Some}
+use Rattle.rights_lattice.specs.Cells.{max_value}
+use Rattle.rights_lattice.specs.Sums.{max_sites}
+use Rattle.book_core.specs.Decision.{Office}
 use Rattle.world_steps.specs.declared.node.Node.{Node}
-use Rattle.site_exchange.specs.declared.message.Message.{Message}
-use Rattle.world_steps.specs.Reaching.{IsKept, world_of}
+use Rattle.world_steps.specs.Reaching.{world_of}
 use Rattle.world_steps.specs.Promises.{HoldsPromises}
+use Rattle.world_steps.specs.World.{IsReached, World, count, history_at}
 use Rattle.world_steps.proofs.Promised.{promises_hold}
-use Rattle.world_steps.proofs.Totals.{own_more, own_fits, own_totals}
+use Rattle.world_steps.proofs.Reached.{sound_in, count_in}
+use Rattle.world_steps.proofs.Sites.{found_at, history_found, length-sites}
+use Rattle.world_steps.proofs.Totals.{AreOwn, own_none, own_all_more, own_fits, one_more, own_totals}
 use Rattle.world_steps.proofs.world.World.totals.Goals as goal
 
--- the books that are gone over are those of the world
-kept : (nodes items : List Node) (sent : List Message) → items ≡ nodes → IsKept nodes sent → IsKept items sent
-kept nodes items sent same k = subst (λ (ns : List Node). IsKept ns sent) (sym same) k
+pub loop-node-init : goal.loop-node-init
+loop-node-init c = record {
+  own = own_none (history_at c.args.self.now) c.args.event;
+  bound = record { released = omega arith; sold = omega arith; refunded = omega arith };
+}
 
 pub loop-node-preserved : goal.loop-node-preserved
 loop-node-preserved c =
-    let nodes = c.deref-node-items.result.now in
     let i = c.loop-node.node-index in
-    let all : IsKept nodes c.self.inside.sent.items = kept c.self.inside.sites.items nodes c.self.inside.sent.items c.deref-node-items.ensures.value c.self.invariant in
-    let before = c.loop-node.invariant in
+    let node = c.node-item.result in
+    let found : slice_get c.self.inside.sites.items i ≡ Some node =
+    subst (λ (nodes : List Node). slice_get nodes i ≡ Some node) c.deref-node-items.ensures.value
+    (found_at c.deref-node-items.result.now i node c.loop-node-test.true c.node-item.is) in
+    let here : node.book.office.me ≡ i = ap (λ (o : Office). o.me) (c.self.invariant.offices i node found) in
+    let is : history_at c.args.self.now i ≡ node.book.history =
+    ap (λ (w : World). history_at w i) (sym c.self.view_is) ∙ history_found c.self.inside.sites.items c.self.inside.sent.items i node found in
     record {
-      released = own_more nodes c.self.inside.sent.items c.args.event (λ j. Gave j j) i c.me-me.result c.node-item.result c.loop-node.released c.cell-released.result all c.loop-node-test.true c.node-item.is c.me-me.ensures.me c.cell-released.ensures.value before.released;
-      sold = own_more nodes c.self.inside.sent.items c.args.event Used i c.me-me.result c.node-item.result c.loop-node.sold c.cell-sold.result all c.loop-node-test.true c.node-item.is c.me-me.ensures.me c.cell-sold.ensures.value before.sold;
-      refunded = own_more nodes c.self.inside.sent.items c.args.event Back i c.me-me.result c.node-item.result c.loop-node.refunded c.cell-refunded.result all c.loop-node-test.true c.node-item.is c.me-me.ensures.me c.cell-refunded.ensures.value before.refunded;
-      released_bound = omega (arith, before.released_bound, c.cell-released.ensures.at_most_max);
-      sold_bound = omega (arith, before.sold_bound, c.cell-sold.ensures.at_most_max);
-      refunded_bound = omega (arith, before.refunded_bound, c.cell-refunded.ensures.at_most_max);
+      own = subst (AreOwn (i + 1) (history_at c.args.self.now) c.args.event) (sym c.with_own-totals.ensures.sums)
+          (own_all_more (history_at c.args.self.now) c.args.event i node.book c.loop-node.totals here is c.loop-node.invariant.own);
+      bound = one_more i c.with_own-totals.result (c.with_own-totals.ensures.bound (max_value * i) c.loop-node.invariant.bound);
     }
 
-pub overflow_add-released : goal.overflow_add-released
-overflow_add-released c =
-    omega (
-      arith,
-      own_fits c.deref-node-items.result.now c.self.inside.sent.items c.loop-node.node-index c.loop-node.released c.cell-released.result
-          (kept c.self.inside.sites.items c.deref-node-items.result.now c.self.inside.sent.items c.deref-node-items.ensures.value c.self.invariant) c.loop-node-test.true c.loop-node.invariant.released_bound c.cell-released.ensures.at_most_max,
-    )
-
-pub overflow_add-sold : goal.overflow_add-sold
-overflow_add-sold c =
-    omega (
-      arith,
-      own_fits c.deref-node-items.result.now c.self.inside.sent.items c.loop-node.node-index c.loop-node.sold c.cell-sold.result
-          (kept c.self.inside.sites.items c.deref-node-items.result.now c.self.inside.sent.items c.deref-node-items.ensures.value c.self.invariant) c.loop-node-test.true c.loop-node.invariant.sold_bound c.cell-sold.ensures.at_most_max,
-    )
-
-pub overflow_add-refunded : goal.overflow_add-refunded
-overflow_add-refunded c =
-    omega (
-      arith,
-      own_fits c.deref-node-items.result.now c.self.inside.sent.items c.loop-node.node-index c.loop-node.refunded c.cell-refunded.result
-          (kept c.self.inside.sites.items c.deref-node-items.result.now c.self.inside.sent.items c.deref-node-items.ensures.value c.self.invariant) c.loop-node-test.true c.loop-node.invariant.refunded_bound c.cell-refunded.ensures.at_most_max,
-    )
+pub with_own-totals-requires : goal.with_own-totals-requires
+with_own-totals-requires c =
+    let few : count (world_of c.self.inside.sites.items c.self.inside.sent.items) ≤ max_sites = count_in _ c.self.invariant.reached in
+    record {
+      small = own_fits c.loop-node.node-index (length c.deref-node-items.result.now) c.loop-node.totals c.loop-node-test.true
+          (omega (arith, few, length-sites c.self.inside.sites.items, ap length c.deref-node-items.ensures.value)) c.loop-node.invariant.bound;
+    }
 
 pub returns-clause-totals : goal.returns-clause-totals
 returns-clause-totals c =
-    rw (← c.self.view_is) (own_totals c.self.inside.sites.items c.self.inside.sent.items c.deref-node-items.result.now c.loop-node.node-index c.args.event _ c.self.invariant c.deref-node-items.ensures.value
-    (omega (arith, c.loop-node.auto.node-index-end)) c.loop-node-test.false c.loop-node.invariant.released c.loop-node.invariant.sold c.loop-node.invariant.refunded)
+    let w = c.args.self.now in
+    let sound = sound_in w (subst IsReached c.self.view_is c.self.invariant.reached) in
+    let all : c.loop-node.node-index ≡ count w =
+    omega (
+      arith,
+      c.loop-node.auto.node-index-end,
+      c.loop-node-test.false,
+      ap length c.deref-node-items.ensures.value,
+      length-sites c.self.inside.sites.items,
+      ap count c.self.view_is,
+    ) in
+    own_totals (count w) c.loop-node.node-index (history_at w) (λ _. count w) (λ i. get_or w.limits i 0) c.args.event c.loop-node.totals sound.legal all c.loop-node.invariant.own
 
 promises : (c : goal.After-loop-node) → HoldsPromises c.args.self.now
 promises c = subst HoldsPromises c.self.view_is (promises_hold (world_of c.self.inside.sites.items c.self.inside.sent.items) c.self.invariant.reached)

@@ -1,7 +1,7 @@
 use Rattle.std.proofs.Common.{sym, ◌∙◌, arith, ◌≤◌, length}
 use Rattle.book_core.specs.History.{names_of}
 use Rattle.world_steps.proofs.Names.{add_more, all_added, past}
-use Rattle.world_steps.proofs.world.add_names.Goals as goal
+use Rattle.world_steps.proofs.books.add_names.Goals as goal
 
 pub names-preserved : goal.names-preserved
 names-preserved c = λ known start.

@@ -1,0 +1,75 @@
+-- The stopped books of all sites side by side, with no premise on the messages that they took. (Our own.)
+use Rattle.std.specs.Prelude.{◌≡◌, ℕ, ◌<◌, ◌≤◌, List, [], length, map, get_or, slice_get, Some}
+use Rattle.std.specs.Borrow.{Bor}
+use Rattle.rights_lattice.specs.Sums.{max_sites}
+use Rattle.local_rights.specs.declared.report.Totals.{Totals}
+use Rattle.book_core.specs.declared.entry.Entry.{Entry}
+use Rattle.book_core.specs.Legal.{IsLegal}
+use Rattle.book_core.specs.Operations.{Operation, operations_below, outstanding, released, sold, refunded}
+use Rattle.book_core.specs.BookView.{BookView, SeesWithin}
+use Rattle.world_steps.specs.World.{totals_below, events_below}
+
+-- the books that a slice refers to
+abbrev pub books_of : List (Bor BookView) → List BookView
+books_of books = map (λ book. book.now) books
+
+-- the history of the k-th book, and none past the last
+abbrev pub history_in : List BookView → ℕ → List Entry
+history_in books k = get_or (map (λ book. book.history) books) k []
+
+-- the book is of site k, and counts so many sites
+abbrev pub StandsAt : ℕ → ℕ → BookView → Type 0
+StandsAt k sites book = (book.office.me ≡ k) × (book.office.sites ≡ sites)
+
+-- the k-th book is of site k, and counts as many sites as there are books
+abbrev pub IsWhole : List BookView → Type 0
+IsWhole books = (k : ℕ) (book : BookView) → slice_get books k ≡ Some book → StandsAt k (length books) book
+
+-- as many books as there may be sites, each with a legal history
+pub record AreSites (books : List BookView) : Type 0 where
+  pub few : length books ≤ max_sites
+  pub whole : IsWhole books
+  pub legal : (k : ℕ) (book : BookView) → slice_get books k ≡ Some book → IsLegal book.office book.history
+
+-- what this book shows of each row is at or below what the book of that row's owner shows of it
+abbrev pub SeesNoneAbove : List BookView → BookView → Type 0
+SeesNoneAbove books viewer = (o : ℕ) (owner : BookView) → slice_get books o ≡ Some owner → SeesWithin viewer owner
+
+-- no book shows of a row more than its owner does
+abbrev pub NoneIsAhead : List BookView → Type 0
+NoneIsAhead books = (v : ℕ) (viewer : BookView) → slice_get books v ≡ Some viewer → SeesNoneAbove books viewer
+
+-- the viewer shows more of the row of the o-th book than that book does, and no more than its owner of each row before
+pub record IsFirstPassed (books : List BookView) (viewer : BookView) (o : ℕ) : Type 0 where
+  pub owner : BookView
+  pub there : slice_get books o ≡ Some owner
+  pub above : SeesWithin viewer owner → ⊥
+  pub before : (p : ℕ) (other : BookView) → p < o → slice_get books p ≡ Some other → SeesWithin viewer other
+
+-- the v-th book is the first that shows more of a row than its owner does, and o is the first such owner
+pub record IsFirstAhead (books : List BookView) (v o : ℕ) : Type 0 where
+  pub viewer : BookView
+  pub there : slice_get books v ≡ Some viewer
+  pub above : IsFirstPassed books viewer o
+  pub before : (w : ℕ) (other : BookView) → w < v → slice_get books w ≡ Some other → SeesNoneAbove books other
+
+-- the accepted requests of all books
+abbrev pub operations_in : List BookView → List Operation
+operations_in books = operations_below (length books) (history_in books)
+
+-- what all books released, sold and took back of an event
+abbrev pub totals_in : List BookView → List ℕ → Totals
+totals_in books = totals_below (length books) (history_in books)
+
+-- the names that a book knows, rising, each once
+abbrev pub events_in : List BookView → List (List ℕ)
+events_in books = events_below (length books) (history_in books)
+
+-- each of these names with its sums
+abbrev pub lines_in : List BookView → List (List ℕ × Totals)
+lines_in books = map (λ event. (event, totals_in books event)) (events_in books)
+
+-- The tickets outstanding over all books never exceed the seats released, and no more is given back than was sold.
+abbrev pub AreNotOversold : List BookView → Type 0
+AreNotOversold books = (event : List ℕ)
+    → (outstanding event (operations_in books) ≤ released event (operations_in books)) × (refunded event (operations_in books) ≤ sold event (operations_in books))
