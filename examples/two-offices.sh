@@ -41,4 +41,5 @@ show list north.db gala
 show list south.db gala
 show find north.db 3
 show find south.db 9
+show audit north.db south.db
 echo "The records are plain SQLite files: sqlite3 $folder/north.db 'SELECT * FROM entries'"

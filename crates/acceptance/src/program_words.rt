@@ -59,6 +59,26 @@ fn words(rt: HostRuntime) {
     );
 }
 
+// The files of an audit, in their order, or none for another command.
+fn files<'a>(rt: &impl Abort, alloc: Global, words: &'a [&'a str]) -> Vec<&'a str> {
+    match order(rt, alloc, words) {
+        Order::Audit { files } => Vec::from_slice(alloc, files.as_slice()).expect(rt, "memory"),
+        _ => Vec::new(alloc),
+    }
+}
+
+#[test]
+fn words_of_several_files(rt: HostRuntime) {
+    let words = ["boxoffice", "audit", "b.db", "a.db"];
+    let found = files(&rt, rt.alloc(), &words);
+    assert_eq!(rt; found.as_slice(), ["b.db", "a.db"].as_slice());
+    let most = ["a.db"; 18];
+    let mut words = most;
+    words[0] = "boxoffice";
+    words[1] = "audit";
+    assert_eq!(rt; files(&rt, rt.alloc(), &words).len(), 16);
+}
+
 // What is told of words that are no command.
 fn told(rt: &HostRuntime, words: &[&str]) -> Result<String, Fail> {
     match read_words(rt.alloc(), words) {
@@ -70,7 +90,7 @@ fn told(rt: &HostRuntime, words: &[&str]) -> Result<String, Fail> {
 
 #[test]
 fn words_not_understood(rt: HostRuntime) -> Result<(), Fail> {
-    let none: [&[&str]; 7] = [
+    let none: [&[&str]; 9] = [
         &["boxoffice"],
         &["boxoffice", "find"],
         &["boxoffice", "find", "a.db"],
@@ -78,6 +98,11 @@ fn words_not_understood(rt: HostRuntime) -> Result<(), Fail> {
         &["boxoffice", "sell", "a.db"],
         &["boxoffice", "list", "a.db", "gala", "expo"],
         &["boxoffice", "import", "a.db", "b.db"],
+        &["boxoffice", "audit"],
+        &[
+            "boxoffice", "audit", "0", "1", "2", "3", "4", "5", "6", "7", "8", "9", "10", "11", "12",
+            "13", "14", "15", "16",
+        ],
     ];
     for words in none {
         let text = told(&rt, words)?;

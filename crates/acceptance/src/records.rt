@@ -3,7 +3,8 @@
 use crate::values::{gala, number, seats, site};
 use book_core::Limit;
 use operator_cli::{
-    Status, ask_store, export_store, find_store, import_store, init_store, list_store,
+    Status, ask_store, audit_stores, export_store, find_store, import_store, init_store,
+    list_store, open_store,
 };
 use request_ledger::{Reply, Request};
 use rights_lattice::Sites;
@@ -352,5 +353,82 @@ fn no_records_are_not_ours(rt: HostRuntime) -> Result<(), Fail> {
     assert!(rt; conn.is_none());
     assert!(rt; out.is_empty());
     assert_eq!(rt; err.as_slice(), b"not-ours\n".as_slice());
+    Ok(())
+}
+
+// Puts the book of these records behind those of the sites before.
+fn put_site<S: Alter + Drop>(
+    rt: &impl Abort,
+    alloc: Global,
+    sites: &mut Vec<SiteBook<Records<S>>>,
+    conn: Connection<S>,
+) {
+    let mut err = Vec::new(alloc);
+    match open_store(alloc, conn, &mut err) {
+        Ok(site) => sites.push(site).expect(rt, "memory"),
+        Err(_) => panic!(rt; "the records can be opened"),
+    }
+    assert!(rt; err.is_empty());
+}
+
+// Sums up the books of these sites.
+fn audit<S: Alter + Drop>(
+    rt: &impl Abort,
+    alloc: Global,
+    sites: &[SiteBook<Records<S>>],
+    printed: &[u8],
+    status: Status,
+) {
+    let mut out = Vec::new(alloc);
+    let mut err = Vec::new(alloc);
+    let ended = audit_stores(alloc, sites, &mut out, &mut err);
+    assert_eq!(rt; ended, status);
+    assert_eq!(rt; out.as_slice(), printed);
+    assert!(rt; err.is_empty());
+}
+
+// Sums up site 0 alone, and sites 0 and 1.
+fn audit_two<S: Alter + Drop>(
+    rt: &impl Abort,
+    alloc: Global,
+    conns: (Connection<S>, Connection<S>),
+    printed: &[u8],
+    status: Status,
+) -> (Connection<S>, Connection<S>) {
+    let mut sites = Vec::new(alloc);
+    put_site(rt, alloc, &mut sites, conns.0);
+    audit(rt, alloc, sites.as_slice(), b"not-whole\n", Status::Refused);
+    put_site(rt, alloc, &mut sites, conns.1);
+    audit(rt, alloc, sites.as_slice(), printed, status);
+    let one = sites.pop().expect(rt, "site 1").into_keeper().close();
+    let zero = sites.pop().expect(rt, "site 0").into_keeper().close();
+    (zero, one)
+}
+
+// A view that is above the row of its owner is found, though no event of that name was announced by the owner.
+#[test]
+fn audit_of_two_records(rt: HostRuntime) -> Result<(), Fail> {
+    let alloc = rt.alloc();
+    let mut zero = Connection::open_in_memory(alloc)?;
+    let mut one = Connection::open_in_memory(alloc)?;
+    init(&rt, alloc, &mut zero, 0, b"done\n", Status::Done);
+    init(&rt, alloc, &mut one, 1, b"done\n", Status::Done);
+    let (zero, one) = audit_two(&rt, alloc, (zero, one), b"", Status::Done);
+    let forged = b"delta 0 1 1\nname gala\ngave gala 0 0 10\nend\n";
+    let one = import(&rt, alloc, one, forged, b"joined\n", Status::Done);
+    let _ = audit_two(&rt, alloc, (zero, one), b"ahead 1 0\n", Status::Refused);
+    Ok(())
+}
+
+// The sales of a site count whether or not another has heard of them.
+#[test]
+fn audit_sums_up_both_records(rt: HostRuntime) -> Result<(), Fail> {
+    let alloc = rt.alloc();
+    let mut zero = Connection::open_in_memory(alloc)?;
+    init(&rt, alloc, &mut zero, 0, b"done\n", Status::Done);
+    let one = Connection::open_in_memory(alloc)?;
+    let one = sold_eight(&rt, alloc, one);
+    let line = b"gala released 50 sold 8 refunded 0 outstanding 8\n";
+    let _ = audit_two(&rt, alloc, (zero, one), line, Status::Done);
     Ok(())
 }

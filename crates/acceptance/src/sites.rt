@@ -4,8 +4,9 @@
 
 use crate::values::{event, gala, number, seats, site};
 use book_core::Limit;
+use local_rights::Totals;
 use request_ledger::{Reply, Request};
-use rights_lattice::Sites;
+use rights_lattice::{Event, Sites};
 use session_server::{LinkEnd, Site, SiteEnd, Visit, run_all};
 use site_desk::{Gate, NoGate, Place, SiteBook};
 use sql_records::{ListKeeper, Meta};
@@ -14,6 +15,7 @@ use std::process::Abort;
 use std::sync::Wait;
 use std::sync::atomic::{AtomicU64, Ordering};
 use std::thread::{Threads, yield_now};
+use world_steps::audit;
 
 // The book of no entries of one of so many sites.
 fn empty_book(
@@ -70,13 +72,25 @@ fn ceding_book(rt: &impl Abort, alloc: Global, among: u64) -> SiteBook<ListKeepe
     book
 }
 
+type Sums = Vec<(Event, Totals)>;
+
+// The sums of a site that released so many seats of an event and sold none.
+fn released(event: Event, released: u64) -> (Event, Totals) {
+    let totals = Totals {
+        released,
+        sold: 0,
+        refunded: 0,
+    };
+    (event, totals)
+}
+
 // Site 0, which ceded, and site 1 exchange for one round, with no session: what site 1 has then, the
-// links, and whether site 0 still has something for site 1.
+// links, whether site 0 still has something for site 1, and the sums of both.
 fn exchanged<R: Threads + Wait + Abort + Sync>(
     rt: &R,
     alloc: Global,
     one: SiteBook<ListKeeper>,
-) -> (SiteBook<ListKeeper>, Vec<LinkEnd>, bool) {
+) -> (SiteBook<ListKeeper>, Vec<LinkEnd>, bool, Sums) {
     let mut sites: Vec<Site<ListKeeper, &[u8], Vec<u8>>> = Vec::new(alloc);
     let zero = ceding_book(rt, alloc, 2);
     sites
@@ -98,7 +112,8 @@ fn exchanged<R: Threads + Wait + Abort + Sync>(
     assert_eq!(rt; zero.finished, Ok(()));
     let due = zero.book.next(alloc, site(rt, 1)).expect(rt, "memory");
     assert!(rt; ends.is_empty());
-    (book, links, due.is_some())
+    let sums = audit(alloc, &[zero.book.book(), book.book()]).expect(rt, "books of both sites");
+    (book, links, due.is_some(), sums)
 }
 
 fn link_end(rt: &impl Abort, by: u64, to: u64, acks: bool, put: u64, refused: u64) -> LinkEnd {
@@ -116,8 +131,9 @@ fn link_end(rt: &impl Abort, by: u64, to: u64, acks: bool, put: u64, refused: u6
 #[test]
 fn a_cession_goes_over_a_link(rt: HostRuntime) {
     let alloc = rt.alloc();
-    let (book, links, is_due) = exchanged(&rt, alloc, empty_book(&rt, alloc, 1, 2, 10));
+    let (book, links, is_due, sums) = exchanged(&rt, alloc, empty_book(&rt, alloc, 1, 2, 10));
     assert!(rt; !is_due);
+    assert_eq!(rt; sums.as_slice(), [released(gala(&rt), 100)].as_slice());
     let seen = book.look(gala(&rt)).expect(&rt, "a look");
     assert_eq!(rt; seen.left, 40);
     assert_eq!(rt; links.len(), 4);
@@ -132,8 +148,9 @@ fn a_full_site_refuses_a_delta(rt: HostRuntime) {
     let mut full = empty_book(&rt, alloc, 1, 2, 1);
     let expo = event(&rt, b"expo");
     asked(&rt, alloc, &mut full, 1, Request::Announce { event: expo });
-    let (book, links, is_due) = exchanged(&rt, alloc, full);
+    let (book, links, is_due, sums) = exchanged(&rt, alloc, full);
     assert!(rt; is_due);
+    assert_eq!(rt; sums.as_slice(), [released(expo, 0), released(gala(&rt), 100)].as_slice());
     assert_eq!(rt; book.book().len(), 1);
     assert_eq!(rt; links.len(), 4);
     assert_eq!(rt; links[0], link_end(&rt, 0, 1, false, 1, 1));
@@ -255,6 +272,12 @@ fn visited<'a>(
     }
 }
 
+// The sums of two sites.
+fn audited(rt: &impl Abort, alloc: Global, ends: &[SiteEnd<ListKeeper, &[u8], Vec<u8>>]) -> Sums {
+    assert_eq!(rt; ends.len(), 2);
+    audit(alloc, &[ends[0].book.book(), ends[1].book.book()]).expect(rt, "books of both sites")
+}
+
 // One lock for all sites, or one thread, fails here: each site's session waits for the other's.
 #[test]
 fn two_sites_sell_at_once(rt: HostRuntime) {
@@ -280,5 +303,7 @@ fn two_sites_sell_at_once(rt: HostRuntime) {
             assert_eq!(rt; written.as_slice(), b"done\n".as_slice());
         }
     }
+    let sums = audited(&rt, alloc, ends.as_slice());
+    assert_eq!(rt; sums.as_slice(), [released(event(&rt, b"expo"), 0), released(gala(&rt), 0)].as_slice());
     assert_eq!(rt; gate.missed.load(Ordering::SeqCst), 0);
 }

@@ -3,14 +3,16 @@
 
 mod files;
 
-use crate::files::{close, open_or_make, open_there};
+use crate::files::{Files, close, open_or_make, open_there};
 use book_core::Limit;
 use operator_cli::{
-    Order, Status, WordsFault, ask_store, export_store, find_store, import_store, init_store,
-    list_store, read_words, refuse_site, world_script,
+    FileNames, Order, Status, WordsFault, ask_store, audit_stores, export_store, find_store,
+    import_store, init_store, list_store, open_store, read_words, refuse_site, world_script,
 };
 use request_ledger::RequestNumber;
 use rights_lattice::{SiteId, Sites};
+use site_desk::SiteBook;
+use sql_records::Records;
 use sqlite_std_file::{Start, Unknown};
 use std::alloc::{AllocError, Global};
 use std::env;
@@ -123,12 +125,58 @@ fn run_import<S: Start>(rt: &HostRuntime, file: &str, start: S) -> Result<Status
     Ok(close(rt, came))
 }
 
+// The book of each file's records, put behind those before it.
+fn open_all<S: Start>(
+    rt: &HostRuntime,
+    files: &FileNames<'_>,
+    start: &impl Fn() -> S,
+    sites: &mut Vec<SiteBook<Records<Files<S>>>>,
+) -> Result<(), Status> {
+    for file in files {
+        if sites.reserve(1).is_err() {
+            return Err(out_of_memory(rt));
+        }
+        let conn = open_there(rt, file, start())?;
+        match open_store(rt.alloc(), conn, &mut rt.stderr()) {
+            Ok(site) => sites.push_reserved(site),
+            Err(came) => return Err(close(rt, came)),
+        }
+    }
+    Ok(())
+}
+
+// The status of a command that came to this over several files, which are closed.
+fn close_all<S: Start>(
+    rt: &HostRuntime,
+    mut status: Status,
+    sites: Vec<SiteBook<Records<Files<S>>>>,
+) -> Status {
+    for site in sites {
+        status = close(rt, (status, Some(site.into_keeper().close())));
+    }
+    status
+}
+
+fn run_audit<S: Start>(
+    rt: &HostRuntime,
+    files: &FileNames<'_>,
+    start: &impl Fn() -> S,
+) -> Result<Status, Status> {
+    let mut out = buffered(rt)?;
+    let mut sites = Vec::new(rt.alloc());
+    let status = match open_all(rt, files, start, &mut sites) {
+        Ok(()) => audit_stores(rt.alloc(), sites.as_slice(), &mut out, &mut rt.stderr()),
+        Err(status) => status,
+    };
+    Ok(close_all(rt, status, sites))
+}
+
 // An error is the status of a command that could not begin, and whose fault was told.
 fn run_order<S: Start>(
     rt: &HostRuntime,
     waiter: &impl Wait,
     order: Order<'_>,
-    start: S,
+    start: &impl Fn() -> S,
 ) -> Result<Status, Status> {
     match order {
         Order::World => run_world(rt),
@@ -137,16 +185,22 @@ fn run_order<S: Start>(
             me,
             sites,
             limit,
-        } => run_init(rt, file, me, sites, limit, start),
-        Order::Ask { file } => run_ask(rt, waiter, file, start),
-        Order::Find { file, number } => run_find(rt, file, number, start),
-        Order::List { file, event } => run_list(rt, file, event, start),
-        Order::Export { file, to } => run_export(rt, file, to, start),
-        Order::Import { file } => run_import(rt, file, start),
+        } => run_init(rt, file, me, sites, limit, start()),
+        Order::Ask { file } => run_ask(rt, waiter, file, start()),
+        Order::Find { file, number } => run_find(rt, file, number, start()),
+        Order::List { file, event } => run_list(rt, file, event, start()),
+        Order::Export { file, to } => run_export(rt, file, to, start()),
+        Order::Import { file } => run_import(rt, file, start()),
+        Order::Audit { files } => run_audit(rt, &files, start),
     }
 }
 
-fn run<S: Start>(rt: &HostRuntime, waiter: &impl Wait, words: &[&str], start: S) -> Status {
+fn run<S: Start>(
+    rt: &HostRuntime,
+    waiter: &impl Wait,
+    words: &[&str],
+    start: &impl Fn() -> S,
+) -> Status {
     match read_words(rt.alloc(), words) {
         Ok(order) => match run_order(rt, waiter, order, start) {
             Ok(status) | Err(status) => status,
@@ -163,7 +217,11 @@ fn texts(alloc: Global, words: &[String]) -> Result<Vec<&str>, AllocError> {
     words.iter().map(|word| word.as_str()).collect(alloc)
 }
 
-fn started<S: Start>(rt: &HostRuntime, waiter: &impl Wait, start: S) -> std::io::Result<Status> {
+fn started<S: Start>(
+    rt: &HostRuntime,
+    waiter: &impl Wait,
+    start: &impl Fn() -> S,
+) -> std::io::Result<Status> {
     let words: Vec<String> = env::args(rt)?.collect(rt.alloc())?;
     let texts = texts(rt.alloc(), &words)?;
     Ok(run(rt, waiter, texts.as_slice(), start))
@@ -172,7 +230,7 @@ fn started<S: Start>(rt: &HostRuntime, waiter: &impl Wait, start: S) -> std::io:
 // What the file holds is nobody's to know here, so the rest is proved for any first contents. Only here is the runtime
 // a handle that may wait.
 fn main(rt: HostRuntime) -> ExitCode {
-    let status = match started(&rt, &rt, Unknown) {
+    let status = match started(&rt, &rt, &|| Unknown) {
         Ok(status) => status,
         Err(error) => match error.kind() {
             ErrorKind::OutOfMemory => out_of_memory(&rt),

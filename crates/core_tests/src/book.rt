@@ -289,6 +289,19 @@ fn delta_delivered_twice(rt: HostRuntime) {
     assert_eq!(rt; told_counts(&rt, rt.alloc(), gala), (1, 40));
 }
 
+// Whether what was told of the first site is within what an empty book of that site shows, and the other way round.
+fn within_each_other(rt: &impl Abort, alloc: Global, gala: Event) -> (bool, bool) {
+    let told = told_book(rt, alloc, gala);
+    let empty = book_of(rt, alloc, 0, 2, 1000);
+    (told.sees_within(&empty), empty.sees_within(&told))
+}
+
+#[test]
+fn view_above_its_owner(rt: HostRuntime) {
+    let gala = event(&rt, b"gala");
+    assert_eq!(rt; within_each_other(&rt, rt.alloc(), gala), (false, true));
+}
+
 // The length of the history and what is left once these deltas of the first site were refused.
 fn counts_after_refusals(
     rt: &impl Abort,

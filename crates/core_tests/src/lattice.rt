@@ -127,6 +127,7 @@ fn raises_joins_and_copies(rt: HostRuntime) {
         value: 10,
     });
     assert!(rt; !there.at_or_below(&here));
+    assert!(rt; there.row_at_or_below(first, &here) && !there.row_at_or_below(second, &here));
     here.join(&there);
     assert!(rt; there.at_or_below(&here));
     assert!(rt; !here.at_or_below(&there));

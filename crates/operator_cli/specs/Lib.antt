@@ -1,5 +1,6 @@
 pub mod Codes
 pub mod Answering
+pub mod Audited
 pub mod Faults
 pub mod Script
 pub mod Session

@@ -1,21 +1,25 @@
 -- The commands of the program with their values, and which command words give. (Our own.)
-use Rattle.std.specs.Prelude.{◌≡◌, ℕ, Bool, List, [], ◌∷◌, true, false, Option, Some, None, is_some, codes, if◌then◌else◌}
+use Rattle.std.specs.Prelude.{◌≡◌, ℕ, Bool, List, [], ◌∷◌, true, false, Option, Some, None, is_some, codes, if◌then◌else◌, map, length, nat_le}
 use Rattle.std.specs.Option.{option_map}
 use Rattle.std.specs.String.{string_bytes}
 use Rattle.std.specs.Str.{bytes_eq}
-use Rattle.clap.specs.Words.{App, Row, Rule, Text, first_of, new_app, new_rule, with_rule, with_subcommand, subcommand_of, fault_of}
+use Rattle.clap.specs.Words.{App, Row, Rule, Text, all_of, first_of, new_app, new_rule, with_rule, with_subcommand, subcommand_of, fault_of}
 use Rattle.plain_words.specs.Words.{◌>>=◌}
 use Rattle.plain_words.specs.Number.{number_of}
 use Rattle.operator_cli.specs.declared.orders.Order.{Order}
 use Rattle.operator_cli.specs.declared.orders.Order.TheVariants as order
 use Rattle.operator_cli.specs.declared.orders.Misfit.{Misfit}
-use Rattle.operator_cli.specs.declared.orders.Misfit.TheVariants.{Command, File, Event, Me, Sites, Limit, Number, To}
+use Rattle.operator_cli.specs.declared.orders.Misfit.TheVariants.{Command, File, Event, Me, Sites, Limit, Number, To, Files}
 use Rattle.operator_cli.specs.declared.orders.WordsFault.{WordsFault}
 use Rattle.operator_cli.specs.declared.orders.WordsFault.TheVariants.{NotUnderstood, Memory}
 
 -- a value that has to be given, by its place
 abbrev pub operand : Text → Rule
 operand id = record (new_rule id) { required = true }
+
+-- a value that is given 1 to 16 times, by its place
+abbrev pub operands : Text → Rule
+operands id = record (operand id) { range = Some (record { start_inclusive = 1; end_inclusive = 16 }) }
 
 -- a command that takes one more value
 abbrev pub taking : App → Text → App
@@ -42,6 +46,9 @@ export_app = taking (taking (new_app (codes "export")) (codes "FILE")) (codes "T
 abbrev pub import_app : App
 import_app = taking (new_app (codes "import")) (codes "FILE")
 
+abbrev pub audit_app : App
+audit_app = with_rule (new_app (codes "audit")) (operands (codes "FILE"))
+
 -- a command that is not used alone
 abbrev pub needing : App → App
 needing a = record a { top = record a.top { subcommand_required = true } }
@@ -51,7 +58,7 @@ abbrev pub above : App → App → App
 above a b = with_subcommand a b.top
 
 abbrev pub boxoffice : App
-boxoffice = above (above (above (above (above (above (above (needing (new_app (codes "boxoffice"))) world_app) init_app) ask_app) find_app) list_app) export_app) import_app
+boxoffice = above (above (above (above (above (above (above (above (needing (new_app (codes "boxoffice"))) world_app) init_app) ask_app) find_app) list_app) export_app) import_app) audit_app
 
 -- What is ordered: a command with its values, words as bytes and numbers as themselves.
 pub data Said : Type 0 where
@@ -62,6 +69,7 @@ pub data Said : Type 0 where
   SaysList : (file event : Text) → Said
   SaysExport : (file : Text) (to : ℕ) → Said
   SaysImport : (file : Text) → Said
+  SaysAudit : (files : List Text) → Said
 
 abbrev pub said_by : Order → Said
 said_by order.World = SaysWorld
@@ -71,6 +79,7 @@ said_by (order.Find file number) = SaysFind file.now number
 said_by (order.List file event) = SaysList file.now event.now
 said_by (order.Export file to) = SaysExport file.now to
 said_by (order.Import file) = SaysImport file.now
+said_by (order.Audit files) = SaysAudit (map (λ file. file.now) files.items)
 
 -- the number from low to high that the value of this name spells
 unfoldable pub number_in : Text → ℕ → ℕ → List Row → Option ℕ
@@ -114,6 +123,21 @@ import_in rows = do
   file ← first_of (codes "FILE") rows
   Some (SaysImport file)
 
+-- at most 16 words
+abbrev pub at_most_16 : List Text → Option (List Text)
+at_most_16 words = if nat_le (length words) 16 then Some words else None
+
+-- the files that are given, of which there are at most 16
+unfoldable pub files_in : List Row → Option (List Text)
+files_in rows = do
+  files ← all_of (codes "FILE") rows
+  at_most_16 files
+
+unfoldable pub audit_in : List Row → Option Said
+audit_in rows = do
+  files ← files_in rows
+  Some (SaysAudit files)
+
 -- the order that the command of this name gives with these values
 unfoldable pub named_order : Text → List Row → Option Said
 named_order name rows =
@@ -123,7 +147,8 @@ named_order name rows =
     if bytes_eq name (codes "find") then find_in rows else (
     if bytes_eq name (codes "list") then list_in rows else (
     if bytes_eq name (codes "export") then export_in rows else (
-    if bytes_eq name (codes "import") then import_in rows else None))))))
+    if bytes_eq name (codes "import") then import_in rows else (
+    if bytes_eq name (codes "audit") then audit_in rows else None)))))))
 
 -- the order of the subcommand that was met
 abbrev pub order_in : Option (Text × List Row) → Option Said
@@ -151,7 +176,8 @@ values_of name =
     if bytes_eq name (codes "find") then File ∷ Number ∷ [] else (
     if bytes_eq name (codes "list") then File ∷ Event ∷ [] else (
     if bytes_eq name (codes "export") then File ∷ To ∷ [] else (
-    if bytes_eq name (codes "import") then File ∷ [] else Command ∷ []))))))
+    if bytes_eq name (codes "import") then File ∷ [] else (
+    if bytes_eq name (codes "audit") then Files ∷ [] else Command ∷ [])))))))
 
 -- whether a value is given and in its range
 abbrev pub fits : List Row → Misfit → Bool
@@ -163,6 +189,7 @@ fits rows Sites = is_some (number_in (codes "SITES") 1 16 rows)
 fits rows Limit = is_some (number_in (codes "LIMIT") 1 1000000 rows)
 fits rows Number = is_some (number_in (codes "NUMBER") 1 1000000000000 rows)
 fits rows To = is_some (number_in (codes "TO") 0 63 rows)
+fits rows Files = is_some (files_in rows)
 
 -- the first of the values that does not fit
 abbrev pub first_misfit : List Misfit → List Row → Option Misfit
@@ -184,6 +211,7 @@ misfit_line Sites = codes "error: SITES is a count of sites, 1 to 16\n"
 misfit_line Limit = codes "error: LIMIT is a count of entries, 1 to 1000000\n"
 misfit_line Number = codes "error: NUMBER is the number of a request, 1 to 1000000000000\n"
 misfit_line To = codes "error: TO is the number of a site, 0 to 63\n"
+misfit_line Files = codes "error: FILE is given 1 to 16 times\n"
 
 -- it is told, or memory was wanted for its line
 abbrev pub TellsMisfit : Misfit → WordsFault → Type 0

@@ -7,6 +7,8 @@ use Rattle.site_exchange.specs.declared.message.TakeFault.{TakeFault}
 use Rattle.site_exchange.specs.declared.message.TakeFault.TheVariants as take
 use Rattle.delta_wire.specs.declared.fault.WireFault.{WireFault}
 use Rattle.delta_wire.specs.declared.fault.WireFault.TheVariants as wire
+use Rattle.world_steps.specs.declared.auditing.AuditFault.{AuditFault}
+use Rattle.world_steps.specs.declared.auditing.AuditFault.TheVariants as audit
 use Rattle.book_core.specs.declared.plan.ReplayFault.{ReplayFault}
 use Rattle.book_core.specs.declared.plan.ReplayFault.TheVariants as replay
 use Rattle.sql_records.specs.declared.fault.OpenFault.{OpenFault}
@@ -16,7 +18,7 @@ use Rattle.sql_records.specs.declared.lookup.FindFault.TheVariants as find
 use Rattle.operator_cli.specs.declared.store_fault.StoreFault.{StoreFault}
 use Rattle.operator_cli.specs.declared.store_fault.StoreFault.TheVariants as fault
 use Rattle.operator_cli.specs.declared.told.Told.{Told}
-use Rattle.operator_cli.specs.declared.told.Told.TheVariants.{Made, Joined, NothingNew, Acked, AlreadyThere, NoSite, Nothing, NotFound, TooLong, Unread, NotTaken}
+use Rattle.operator_cli.specs.declared.told.Told.TheVariants.{Made, Joined, NothingNew, Acked, AlreadyThere, NoSite, Nothing, NotFound, TooLong, Unread, NotTaken, NotWhole, Ahead}
 use Rattle.operator_cli.specs.declared.status.Status.{Status}
 use Rattle.operator_cli.specs.declared.status.Status.TheVariants.{Done, Refused, NotUnderstood, Failed}
 use Rattle.desk_lines.specs.Replies.{take_fault_text}
@@ -56,6 +58,8 @@ told_text NotFound = codes "none"
 told_text TooLong = codes "too-long"
 told_text (Unread f) = wire_fault_text f
 told_text (NotTaken f) = take_fault_text f
+told_text NotWhole = codes "not-whole"
+told_text (Ahead viewer owner) = codes "ahead " ++ decimal viewer ++ codes " " ++ decimal owner
 
 abbrev pub told_line : Told → List ℕ
 told_line told = told_text told ++ 10 ∷ []
@@ -72,6 +76,8 @@ told_status NotFound = Refused
 told_status TooLong = Refused
 told_status (Unread f) = Refused
 told_status (NotTaken f) = Refused
+told_status NotWhole = Refused
+told_status (Ahead viewer owner) = Refused
 
 -- a fault of reading is told, but want of memory ends the command
 abbrev pub ended_by_wire : WireFault → Result Told StoreFault
@@ -91,6 +97,12 @@ ended_by_take take.Full = Ok (NotTaken take.Full)
 ended_by_take take.Memory = Err fault.Memory
 ended_by_take take.Closed = Err fault.Store
 ended_by_take take.Store = Err fault.Store
+
+-- what stands in the way of the sums is told, but want of memory ends the command
+abbrev pub ended_by_audit : AuditFault → Result Told StoreFault
+ended_by_audit audit.NotWhole = Ok NotWhole
+ended_by_audit (audit.Ahead viewer owner) = Ok (Ahead viewer owner)
+ended_by_audit audit.Memory = Err fault.Memory
 
 -- At status 3 the line of a fault went to the second writer, or a front of it; else nothing went there.
 abbrev pub FaultTold : Option (List ℕ) → Option (List ℕ) → Status → Type 0

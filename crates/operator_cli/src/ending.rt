@@ -41,8 +41,8 @@ fn flushed<W: Write>(status: Status, out: &mut W) -> Result<Status, StoreFault>
     }
 }
 
-// Tells a fault.
-fn tell_fault<E: Write>(fault: StoreFault, err: &mut E) -> Status
+/// Tells a fault.
+pub(crate) fn tell_fault<E: Write>(fault: StoreFault, err: &mut E) -> Status
     ensures told { FaultTold (E.contents err.old) (E.contents err.new) result }
     ensures line { AppendsFront (E.contents err.old) (E.contents err.new) (store_fault_line fault) }
     ensures status { result ≡ Failed }

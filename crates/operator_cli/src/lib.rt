@@ -3,6 +3,7 @@
 
 mod answering;
 mod ask;
+mod audit;
 mod ending;
 mod export;
 mod fault;
@@ -22,12 +23,14 @@ mod words;
 mod world;
 
 pub use ask::ask_store;
+pub use audit::audit_stores;
 pub use export::export_store;
 pub use fault::ScriptFault;
 pub use find::find_store;
 pub use import::import_store;
 pub use init::{init_store, refuse_site};
 pub use list::list_store;
+pub use opening::open_store;
 pub use orders::{Order, WordsFault, read_words};
 pub use status::Status;
 pub use world::{run_script, world_script};

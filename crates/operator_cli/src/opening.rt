@@ -1,6 +1,6 @@
 //! Opening the records of a site.
 
-ghost use Rattle.std.specs.Prelude.{◌≡◌, false, IfOk, IfErr, MatchOption};
+ghost use Rattle.std.specs.Prelude.{◌≡◌, false, IfOk, IfErr, OnOk, MatchOption};
 ghost use Rattle.sqlite.specs.Held.{state};
 ghost use Rattle.sqlite.specs.State.{HasCleanDisk};
 ghost use Rattle.sql_records.specs.declared.meta.Meta.{Meta as Numbers};
@@ -9,14 +9,20 @@ ghost use Rattle.sql_records.specs.Layout.{HasMeta};
 ghost use Rattle.sql_records.specs.Held.{IsOf, IsTrusted, MayLeave, kept_in, history_in};
 ghost use Rattle.operator_cli.specs.Exchanged.{IsBookOf};
 ghost use Rattle.operator_cli.specs.Opened.{IsRefused, IsIllegal};
-ghost use Rattle.operator_cli.specs.Told.{of_open_fault, of_replay_fault};
+ghost use Rattle.operator_cli.specs.Told.{of_open_fault, of_replay_fault, store_fault_line};
+ghost use Rattle.plain_words.specs.Writing.{AppendsFront};
+ghost use Rattle.operator_cli.specs.declared.status.Status.TheVariants.{Failed};
+ghost use Rattle.operator_cli.specs.declared.store_fault.StoreFault.{StoreFault};
 
+use crate::ending::tell_fault;
+use crate::status::Status;
 use crate::store_fault::StoreFault;
 use book_core::ReplayFault;
 use site_desk::SiteBook;
 use sql_records::{OpenFault, Records};
 use sqlite::{Alter, Connection};
 use std::alloc::Global;
+use std::io::Write;
 
 fn of_open_fault(fault: OpenFault) -> StoreFault
     ensures { result ≡ of_open_fault fault }
@@ -69,5 +75,28 @@ pub(crate) fn open_book<S: Alter + Drop>(
     match SiteBook::start(alloc, records, entries, meta) {
         Ok(book) => Ok(book),
         Err((records, fault)) => Err((of_replay_fault(fault), Some(records.close()))),
+    }
+}
+
+/// The book of the records, for a command over those of several sites.
+///
+/// A fault is told on `err`, with status 3, and comes with the connection, unless it is the opening that was refused.
+pub fn open_store<S: Alter + Drop, E: Write>(
+    alloc: Global,
+    conn: Connection<S>,
+    err: &mut E,
+) -> Result<SiteBook<Records<S>>, (Status, Option<Connection<S>>)>
+    ensures kept { IfOk result (λ book. IsTrusted S.Store book.keeper
+        → kept_in S.Store book.keeper ≡ history_in (state S.Store conn).now.trees) }
+    ensures book { IfOk result (λ book. IsTrusted S.Store book.keeper → IsBookOf (state S.Store conn).now.trees book) }
+    ensures rests { IfOk result (λ book. IsTrusted S.Store book.keeper → LeavesOnly (kept_in S.Store book.keeper) (MayLeave S.Store book.keeper)) }
+    ensures unclosed { IfOk result (λ book. book.closed ≡ false) }
+    ensures silent { OnOk result (E.contents err.new ≡ E.contents err.old) }
+    ensures fault { IfErr result (λ e. (e.0 ≡ Failed) × (fault : StoreFault) × AppendsFront (E.contents err.old) (E.contents err.new) (store_fault_line fault)
+        × MatchOption e.1 (IsRefused S.Store conn fault) (λ after. IsIllegal S.Store conn after fault)) }
+{
+    match open_book(alloc, conn) {
+        Ok(book) => Ok(book),
+        Err((fault, conn)) => Err((tell_fault(fault, err), conn)),
     }
 }

@@ -2,10 +2,11 @@
 
 ghost use Rattle.std.specs.Prelude.{◌≡◌, ◌≤◌, [], ◌∷◌, IfSome, IfOk, OnOk, IfErr, MatchResult, Some, None, map, codes};
 ghost use Rattle.std.specs.Option.{option_map};
-ghost use Rattle.clap.specs.Words.{subcommand_of, subcommand_rows_of, kind_of, first_of, found_of, rows_of};
-ghost use Rattle.operator_cli.specs.Orders.{boxoffice, AreUnderstood, order_in, said_by, number_in, init_in, ask_in, find_in, list_in, export_in, import_in, named_order, values_of, first_misfit, misfit_in, misfit_line, TellsMisfit, IsRefusal};
+ghost use Rattle.clap.specs.Words.{subcommand_of, subcommand_rows_of, kind_of, all_of, first_of, found_of, rows_of};
+ghost use Rattle.operator_cli.specs.Orders.{boxoffice, AreUnderstood, order_in, said_by, number_in, init_in, ask_in, find_in, list_in, export_in, import_in, files_in, audit_in, named_order, values_of, first_misfit, misfit_in, misfit_line, TellsMisfit, IsRefusal};
 
 use crate::words::boxoffice;
+use arrayvec::ArrayVec;
 use book_core::Limit;
 use clap::error::ErrorKind;
 use clap::{ArgMatches, Error};
@@ -14,8 +15,11 @@ use request_ledger::RequestNumber;
 use rights_lattice::{MAX_VALUE, SiteId, Sites};
 use std::alloc::Global;
 
+/// The files of several sites, in the order of the sites: at most 16.
+pub type FileNames<'a> = ArrayVec<&'a str, 16>;
+
 /// A command of the program, with its values.
-#[derive(Clone, Copy, Debug, PartialEq, Eq)]
+#[derive(Debug, PartialEq, Eq, Drop)]
 pub enum Order<'a> {
     /// Runs the script on standard input.
     World,
@@ -49,6 +53,10 @@ pub enum Order<'a> {
     Import {
         file: &'a str,
     },
+    /// Sums up the records of all sites.
+    Audit {
+        files: FileNames<'a>,
+    },
 }
 
 /// Why the words give no command.
@@ -72,6 +80,7 @@ enum Misfit {
     Limit,
     Number,
     To,
+    Files,
 }
 
 // The line that tells it.
@@ -87,6 +96,7 @@ fn misfit_line(misfit: Misfit) -> &'static str
         Misfit::Limit => "error: LIMIT is a count of entries, 1 to 1000000\n",
         Misfit::Number => "error: NUMBER is the number of a request, 1 to 1000000000000\n",
         Misfit::To => "error: TO is the number of a site, 0 to 63\n",
+        Misfit::Files => "error: FILE is given 1 to 16 times\n",
     }
 }
 
@@ -198,6 +208,30 @@ fn import_of<'a>(values: &ArgMatches<'a>) -> Result<Order<'a>, Misfit>
     Ok(Order::Import { file })
 }
 
+fn all_of<'m, 'a>(values: &'m ArgMatches<'a>, id: &str) -> Option<&'m [&'a str]>
+    ensures { option_map (λ words. map (λ word. word.now) words.now) result ≡ all_of id.now (rows_of (found_of values.now)) }
+{
+    values.get_strs(id)
+}
+
+fn files_of<'a>(values: &ArgMatches<'a>) -> Option<FileNames<'a>>
+    ensures { option_map (λ files. map (λ file. file.now) files.items) result ≡ files_in (rows_of (found_of values.now)) }
+{
+    match FileNames::try_from(all_of(values, "FILE")?) {
+        Ok(files) => Some(files),
+        Err(_) => None,
+    }
+}
+
+#[tactic(auto, unfolding(crate::specs::Orders::audit_in))]
+fn audit_of<'a>(values: &ArgMatches<'a>) -> Result<Order<'a>, Misfit>
+    ensures order { MatchResult result (λ order. audit_in (rows_of (found_of values.now)) ≡ Some (said_by order)) (λ _. audit_in (rows_of (found_of values.now)) ≡ None) }
+    ensures misfit { IfErr result (λ misfit. first_misfit (Misfit.Files ∷ []) (rows_of (found_of values.now)) ≡ Some misfit) }
+{
+    let files = files_of(values).ok_or(Misfit::Files)?;
+    Ok(Order::Audit { files })
+}
+
 #[tactic(auto, unfolding(crate::specs::Orders::named_order, crate::specs::Orders::values_of))]
 fn named_order<'a>(name: &str, values: &ArgMatches<'a>) -> Result<Order<'a>, Misfit>
     ensures order { MatchResult result (λ order. named_order name.now (rows_of (found_of values.now)) ≡ Some (said_by order)) (λ _. named_order name.now (rows_of (found_of values.now)) ≡ None) }
@@ -217,6 +251,8 @@ fn named_order<'a>(name: &str, values: &ArgMatches<'a>) -> Result<Order<'a>, Mis
         export_of(values)
     } else if name == "import" {
         import_of(values)
+    } else if name == "audit" {
+        audit_of(values)
     } else {
         Err(Misfit::Command)
     }

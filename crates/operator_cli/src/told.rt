@@ -1,18 +1,21 @@
 //! What a command over records tells in one line of standard output.
 
-ghost use Rattle.std.specs.Prelude.{◌≡◌, ◌≤◌, IfOk, IfErr};
+ghost use Rattle.std.specs.Prelude.{◌≡◌, ◌≤◌, ◌++◌, IfOk, IfErr, codes};
+ghost use Rattle.std.specs.Fmt.{decimal};
 ghost use Rattle.arrayvec.specs.ArrayVec.{array_vec_len};
 ghost use Rattle.plain_words.specs.Writing.{Writes};
-ghost use Rattle.operator_cli.specs.Told.{told_text, told_line, told_status, wire_fault_text, ended_by_wire, ended_by_take};
+ghost use Rattle.operator_cli.specs.Told.{told_text, told_line, told_status, wire_fault_text, ended_by_wire, ended_by_take, ended_by_audit};
 ghost use Rattle.operator_cli.specs.declared.store_fault.StoreFault.TheVariants.{Write as WriteFailed};
 
 use crate::status::Status;
 use crate::store_fault::StoreFault;
 use delta_wire::WireFault;
 use desk_lines::take_fault_text;
-use plain_words::{Text, numbered, put, word, write_bytes};
+use plain_words::{Text, numbered, put, put_number, word, write_bytes};
+use rights_lattice::SiteId;
 use site_exchange::TakeFault;
 use std::io::Write;
+use world_steps::AuditFault;
 
 /// What a command tells.
 #[derive(Clone, Copy, Debug)]
@@ -39,6 +42,10 @@ pub(crate) enum Told {
     Unread(WireFault),
     /// The message is refused.
     NotTaken(TakeFault),
+    /// The files are not those of all sites, in their order.
+    NotWhole,
+    /// A site shows more of another's row than that site does.
+    Ahead { viewer: SiteId, owner: SiteId },
 }
 
 fn wire_fault_text(fault: WireFault) -> Text
@@ -52,6 +59,16 @@ fn wire_fault_text(fault: WireFault) -> Text
         WireFault::Trailing => word(b"trailing"),
         WireFault::Memory => word(b"memory"),
     }
+}
+
+fn ahead_text(viewer: SiteId, owner: SiteId) -> Text
+    ensures value { result.items ≡ codes "ahead " ++ decimal viewer ++ codes " " ++ decimal owner }
+    ensures len { array_vec_len result ≤ 200 }
+{
+    let mut text = numbered(b"ahead ", viewer.number());
+    put(&mut text, b" ");
+    put_number(&mut text, owner.number());
+    text
 }
 
 fn told_text(told: &Told) -> Text
@@ -70,6 +87,8 @@ fn told_text(told: &Told) -> Text
         Told::TooLong => word(b"too-long"),
         Told::Unread(fault) => wire_fault_text(*fault),
         Told::NotTaken(fault) => take_fault_text(*fault),
+        Told::NotWhole => word(b"not-whole"),
+        Told::Ahead { viewer, owner } => ahead_text(*viewer, *owner),
     }
 }
 
@@ -114,5 +133,16 @@ pub(crate) fn ended_by_take(fault: TakeFault) -> Result<Told, StoreFault>
         TakeFault::Memory => Err(StoreFault::Memory),
         TakeFault::Store | TakeFault::Closed => Err(StoreFault::Store),
         _ => Ok(Told::NotTaken(fault)),
+    }
+}
+
+/// What an audit that lists nothing comes to.
+pub(crate) fn ended_by_audit(fault: AuditFault) -> Result<Told, StoreFault>
+    ensures { result ≡ ended_by_audit fault }
+{
+    match fault {
+        AuditFault::NotWhole => Ok(Told::NotWhole),
+        AuditFault::Ahead { viewer, owner } => Ok(Told::Ahead { viewer, owner }),
+        AuditFault::Memory => Err(StoreFault::Memory),
     }
 }

@@ -15,7 +15,8 @@ use std::alloc::Global;
 use std::io::Write;
 use world_steps::World;
 
-fn total_line(event: Event, totals: Totals) -> Text
+/// The line of an event with its sums.
+pub(crate) fn total_line(event: Event, totals: Totals) -> Text
     requires { totals.refunded ≤ totals.sold }
     ensures { result.items ≡ total_line event totals }
 {

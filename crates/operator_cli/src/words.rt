@@ -3,7 +3,7 @@
 ghost use Rattle.std.specs.Prelude.{◌≡◌, IfOk, false, codes};
 ghost use Rattle.clap.specs.Words.{app_of, new_app, rule_of};
 ghost use Rattle.clap.specs.declared.builder.command.Command.TheViews.{out-Command as fields_of};
-ghost use Rattle.operator_cli.specs.Orders.{operand, boxoffice, init_app, ask_app, find_app, list_app, export_app, import_app};
+ghost use Rattle.operator_cli.specs.Orders.{operand, boxoffice, init_app, ask_app, find_app, list_app, export_app, import_app, audit_app};
 
 use clap::{Arg, Command};
 use std::alloc::{AllocError, Global};
@@ -103,6 +103,18 @@ fn import<'a>(alloc: Global) -> Result<Command<'a>, AllocError>
     named(alloc, "import", "Takes the message on standard input").arg(file(alloc))
 }
 
+fn audit<'a>(alloc: Global) -> Result<Command<'a>, AllocError>
+    ensures app { IfOk result (λ command. app_of command ≡ audit_app) }
+    ensures local { IfOk result (λ command. (fields_of command).has_globals ≡ false) }
+{
+    named(
+        alloc,
+        "audit",
+        "Sums up the records of all sites, the k-th file those of site k",
+    )
+    .arg(file(alloc).num_args(1..=16))
+}
+
 /// The program's command line.
 pub(crate) fn boxoffice<'a>(alloc: Global) -> Result<Command<'a>, AllocError>
     ensures { IfOk result (λ command. app_of command ≡ boxoffice) }
@@ -120,6 +132,7 @@ pub(crate) fn boxoffice<'a>(alloc: Global) -> Result<Command<'a>, AllocError>
     .subcommand(find(alloc)?)?
     .subcommand(list(alloc)?)?
     .subcommand(export(alloc)?)?
-    .subcommand(import(alloc)?)?;
+    .subcommand(import(alloc)?)?
+    .subcommand(audit(alloc)?)?;
     Ok(whole)
 }

@@ -1,7 +1,7 @@
 use Rattle.std.proofs.Common.{refl}
 use Rattle.clap.proofs.OnLiterals.{clap_on_literals}
 use Rattle.plain_words.specs.Number.{number_of}
-use Rattle.operator_cli.specs.Orders.{named_order, number_in, init_in, ask_in, find_in, list_in, export_in, import_in}
+use Rattle.operator_cli.specs.Orders.{named_order, number_in, init_in, ask_in, find_in, list_in, export_in, import_in, files_in, audit_in}
 use Rattle.operator_cli.proofs.laws.each_command_has_words.Goals as goal
 
 pub returns-clause-world : goal.returns-clause-world
@@ -31,6 +31,14 @@ returns-clause-export c = (refl, refl)
 pub returns-clause-import : goal.returns-clause-import
 unfolding clap_on_literals named_order import_in
 returns-clause-import c = (refl, refl)
+
+pub returns-clause-audit : goal.returns-clause-audit
+unfolding clap_on_literals named_order audit_in files_in
+returns-clause-audit c = (refl, refl)
+
+pub returns-clause-no_file : goal.returns-clause-no_file
+unfolding clap_on_literals
+returns-clause-no_file c = λ e. cc
 
 pub returns-clause-word_too_many : goal.returns-clause-word_too_many
 unfolding clap_on_literals

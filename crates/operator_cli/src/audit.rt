@@ -1,0 +1,102 @@
+//! The command `audit`: what all sites released, sold and took back, from their stopped books.
+
+ghost use Rattle.std.specs.Prelude.{◌≡◌, ◌≢◌, ◌⊎◌, IfOk, IfErr, map};
+ghost use Rattle.operator_cli.specs.declared.status.Status.TheVariants.{Done, Failed};
+ghost use Rattle.operator_cli.specs.declared.store_fault.StoreFault.TheVariants.{Write as WriteFailed, Memory as NoMemory};
+ghost use Rattle.world_steps.specs.Audit.{AreNotOversold, books_of};
+ghost use Rattle.operator_cli.specs.Told.{FaultTold};
+ghost use Rattle.operator_cli.specs.Opened.{FailsFor};
+ghost use Rattle.operator_cli.specs.Printed.{Printed};
+ghost use Rattle.operator_cli.specs.Audited.{AreSums, IsAuditText, sum_lines};
+
+use crate::ending::{ended, write_line};
+use crate::status::Status;
+use crate::store_fault::StoreFault;
+use crate::told::{ended_by_audit, tell};
+use crate::totals::total_line;
+use book_core::Book;
+use local_rights::Totals;
+use rights_lattice::Event;
+use site_desk::SiteBook;
+use sql_records::Keeper;
+use std::alloc::{AllocError, Global};
+use std::io::Write;
+use world_steps::audit;
+
+// A line for each event with its sums.
+fn write_sums<W: Write>(sums: &[(Event, Totals)], out: &mut W) -> Result<Status, StoreFault>
+    requires { AreSums sums.now }
+    ensures out { IfOk result (Printed (λ status text. text ≡ sum_lines sums.now) (W.contents out.old) (W.contents out.new)) }
+    ensures fault { IfErr result (λ fault. fault ≡ WriteFailed) }
+    ensures status { IfOk result (λ status. status ≡ Done) }
+{
+    'sums: for (event, totals) in sums {
+        write_line(&total_line(*event, *totals), out)?;
+    }
+    Ok(Status::Done)
+}
+
+/// Prints a line for each event with the sums over all books, or why they are not summed up.
+pub(crate) fn print_audit<W: Write>(
+    alloc: Global,
+    books: &[&Book],
+    out: &mut W,
+) -> Result<Status, StoreFault>
+    ensures out { IfOk result (Printed (IsAuditText (books_of books.now)) (W.contents out.old) (W.contents out.new)) }
+    ensures not_oversold { IfOk result (λ status. status ≡ Done → AreNotOversold (books_of books.now)) }
+    ensures fault { IfErr result (λ fault. (fault ≡ NoMemory) ⊎ (fault ≡ WriteFailed)) }
+    ensures ends { IfOk result (λ status. status ≢ Failed) }
+{
+    match audit(alloc, books) {
+        Ok(sums) => write_sums(sums.as_slice(), out),
+        Err(fault) => tell(&ended_by_audit(fault)?, out),
+    }
+}
+
+// The books behind their keepers.
+fn books_in<K: Keeper>(alloc: Global, sites: &[SiteBook<K>]) -> Result<Vec<&Book>, AllocError>
+    ensures { IfOk result (λ books. books_of books.items ≡ map (λ site. site.book) sites.now) }
+{
+    let mut books = Vec::new(alloc);
+    for site in sites {
+        books.push(site.book())?;
+    }
+    Ok(books)
+}
+
+fn audit_all<K: Keeper, W: Write>(
+    alloc: Global,
+    sites: &[SiteBook<K>],
+    out: &mut W,
+) -> Result<Status, StoreFault>
+    ensures out { IfOk result (Printed (IsAuditText (map (λ site. site.book) sites.now)) (W.contents out.old) (W.contents out.new)) }
+    ensures not_oversold { IfOk result (λ status. status ≡ Done → AreNotOversold (map (λ site. site.book) sites.now)) }
+    ensures fault { IfErr result (λ fault. (fault ≡ NoMemory) ⊎ (fault ≡ WriteFailed)) }
+    ensures ends { IfOk result (λ status. status ≢ Failed) }
+{
+    match books_in(alloc, sites) {
+        Ok(books) => print_audit(alloc, books.as_slice(), out),
+        Err(_) => Err(StoreFault::Memory),
+    }
+}
+
+/// Prints a line for each event that a site knows, rising, with what all sites released, sold and took back of it.
+///
+/// The k-th book is that of site k: `not-whole` where a book is of another site or counts another number of sites than
+/// there are books, and `ahead VIEWER OWNER` where a site shows more of another's row than that site does, with status 1.
+/// Whatever messages the sites took, no more is outstanding than was released where the status is 0. Want of memory and
+/// a writer that fails are told on `err`, with status 3. No book changes.
+pub fn audit_stores<K: Keeper, W: Write, E: Write>(
+    alloc: Global,
+    sites: &[SiteBook<K>],
+    out: &mut W,
+    err: &mut E,
+) -> Status
+    ensures out { Printed (IsAuditText (map (λ site. site.book) sites.now)) (W.contents out.old) (W.contents out.new) result }
+    ensures not_oversold { result ≡ Done → AreNotOversold (map (λ site. site.book) sites.now) }
+    ensures err { FaultTold (E.contents err.old) (E.contents err.new) result }
+    ensures cause { FailsFor (λ fault. (fault ≡ NoMemory) ⊎ (fault ≡ WriteFailed)) (E.contents err.old) (E.contents err.new) result }
+{
+    let came = audit_all(alloc, sites, out);
+    ended(came, out, err)
+}
