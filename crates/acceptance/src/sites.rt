@@ -150,7 +150,10 @@ fn a_full_site_refuses_a_delta(rt: HostRuntime) {
     asked(&rt, alloc, &mut full, 1, Request::Announce { event: expo });
     let (book, links, is_due, sums) = exchanged(&rt, alloc, full);
     assert!(rt; is_due);
-    assert_eq!(rt; sums.as_slice(), [released(expo, 0), released(gala(&rt), 100)].as_slice());
+    assert_eq!(rt;
+        sums.as_slice(),
+        [released(expo, 0), released(gala(&rt), 100)].as_slice()
+    );
     assert_eq!(rt; book.book().len(), 1);
     assert_eq!(rt; links.len(), 4);
     assert_eq!(rt; links[0], link_end(&rt, 0, 1, false, 1, 1));
@@ -304,6 +307,9 @@ fn two_sites_sell_at_once(rt: HostRuntime) {
         }
     }
     let sums = audited(&rt, alloc, ends.as_slice());
-    assert_eq!(rt; sums.as_slice(), [released(event(&rt, b"expo"), 0), released(gala(&rt), 0)].as_slice());
+    assert_eq!(rt;
+        sums.as_slice(),
+        [released(event(&rt, b"expo"), 0), released(gala(&rt), 0)].as_slice()
+    );
     assert_eq!(rt; gate.missed.load(Ordering::SeqCst), 0);
 }

@@ -20,6 +20,24 @@ use std::io::{BufWriter, ErrorKind, Stdout};
 use std::process::ExitCode;
 use std::sync::Wait;
 
+/// What a file and its log are taken to hold as the program opens them, whichever file it is.
+trait Begins {
+    type First: Start;
+
+    fn first(&self) -> Self::First;
+}
+
+/// Nothing is known of it here.
+struct Unread;
+
+impl Begins for Unread {
+    type First = Unknown;
+
+    fn first(&self) -> Unknown {
+        Unknown
+    }
+}
+
 fn out_of_memory(rt: &HostRuntime) -> Status {
     let _ = eprintln!(rt; "memory");
     Status::Failed
@@ -125,21 +143,30 @@ fn run_import<S: Start>(rt: &HostRuntime, file: &str, start: S) -> Result<Status
     Ok(close(rt, came))
 }
 
+// The book of a file's records.
+fn open_site<S: Start>(
+    rt: &HostRuntime,
+    file: &str,
+    start: S,
+) -> Result<SiteBook<Records<Files<S>>>, Status> {
+    let conn = open_there(rt, file, start)?;
+    match open_store(rt.alloc(), conn, &mut rt.stderr()) {
+        Ok(site) => Ok(site),
+        Err(came) => Err(close(rt, came)),
+    }
+}
+
 // The book of each file's records, put behind those before it.
 fn open_all<S: Start>(
     rt: &HostRuntime,
     files: &FileNames<'_>,
-    start: &impl Fn() -> S,
+    start: &impl Begins<First = S>,
     sites: &mut Vec<SiteBook<Records<Files<S>>>>,
 ) -> Result<(), Status> {
-    for file in files {
-        if sites.reserve(1).is_err() {
+    for file in files.as_slice() {
+        let site = open_site(rt, file, start.first())?;
+        if sites.push(site).is_err() {
             return Err(out_of_memory(rt));
-        }
-        let conn = open_there(rt, file, start())?;
-        match open_store(rt.alloc(), conn, &mut rt.stderr()) {
-            Ok(site) => sites.push_reserved(site),
-            Err(came) => return Err(close(rt, came)),
         }
     }
     Ok(())
@@ -160,7 +187,7 @@ fn close_all<S: Start>(
 fn run_audit<S: Start>(
     rt: &HostRuntime,
     files: &FileNames<'_>,
-    start: &impl Fn() -> S,
+    start: &impl Begins<First = S>,
 ) -> Result<Status, Status> {
     let mut out = buffered(rt)?;
     let mut sites = Vec::new(rt.alloc());
@@ -176,7 +203,7 @@ fn run_order<S: Start>(
     rt: &HostRuntime,
     waiter: &impl Wait,
     order: Order<'_>,
-    start: &impl Fn() -> S,
+    start: &impl Begins<First = S>,
 ) -> Result<Status, Status> {
     match order {
         Order::World => run_world(rt),
@@ -185,12 +212,12 @@ fn run_order<S: Start>(
             me,
             sites,
             limit,
-        } => run_init(rt, file, me, sites, limit, start()),
-        Order::Ask { file } => run_ask(rt, waiter, file, start()),
-        Order::Find { file, number } => run_find(rt, file, number, start()),
-        Order::List { file, event } => run_list(rt, file, event, start()),
-        Order::Export { file, to } => run_export(rt, file, to, start()),
-        Order::Import { file } => run_import(rt, file, start()),
+        } => run_init(rt, file, me, sites, limit, start.first()),
+        Order::Ask { file } => run_ask(rt, waiter, file, start.first()),
+        Order::Find { file, number } => run_find(rt, file, number, start.first()),
+        Order::List { file, event } => run_list(rt, file, event, start.first()),
+        Order::Export { file, to } => run_export(rt, file, to, start.first()),
+        Order::Import { file } => run_import(rt, file, start.first()),
         Order::Audit { files } => run_audit(rt, &files, start),
     }
 }
@@ -199,7 +226,7 @@ fn run<S: Start>(
     rt: &HostRuntime,
     waiter: &impl Wait,
     words: &[&str],
-    start: &impl Fn() -> S,
+    start: &impl Begins<First = S>,
 ) -> Status {
     match read_words(rt.alloc(), words) {
         Ok(order) => match run_order(rt, waiter, order, start) {
@@ -220,7 +247,7 @@ fn texts(alloc: Global, words: &[String]) -> Result<Vec<&str>, AllocError> {
 fn started<S: Start>(
     rt: &HostRuntime,
     waiter: &impl Wait,
-    start: &impl Fn() -> S,
+    start: &impl Begins<First = S>,
 ) -> std::io::Result<Status> {
     let words: Vec<String> = env::args(rt)?.collect(rt.alloc())?;
     let texts = texts(rt.alloc(), &words)?;
@@ -230,7 +257,7 @@ fn started<S: Start>(
 // What the file holds is nobody's to know here, so the rest is proved for any first contents. Only here is the runtime
 // a handle that may wait.
 fn main(rt: HostRuntime) -> ExitCode {
-    let status = match started(&rt, &rt, &|| Unknown) {
+    let status = match started(&rt, &rt, &Unread) {
         Ok(status) => status,
         Err(error) => match error.kind() {
             ErrorKind::OutOfMemory => out_of_memory(&rt),

@@ -31,6 +31,6 @@ pub use import::import_store;
 pub use init::{init_store, refuse_site};
 pub use list::list_store;
 pub use opening::open_store;
-pub use orders::{Order, WordsFault, read_words};
+pub use orders::{FileNames, Order, WordsFault, read_words};
 pub use status::Status;
 pub use world::{run_script, world_script};
