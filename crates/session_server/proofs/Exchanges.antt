@@ -1,14 +1,14 @@
 -- An exchange, message by message and peer by peer.
-use Rattle.std.proofs.Common.{◌≡◌, ℕ, ◌+◌, ◌≤◌, List, [], ◌∷◌, ◌++◌, length, inl, inr, Option, Some, None, refl, sym, ap, ◌∙◌, subst, arith}
+use Rattle.std.proofs.Common.{◌≡◌, ℕ, zero, suc, ◌+◌, ◌≤◌, get_or, set, List, [], ◌∷◌, ◌++◌, length, inl, inr, Option, Some, None, refl, sym, ap, ◌∙◌, subst, arith}
 use Rattle.std.specs.Prelude.{◌⊎◌, MatchResult, map}
 use Rattle.std.proofs.Common.{Result, Ok, Err}
 use Rattle.std.proofs.lemmas.List.{append-nil, length_push}
 use Rattle.std.specs.List.{filter_map, AllZip, cons_option}
-use Rattle.std.proofs.lemmas.List.Elements.{filter_map-append}
+use Rattle.std.proofs.lemmas.List.Elements.{All-append, All-cons, All-nil, filter_map-append}
 use Rattle.link_queue.specs.End.{End, end_of}
 use Rattle.site_exchange.specs.declared.message.Message.{Message}
-use Rattle.site_exchange.specs.Exchange.{ack_for}
-use Rattle.session_server.specs.Exchanged.{IsSubsequence, Acknowledges, Exchanged, Sent, Received, HasSent, HasReceived, outgoing, incoming}
+use Rattle.site_exchange.specs.Exchange.{ack_for, receiver}
+use Rattle.session_server.specs.Exchanged.{IsSubsequence, Acknowledges, SentTo, SentMore, IsEndOf, Exchanged, Sent, Received, HasSent, HasReceived, outgoing, incoming}
 use Rattle.session_server.specs.declared.peer.Peer.{Peer}
 use Rattle.session_server.specs.declared.peer.PeerEnd.{PeerEnd}
 use Rattle.session_server.specs.declared.sending.Outgoing.{Outgoing}
@@ -77,18 +77,70 @@ pub sent_or_back : (came sent came1 came2 : List Message) (tx tx2 : End) (refuse
 sent_or_back came sent came1 came2 tx tx2 refused m a (Ok done) h is p q = (ap (λ e. e.link) q, sent_for came sent came1 tx.messages came2 tx2.messages refused m a h is p (ap (λ e. e.messages) q))
 sent_or_back came sent came1 came2 tx tx2 refused m a (Err back) h is p q = (ap (λ e. e.link) q.1, came_more came sent came1 tx.messages came2 tx2.messages refused refused m h p (ap (λ e. e.messages) q.1) (omega (arith)))
 
-pub sent_from : (xs ys : List Outgoing) (es : List OutgoingEnd) → map (λ o. o.to) ys ≡ map (λ o. o.to) xs → map (λ o. o.tx.link) ys ≡ map (λ o. o.tx.link) xs → AllZip Sent ys es → AllZip Sent xs es
-sent_from [] [] es p q h = h
-sent_from [] (y ∷ ys) es p q h = cc
-sent_from (x ∷ xs) [] es p q h = cc
-sent_from (x ∷ xs) (y ∷ ys) [] p q h = absurd h
-sent_from (x ∷ xs) (y ∷ ys) (e ∷ es) p q h = (record { to = h.0.to ∙ head_same _ _ _ _ p; link = h.0.link ∙ head_same _ _ _ _ q }, sent_from xs ys es (tail_same _ _ _ _ p) (tail_same _ _ _ _ q) h.1)
-  where
-    head_same : {X : Type 0} (a b : X) (xs ys : List X) → a ∷ xs ≡ b ∷ ys → a ≡ b
-    head_same a b xs ys e = cc
+-- nothing more was sent
+pub sent_nothing : (to : ℕ) (sent : List Message) → SentTo to sent sent
+sent_nothing to sent = record { put = []; more_sent = sym (append-nil sent); for_it = All-nil (λ m. receiver m ≡ to) }
 
-    tail_same : {X : Type 0} (a b : X) (xs ys : List X) → a ∷ xs ≡ b ∷ ys → xs ≡ ys
-    tail_same a b xs ys e = cc
+sent_one : (to : ℕ) (sent sent_now : List Message) (m : Message) → receiver m ≡ to → sent_now ≡ sent ++ m ∷ [] → SentTo to sent sent_now
+sent_one to sent sent_now m is p = record { put = m ∷ []; more_sent = p; for_it = All-cons (λ x. receiver x ≡ to) m [] is (All-nil (λ x. receiver x ≡ to)) }
+
+sent_then : (to : ℕ) (a b c : List Message) → SentTo to a b → SentTo to b c → SentTo to a c
+sent_then to a b c h k = record {
+  put = h.put ++ k.put;
+  more_sent = k.more_sent ∙ ap (λ l. l ++ k.put) h.more_sent ∙ associative a h.put k.put;
+  for_it = All-append (λ m. receiver m ≡ to) h.put k.put h.for_it k.for_it;
+}
+
+-- the message went out, or it came back
+pub sent_or_not : (out now : Outgoing) (m : Message) (result : Result (Unit {0}) Message) → receiver m ≡ out.to → now.to ≡ out.to
+    → MatchResult result (λ _. now.tx ≡ end_of out.tx.link (out.tx.messages ++ m ∷ [])) (λ back. (back ≡ m) × (now.tx ≡ out.tx)) → SentMore out now
+sent_or_not out now m (Ok done) is to p = record { to = to; link = ap (λ e. e.link) p; put = sent_one out.to out.tx.messages now.tx.messages m is (ap (λ e. e.messages) p) }
+sent_or_not out now m (Err back) is to p = record { to = to; link = ap (λ e. e.link) p.1; put = subst (SentTo out.to out.tx.messages) (sym (ap (λ (e : End). e.messages) p.1)) (sent_nothing out.to out.tx.messages) }
+
+pub not_sent : (out : Outgoing) → SentMore out out
+not_sent out = record { to = refl; link = refl; put = sent_nothing out.to out.tx.messages }
+
+more_then : (x y z : Outgoing) → SentMore x y → SentMore y z → SentMore x z
+more_then x y z h k = record {
+  to = k.to ∙ h.to;
+  link = k.link ∙ h.link;
+  put = sent_then x.to x.tx.messages y.tx.messages z.tx.messages h.put (subst (λ to. SentTo to y.tx.messages z.tx.messages) h.to k.put);
+}
+
+pub none_sent : (xs : List Outgoing) → AllZip SentMore xs xs
+none_sent [] = tt
+none_sent (x ∷ xs) = (not_sent x, none_sent xs)
+
+pub all_then : (xs ys zs : List Outgoing) → AllZip SentMore xs ys → AllZip SentMore ys zs → AllZip SentMore xs zs
+all_then [] [] zs h k = k
+all_then [] (y ∷ ys) zs h k = absurd h
+all_then (x ∷ xs) [] zs h k = absurd h
+all_then (x ∷ xs) (y ∷ ys) [] h k = absurd k
+all_then (x ∷ xs) (y ∷ ys) (z ∷ zs) h k = (more_then x y z h.0 k.0, all_then xs ys zs h.1 k.1)
+
+-- one of the links was sent on
+pub one_sent : (xs : List Outgoing) (k : ℕ) (x y : Outgoing) → x ≡ get_or xs k x → SentMore x y → AllZip SentMore xs (set xs k y)
+one_sent [] k x y is h = tt
+one_sent (z ∷ xs) zero x y is h = (subst (λ a. SentMore a y) is h, none_sent xs)
+one_sent (z ∷ xs) (suc k) x y is h = (not_sent z, one_sent xs k x y is h)
+
+pub sent_from : (xs ys : List Outgoing) (es : List OutgoingEnd) → AllZip SentMore xs ys → AllZip IsEndOf ys es → AllZip Sent xs es
+sent_from [] [] es h k = all_ended es k
+  where
+    all_ended : (es : List OutgoingEnd) → AllZip IsEndOf [] es → AllZip Sent [] es
+    all_ended [] k = tt
+    all_ended (e ∷ es) k = absurd k
+sent_from [] (y ∷ ys) es h k = absurd h
+sent_from (x ∷ xs) [] es h k = absurd h
+sent_from (x ∷ xs) (y ∷ ys) [] h k = absurd k
+sent_from (x ∷ xs) (y ∷ ys) (e ∷ es) h k = (ended x y e h.0 k.0, sent_from xs ys es h.1 k.1)
+  where
+    ended : (x y : Outgoing) (e : OutgoingEnd) → SentMore x y → IsEndOf y e → Sent x e
+    ended x y e h k = record {
+      to = k.to ∙ h.to;
+      link = ap (λ (t : End). t.link) k.tx ∙ h.link;
+      put = subst (SentTo x.to x.tx.messages) (sym (ap (λ (t : End). t.messages) k.tx)) h.put;
+    }
 
 -- the same by other names
 told : (came sent : List Message) (n n2 : ℕ) (rx rx2 tx tx2 : End) → n2 ≡ n → rx2 ≡ rx → tx2 ≡ tx → Acknowledges came sent n rx.messages tx.messages → Acknowledges came sent n2 rx2.messages tx2.messages
@@ -115,6 +167,8 @@ exchanged (p ∷ ps) (o ∷ os) (i ∷ is) (e ∷ es) s r hs hr = (one p o i e s
       ack_tx = ap (λ t. t.link) hr.ack_tx ∙ r.ack_tx;
       delta_rx = ap (λ t. t.link) hr.delta_rx ∙ r.delta_rx;
       ack_rx = ap (λ t. t.link) hr.ack_rx ∙ r.ack_rx;
+      sent = subst (SentTo p.to p.delta_tx.messages) (sym (ap (λ (t : End). t.messages) hs.delta_tx)) s.put;
+      acks_counted = omega (arith, r.acks_counted, hr.acks_refused, ap (λ (t : End). length t.messages) hr.ack_rx);
       acknowledged = told _ _ _ _ _ _ _ _ hr.refused hr.delta_rx hr.ack_tx r.acknowledged;
     }
 

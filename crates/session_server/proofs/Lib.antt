@@ -3,3 +3,4 @@ pub mod Exchanges
 pub mod Maps
 pub mod Seats
 pub mod Sessions
+pub mod Sites

@@ -1,8 +1,8 @@
 -- What an exchange leaves of the links to a peer. (That a replica acknowledges what it joined: JPDC 2018; the links: our own.)
-use Rattle.std.specs.Prelude.{◌≡◌, ℕ, ◌+◌, ◌≤◌, List, [], ◌∷◌, ◌++◌, length, ◌⊎◌}
+use Rattle.std.specs.Prelude.{◌≡◌, ℕ, ◌+◌, ◌≤◌, All, List, [], ◌∷◌, ◌++◌, length, ◌⊎◌}
 use Rattle.std.specs.List.{filter_map}
 use Rattle.site_exchange.specs.declared.message.Message.{Message}
-use Rattle.site_exchange.specs.Exchange.{ack_for}
+use Rattle.site_exchange.specs.Exchange.{ack_for, receiver}
 use Rattle.session_server.specs.declared.peer.Peer.{Peer}
 use Rattle.session_server.specs.declared.peer.PeerEnd.{PeerEnd}
 use Rattle.session_server.specs.declared.sending.Outgoing.{Outgoing}
@@ -26,13 +26,22 @@ pub record Acknowledges (came sent : List Message) (refused : ℕ) (came_now sen
   pub due : IsSubsequence put (filter_map ack_for got)
   pub counted : length put + refused ≤ length got
 
--- the ends are those of the peer's links, and what was sent back acknowledges what came
+-- Since there were these messages, more were sent, each of them to this site.
+pub record SentTo (to : ℕ) (sent sent_now : List Message) : Type 0 where
+  pub put : List Message
+  pub more_sent : sent_now ≡ sent ++ put
+  pub for_it : All (λ m. receiver m ≡ to) put
+
+-- The ends are those of the peer's links. What was sent is for the peer, what was sent back acknowledges what came, and
+-- no more acknowledgements were refused than came.
 pub record Exchanged (peer : Peer) (end : PeerEnd) : Type 0 where
   pub to : end.to ≡ peer.to
   pub delta_tx : end.delta_tx.link ≡ peer.delta_tx.link
   pub ack_tx : end.ack_tx.link ≡ peer.ack_tx.link
   pub delta_rx : end.delta_rx.link ≡ peer.delta_rx.link
   pub ack_rx : end.ack_rx.link ≡ peer.ack_rx.link
+  pub sent : SentTo peer.to peer.delta_tx.messages end.delta_tx.messages
+  pub acks_counted : length peer.ack_rx.messages + end.acks_refused ≤ length end.ack_rx.messages
   pub acknowledged : Acknowledges peer.delta_rx.messages peer.ack_tx.messages end.deltas_refused end.delta_rx.messages end.ack_tx.messages
 
 -- what goes to a peer, and what comes from it
@@ -42,16 +51,29 @@ outgoing peer = record { to = peer.to; tx = peer.delta_tx }
 abbrev pub incoming : Peer → Incoming
 incoming peer = record { delta_rx = peer.delta_rx; ack_tx = peer.ack_tx; ack_rx = peer.ack_rx }
 
+-- a link that was sent on, with what is for its peer
+pub record SentMore (before after : Outgoing) : Type 0 where
+  pub to : after.to ≡ before.to
+  pub link : after.tx.link ≡ before.tx.link
+  pub put : SentTo before.to before.tx.messages after.tx.messages
+
+-- the end of a link, with what was sent on it
+pub record IsEndOf (out : Outgoing) (end : OutgoingEnd) : Type 0 where
+  pub to : end.to ≡ out.to
+  pub tx : end.tx ≡ out.tx
+
 -- the end of a link that was sent on
 pub record Sent (out : Outgoing) (end : OutgoingEnd) : Type 0 where
   pub to : end.to ≡ out.to
   pub link : end.tx.link ≡ out.tx.link
+  pub put : SentTo out.to out.tx.messages end.tx.messages
 
 -- the ends of the links that were received on, with what was acknowledged
 pub record Received (before : Incoming) (after : IncomingEnd) : Type 0 where
   pub delta_rx : after.delta_rx.link ≡ before.delta_rx.link
   pub ack_tx : after.ack_tx.link ≡ before.ack_tx.link
   pub ack_rx : after.ack_rx.link ≡ before.ack_rx.link
+  pub acks_counted : length before.ack_rx.messages + after.acks_refused ≤ length after.ack_rx.messages
   pub acknowledged : Acknowledges before.delta_rx.messages before.ack_tx.messages after.deltas_refused after.delta_rx.messages after.ack_tx.messages
 
 -- the part of a peer's end that was sent on, and the part that was received on

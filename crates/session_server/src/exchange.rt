@@ -137,8 +137,9 @@ fn zip(mut outs: Vec<OutgoingEnd>, mut ins: Vec<IncomingEnd>, ends: &mut Vec<Pee
 /// Exchanges messages with all peers: sends what is due to each for so many rounds, in one thread, and takes what comes, in
 /// two threads for each peer, until the links end. Each thread that is done ends the links that it sent on.
 ///
-/// It hands back the ends of the links that it was given, peer by peer. What was sent back to a peer acknowledges messages
-/// that came from it, in their order; a message that is refused is counted and not acknowledged.
+/// It hands back the ends of the links that it was given, peer by peer. Each message that was sent to a peer is for it. What
+/// was sent back to a peer acknowledges messages that came from it, in their order; a message that is refused is counted
+/// and not acknowledged.
 pub fn exchange_all<T: Threads + Wait + Sync, K: Keeper + Send, L: Opens + Send + Sync>(
     rt: &T,
     alloc: Global,

@@ -6,6 +6,7 @@ mod at_book;
 mod at_desk;
 mod exchange;
 mod fault;
+mod link_ends;
 mod links;
 mod one_site;
 mod peer;

@@ -1,6 +1,6 @@
 //! The links between all sites of a process.
 
-ghost use Rattle.std.specs.Prelude.{◌<◌};
+ghost use Rattle.std.specs.Prelude.{◌≡◌, ◌<◌, IfOk, OnOk, map};
 
 use crate::peer::Peer;
 use crate::site::Site;
@@ -55,6 +55,7 @@ pub(crate) fn link_all<K: Keeper + Drop, R: Read + Drop, W: Write + Drop>(
     capacity: usize,
 ) -> Result<Vec<Linked<K, R, W>>, AllocError>
     requires { 0 < capacity }
+    ensures { IfOk result (λ linked. map (λ l. l.site) linked.items ≡ sites.items) }
 {
     let mut linked: Vec<Linked<K, R, W>> = Vec::new(alloc);
     for site in sites {
@@ -72,12 +73,27 @@ fn linked_with<K: Keeper + Drop, R: Read + Drop, W: Write + Drop>(
     earlier: &mut Vec<Linked<K, R, W>>,
 ) -> Result<Vec<Peer>, AllocError>
     requires { 0 < capacity }
+    ensures { OnOk result (map (λ l. l.site) earlier.new.items ≡ map (λ l. l.site) earlier.old.items) }
 {
     let mut peers = Vec::new(alloc);
-    for other in earlier.iter_mut() {
-        let (there, here) = pair(alloc, capacity, other.site.book.book().me(), me)?;
-        other.peers.push(there)?;
+    for k in 0..earlier.len() {
+        let here = link_with(alloc, capacity, me, &mut earlier[k])?;
         peers.push(here)?;
     }
     Ok(peers)
+}
+
+// Links the site with another, which gets its ends.
+fn link_with<K: Keeper + Drop, R: Read + Drop, W: Write + Drop>(
+    alloc: Global,
+    capacity: usize,
+    me: SiteId,
+    other: &mut Linked<K, R, W>,
+) -> Result<Peer, AllocError>
+    requires { 0 < capacity }
+    ensures { other.new.site ≡ other.old.site }
+{
+    let (there, here) = pair(alloc, capacity, other.site.book.book().me(), me)?;
+    other.peers.push(there)?;
+    Ok(here)
 }

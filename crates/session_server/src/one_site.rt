@@ -1,6 +1,11 @@
 //! One site, in the thread that it was given.
 
-ghost use Rattle.std.specs.Prelude.{◌≡◌, ◌<◌, vec_len, length};
+ghost use Rattle.std.specs.Prelude.{◌≡◌, ◌≢◌, ◌<◌, ◌+◌, All, IfErr, IfOk, IsSome, map, vec_len, length};
+ghost use Rattle.std.specs.List.{AllZip, flat_map};
+ghost use Rattle.site_desk.specs.declared.finish.FinishFault.TheVariants.{SeatsOut};
+ghost use Rattle.site_desk.specs.Seats.{parts_of, shares_of};
+ghost use Rattle.session_server.specs.Exchanged.{Exchanged};
+ghost use Rattle.session_server.specs.Finished.{IsCompared, IsFinished};
 
 use crate::exchange::{ExchangeFault, exchange_all};
 use crate::links::Linked;
@@ -15,9 +20,10 @@ use sql_records::Keeper;
 use std::alloc::{AllocError, Global};
 use std::io::{Read, Write};
 use std::marker::Brand;
+use std::snapshot::Snapshot;
 use std::sync::Wait;
 use std::sync::ledger::Blank;
-use std::thread::Threads;
+use std::thread::{Promise, Threads};
 
 // What a site leaves: its book, its sessions, whether they were given what the history holds, and its links.
 pub(crate) type Left<K, R, W> = (
@@ -39,7 +45,14 @@ pub(crate) fn run_site<
     linked: Linked<K, R, W>,
     rounds: u64,
     gate: &G,
-) -> Result<Left<K, R, W>, ExchangeFault> {
+) -> Result<Left<K, R, W>, ExchangeFault>
+    ensures ids { IfOk result (λ left. map (λ e. e.id) left.1.items ≡ map (λ v. v.id) linked.site.sessions.items) }
+    ensures readers { IfOk result (λ left. map (λ e. e.reader_began.value) left.1.items ≡ map (λ v. v.reader) linked.site.sessions.items) }
+    ensures writers { IfOk result (λ left. map (λ e. e.writer_began.value) left.1.items ≡ map (λ v. v.writer) linked.site.sessions.items) }
+    ensures finished { IfOk result (λ left. IsFinished left.0.book (flat_map (λ e. e.receipts.items) left.1.items) (flat_map (λ e. e.seen.items) left.1.items) left.2.0) }
+    ensures whole { IfOk result (λ left. All (λ e. IsSome e.writer) left.1.items → IfErr left.2.0 (λ fault. fault ≢ SeatsOut)) }
+    ensures peers { IfOk result (λ left. AllZip Exchanged linked.peers.items left.2.1.items) }
+{
     let Linked { site, peers } = linked;
     let Some(parts) = (site.sessions.len() as u64).checked_add(1) else {
         return Err(ExchangeFault::Memory);
@@ -68,6 +81,12 @@ fn at_desk<
     requires parts { blank.parts ≡ L.parts }
     requires enough { vec_len site.sessions < blank.parts }
     requires opening { L.opening ≡ length site.book.book.history }
+    ensures ids { IfOk result (λ left. map (λ e. e.id) left.1.items ≡ map (λ v. v.id) site.sessions.items) }
+    ensures readers { IfOk result (λ left. map (λ e. e.reader_began.value) left.1.items ≡ map (λ v. v.reader) site.sessions.items) }
+    ensures writers { IfOk result (λ left. map (λ e. e.writer_began.value) left.1.items ≡ map (λ v. v.writer) site.sessions.items) }
+    ensures finished { IfOk result (λ left. IsFinished left.0.book (flat_map (λ e. e.receipts.items) left.1.items) (flat_map (λ e. e.seen.items) left.1.items) left.2.0) }
+    ensures whole { IfOk result (λ left. All (λ e. IsSome e.writer) left.1.items → IfErr left.2.0 (λ fault. fault ≢ SeatsOut)) }
+    ensures peers { IfOk result (λ left. AllZip Exchanged peers.items left.2.1.items) }
 {
     let Site { book, sessions } = site;
     let (desk, seat) = Desk::<K, L>::new(book, blank);
@@ -86,15 +105,40 @@ fn finished<K: Keeper + Drop, R: Read + Drop, W: Write + Drop, L: Opens>(
     mut seats: Vec<Seat<L>>,
     seat: Seat<L>,
     sessions: &Vec<SessionEnd<R, W>>,
-) -> Result<(SiteBook<K>, Result<(), FinishFault>), AllocError> {
+) -> Result<(SiteBook<K>, Result<(), FinishFault>), AllocError>
+    ensures compared { IfOk result (λ r. IsCompared L.opening (shares_of seats.items + seat.count) r.0.book (flat_map (λ e. e.receipts.items) sessions.now.items) (flat_map (λ e. e.seen.items) sessions.now.items) r.1) }
+    ensures whole { parts_of seats.items + seat.parts ≡ L.parts → IfOk result (λ r. IfErr r.1 (λ fault. fault ≢ SeatsOut)) }
+{
     let (receipts, seen) = told(alloc, sessions)?;
     seats.push(seat)?;
-    Ok(
-        match desk.finish(seats, receipts.as_slice(), seen.as_slice()) {
-            Ok(book) => (book, Ok(())),
-            Err((book, fault)) => (book, Err(fault)),
-        },
-    )
+    Ok(compared(desk, seats, receipts.as_slice(), seen.as_slice()))
+}
+
+fn compared<K: Keeper + Drop, L: Opens>(
+    desk: Desk<K, L>,
+    seats: Vec<Seat<L>>,
+    receipts: &[Receipt],
+    looks: &[Seen],
+) -> (SiteBook<K>, Result<(), FinishFault>)
+    ensures compared { IsCompared L.opening (shares_of seats.items) result.0.book receipts.now looks.now result.1 }
+    ensures whole { parts_of seats.items ≡ L.parts → IfErr result.1 (λ fault. fault ≢ SeatsOut) }
+{
+    match desk.finish(seats, receipts, looks) {
+        Ok(book) => (book, Ok(())),
+        Err((book, fault)) => (book, Err(fault)),
+    }
+}
+
+// The sessions that are served in a thread.
+#[derive(Drop)]
+struct Begun<R: Read + Drop, W: Write + Drop, L: Opens> {
+    sessions: Snapshot<Vec<Session<R, W, L>>>,
+}
+
+impl<R: Read + Drop, W: Write + Drop, L: Opens> Promise<
+    Result<(Vec<SessionEnd<R, W>>, Vec<Seat<L>>), AllocError>,
+> for Begun<R, W, L> {
+    ghost kept_by = { λ p r. IfOk r (λ s. (map (λ e. e.id) s.0.items ≡ map (λ s. s.id) p.sessions.value.items) × (map (λ e. e.reader_began.value) s.0.items ≡ map (λ s. s.reader) p.sessions.value.items) × (map (λ e. e.writer_began.value) s.0.items ≡ map (λ s. s.writer) p.sessions.value.items) × (All (λ e. IsSome e.writer) s.0.items → parts_of s.1.items ≡ parts_of (map (λ s. s.seat) p.sessions.value.items))) };
 }
 
 // The sessions in a thread beside the exchange.
@@ -119,10 +163,20 @@ fn at_once<
         Result<Vec<PeerEnd>, ExchangeFault>,
     ),
     ExchangeFault,
-> {
+>
+    ensures ids { IfOk result (λ r. IfOk r.0 (λ s. map (λ e. e.id) s.0.items ≡ map (λ s. s.id) sessions.items)) }
+    ensures readers { IfOk result (λ r. IfOk r.0 (λ s. map (λ e. e.reader_began.value) s.0.items ≡ map (λ s. s.reader) sessions.items)) }
+    ensures writers { IfOk result (λ r. IfOk r.0 (λ s. map (λ e. e.writer_began.value) s.0.items ≡ map (λ s. s.writer) sessions.items)) }
+    ensures parts { IfOk result (λ r. IfOk r.0 (λ s. All (λ e. IsSome e.writer) s.0.items → parts_of s.1.items ≡ parts_of (map (λ s. s.seat) sessions.items))) }
+    ensures peers { IfOk result (λ r. IfOk r.1 (λ ends. AllZip Exchanged peers.items ends.items)) }
+{
+    let begun = Begun {
+        sessions: Snapshot::of(&sessions),
+    };
     work_beside(
         rt,
         sessions,
+        begun,
         &|sessions| serve_all(rt, alloc, sessions, desk, gate),
         || exchange_all(rt, alloc, desk, peers, rounds),
     )
@@ -132,7 +186,10 @@ fn at_once<
 fn told<R: Read + Drop, W: Write + Drop>(
     alloc: Global,
     sessions: &Vec<SessionEnd<R, W>>,
-) -> Result<(Vec<Receipt>, Vec<Seen>), AllocError> {
+) -> Result<(Vec<Receipt>, Vec<Seen>), AllocError>
+    ensures receipts { IfOk result (λ r. r.0.items ≡ flat_map (λ e. e.receipts.items) sessions.now.items) }
+    ensures looks { IfOk result (λ r. r.1.items ≡ flat_map (λ e. e.seen.items) sessions.now.items) }
+{
     let mut receipts = Vec::new(alloc);
     let mut seen = Vec::new(alloc);
     for session in sessions {

@@ -1,6 +1,6 @@
 //! The threads that receive: two for each peer.
 
-ghost use Rattle.std.specs.Prelude.{◌≡◌, ◌≤◌, [], vec_len, vec_capacity, OnOk};
+ghost use Rattle.std.specs.Prelude.{◌≡◌, ◌≤◌, ◌+◌, [], length, vec_len, vec_capacity, OnOk};
 ghost use Rattle.std.specs.List.{AllZip};
 ghost use Rattle.session_server.specs.Exchanged.{Acknowledges, Received};
 
@@ -46,7 +46,7 @@ struct AcksOf {
 }
 
 impl Promise<(RxEnd, u64)> for AcksOf {
-    ghost kept_by = { λ p r. r.0.link ≡ p.rx.value.link };
+    ghost kept_by = { λ p r. (r.0.link ≡ p.rx.value.link) × (length p.rx.value.messages + r.1 ≤ length r.0.messages) };
 }
 
 // Receives deltas until the link ends, and acknowledges those that were taken. Then it ends the link back.
@@ -77,7 +77,8 @@ fn receive_deltas<S: Replica, R: Wait>(
 
 // Receives acknowledgements until the link ends.
 fn receive_acks<S: Replica, R: Wait>(rt: &R, replica: &S, mut rx: Rx) -> (RxEnd, u64)
-    ensures { result.0.link ≡ rx.link }
+    ensures link { result.0.link ≡ rx.link }
+    ensures counted { length rx.messages + result.1 ≤ length result.0.messages }
 {
     let mut refused: u64 = 0;
     for _ in rt.forever() {

@@ -1,26 +1,46 @@
 //! All sites of a process at once.
 
-ghost use Rattle.std.specs.Prelude.{◌<◌};
+ghost use Rattle.std.specs.Prelude.{◌≡◌, ◌≢◌, ◌<◌, ◌≤◌, [], All, IfErr, IfOk, IsSome, map, vec_len, vec_capacity};
+ghost use Rattle.std.specs.List.{AllZip, flat_map};
+ghost use Rattle.site_desk.specs.declared.finish.FinishFault.TheVariants.{SeatsOut};
+ghost use Rattle.session_server.specs.Exchanged.{Exchanged};
+ghost use Rattle.session_server.specs.Finished.{IsFinished};
+ghost use Rattle.session_server.specs.LinkNames.{link_names, name_of};
 
 use crate::exchange::ExchangeFault;
+use crate::link_ends::{link_ends, numbers};
 use crate::links::{Linked, link_all};
 use crate::one_site::{Left, run_site};
 use crate::peer::PeerEnd;
 use crate::site::{LinkEnd, Site, SiteEnd};
 use crate::threads::work_all;
-use rights_lattice::SiteId;
 use site_desk::Gate;
 use sql_records::Keeper;
-use std::alloc::{AllocError, Global};
+use std::alloc::Global;
 use std::io::{Read, Write};
+use std::snapshot::Snapshot;
 use std::sync::Wait;
-use std::thread::Threads;
+use std::thread::{Promise, Threads};
+
+// The site that a thread is begun with.
+#[derive(Drop)]
+struct SiteOf<K: Keeper + Drop, R: Read + Drop, W: Write + Drop> {
+    linked: Snapshot<Linked<K, R, W>>,
+}
+
+impl<K: Keeper + Drop, R: Read + Drop, W: Write + Drop> Promise<
+    Result<Left<K, R, W>, ExchangeFault>,
+> for SiteOf<K, R, W> {
+    ghost kept_by = { λ p r. IfOk r (λ left. (map (λ e. e.id) left.1.items ≡ map (λ v. v.id) p.linked.value.site.sessions.items) × (map (λ e. e.reader_began.value) left.1.items ≡ map (λ v. v.reader) p.linked.value.site.sessions.items) × (map (λ e. e.writer_began.value) left.1.items ≡ map (λ v. v.writer) p.linked.value.site.sessions.items) × IsFinished left.0.book (flat_map (λ e. e.receipts.items) left.1.items) (flat_map (λ e. e.seen.items) left.1.items) left.2.0 × (All (λ e. IsSome e.writer) left.1.items → IfErr left.2.0 (λ fault. fault ≢ SeatsOut)) × AllZip Exchanged p.linked.value.peers.items left.2.1.items) };
+}
 
 /// Runs all sites at once, each in a thread of its own, with a thread for each of its sessions and with links to all
 /// others, through which it sends what is due for so many rounds. It ends when each of them is done.
 ///
-/// The links hold as many messages as their capacity. The ends of sites come in the order in which they were handed in. An error
-/// drops the books; what was entered stays in their records.
+/// The links hold as many messages as their capacity. The ends of sites come in the order in which they were handed in,
+/// each with the ends of its sessions. What was found of its book is of all receipts and looks that these were given, and
+/// seats are out only where a session's thread could not be started. An error drops the books; what was entered stays in
+/// their records.
 pub fn run_all<
     T: Threads + Wait + Sync,
     K: Keeper + Drop + Send,
@@ -36,80 +56,67 @@ pub fn run_all<
     gate: &G,
 ) -> Result<(Vec<SiteEnd<K, R, W>>, Vec<LinkEnd>), ExchangeFault>
     requires { 0 < capacity }
+    ensures ids { IfOk result (λ r. map (λ e. map (λ x. x.id) e.sessions.items) r.0.items ≡ map (λ s. map (λ v. v.id) s.sessions.items) sites.items) }
+    ensures readers { IfOk result (λ r. map (λ e. map (λ x. x.reader_began.value) e.sessions.items) r.0.items ≡ map (λ s. map (λ v. v.reader) s.sessions.items) sites.items) }
+    ensures writers { IfOk result (λ r. map (λ e. map (λ x. x.writer_began.value) e.sessions.items) r.0.items ≡ map (λ s. map (λ v. v.writer) s.sessions.items) sites.items) }
+    ensures finished { IfOk result (λ r. All (λ e. IsFinished e.book.book (flat_map (λ x. x.receipts.items) e.sessions.items) (flat_map (λ x. x.seen.items) e.sessions.items) e.finished) r.0.items) }
+    ensures whole { IfOk result (λ r. All (λ e. All (λ x. IsSome x.writer) e.sessions.items → IfErr e.finished (λ fault. fault ≢ SeatsOut)) r.0.items) }
+    ensures links { IfOk result (λ r. map name_of r.1.items ≡ link_names (map (λ s. s.book.book.office.me) sites.items)) }
 {
+    let ids = numbers(alloc, &sites)?;
     let linked = link_all(alloc, sites, capacity)?;
-    let run = |one: Linked<K, R, W>| run_site(rt, alloc, one, rounds, gate);
-    let done = work_all(rt, alloc, linked, &run)?;
-    let (ends, peers) = gathered(alloc, done)?;
-    let links = link_ends(alloc, &ends, &peers)?;
+    let mut jobs = Vec::with_capacity(alloc, linked.len())?;
+    begun(linked, &mut jobs);
+    let run = |one: Linked<K, R, W>| -> Result<Left<K, R, W>, ExchangeFault>
+        ensures { IfOk result (λ left. (map (λ e. e.id) left.1.items ≡ map (λ v. v.id) one.site.sessions.items) × (map (λ e. e.reader_began.value) left.1.items ≡ map (λ v. v.reader) one.site.sessions.items) × (map (λ e. e.writer_began.value) left.1.items ≡ map (λ v. v.writer) one.site.sessions.items) × IsFinished left.0.book (flat_map (λ e. e.receipts.items) left.1.items) (flat_map (λ e. e.seen.items) left.1.items) left.2.0 × (All (λ e. IsSome e.writer) left.1.items → IfErr left.2.0 (λ fault. fault ≢ SeatsOut)) × AllZip Exchanged one.peers.items left.2.1.items) }
+    { run_site(rt, alloc, one, rounds, gate) };
+    let done = work_all(rt, alloc, jobs, &run)?;
+    let mut ends = Vec::with_capacity(alloc, done.len())?;
+    let mut peers = Vec::with_capacity(alloc, done.len())?;
+    gathered(done, &mut ends, &mut peers);
+    let links = link_ends(alloc, &ids, &peers)?;
     Ok((ends, links))
+}
+
+// Each site, with what its thread is to promise.
+fn begun<K: Keeper + Drop, R: Read + Drop, W: Write + Drop>(
+    mut linked: Vec<Linked<K, R, W>>,
+    jobs: &mut Vec<(Linked<K, R, W>, SiteOf<K, R, W>)>,
+)
+    requires empty { jobs.old.items ≡ [] }
+    requires room { vec_len linked ≤ vec_capacity jobs.old }
+    ensures begun { AllZip (λ one job. (job.0 ≡ one) × (job.1.linked.value ≡ one)) linked.items jobs.new.items }
+    ensures room { (vec_len jobs.new ≡ vec_len linked) × (vec_capacity jobs.new ≡ vec_capacity jobs.old) }
+{
+    let Some(one) = linked.pop() else {
+        return;
+    };
+    begun(linked, jobs);
+    let of = SiteOf {
+        linked: Snapshot::of(&one),
+    };
+    jobs.push_reserved((one, of));
 }
 
 // The ends of the sites, and those of their links.
 fn gathered<K: Keeper + Drop, R: Read + Drop, W: Write + Drop>(
-    alloc: Global,
-    done: Vec<Left<K, R, W>>,
-) -> Result<(Vec<SiteEnd<K, R, W>>, Vec<Vec<PeerEnd>>), AllocError> {
-    let mut ends = Vec::new(alloc);
-    let mut peers = Vec::new(alloc);
-    for (book, sessions, (finished, with)) in done {
-        ends.push(SiteEnd {
-            book,
-            sessions,
-            finished,
-        })?;
-        peers.push(with)?;
-    }
-    Ok((ends, peers))
-}
-
-// What the links gave, by the ends that the sites hand back.
-fn link_ends<K: Keeper + Drop, R: Read + Drop, W: Write + Drop>(
-    alloc: Global,
-    sites: &Vec<SiteEnd<K, R, W>>,
-    peers: &Vec<Vec<PeerEnd>>,
-) -> Result<Vec<LinkEnd>, AllocError> {
-    let mut links = Vec::new(alloc);
-    for (site, peers) in sites.iter().zip(peers.iter()) {
-        for peer in peers {
-            add_sent(&mut links, site.book.book().me(), peer)?;
-        }
-    }
-    for (site, peers) in sites.iter().zip(peers.iter()) {
-        for peer in peers {
-            add_received(&mut links, site.book.book().me(), peer);
-        }
-    }
-    Ok(links)
-}
-
-// The two links that a site sends on to a peer.
-fn add_sent(links: &mut Vec<LinkEnd>, by: SiteId, peer: &PeerEnd) -> Result<(), AllocError> {
-    links.push(sent_on(by, peer.to, false, peer.delta_tx.put()))?;
-    links.push(sent_on(by, peer.to, true, peer.ack_tx.put()))?;
-    Ok(())
-}
-
-fn sent_on(by: SiteId, to: SiteId, acks: bool, put: u64) -> LinkEnd {
-    LinkEnd {
-        by,
-        to,
-        acks,
-        put,
-        got: 0,
-        refused: 0,
-    }
-}
-
-// What a site received on the two links from a peer.
-fn add_received(links: &mut Vec<LinkEnd>, to: SiteId, peer: &PeerEnd) {
-    for link in links.iter_mut() {
-        if link.by == peer.to && link.to == to {
-            (link.got, link.refused) = if link.acks {
-                (peer.ack_rx.got(), peer.acks_refused)
-            } else {
-                (peer.delta_rx.got(), peer.deltas_refused)
-            };
-        }
-    }
+    mut done: Vec<Left<K, R, W>>,
+    ends: &mut Vec<SiteEnd<K, R, W>>,
+    peers: &mut Vec<Vec<PeerEnd>>,
+)
+    requires empty { (ends.old.items ≡ []) × (peers.old.items ≡ []) }
+    requires room { (vec_len done ≤ vec_capacity ends.old) × (vec_len done ≤ vec_capacity peers.old) }
+    ensures ends { AllZip (λ left end. (end.book ≡ left.0) × (end.sessions ≡ left.1) × (end.finished ≡ left.2.0)) done.items ends.new.items }
+    ensures room { (vec_len ends.new ≡ vec_len done) × (vec_len peers.new ≡ vec_len done) × (vec_capacity ends.new ≡ vec_capacity ends.old) × (vec_capacity peers.new ≡ vec_capacity peers.old) }
+{
+    let Some((book, sessions, (finished, with))) = done.pop() else {
+        return;
+    };
+    gathered(done, ends, peers);
+    ends.push_reserved(SiteEnd {
+        book,
+        sessions,
+        finished,
+    });
+    peers.push_reserved(with);
 }

@@ -1,8 +1,8 @@
 //! The thread that sends to all peers.
 
-ghost use Rattle.std.specs.Prelude.{◌≡◌, ◌≤◌, [], map, vec_len, vec_capacity};
+ghost use Rattle.std.specs.Prelude.{◌≡◌, ◌≤◌, [], vec_len, vec_capacity};
 ghost use Rattle.std.specs.List.{AllZip};
-ghost use Rattle.session_server.specs.Exchanged.{Sent};
+ghost use Rattle.session_server.specs.Exchanged.{IsEndOf, Sent, SentMore};
 
 use crate::replica::Replica;
 use link_queue::{Tx, TxEnd};
@@ -56,8 +56,7 @@ pub(crate) fn send_all<S: Replica, R: Wait>(
 }
 
 fn send_rounds<S: Replica, R: Wait>(rt: &R, replica: &S, outs: &mut Vec<Outgoing>, rounds: u64)
-    ensures to { map (λ o. o.to) outs.new.items ≡ map (λ o. o.to) outs.old.items }
-    ensures link { map (λ o. o.tx.link) outs.new.items ≡ map (λ o. o.tx.link) outs.old.items }
+    ensures sent { AllZip SentMore outs.old.items outs.new.items }
     ensures len { vec_len outs.new ≡ vec_len outs.old }
 {
     for _ in 0..rounds {
@@ -67,8 +66,7 @@ fn send_rounds<S: Replica, R: Wait>(rt: &R, replica: &S, outs: &mut Vec<Outgoing
 
 // One round: what is next for each peer is sent.
 fn send_round<S: Replica, R: Wait>(rt: &R, replica: &S, outs: &mut Vec<Outgoing>)
-    ensures to { map (λ o. o.to) outs.new.items ≡ map (λ o. o.to) outs.old.items }
-    ensures link { map (λ o. o.tx.link) outs.new.items ≡ map (λ o. o.tx.link) outs.old.items }
+    ensures sent { AllZip SentMore outs.old.items outs.new.items }
     ensures len { vec_len outs.new ≡ vec_len outs.old }
 {
     for k in 0..outs.len() {
@@ -78,7 +76,7 @@ fn send_round<S: Replica, R: Wait>(rt: &R, replica: &S, outs: &mut Vec<Outgoing>
 
 // Sends what is next for one peer. A message that comes back is due again in the next round.
 fn send_next<S: Replica, R: Wait>(rt: &R, replica: &S, out: &mut Outgoing)
-    ensures { (out.new.to ≡ out.old.to) × (out.new.tx.link ≡ out.old.tx.link) }
+    ensures { SentMore out.old out.new }
 {
     if let Some(message) = replica.next(rt, out.to) {
         let _ = out.tx.send(rt, message);
@@ -89,7 +87,7 @@ fn send_next<S: Replica, R: Wait>(rt: &R, replica: &S, out: &mut Outgoing)
 fn end_from<R: Wait>(rt: &R, mut outs: Vec<Outgoing>, ends: &mut Vec<OutgoingEnd>)
     requires empty { ends.old.items ≡ [] }
     requires room { vec_len outs ≤ vec_capacity ends.old }
-    ensures sent { AllZip Sent outs.items ends.new.items }
+    ensures ended { AllZip IsEndOf outs.items ends.new.items }
     ensures room { (vec_len ends.new ≡ vec_len outs) × (vec_capacity ends.new ≡ vec_capacity ends.old) }
 {
     let Some(Outgoing { to, tx }) = outs.pop() else {

@@ -1,5 +1,8 @@
-use Rattle.std.proofs.Common.{◌≡◌}
+use Rattle.std.proofs.Common.{◌≡◌, ◌≤◌, ◌+◌, length}
 use Rattle.session_server.proofs.receiving.receive_acks.Given as goal
 
 abbrev pub invariant-loop : goal.invariant-loop
-invariant-loop g l = l.rx.link ≡ l.initial.rx.link
+invariant-loop g l = record {
+  link : l.rx.link ≡ l.initial.rx.link;
+  counted : length l.initial.rx.messages + l.refused ≤ length l.rx.messages;
+}
