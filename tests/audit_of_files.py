@@ -86,7 +86,7 @@ def two_sites(folder):
 def refusals(folder, both):
     same("one of two", call(folder, ["audit", "north.db"]), (1, "not-whole\n", ""))
     same("in another order", call(folder, ["audit", "south.db", "north.db"]), (1, "not-whole\n", ""))
-    same("a file twice", call(folder, ["audit", "north.db", "north.db"])[0], 3)
+    same("a file twice", call(folder, ["audit", "north.db", "north.db"]), (3, "", "disk\n"))
     same("no such file", call(folder, ["audit", "north.db", "west.db"]), (3, "", "not-ours\n"))
     same("no west.db is made", os.path.exists(os.path.join(folder, "west.db")), False)
     same("no file", call(folder, ["audit"])[:2], (2, ""))

@@ -163,8 +163,8 @@ impl Book {
         totals(&self.rights, event)
     }
 
-    /// Whether what this book shows of the owner's row is at most what the owner's own book shows of it, as it is
-    /// where each delta that was joined was made by these sites.
+    /// Whether what this book shows of the owner's row is at most what the owner's own book shows of it, as it is in
+    /// every world that steps lead to.
     pub fn sees_within(&self, owner: &Book) -> bool
         ensures { IsTrue result ↔ SeesWithin self.now owner.now }
     {
