@@ -1,10 +1,11 @@
 -- What contracts see of a book. (Our own.)
-use Rattle.std.specs.Prelude.{◌≡◌, ℕ, ◌≤◌, ◌<◌, List, length, None}
+use Rattle.std.specs.Prelude.{◌≡◌, ℕ, ◌≤◌, ◌<◌, List, length, take, None}
 use Rattle.request_ledger.specs.Ledger.{Keeping, kept_under, IsRefundable}
-use Rattle.rights_lattice.specs.Cells.{Cells, Valued, RowAtOrBelow, marks_of, greatest}
+use Rattle.rights_lattice.specs.Cells.{Cells, Valued, RowAtOrBelow, raise_all, marks_of, greatest}
 use Rattle.rights_lattice.specs.RightsView.{IsCellOf}
 use Rattle.rights_lattice.specs.declared.cell.Cell.{Cell}
 use Rattle.rights_lattice.specs.State.{names_in_order}
+use Rattle.local_rights.specs.Rights.{HasRights}
 use Rattle.book_core.specs.declared.entry.Entry.{Entry}
 use Rattle.book_core.specs.declared.entry.Entry.TheVariants.{Asked, Joined}
 use Rattle.book_core.specs.Decision.{Office}
@@ -52,6 +53,10 @@ IsUnkept es (Joined peer delta) = Unit {0}
 abbrev pub KeepsRefunds : Keeping → Entry → Type 0
 KeepsRefunds es (Asked number request reply delta) = IsRefundable es request reply
 KeepsRefunds es (Joined peer delta) = Unit {0}
+
+-- the rights of a site are not negative after any of the marks
+abbrev pub KeepRights : ℕ → Cells → List Valued → Type 0
+KeepRights me X marks = (count : ℕ) (event : List ℕ) → HasRights (raise_all X (take count marks)) event me
 
 -- marks that are not 0 name sites below the count only
 abbrev pub MarksAreWithin : ℕ → List Valued → Type 0

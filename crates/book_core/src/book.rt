@@ -8,7 +8,7 @@ ghost use Rattle.request_ledger.specs.Ledger.{kept_under, IsRefundable};
 ghost use Rattle.book_core.specs.History.{state_of, kept, sale_of, names_of, asked_from};
 ghost use Rattle.book_core.specs.Decision.{own_left};
 ghost use Rattle.book_core.specs.Legal.{IsLegal};
-ghost use Rattle.book_core.specs.BookView.{HasRoomFor, IsUnkept, KeepsRefunds, MakesNoRoom, MarksAreWithin, SeesWithin, numbers_in};
+ghost use Rattle.book_core.specs.BookView.{HasRoomFor, IsUnkept, KeepsRefunds, MakesNoRoom, KeepRights, MarksAreWithin, SeesWithin, numbers_in};
 ghost use Rattle.book_core.specs.OwnRow.{HasOwnRights, LeavesOwnRow};
 ghost use Rattle.book_core.specs.Plans.{IsReady};
 ghost use Rattle.book_core.specs.declared.entry.Entry.TheVariants.{Asked};
@@ -17,9 +17,9 @@ use crate::entry::Entry;
 use crate::limit::Limit;
 use crate::plan::Planned;
 use event_catalogue::Catalogue;
-use local_rights::{Totals, left, totals};
+use local_rights::{Counted, Totals, totals};
 use request_ledger::{Kept, Ledger, RequestNumber, SaleState};
-use rights_lattice::{Cell, Event, Mark, Rights, SiteId, Sites};
+use rights_lattice::{Cell, Event, Mark, SiteId, Sites};
 use std::alloc::{AllocError, Global};
 use std::marker::Model;
 
@@ -30,10 +30,9 @@ mod replaying;
 /// The history of a site, and what it shows: cells, names, kept replies, rights.
 #[derive(Drop)]
 pub struct Book {
-    me: SiteId,
     limit: Limit,
     history: Vec<Entry>,
-    rights: Rights,
+    rights: Counted,
     names: Catalogue,
     ledger: Ledger,
 }
@@ -48,7 +47,7 @@ impl Model for Book {
     ghost coded = { coded_book };
 
     ghost view = { λ b. record {
-      office = record { me = b.me; sites = b.rights.sites; limit = b.limit };
+      office = record { me = b.rights.me; sites = b.rights.sites; limit = b.limit };
       history = b.history.items;
       room = record {
         entries = vec_capacity b.history - vec_len b.history;
@@ -58,7 +57,7 @@ impl Model for Book {
       };
     } };
 
-    ghost invariant = { λ b. IsInOrder (record { me = b.me; sites = b.rights.sites; limit = b.limit }) b.history.items b.rights.cells b.names.names b.ledger.entries };
+    ghost invariant = { λ b. IsInOrder (record { me = b.rights.me; sites = b.rights.sites; limit = b.limit }) b.history.items b.rights.cells b.names.names b.ledger.entries };
 }
 
 impl Book {
@@ -70,10 +69,9 @@ impl Book {
         ensures room { (result.room.entries ≡ 0) × (result.room.cells ≡ 0) }
     {
         Book {
-            me,
             limit,
             history: Vec::new(alloc),
-            rights: Rights::new(alloc, sites),
+            rights: Counted::new(alloc, me, sites),
             names: Catalogue::new(alloc),
             ledger: Ledger::new(alloc),
         }
@@ -84,14 +82,14 @@ impl Book {
         ensures me { result ≡ self.now.office.me }
         ensures is_site { result < self.now.office.sites }
     {
-        self.me
+        self.rights.me()
     }
 
     /// The count of sites.
     pub fn sites(&self) -> Sites
         ensures { result ≡ self.now.office.sites }
     {
-        self.rights.sites()
+        self.rights.rights().sites()
     }
 
     /// How long the history may become.
@@ -151,7 +149,7 @@ impl Book {
         ensures left { result ≡ own_left self.now.office self.now.history event }
         ensures has_rights { HasRights (state_of self.now.history).cells event self.now.office.me }
     {
-        left(&self.rights, self.me, event)
+        self.rights.left(event)
     }
 
     /// What all sites released, sold and took back of an event, by this site's view.
@@ -160,7 +158,7 @@ impl Book {
         ensures sold { result.sold ≡ sold_in (state_of self.now.history).cells event }
         ensures refunded { result.refunded ≡ refunded_in (state_of self.now.history).cells event }
     {
-        totals(&self.rights, event)
+        totals(self.rights.rights(), event)
     }
 
     /// Whether what this book shows of the owner's row is at most what the owner's own book shows of it, as it is in
@@ -168,7 +166,9 @@ impl Book {
     pub fn sees_within(&self, owner: &Book) -> bool
         ensures { IsTrue result ↔ SeesWithin self.now owner.now }
     {
-        self.rights.row_at_or_below(owner.me, &owner.rights)
+        self.rights
+            .rights()
+            .row_at_or_below(owner.me(), owner.rights.rights())
     }
 
     /// The place, the request and the reply that are kept under a number.
@@ -227,16 +227,19 @@ impl Book {
     }
 }
 
-fn raise_marks(rights: &mut Rights, marks: &[Mark])
+fn raise_marks(rights: &mut Counted, marks: &[Mark])
+    requires not_negative { KeepRights rights.old.me rights.old.cells marks.now }
     requires room { length marks.now ≤ rights.old.room }
     requires in_range { MarksAreWithin rights.old.sites marks.now }
     ensures cells { rights.new.cells ≡ raise_all rights.old.cells marks.now }
     ensures sites { rights.new.sites ≡ rights.old.sites }
+    ensures me { rights.new.me ≡ rights.old.me }
     ensures no_more_room { rights.new.room ≤ rights.old.room }
 {
     for mark in marks {
-        mark.bounds();
-        rights.raise(*mark);
+        let mark = *mark;
+        prove!(mark.value > 0);
+        rights.raise(mark);
     }
 }
 

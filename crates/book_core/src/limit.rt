@@ -1,5 +1,6 @@
 //! How long a history may become.
 ghost use Rattle.std.specs.Prelude.{◌≡◌, ◌≤◌, ◌↔◌, IsSome, IfSome};
+ghost use Rattle.book_core.specs.Limits.{greatest_limit};
 
 use std::marker::Model;
 
@@ -11,23 +12,24 @@ pub struct Limit {
 
 impl Model for Limit {
     ghost use Rattle.std.specs.Prelude.{ℕ, ◌≤◌};
+    ghost use Rattle.book_core.specs.Limits.{greatest_limit};
 
     ghost Value = { ℕ };
 
     ghost view = { λ l. l.entries };
 
-    ghost invariant = { λ l. (1 ≤ l.entries) × (l.entries ≤ 1000000) };
+    ghost invariant = { λ l. (1 ≤ l.entries) × (l.entries ≤ greatest_limit) };
 
     ghost inverse = { λ n. record { entries = n } };
 }
 
 impl Limit {
-    /// The limit that a history has where none is given.
+    /// The greatest limit, which a history has where none is given.
     pub const MAX: u64 = 1_000_000;
 
     /// This many entries, where they are 1 to 1,000,000.
     pub fn of(entries: u64) -> Option<Limit>
-        ensures in_range { IsSome result ↔ ((1 ≤ entries) × (entries ≤ 1000000)) }
+        ensures in_range { IsSome result ↔ ((1 ≤ entries) × (entries ≤ greatest_limit)) }
         ensures same { IfSome result (λ limit. limit ≡ entries) }
     {
         if 1 <= entries && entries <= Limit::MAX {
@@ -41,16 +43,18 @@ impl Limit {
 
     /// The greatest limit.
     pub fn greatest() -> Limit
-        ensures { result ≡ 1000000 }
+        ensures { result ≡ greatest_limit }
     {
-        Limit { entries: 1_000_000 }
+        Limit {
+            entries: Limit::MAX as u32,
+        }
     }
 
     /// The number of entries.
     pub fn entries(self) -> u64
         ensures entries { result ≡ self }
         ensures at_least_one { 1 ≤ result }
-        ensures at_most_max { result ≤ 1000000 }
+        ensures at_most_max { result ≤ greatest_limit }
     {
         u64::from(self.entries)
     }

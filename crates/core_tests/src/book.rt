@@ -63,7 +63,7 @@ fn ask(
 fn ask_each(rt: &impl Abort, alloc: Global, book: &mut Book, rows: &[Row]) {
     for (asked, said, want) in rows {
         let answer = ask(book, alloc, number(rt, *asked), &request(rt, *said));
-        assert_eq!(rt; answer, *want, "request {asked}");
+        assert!(rt; answer == *want, "request {asked}");
     }
 }
 
@@ -85,7 +85,7 @@ fn deliver(
     want: Result<bool, JoinFault>,
 ) {
     let delta = delta_of(rt, alloc, items);
-    assert_eq!(rt; join(book, site(rt, peer), delta), want, "from {peer}");
+    assert!(rt; join(book, site(rt, peer), delta) == want, "from {peer}");
 }
 
 // The first of two sites after each kind of request and each refusal but of a full cell and a full history.
@@ -137,7 +137,7 @@ fn requests_and_their_refusals(rt: HostRuntime) {
         sold: 6,
         refunded: 5,
     };
-    assert_eq!(rt; busy_counts(&rt, rt.alloc()), (15, 0, totals, 4));
+    assert!(rt; busy_counts(&rt, rt.alloc()) == (15, 0, totals, 4));
 }
 
 // Whether each of two events is known, how many are, and the first and the second of them.
@@ -162,7 +162,7 @@ fn events_that_are_known(rt: HostRuntime) {
     let gala = event(&rt, b"gala");
     let expo = event(&rt, b"expo");
     let known = known_events(&rt, rt.alloc(), gala, expo);
-    assert_eq!(rt; known, (true, false, 1, Some(gala), None));
+    assert!(rt; known == (true, false, 1, Some(gala), None));
 }
 
 fn kept_sale(rt: &impl Abort, alloc: Global) -> (Option<SaleState>, Option<Kept>) {
@@ -186,7 +186,7 @@ fn sales_and_replies_that_are_kept(rt: HostRuntime) {
         reply: Reply::Done,
     };
     let kept = kept_sale(&rt, rt.alloc());
-    assert_eq!(rt; kept, (Some(sold), Some(refund)));
+    assert!(rt; kept == (Some(sold), Some(refund)));
 }
 
 // How many names and marks the delta of an entry has, and its first mark.
@@ -200,8 +200,8 @@ fn told_at(rt: &impl Abort, alloc: Global, place: usize) -> (usize, usize, Optio
 #[test]
 fn entries_tell_their_deltas(rt: HostRuntime) {
     let released = mark(&rt, event(&rt, b"gala"), gave(&rt, 0, 0), 5);
-    assert_eq!(rt; told_at(&rt, rt.alloc(), 1), (0, 1, Some(released)));
-    assert_eq!(rt; told_at(&rt, rt.alloc(), 3), (0, 0, None));
+    assert!(rt; told_at(&rt, rt.alloc(), 1) == (0, 1, Some(released)));
+    assert!(rt; told_at(&rt, rt.alloc(), 3) == (0, 0, None));
 }
 
 #[test]
@@ -209,9 +209,9 @@ fn limits_of_a_history(rt: HostRuntime) {
     for (entries, is_one) in [(0, false), (1, true), (1_000_000, true), (1_000_001, false)] {
         let limit = Limit::of(entries).map(|limit| limit.entries());
         let want = if is_one { Some(entries) } else { None };
-        assert_eq!(rt; limit, want, "{entries} entries");
+        assert!(rt; limit == want, "{entries} entries");
     }
-    assert_eq!(rt; Limit::greatest().entries(), Limit::MAX);
+    assert!(rt; Limit::greatest().entries() == Limit::MAX);
 }
 
 // What is left once these rows were asked of the only site.
@@ -233,7 +233,7 @@ fn greatest_cell_value(rt: HostRuntime) {
         (6, Said::Sell(gala, 1), Ok(Reply::CellFull)),
     ];
     let left = left_behind(&rt, rt.alloc(), gala, &rows);
-    assert_eq!(rt; left, 1_000_000_000_000);
+    assert!(rt; left == 1_000_000_000_000);
 }
 
 // The length of a history of at most three entries once these rows were asked and a peer's news met it full.
@@ -260,7 +260,7 @@ fn history_limit(rt: HostRuntime) {
             Err(PlanFault::Reused { place: 1 }),
         ),
     ];
-    assert_eq!(rt; limited_len(&rt, rt.alloc(), &rows, &news), 3);
+    assert!(rt; limited_len(&rt, rt.alloc(), &rows, &news) == 3);
 }
 
 // The book of the second of two sites, which was sent 100 released seats, of which 40 were ceded to it.
@@ -286,7 +286,7 @@ fn told_counts(rt: &impl Abort, alloc: Global, gala: Event) -> (usize, u64) {
 #[test]
 fn delta_delivered_twice(rt: HostRuntime) {
     let gala = event(&rt, b"gala");
-    assert_eq!(rt; told_counts(&rt, rt.alloc(), gala), (1, 40));
+    assert!(rt; told_counts(&rt, rt.alloc(), gala) == (1, 40));
 }
 
 // Whether what was told of the first site is within what an empty book of that site shows, and the other way round.
@@ -299,7 +299,7 @@ fn within_each_other(rt: &impl Abort, alloc: Global, gala: Event) -> (bool, bool
 #[test]
 fn view_above_its_owner(rt: HostRuntime) {
     let gala = event(&rt, b"gala");
-    assert_eq!(rt; within_each_other(&rt, rt.alloc(), gala), (false, true));
+    assert!(rt; within_each_other(&rt, rt.alloc(), gala) == (false, true));
 }
 
 // The length of the history and what is left once these deltas of the first site were refused.
@@ -333,7 +333,7 @@ fn forged_deltas(rt: HostRuntime) {
         (of_no_site.as_slice(), JoinFault::UnknownSite),
     ];
     let counts = counts_after_refusals(&rt, rt.alloc(), gala, &rows);
-    assert_eq!(rt; counts, (1, 40));
+    assert!(rt; counts == (1, 40));
 }
 
 #[test]
@@ -346,17 +346,13 @@ fn decisions_on_deltas(rt: HostRuntime) {
     let forgery = delta_of(&rt, rt.alloc(), &[Item::Cell(forged)]);
     let peer = site(&rt, 0);
     let foreign_row = JoinFault::ForeignRow { mark: forged };
-    assert_eq!(rt; book.join_decision(peer, &known), JoinDecision::NothingNew);
-    assert_eq!(rt; book.join_decision(peer, &news), JoinDecision::Joins);
-    assert_eq!(rt;
-        book.join_decision(peer, &forgery),
-        JoinDecision::Refuses(foreign_row)
+    assert!(rt; book.join_decision(peer, &known) == JoinDecision::NothingNew);
+    assert!(rt; book.join_decision(peer, &news) == JoinDecision::Joins);
+    assert!(rt; book.join_decision(peer, &forgery) == JoinDecision::Refuses(foreign_row));
+    assert!(rt;
+        book.join_decision(site(&rt, 2), &news) == JoinDecision::Refuses(JoinFault::UnknownSite)
     );
-    assert_eq!(rt;
-        book.join_decision(site(&rt, 2), &news),
-        JoinDecision::Refuses(JoinFault::UnknownSite)
-    );
-    assert_eq!(rt; book.len(), 1);
+    assert!(rt; book.len() == 1);
 }
 
 // The entries of the book, where the reply at the forged place is another.
@@ -403,8 +399,8 @@ fn replayed(rt: &impl Abort, alloc: Global) -> Book {
 fn history_is_replayed(rt: HostRuntime) {
     let before = shown(&rt, &busy_book(&rt, rt.alloc()));
     let after = shown(&rt, &replayed(&rt, rt.alloc()));
-    assert_eq!(rt; (after.0, after.1), (15, 0));
-    assert_eq!(rt; after, before);
+    assert!(rt; (after.0, after.1) == (15, 0));
+    assert!(rt; after == before);
 }
 
 fn fault_of_forged_entry(rt: &impl Abort, alloc: Global, place: usize) -> Option<ReplayFault> {
@@ -416,5 +412,5 @@ fn fault_of_forged_entry(rt: &impl Abort, alloc: Global, place: usize) -> Option
 #[test]
 fn forged_entry_is_named(rt: HostRuntime) {
     let fault = fault_of_forged_entry(&rt, rt.alloc(), 3);
-    assert_eq!(rt; fault, Some(ReplayFault::IllegalAt { place: 3 }));
+    assert!(rt; fault == Some(ReplayFault::IllegalAt { place: 3 }));
 }

@@ -14,12 +14,12 @@ fn names_in_the_order_of_first_knowing(rt: HostRuntime) {
     let names = [gala, opera, mass, gala];
     catalogue.reserve(&names).expect(&rt, "memory");
     catalogue.join(&names);
-    assert_eq!(rt; catalogue.len(), 3);
+    assert!(rt; catalogue.len() == 3);
     for (k, want) in [Some(opera), Some(gala), Some(mass), None]
         .iter()
         .enumerate()
     {
-        assert_eq!(rt; catalogue.at(k), *want, "at {k}");
+        assert!(rt; catalogue.at(k) == *want, "at {k}");
     }
     assert!(rt; catalogue.has(mass));
 }

@@ -134,8 +134,8 @@ fn first_message(rt: &impl Abort, alloc: Global, book: &Book, to: u64) -> Messag
 fn holds(rt: &impl Abort, message: &Message, names: &[Event], marks: &[Mark]) {
     match message {
         Message::Delta { delta, .. } => {
-            assert_eq!(rt; delta.names(), names);
-            assert_eq!(rt; delta.marks(), marks);
+            assert!(rt; delta.names() == names);
+            assert!(rt; delta.marks() == marks);
         }
         Message::Ack { .. } => panic!(rt; "an acknowledgement"),
     }
@@ -159,8 +159,8 @@ fn message_of_a_cession(rt: HostRuntime) {
     let released = mark(&rt, gala, gave(&rt, 0, 0), 100);
     let ceded = mark(&rt, gala, gave(&rt, 0, 1), 40);
     let (message, checked) = message_of_cession(&rt, rt.alloc(), gala);
-    assert_eq!(rt; header(&message), (0, 1, 4));
-    assert_eq!(rt; checked, Err(CheckFault::NotForMe));
+    assert!(rt; header(&message) == (0, 1, 4));
+    assert!(rt; checked == Err(CheckFault::NotForMe));
     holds(&rt, &message, &[gala], &[released, ceded]);
 }
 
@@ -188,7 +188,7 @@ fn cession_reaches_the_other_site(rt: HostRuntime) {
     let gala = event(&rt, b"gala");
     let (message, _) = message_of_cession(&rt, rt.alloc(), gala);
     let joined = joined_twice(&rt, rt.alloc(), &message, gala);
-    assert_eq!(rt; joined, (Ok(()), Ok(true), Ok(false), 40));
+    assert!(rt; joined == (Ok(()), Ok(true), Ok(false), 40));
 }
 
 // Whether the book of the cession has a message for the peer.
@@ -202,13 +202,13 @@ fn restart_forgets_acknowledgements(rt: HostRuntime) {
     let peer = site(&rt, 1);
     let (four, one) = (upto(&rt, 4), upto(&rt, 1));
     let mut exchange = Exchange::fresh();
-    assert_eq!(rt; exchange.acked(peer), 0);
+    assert!(rt; exchange.acked(peer) == 0);
     exchange.ack(peer, four);
     exchange.ack(peer, one);
-    assert_eq!(rt; exchange.acked(peer), 4);
+    assert!(rt; exchange.acked(peer) == 4);
     assert!(rt; !is_due(&rt, rt.alloc(), &exchange, peer));
     let fresh = Exchange::fresh();
-    assert_eq!(rt; fresh.acked(peer), 0);
+    assert!(rt; fresh.acked(peer) == 0);
     assert!(rt; is_due(&rt, rt.alloc(), &fresh, peer));
 }
 
@@ -256,7 +256,7 @@ fn book_meets_a_forged_delta(rt: HostRuntime) {
     let forged = mark(&rt, gala, Cell::Used { by: site(&rt, 1) }, 9);
     let met = forgery_met(&rt, rt.alloc(), gala, forged);
     let refused = Err(JoinFault::ForeignRow { mark: forged });
-    assert_eq!(rt; met, (Ok(()), Some((1, 0, 1)), refused, 42));
+    assert!(rt; met == (Ok(()), Some((1, 0, 1)), refused, 42));
 }
 
 // Each row has a sender, a length that it acknowledges, and what the book makes of it.
@@ -268,7 +268,7 @@ fn check_each(rt: &impl Abort, alloc: Global, rows: &[(u64, u64, Result<(), Chec
             to: book.me(),
             upto: upto(rt, *entries),
         };
-        assert_eq!(rt; check(&book, &message), *want, "of {entries} by {by}");
+        assert!(rt; check(&book, &message) == *want, "of {entries} by {by}");
     }
 }
 

@@ -23,14 +23,14 @@ fn sites_have_limits(rt: HostRuntime) {
         (63, Some(63), None),
         (64, None, None),
     ] {
-        assert_eq!(rt; as_both(number), (site, count), "at {number}");
+        assert!(rt; as_both(number) == (site, count), "at {number}");
     }
 }
 
 #[test]
 fn names_of_events(rt: HostRuntime) {
     let name = Event::read(b"gala-2026").expect(&rt, "a name");
-    assert_eq!(rt; name.bytes(), b"gala-2026".as_slice());
+    assert!(rt; name.bytes() == b"gala-2026".as_slice());
     assert!(rt; Event::read(b"").is_none());
     assert!(rt; Event::read(b"Gala").is_none());
     assert!(rt; Event::read(b"a-name-of-exactly-32-bytes-here-").is_some());
@@ -57,7 +57,6 @@ fn owners_and_the_order_of_marks(rt: HostRuntime) {
         cell: Cell::Used { by: to },
         value: 2,
     };
-    given.bounds();
     assert!(rt; key_order(&given, &sold) == Ordering::Less);
     assert!(rt; key_order(&sold, &given) == Ordering::Greater);
     assert!(rt; key_order(&sold, &sold) == Ordering::Equal);
@@ -90,9 +89,9 @@ fn copy_of_ceded_rights(rt: HostRuntime) {
         value: 50,
     });
     let copy = rights.copy(rt.alloc()).expect(&rt, "memory");
-    assert_eq!(rt; copy.sites().count(), 2);
-    assert_eq!(rt; copy.get(event, released), 100);
-    assert_eq!(rt; copy.get(event, ceded), 50);
+    assert!(rt; copy.sites().count() == 2);
+    assert!(rt; copy.get(event, released) == 100);
+    assert!(rt; copy.get(event, ceded) == 50);
     assert!(rt; copy.at_or_below(&rights) && rights.at_or_below(&copy));
 }
 
@@ -132,28 +131,27 @@ fn raises_joins_and_copies(rt: HostRuntime) {
     assert!(rt; there.at_or_below(&here));
     assert!(rt; !here.at_or_below(&there));
     let copy = here.copy(rt.alloc()).expect(&rt, "memory");
-    assert_eq!(rt;
+    assert!(rt;
         copy.get(
             concert,
             Cell::Gave {
                 by: first,
                 to: first
             }
-        ),
-        10
+        ) == 10
     );
-    assert_eq!(rt; copy.get(concert, Cell::Used { by: second }), 3);
-    assert_eq!(rt; copy.get(concert, Cell::Back { by: first }), 0);
+    assert!(rt; copy.get(concert, Cell::Used { by: second }) == 3);
+    assert!(rt; copy.get(concert, Cell::Back { by: first }) == 0);
 }
 
 fn are_merged(rt: &impl Abort, alloc: Global, left: Mark, right: Mark, want: &[Mark]) {
     let merged = merge_marks(alloc, &[left], &[right]).expect(rt, "memory");
-    assert_eq!(rt; merged.as_slice(), want);
+    assert!(rt; merged.as_slice() == want);
 }
 
 fn are_merged_names(rt: &impl Abort, alloc: Global, left: Event, right: Event, want: &[Event]) {
     let merged = merge_names(alloc, &[left], &[right]).expect(rt, "memory");
-    assert_eq!(rt; merged.as_slice(), want);
+    assert!(rt; merged.as_slice() == want);
 }
 
 #[test]

@@ -85,9 +85,9 @@ fn two_messages_cross_a_link_of_one(rt: HostRuntime) {
     assert!(rt; sent);
     assert!(rt; is_text_of(&rt, alloc, one, ACK));
     assert!(rt; is_text_of(&rt, alloc, two, DELTA));
-    assert_eq!(rt; three.err(), Some(Gone));
-    assert_eq!(rt; four.err(), Some(Gone));
-    assert_eq!(rt; settled, Settled { put: 2, got: 2 });
+    assert!(rt; three.err() == Some(Gone));
+    assert!(rt; four.err() == Some(Gone));
+    assert!(rt; settled == Settled { put: 2, got: 2 });
 }
 
 #[test]
@@ -100,15 +100,15 @@ fn message_comes_back_where_nobody_receives(rt: HostRuntime) {
         panic!(rt; "a message for nobody was put");
     };
     assert!(rt; is_text_of(&rt, alloc, Ok(message), ACK));
-    assert_eq!(rt; (tx.end(&rt).put(), end.got()), (0, 0));
+    assert!(rt; (tx.end(&rt).put(), end.got()) == (0, 0));
 }
 
 #[test]
 fn nothing_comes_where_nobody_sends(rt: HostRuntime) {
     let (tx, mut rx) = link(rt.alloc(), 1).expect(&rt, "memory");
     drop(tx);
-    assert_eq!(rt; rx.recv(&rt).err(), Some(Gone));
-    assert_eq!(rt; rx.end().got(), 0);
+    assert!(rt; rx.recv(&rt).err() == Some(Gone));
+    assert!(rt; rx.end().got() == 0);
 }
 
 // A link with less room than its capacity waits here for ever, and one that loses what it holds with its sender fails.
@@ -121,6 +121,6 @@ fn what_was_put_comes_though_its_sender_is_gone(rt: HostRuntime) {
     drop(tx);
     assert!(rt; is_text_of(&rt, alloc, rx.recv(&rt), ACK));
     assert!(rt; is_text_of(&rt, alloc, rx.recv(&rt), DELTA));
-    assert_eq!(rt; rx.recv(&rt).err(), Some(Gone));
-    assert_eq!(rt; rx.end().got(), 2);
+    assert!(rt; rx.recv(&rt).err() == Some(Gone));
+    assert!(rt; rx.end().got() == 2);
 }

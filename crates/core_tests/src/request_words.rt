@@ -7,8 +7,8 @@ use rights_lattice::{Amount, Event, SiteId};
 use std::process::Abort;
 
 fn is_verb(rt: &impl Abort, verb: Verb, word: &[u8]) {
-    assert_eq!(rt; verb.word(), word);
-    assert_eq!(rt; Verb::read(word), Some(verb));
+    assert!(rt; verb.word() == word);
+    assert!(rt; Verb::read(word) == Some(verb));
 }
 
 #[test]
@@ -33,18 +33,18 @@ fn verbs(rt: HostRuntime) {
         (Request::Cede { event, amount, to }, Verb::Cede, b"cede"),
     ];
     for (request, verb, word) in cases {
-        assert_eq!(rt; request.verb(), verb);
+        assert!(rt; request.verb() == verb);
         is_verb(&rt, verb, word);
     }
     for word in [b"".as_slice(), b"sel", b"sells", b"Sell", b"left"] {
-        assert_eq!(rt; Verb::read(word), None);
+        assert!(rt; Verb::read(word) == None);
     }
 }
 
 fn is_reply(rt: &impl Abort, reply: Reply, word: &[u8], number: Option<u64>) {
-    assert_eq!(rt; reply.word(), word);
-    assert_eq!(rt; reply.number(), number);
-    assert_eq!(rt; Reply::read(word, number), Some(reply));
+    assert!(rt; reply.word() == word);
+    assert!(rt; reply.number() == number);
+    assert!(rt; Reply::read(word, number) == Some(reply));
 }
 
 #[test]
@@ -63,9 +63,9 @@ fn replies(rt: HostRuntime) {
     for (reply, word, number) in cases {
         is_reply(&rt, reply, word, number);
     }
-    assert_eq!(rt; Reply::read(b"short", None), None);
-    assert_eq!(rt; Reply::read(b"done", Some(0)), None);
-    assert_eq!(rt; Reply::read(b"bad-line", None), None);
+    assert!(rt; Reply::read(b"short", None) == None);
+    assert!(rt; Reply::read(b"done", Some(0)) == None);
+    assert!(rt; Reply::read(b"bad-line", None) == None);
 }
 
 #[test]
@@ -74,9 +74,9 @@ fn words_of_a_mark(rt: HostRuntime) {
     let event = event_at(&mut words).expect(&rt, "a name");
     assert!(rt; event.bytes() == b"gala".as_slice());
     let site = site_at(&mut words).expect(&rt, "a site");
-    assert_eq!(rt; site.number(), 63);
-    assert_eq!(rt; value_at(&mut words), Some(1_000_000_000_000));
-    assert_eq!(rt; value_at(&mut words), None);
+    assert!(rt; site.number() == 63);
+    assert!(rt; value_at(&mut words) == Some(1_000_000_000_000));
+    assert!(rt; value_at(&mut words) == None);
     assert!(rt; event_at(&mut Words::new(b"Gala")).is_none());
     assert!(rt; site_at(&mut Words::new(b"64")).is_none());
     assert!(rt; value_at(&mut Words::new(b"0")).is_none());

@@ -28,7 +28,7 @@ fn cession_reaches_the_other_site(rt: HostRuntime) {
         cell: ceded,
         value: 30,
     });
-    assert_eq!(rt; left(&rights, taker, event), 30);
+    assert!(rt; left(&rights, taker, event) == 30);
 
     rights.raise(Mark {
         event,
@@ -45,8 +45,8 @@ fn cession_reaches_the_other_site(rt: HostRuntime) {
         sold: 25,
         refunded: 2,
     };
-    assert_eq!(rt; totals(&rights, event), want);
-    assert_eq!(rt; paper_value(&rights, event), 77);
+    assert!(rt; totals(&rights, event) == want);
+    assert!(rt; paper_value(&rights, event) == 77);
 }
 
 // The cells of the seller after five seats were released, sold, given back and sold again.
@@ -75,5 +75,5 @@ fn value_of_a_refund_at_the_seller(rt: HostRuntime) {
         cell: Cell::Back { by: seller },
         value: 5,
     });
-    assert_eq!(rt; paper_value(&rights, event), 0);
+    assert!(rt; paper_value(&rights, event) == 0);
 }

@@ -34,7 +34,7 @@ fn refused_texts(rt: HostRuntime) {
         (b"delta 0 1 2\nend\nx".as_slice(), WireFault::Trailing),
     ];
     for (text, want) in rows {
-        assert_eq!(rt; fault_of(rt.alloc(), text), Some(want), "{text:?}");
+        assert!(rt; fault_of(rt.alloc(), text) == Some(want), "{text:?}");
     }
 }
 
@@ -42,7 +42,7 @@ fn refused_texts(rt: HostRuntime) {
 fn fronts_are_truncated(rt: HostRuntime) {
     for len in 0..FIRST.len() {
         let fault = fault_of(rt.alloc(), &FIRST[..len]);
-        assert_eq!(rt; fault, Some(WireFault::Truncated), "{len} bytes");
+        assert!(rt; fault == Some(WireFault::Truncated), "{len} bytes");
     }
 }
 
@@ -51,7 +51,7 @@ fn is_written_again(rt: &impl Abort, alloc: Global, text: &[u8]) {
     let message = read_message(alloc, text).expect(rt, "a message");
     let mut out = Vec::new(alloc);
     write_message(&message, &mut out).expect(rt, "a text");
-    assert_eq!(rt; out.as_slice(), text);
+    assert!(rt; out.as_slice() == text);
 }
 
 #[test]
@@ -81,14 +81,14 @@ fn write_short(
 fn short_writer_keeps_a_front(rt: HostRuntime) {
     let mut short = [0u8; 12];
     let written = write_short(&rt, rt.alloc(), b"ack 1 0 3\nend\n", short.as_mut_slice());
-    assert_eq!(rt; written, Err(WriteFault));
-    assert_eq!(rt; short.as_slice(), b"ack 1 0 3\nen".as_slice());
+    assert!(rt; written == Err(WriteFault));
+    assert!(rt; short.as_slice() == b"ack 1 0 3\nen".as_slice());
 }
 
 fn is_delta_text(rt: &impl Abort, alloc: Global, text: &str) {
     let delta = read_delta(alloc, text.as_bytes()).expect(rt, "a delta");
     let written = delta_text(alloc, &delta).expect(rt, "memory");
-    assert_eq!(rt; written.as_str(), text);
+    assert!(rt; written.as_str() == text);
 }
 
 #[test]
@@ -101,5 +101,5 @@ fn texts_of_deltas(rt: HostRuntime) {
         is_delta_text(&rt, rt.alloc(), text);
     }
     let cut = read_delta(rt.alloc(), b"name gala");
-    assert_eq!(rt; cut.err(), Some(WireFault::Truncated));
+    assert!(rt; cut.err() == Some(WireFault::Truncated));
 }

@@ -10,9 +10,9 @@ fn words(rt: HostRuntime) {
     let mut words = Words::new(b"sell 10 gala 007");
     assert!(rt; !words.is_empty());
     assert!(rt; words.next() == Some(b"sell".as_slice()));
-    assert_eq!(rt; number_at(&mut words, 1, 1_000_000_000_000), Some(10));
+    assert!(rt; number_at(&mut words, 1, 1_000_000_000_000) == Some(10));
     assert!(rt; words.next() == Some(b"gala".as_slice()));
-    assert_eq!(rt; number_at(&mut words, 1, 1_000_000_000_000), None);
+    assert!(rt; number_at(&mut words, 1, 1_000_000_000_000) == None);
     assert!(rt; words.is_empty());
     assert!(rt; words.next().is_none());
 }
@@ -29,7 +29,7 @@ fn numbers(rt: HostRuntime) {
         (b"7\r".as_slice(), None),
     ];
     for (word, wanted) in cases {
-        assert_eq!(rt; read_number(word, 0, u64::MAX), wanted, "{word:?}");
+        assert!(rt; read_number(word, 0, u64::MAX) == wanted, "{word:?}");
     }
 }
 
@@ -53,11 +53,8 @@ fn lines_of_the_greatest_length(rt: HostRuntime) {
     assert!(rt; next_line(&mut &long[..200], &mut line).expect(&rt, "a line"));
     // The byte that makes a line too long is the last that is read.
     let mut given_up = [b'a'; 203].as_slice();
-    assert_eq!(rt;
-        next_line(&mut given_up, &mut line),
-        Err(LineFault::LineTooLong)
-    );
-    assert_eq!(rt; given_up.len(), 2);
+    assert!(rt; next_line(&mut given_up, &mut line) == Err(LineFault::LineTooLong));
+    assert!(rt; given_up.len() == 2);
 }
 
 #[test]

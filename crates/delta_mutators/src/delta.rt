@@ -62,7 +62,7 @@ impl Delta {
                 marks: Vec::new(alloc),
             }),
             Item::Cell(mark) => {
-                mark.bounds();
+                prove!(mark.value > 0);
                 Ok(Delta {
                     names: Vec::new(alloc),
                     marks: Vec::from_slice(alloc, &[mark])?,
@@ -128,7 +128,7 @@ impl Delta {
         match item {
             Item::Name(event) => Ok(self.names.push(event)?),
             Item::Cell(mark) => {
-                mark.bounds();
+                prove!(mark.value > 0);
                 Ok(self.marks.push(mark)?)
             }
         }

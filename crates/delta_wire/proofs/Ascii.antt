@@ -15,7 +15,8 @@ use Rattle.std.specs.Str.{IsUtf8}
 use Rattle.std.proofs.lemmas.Str.{IsUtf8-from_ascii}
 use Rattle.rights_lattice.specs.State.{State}
 use Rattle.rights_lattice.specs.EventName.{IsEventName}
-use Rattle.delta_wire.specs.Grammar.{cell_words, item_line, lines_text, items_of, delta_text, IsDelta, IsCell, IsValue, IsItem}
+use Rattle.rights_lattice.specs.Cells.{IsValue}
+use Rattle.delta_wire.specs.Grammar.{cell_words, item_line, lines_text, items_of, delta_text, IsDelta, IsCell, IsItem}
 use Rattle.plain_words.proofs.NumberLaws.{own}
 
 abbrev pub Small : List ℕ → Type 0

@@ -16,7 +16,9 @@ use Rattle.delta_mutators.specs.declared.delta.Item.TheVariants as item
 use Rattle.delta_wire.specs.declared.header.Purpose.{Purpose}
 use Rattle.delta_wire.specs.declared.header.Purpose.TheVariants as purpose
 use Rattle.rights_lattice.specs.EventName.{IsEventName}
-use Rattle.delta_wire.specs.Grammar.{cell_words, item_line, header_line, lines_text, IsSite, IsCell, IsValue, IsUpto, IsItem}
+use Rattle.rights_lattice.specs.Cells.{IsValue}
+use Rattle.rights_lattice.specs.Limits.{IsSite}
+use Rattle.delta_wire.specs.Grammar.{cell_words, item_line, header_line, lines_text, IsCell, IsUpto, IsItem}
 use Rattle.delta_wire.specs.Reading.{purpose_text}
 use Rattle.plain_words.specs.Input.{is_line_break}
 use Rattle.plain_words.proofs.NumberLaws.{own}

@@ -1,15 +1,14 @@
 -- An event, a site and a value in words: what is read is spelled so, and what is spelled so is read.
 use Rattle.std.proofs.Common.{◌≡◌, ℕ, true, List, ◌∷◌, Some, refl, ap, subst, ◌∙◌, arith, lit<}
 use Rattle.std.specs.Fmt.{decimal}
-use Rattle.rights_lattice.specs.Cells.{max_value}
+use Rattle.rights_lattice.specs.Cells.{max_value, IsValue}
 use Rattle.rights_lattice.specs.EventName.{IsEventName, name_of}
-use Rattle.rights_lattice.specs.Limits.{greatest_site}
+use Rattle.rights_lattice.specs.Limits.{greatest_site, IsSite}
 use Rattle.rights_lattice.proofs.EventLaws.{name_of_found, name_of_again}
 use Rattle.plain_words.specs.Words.{first_word, ◌>>=◌}
 use Rattle.plain_words.proofs.WordLaws.{lacks_space, bind_some, some_is, word_found}
 use Rattle.plain_words.proofs.NumberLaws.{number_at_found, number_at_again, decimal_lacks_space}
 use Rattle.delta_wire.specs.Fields.{event_at, site_at, value_at}
-use Rattle.delta_wire.specs.Grammar.{IsSite, IsValue}
 
 pub event_at_found : (words : List (List ℕ)) (x : List ℕ × List (List ℕ)) → event_at words ≡ Some x → (words ≡ x.0 ∷ x.1) × IsEventName x.0
 unfolding event_at

@@ -18,7 +18,9 @@ use Rattle.delta_wire.specs.declared.items.Kind.TheVariants as kind
 use Rattle.delta_wire.specs.declared.header.Header.{Header}
 use Rattle.delta_wire.specs.declared.header.Purpose.{Purpose}
 use Rattle.delta_wire.specs.declared.header.Purpose.TheVariants as purpose
-use Rattle.delta_wire.specs.Grammar.{cell_words, item_words, item_line, header_words, header_line, IsSite, IsCell, IsValue, IsUpto, IsItem}
+use Rattle.rights_lattice.specs.Cells.{IsValue}
+use Rattle.rights_lattice.specs.Limits.{IsSite}
+use Rattle.delta_wire.specs.Grammar.{cell_words, item_words, item_line, header_words, header_line, IsCell, IsUpto, IsItem}
 use Rattle.delta_wire.specs.Fields.{event_at, site_at, value_at}
 use Rattle.delta_wire.specs.Reading.{kind_text, kind_of, kind_at, name_item, mark_item, gave_item, used_item, back_item, after_kind, item_of_words, item_of, purpose_text, purpose_of, purpose_at, upto_at, header_of_words, header_of}
 use Rattle.plain_words.proofs.NumberLaws.{number_at_found, number_at_again, decimal_lacks_space}

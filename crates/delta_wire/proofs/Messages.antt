@@ -15,7 +15,8 @@ use Rattle.delta_wire.specs.declared.fault.WireFault.TheVariants.{BadLine, Trail
 use Rattle.delta_wire.specs.declared.header.Header.{Header}
 use Rattle.delta_wire.specs.declared.header.Purpose.{Purpose}
 use Rattle.delta_wire.specs.declared.header.Purpose.TheVariants as purpose
-use Rattle.delta_wire.specs.Grammar.{items_of, header_line, delta_lines, message_lines, message_text, IsSite, IsUpto, IsMessage}
+use Rattle.rights_lattice.specs.Limits.{IsSite}
+use Rattle.delta_wire.specs.Grammar.{items_of, header_line, delta_lines, message_lines, message_text, IsUpto, IsMessage}
 use Rattle.delta_wire.specs.Items.{all_names, all_marks}
 use Rattle.delta_wire.specs.Reading.{purpose_text, header_of}
 use Rattle.plain_words.specs.Input.{is_line_break}

@@ -5,7 +5,7 @@ use Rattle.std.specs.List.{slice_split, AllByRecursion}
 use Rattle.std.proofs.lemmas.Bool.{cases_Bool, and_parts, eqb-true, false≢true, cond-true, cond-false}
 use Rattle.std.proofs.lemmas.List.{nil_from_length, append-nil}
 use Rattle.std.proofs.lemmas.Slice.Eq.{bytes_eq-Decides}
-use Rattle.rights_lattice.specs.Cells.{Valued, marks_of}
+use Rattle.rights_lattice.specs.Cells.{Valued, marks_of, IsValue}
 use Rattle.rights_lattice.specs.State.{State, names_in_order}
 use Rattle.delta_mutators.specs.declared.delta.Item.{Item}
 use Rattle.delta_mutators.specs.declared.delta.Item.TheVariants as item
@@ -17,7 +17,7 @@ use Rattle.delta_wire.specs.declared.ending.Ending.{Ending}
 use Rattle.delta_wire.specs.declared.ending.Ending.TheVariants.{AtEndLine, AtEndOfBytes}
 use Rattle.delta_wire.specs.declared.fault.WireFault.{WireFault}
 use Rattle.delta_wire.specs.declared.fault.WireFault.TheVariants.{Truncated, OutOfOrder, Trailing}
-use Rattle.delta_wire.specs.Grammar.{item_line, items_of, lines_text, delta_lines, delta_text, IsValue, IsItem, IsDelta}
+use Rattle.delta_wire.specs.Grammar.{item_line, items_of, lines_text, delta_lines, delta_text, IsItem, IsDelta}
 use Rattle.delta_wire.specs.Items.{comes_next, all_names, all_marks, Extends}
 use Rattle.delta_wire.specs.Reading.{item_of}
 use Rattle.plain_words.specs.Input.{is_line_break}

@@ -4,8 +4,8 @@ use Rattle.std.specs.List.{join_with_byte, flat_map, AllByRecursion}
 use Rattle.std.specs.Fmt.{decimal}
 use Rattle.rights_lattice.specs.declared.cell.Cell.{Cell}
 use Rattle.rights_lattice.specs.declared.cell.Cell.TheVariants.{Gave, Used, Back}
-use Rattle.rights_lattice.specs.Cells.{max_value, marks_of}
-use Rattle.rights_lattice.specs.Limits.{greatest_site}
+use Rattle.rights_lattice.specs.Cells.{marks_of, IsValue}
+use Rattle.rights_lattice.specs.Limits.{IsSite}
 use Rattle.rights_lattice.specs.State.{State, names_in_order}
 use Rattle.delta_mutators.specs.declared.delta.Item.{Item}
 use Rattle.delta_mutators.specs.declared.delta.Item.TheVariants as item
@@ -61,16 +61,10 @@ most_bytes = 4294967296
 
 -- what has a text
 
-abbrev pub IsSite : ℕ → Type 0
-IsSite n = n ≤ greatest_site
-
 abbrev pub IsCell : Cell → Type 0
 IsCell (Gave by to) = IsSite by × IsSite to
 IsCell (Used by) = IsSite by
 IsCell (Back by) = IsSite by
-
-abbrev pub IsValue : ℕ → Type 0
-IsValue n = (1 ≤ n) × (n ≤ max_value)
 
 abbrev pub IsUpto : ℕ → Type 0
 IsUpto n = (1 ≤ n) × (n ≤ greatest_limit)

@@ -4,7 +4,9 @@ ghost use Rattle.std.specs.List.{join_with_byte};
 ghost use Rattle.arrayvec.specs.ArrayVec.{array_vec_len};
 ghost use Rattle.delta_mutators.specs.declared.delta.Item.TheVariants as item;
 ghost use Rattle.rights_lattice.specs.EventName.{IsEventName};
-ghost use Rattle.delta_wire.specs.Grammar.{IsSite, IsCell, IsUpto, IsItem, cell_words, header_line};
+ghost use Rattle.rights_lattice.specs.Limits.{longest_name, IsSite};
+ghost use Rattle.plain_words.specs.Input.{longest_line};
+ghost use Rattle.delta_wire.specs.Grammar.{IsCell, IsUpto, IsItem, cell_words, header_line};
 ghost use Rattle.delta_wire.specs.Parts.{name_line, mark_line};
 
 use plain_words::{Text, put, put_number};
@@ -13,9 +15,9 @@ use site_exchange::Upto;
 
 // Adds the name of an event at the end.
 fn put_event(text: &mut Text, event: &Event)
-    requires { array_vec_len text.old + 32 ≤ 256 }
+    requires { array_vec_len text.old + longest_name ≤ 256 }
     ensures items { text.new.items ≡ text.old.items ++ event.now }
-    ensures len { array_vec_len text.new ≤ array_vec_len text.old + 32 }
+    ensures len { array_vec_len text.new ≤ array_vec_len text.old + longest_name }
     ensures fits { IsEventName event.now }
 {
     put(text, event.bytes());
@@ -46,7 +48,7 @@ pub fn name_text(event: &Event) -> Text
 
 fn cell_text(event: &Event, cell: &Cell, value: u64) -> Text
     ensures text { result.items ≡ join_with_byte 32 (cell_words event.now value cell.now) }
-    ensures len { array_vec_len result ≤ 200 }
+    ensures len { array_vec_len result ≤ longest_line }
     ensures name { IsEventName event.now }
     ensures cell { IsCell cell.now }
 {
@@ -90,7 +92,6 @@ pub fn mark_text(mark: &Mark) -> Text
     ensures text { result.items ≡ mark_line mark.now }
     ensures fits { IsItem (item.Cell mark.now) }
 {
-    mark.bounds();
     let mut text = cell_text(&mark.event, &mark.cell, mark.value);
     put(&mut text, b"\n");
     text

@@ -4,7 +4,7 @@ use Rattle.std.specs.Str.{bytes_eq}
 use Rattle.std.specs.Fmt.{decimal}
 use Rattle.std.proofs.lemmas.Bool.{cases_Bool}
 use Rattle.std.proofs.lemmas.Slice.Eq.{bytes_eq-Decides}
-use Rattle.rights_lattice.specs.Limits.{greatest_site}
+use Rattle.rights_lattice.specs.Limits.{greatest_site, IsSite}
 use Rattle.request_ledger.specs.declared.verb.Verb.{Verb}
 use Rattle.request_ledger.specs.declared.verb.Verb.TheVariants as verb
 use Rattle.request_ledger.specs.Words.{verb_word, request_verb}
@@ -13,7 +13,6 @@ use Rattle.plain_words.specs.Number.{number_of}
 use Rattle.plain_words.proofs.WordLaws.{lacks_space, some_is, bind_some, word_found, ended_found}
 use Rattle.plain_words.proofs.NumberLaws.{number_at_found, number_at_again, decimal_lacks_space}
 use Rattle.delta_wire.specs.Fields.{site_at}
-use Rattle.delta_wire.specs.Grammar.{IsSite}
 use Rattle.delta_wire.proofs.FieldLaws.{site_at_found, site_again}
 use Rattle.world_steps.specs.declared.step.Input.{Input}
 use Rattle.world_steps.specs.declared.step.Input.TheVariants as input

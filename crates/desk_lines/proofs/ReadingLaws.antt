@@ -10,8 +10,7 @@ use Rattle.plain_words.specs.Words.{first_word, is_space, ended, ◌>>=◌}
 use Rattle.plain_words.specs.Number.{number_of, number_at}
 use Rattle.plain_words.proofs.WordLaws.{lacks_space, split_join, some_is, bind_some, word_found, ended_found}
 use Rattle.plain_words.proofs.NumberLaws.{number_found, number_again, number_at_found, number_at_again, decimal_lacks_space}
-use Rattle.rights_lattice.specs.Limits.{greatest_site}
-use Rattle.delta_wire.specs.Grammar.{IsSite}
+use Rattle.rights_lattice.specs.Limits.{greatest_site, IsSite}
 use Rattle.delta_wire.proofs.FieldLaws.{site_again, site_lacks_space}
 use Rattle.delta_wire.proofs.Names.{name_lacks_space}
 use Rattle.world_steps.specs.declared.step.Step.TheVariants as step

@@ -15,12 +15,13 @@ use Rattle.request_ledger.specs.Words.{verb_word, request_verb}
 use Rattle.plain_words.specs.Words.{first_word, is_space, ended}
 use Rattle.plain_words.proofs.WordLaws.{lacks_space, split_join, some_is, bind_some, word_found, ended_found}
 use Rattle.delta_wire.specs.Fields.{event_at}
-use Rattle.delta_wire.specs.Grammar.{IsValue}
+use Rattle.rights_lattice.specs.Cells.{IsValue}
 use Rattle.delta_wire.proofs.FieldLaws.{event_at_found, event_again}
 use Rattle.delta_wire.proofs.Names.{name_lacks_space}
 use Rattle.desk_lines.specs.declared.line.Line.{Line}
 use Rattle.desk_lines.specs.declared.line.Line.TheVariants.{Ask, Left, Totals, Quit}
-use Rattle.desk_lines.specs.Grammar.{request_words, operands, session_words, session_text, request_line, IsRequest, IsSessionLine}
+use Rattle.request_ledger.specs.Ranges.{IsRequest}
+use Rattle.desk_lines.specs.Grammar.{request_words, operands, session_words, session_text, request_line, IsSessionLine}
 use Rattle.desk_lines.specs.Requests.{request_from}
 use Rattle.desk_lines.specs.Reading.{left_in, totals_in, ask_in, asked_after, asked_in, session_line_of}
 use Rattle.desk_lines.proofs.RequestLaws.{request_from_found, request_from_again, request_lacks}

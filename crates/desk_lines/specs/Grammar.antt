@@ -2,13 +2,14 @@
 use Rattle.std.specs.Prelude.{ℕ, ◌≤◌, Bool, true, false, ⊤, List, [], ◌∷◌, codes}
 use Rattle.std.specs.List.{join_with_byte}
 use Rattle.std.specs.Fmt.{decimal}
-use Rattle.rights_lattice.specs.Limits.{most_sites}
+use Rattle.rights_lattice.specs.Cells.{IsValue}
+use Rattle.rights_lattice.specs.Limits.{most_sites, IsSite}
 use Rattle.rights_lattice.specs.EventName.{IsEventName}
 use Rattle.request_ledger.specs.declared.request.Request.{Request}
 use Rattle.request_ledger.specs.declared.request.Request.TheVariants.{Announce, Release, Sell, Refund, Cede}
+use Rattle.request_ledger.specs.Ranges.{IsRequest}
 use Rattle.request_ledger.specs.Words.{verb_word, request_verb}
 use Rattle.book_core.specs.Limits.{greatest_limit}
-use Rattle.delta_wire.specs.Grammar.{IsSite, IsValue}
 use Rattle.world_steps.specs.declared.step.Input.{Input}
 use Rattle.world_steps.specs.declared.step.Input.TheVariants as input
 use Rattle.world_steps.specs.declared.step.Step.{Step}
@@ -84,13 +85,6 @@ abbrev pub most_lines : ℕ
 most_lines = 1000000
 
 -- what has a text
-
-abbrev pub IsRequest : Request → Type 0
-IsRequest (Announce e) = IsEventName e
-IsRequest (Release e a) = IsEventName e × IsValue a
-IsRequest (Sell e a) = IsEventName e × IsValue a
-IsRequest (Refund s) = IsValue s
-IsRequest (Cede e a to) = IsEventName e × IsValue a × IsSite to
 
 abbrev pub IsSessionLine : Line → Type 0
 IsSessionLine (line.Ask n q) = IsValue n × IsRequest q

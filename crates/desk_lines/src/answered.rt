@@ -2,6 +2,7 @@
 
 ghost use Rattle.std.specs.Prelude.{◌≡◌, ◌≤◌};
 ghost use Rattle.arrayvec.specs.ArrayVec.{array_vec_len};
+ghost use Rattle.plain_words.specs.Input.{longest_line};
 ghost use Rattle.plain_words.specs.Writing.{Writes};
 ghost use Rattle.desk_lines.specs.Replies.{answered_text, reply_line};
 
@@ -32,7 +33,7 @@ pub enum Answered {
 /// The text of an answer, without a line break.
 pub(crate) fn answered_text(answered: &Answered) -> Text
     ensures value { result.items ≡ answered_text answered.now }
-    ensures len { array_vec_len result ≤ 200 }
+    ensures len { array_vec_len result ≤ longest_line }
 {
     match answered {
         Answered::Kept(reply) => reply_text(*reply),

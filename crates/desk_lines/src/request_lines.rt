@@ -7,8 +7,9 @@ ghost use Rattle.std.specs.List.{join_with_byte};
 ghost use Rattle.plain_words.specs.Writing.{Writes};
 ghost use Rattle.desk_lines.specs.declared.line.Line.TheVariants.{Ask};
 ghost use Rattle.request_ledger.specs.Words.{verb_word};
-ghost use Rattle.delta_wire.specs.Grammar.{IsValue};
-ghost use Rattle.desk_lines.specs.Grammar.{request_words, request_line, IsRequest};
+ghost use Rattle.rights_lattice.specs.Cells.{IsValue};
+ghost use Rattle.request_ledger.specs.Ranges.{IsRequest};
+ghost use Rattle.desk_lines.specs.Grammar.{request_words, request_line};
 ghost use Rattle.rights_lattice.specs.EventName.{IsEventName};
 ghost use Rattle.desk_lines.specs.Reading.{session_line_of};
 

@@ -2,6 +2,7 @@
 
 ghost use Rattle.std.specs.Prelude.{◌≡◌, ◌≤◌};
 ghost use Rattle.arrayvec.specs.ArrayVec.{array_vec_len};
+ghost use Rattle.plain_words.specs.Input.{longest_line};
 ghost use Rattle.plain_words.specs.Writing.{Writes};
 ghost use Rattle.desk_lines.specs.ScriptReplies.{refusal_text, outcome_text, answer_text, reply_line};
 
@@ -35,7 +36,7 @@ pub enum ScriptAnswer {
 
 fn refusal_text(fault: PlanFault) -> Text
     ensures value { result.items ≡ refusal_text fault }
-    ensures len { array_vec_len result ≤ 200 }
+    ensures len { array_vec_len result ≤ longest_line }
 {
     match fault {
         PlanFault::Reused { place } => ask_fault_text(AskFault::Reused { place }),
@@ -46,7 +47,7 @@ fn refusal_text(fault: PlanFault) -> Text
 
 fn outcome_text(outcome: Outcome) -> Text
     ensures value { result.items ≡ outcome_text outcome }
-    ensures len { array_vec_len result ≤ 200 }
+    ensures len { array_vec_len result ≤ longest_line }
 {
     match outcome {
         Outcome::Answered(reply) => reply_text(reply),
@@ -64,7 +65,7 @@ fn outcome_text(outcome: Outcome) -> Text
 
 fn answer_text(answer: ScriptAnswer) -> Text
     ensures value { result.items ≡ answer_text answer }
-    ensures len { array_vec_len result ≤ 200 }
+    ensures len { array_vec_len result ≤ longest_line }
 {
     match answer {
         ScriptAnswer::Made(outcome) => outcome_text(outcome),

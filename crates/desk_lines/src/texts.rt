@@ -2,6 +2,7 @@
 
 ghost use Rattle.std.specs.Prelude.{◌≡◌, ◌≤◌};
 ghost use Rattle.arrayvec.specs.ArrayVec.{array_vec_len};
+ghost use Rattle.plain_words.specs.Input.{longest_line};
 ghost use Rattle.desk_lines.specs.Replies.{reply_text, ask_fault_text, take_fault_text, totals_text};
 
 use local_rights::Totals;
@@ -40,7 +41,7 @@ pub(crate) fn ask_fault_text(fault: AskFault) -> Text
 /// The text of why a message is not taken, without a line break.
 pub fn take_fault_text(fault: TakeFault) -> Text
     ensures value { result.items ≡ take_fault_text fault }
-    ensures len { array_vec_len result ≤ 200 }
+    ensures len { array_vec_len result ≤ longest_line }
 {
     match fault {
         TakeFault::NotForMe => word(b"not-for-me"),
@@ -57,7 +58,7 @@ pub fn take_fault_text(fault: TakeFault) -> Text
 /// The text of totals.
 pub(crate) fn totals_text(totals: Totals) -> Text
     ensures value { result.items ≡ totals_text totals }
-    ensures len { array_vec_len result ≤ 200 }
+    ensures len { array_vec_len result ≤ longest_line }
 {
     let mut text = word(b"totals released ");
     put_number(&mut text, totals.released);

@@ -1,3 +1,4 @@
 pub mod CounterLaws
+pub mod KeptLaws
 pub mod Sums
 pub mod Within

@@ -5,12 +5,13 @@ use Rattle.std.proofs.lemmas.Bool.{cases_lt}
 use Rattle.rights_lattice.specs.declared.cell.Cell.{Cell}
 use Rattle.rights_lattice.specs.declared.cell.Cell.TheVariants.{Gave, Used, Back}
 use Rattle.rights_lattice.specs.Cells.{Cells, value_at}
+use Rattle.rights_lattice.specs.Limits.{most_sites}
 use Rattle.rights_lattice.specs.RightsView.{IsCellOf, IsWithin}
 use Rattle.rights_lattice.specs.Sums.{max_sites, sum_below}
 use Rattle.local_rights.specs.Rights.{ceded, spent, HasRights, IsPosition, released_in, sold_in, refunded_in}
 use Rattle.local_rights.proofs.Sums.{sum_below_more, sum_below_same, sum_below-zero}
 
-pub few_sites : (n : ℕ) → n ≤ 16 → n ≤ max_sites
+pub few_sites : (n : ℕ) → n ≤ most_sites → n ≤ max_sites
 unfolding max_sites
 few_sites n h = omega (arith, h)
 

@@ -1,2 +1,3 @@
 pub mod BoundedCounter
+pub mod Counted
 pub mod Rights

@@ -4,9 +4,11 @@
 //! what a site takes back in refunds is our own.
 #![tactic(auto)]
 
+pub mod counted;
 pub mod laws;
 pub mod report;
 pub mod rights;
 
+pub use counted::Counted;
 pub use report::Totals;
 pub use rights::{left, paper_value, totals};

@@ -1,6 +1,7 @@
 //! Sums of the cells of an event.
 ghost use Rattle.std.specs.Prelude.{◌≡◌, ◌*◌, ◌≤◌, pos};
 ghost use Rattle.rights_lattice.specs.Cells.{max_value};
+ghost use Rattle.rights_lattice.specs.Limits.{site_numbers};
 ghost use Rattle.local_rights.specs.Rights.{HasRights, left_of, rights_of, released_in, sold_in, refunded_in, paper_value};
 
 use crate::report::Totals;
@@ -34,9 +35,9 @@ pub fn totals(rights: &Rights, event: Event) -> Totals
     ensures refunded { result.refunded ≡ refunded_in rights.now.cells event }
 
     // A caller may add them.
-    ensures released_bound { result.released ≤ 64 * max_value }
-    ensures sold_bound { result.sold ≤ 64 * max_value }
-    ensures refunded_bound { result.refunded ≤ 64 * max_value }
+    ensures released_bound { result.released ≤ site_numbers * max_value }
+    ensures sold_bound { result.sold ≤ site_numbers * max_value }
+    ensures refunded_bound { result.refunded ≤ site_numbers * max_value }
 {
     let mut released = 0;
     let mut sold = 0;

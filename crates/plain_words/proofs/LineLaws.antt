@@ -1,5 +1,5 @@
 -- The first line of an input.
-use Rattle.std.proofs.Common.{inl, inr, ◌≢◌, ◌≡◌, ℕ, zero, suc, ◌+◌, ◌<◌, ◌≤◌, leb, zero-add, Bool, true, false, eqb, cond, List, [], ◌∷◌, ◌++◌, length, Option, Some, None, refl, sym, ap, subst, ◌∙◌, arith, take, get_or, length-append, All}
+use Rattle.std.proofs.Common.{Ok, inl, inr, ◌≢◌, ◌≡◌, ℕ, zero, suc, ◌+◌, ◌<◌, ◌≤◌, leb, zero-add, Bool, true, false, eqb, cond, List, [], ◌∷◌, ◌++◌, length, Option, Some, None, refl, sym, ap, subst, ◌∙◌, arith, take, get_or, length-append, All}
 use Rattle.std.specs.List.{slice_split, onto_first, AllByRecursion}
 use Rattle.std.specs.Io.KnownBytes.{Consumes, IsAtEnd}
 use Rattle.std.proofs.KnownBytes.{Consumes-trans}
@@ -7,7 +7,9 @@ use Rattle.std.proofs.lemmas.Bool.{cond-true, cond-false, ne_eqb, cases_Bool, eq
 use Rattle.std.proofs.lemmas.List.{append-nil}
 use Rattle.std.proofs.lemmas.List.Splits.{slice_split_none, slice_split_at}
 use Rattle.std.proofs.lemmas.List.Elements.{All-from_recursion}
-use Rattle.plain_words.specs.Input.{is_line_break, without_empty_last, lines_of, Between, BeginsTooLong, GivesUp, taken, Taken, End, AtEnd, AtLongLine, AtTooMany, with_line, none_taken}
+use Rattle.std.specs.Prelude.{is_some}
+use Rattle.plain_words.specs.declared.lines.ReadFault.{ReadFault}
+use Rattle.plain_words.specs.Input.{ByteGives, MoreGives, is_line_break, longest_line, without_empty_last, lines_of, Between, BeginsTooLong, GivesUp, taken, Taken, End, AtEnd, AtLongLine, AtTooMany, with_line, none_taken}
 
 abbrev pub HasNoBreak : List ℕ → Type 0
 HasNoBreak line = AllByRecursion (λ b. is_line_break b ≡ false) line
@@ -53,11 +55,11 @@ split_front [] rest first more h e = e
 split_front (x ∷ line) rest first more h e =
     rw h.0 (ap (onto_first x) (split_front line rest first more h.1 e))
 
-too_long : (x : List ℕ) (more : List (List ℕ)) → 200 < length x → BeginsTooLong (without_empty_last (x ∷ more))
+too_long : (x : List ℕ) (more : List (List ℕ)) → longest_line < length x → BeginsTooLong (without_empty_last (x ∷ more))
 too_long x [] h = rw (single x (omega arith)) h
 too_long x (y ∷ more) h = h
 
-pub lines_of-long : (line rest : List ℕ) → HasNoBreak line → 200 < length line → BeginsTooLong (lines_of (line ++ rest))
+pub lines_of-long : (line rest : List ℕ) → HasNoBreak line → longest_line < length line → BeginsTooLong (lines_of (line ++ rest))
 unfolding lines_of
 lines_of-long line rest h long =
     let w = first_part is_line_break rest in
@@ -86,7 +88,7 @@ has_no_line (Some x) None c line p q e nothing = absurd p
 has_no_line (Some x) (Some y) None line p q e nothing = absurd q
 has_no_line (Some x) (Some y) (Some z) line p q e nothing = (ap lines_of (p ∙ ap (λ (t : List ℕ). t ++ y) nothing ∙ q ∙ e) ∙ lines_of-nil, ap lines_of e ∙ lines_of-nil)
 
-begins_too_long : (a b c : Option (List ℕ)) (line : List ℕ) (byte : ℕ) → HasNoBreak line → Consumes a b line → Consumes b c (byte ∷ []) → is_line_break byte ≡ false → 200 ≤ length line → Between a c (λ before after. BeginsTooLong (lines_of before))
+begins_too_long : (a b c : Option (List ℕ)) (line : List ℕ) (byte : ℕ) → HasNoBreak line → Consumes a b line → Consumes b c (byte ∷ []) → is_line_break byte ≡ false → longest_line ≤ length line → Between a c (λ before after. BeginsTooLong (lines_of before))
 begins_too_long None b c line byte h p q e more = tt
 begins_too_long (Some x) None c line byte h p q e more = absurd p
 begins_too_long (Some x) (Some y) None line byte h p q e more = absurd q
@@ -97,7 +99,7 @@ begins_too_long (Some x) (Some y) (Some z) line byte h p q e more =
 no_break_is : (byte : ℕ) → is_line_break byte ≡ false → byte ≢ 10
 no_break_is byte e is = let t : is_line_break byte ≡ true = ap is_line_break is in cc
 
-pub passes_limit : (a b c : Option (List ℕ)) (line : List ℕ) (byte : ℕ) → HasNoBreak line → Consumes a b line → Consumes b c (byte ∷ []) → is_line_break byte ≡ false → length line ≡ 200
+pub passes_limit : (a b c : Option (List ℕ)) (line : List ℕ) (byte : ℕ) → HasNoBreak line → Consumes a b line → Consumes b c (byte ∷ []) → is_line_break byte ≡ false → length line ≡ longest_line
     → GivesUp a c line × Between a c (λ before after. BeginsTooLong (lines_of before))
 passes_limit a b c line byte h p q e full =
     ((byte, no_break_is byte e, full, Consumes-trans a b c line (byte ∷ []) p q), begins_too_long a b c line byte h p q e (omega (arith, full)))
@@ -131,10 +133,14 @@ some_more None b byte q = tt
 some_more (Some x) None byte q = absurd q
 some_more (Some x) (Some y) byte q = λ e. lines_of-cons byte y (sym (ap lines_of q) ∙ e)
 
+pub tells_more : (a b : Option (List ℕ)) (byte : Option ℕ) → ByteGives {E = ReadFault} a b (Ok byte) → MoreGives a b (Ok (is_some byte))
+tells_more a b None h = (h.0, no_more a b h.0 h.1)
+tells_more a b (Some byte) h = ((byte, h), some_more a b byte h)
+
 -- ---- the lines that are taken
 
 abbrev pub AreShort : List (List ℕ) → Type 0
-AreShort lines = AllByRecursion (λ line. length line ≤ 200) lines
+AreShort lines = AllByRecursion (λ line. length line ≤ longest_line) lines
 
 -- these lines before those that are taken
 abbrev pub put_before : List (List ℕ) → Taken → Taken
@@ -144,14 +150,14 @@ pub taken-nil : (most : ℕ) → taken most [] ≡ none_taken AtEnd
 unfolding taken
 taken-nil most = refl
 
-pub taken-line : (most : ℕ) (line : List ℕ) (lines : List (List ℕ)) → length line ≤ 200 → taken (suc most) (line ∷ lines) ≡ with_line line (taken most lines)
+pub taken-line : (most : ℕ) (line : List ℕ) (lines : List (List ℕ)) → length line ≤ longest_line → taken (suc most) (line ∷ lines) ≡ with_line line (taken most lines)
 unfolding taken
-taken-line most line lines short = cond-true (leb (length line) 200) _ _ (le-leb _ _ short)
+taken-line most line lines short = cond-true (leb (length line) longest_line) _ _ (le-leb _ _ short)
 
 pub taken-long : (most : ℕ) (lines : List (List ℕ)) → BeginsTooLong lines → taken (suc most) lines ≡ none_taken AtLongLine
 unfolding taken
 taken-long most [] long = absurd long
-taken-long most (line ∷ lines) long = cond-false (leb (length line) 200) _ _ (lt-leb _ _ long)
+taken-long most (line ∷ lines) long = cond-false (leb (length line) longest_line) _ _ (lt-leb _ _ long)
 
 pub taken-too-many : (lines : List (List ℕ)) → lines ≢ [] → taken 0 lines ≡ none_taken AtTooMany
 unfolding taken
@@ -177,5 +183,5 @@ unfolding taken
 taken-whole most [] h = refl
 taken-whole zero (line ∷ lines) h = cc
 taken-whole (suc most) (line ∷ lines) h =
-    let w = end_with _ (leb (length line) 200) line (taken most lines) refl h in
-    ap (λ (t : Taken). t.lines) (cond-true (leb (length line) 200) _ _ w.0) ∙ ap (λ (t : List (List ℕ)). line ∷ t) (taken-whole most lines w.1)
+    let w = end_with _ (leb (length line) longest_line) line (taken most lines) refl h in
+    ap (λ (t : Taken). t.lines) (cond-true (leb (length line) longest_line) _ _ w.0) ∙ ap (λ (t : List (List ℕ)). line ∷ t) (taken-whole most lines w.1)

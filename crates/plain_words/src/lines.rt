@@ -74,9 +74,6 @@ pub fn next_line<R: BufRead>(reader: &mut R, line: &mut LineBytes) -> Result<boo
 pub fn has_more<R: BufRead>(reader: &mut R) -> Result<bool, ReadFault>
     ensures { MoreGives (R.remaining reader.old) (R.remaining reader.new) result }
 {
-    match read_byte(reader) {
-        Err(fault) => Err(fault),
-        Ok(None) => Ok(false),
-        Ok(Some(_)) => Ok(true),
-    }
+    let byte = read_byte(reader)?;
+    Ok(byte.is_some())
 }

@@ -1,4 +1,5 @@
 pub mod GivenBack
 pub mod Ledger
+pub mod Ranges
 pub mod Requests
 pub mod Words

@@ -1,5 +1,4 @@
 pub mod CellLaws
-pub mod DenseLaws
 pub mod EventLaws
 pub mod MarkLaws
 pub mod MergeLaws
@@ -7,6 +6,7 @@ pub mod MissingLaws
 pub mod NameLaws
 pub mod RightsLaws
 pub mod RisingLaws
-pub mod SlotLaws
 pub mod SpotLaws
 pub mod StateLaws
+pub mod TableLaws
+pub mod TestLaws

@@ -14,6 +14,10 @@ use Rattle.rights_lattice.specs.declared.cell.Cell.{Cell}
 abbrev pub max_value : ℕ
 max_value = 1000000000000
 
+-- the value of a cell that is not 0, an amount or the number of a request
+abbrev pub IsValue : ℕ → Type 0
+IsValue n = (1 ≤ n) × (n ≤ max_value)
+
 -- an event and one of its cells
 abbrev pub Key : Type 0
 Key = List ℕ × Cell

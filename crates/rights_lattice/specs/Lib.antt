@@ -1,12 +1,12 @@
 pub mod Cell
 pub mod CellOrder
 pub mod Cells
-pub mod Dense
 pub mod EventName
 pub mod JoinLaws
 pub mod Limits
 pub mod Marks
 pub mod Merging
 pub mod RightsView
+pub mod Spots
 pub mod State
 pub mod Sums

@@ -1,9 +1,10 @@
 -- Sums over the sites. Our own.
 use Rattle.std.specs.Prelude.{ℕ, zero, suc, ◌+◌}
+use Rattle.rights_lattice.specs.Limits.{site_numbers}
 
 -- site numbers are below this; a site that is not there has only zeros
 unfoldable pub max_sites : ℕ
-max_sites = 64
+max_sites = site_numbers
 
 -- f 0 + .. + f (n - 1)
 abbrev pub sum_below : ℕ → (ℕ → ℕ) → ℕ

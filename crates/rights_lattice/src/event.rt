@@ -1,6 +1,7 @@
 // Event names.
 ghost use Rattle.std.specs.Prelude.{◌≡◌, ℕ, ◌<◌, ◌≤◌, IsSome, IfSome, IsTrue, ◌↔◌, Some, None, ◌==◌, nat_eq, length};
 ghost use Rattle.rights_lattice.specs.EventName.{IsEventName, is_event_byte, name_of, padded_name};
+ghost use Rattle.rights_lattice.specs.Limits.{longest_name};
 ghost use Rattle.std.specs.Ordering.{nat_cmp, as_partial_cmp};
 ghost use Rattle.std.specs.Cmp.Lexicographic.{slice_cmp};
 ghost use Rattle.std.specs.Cmp.{partial_order_from_own_ties};
@@ -10,6 +11,7 @@ ghost use lib.Pointwise.{pointwise};
 ghost use Rattle.std.proofs.Common.{rules};
 ghost use Rattle.std.specs.Cmp.Rules.{comparing, hashing};
 
+use crate::limits::LONGEST_NAME;
 use std::cmp::Ordering;
 use std::hash::{Hash, Hasher};
 use std::marker::Model;
@@ -17,7 +19,7 @@ use std::marker::Model;
 /// The name of an event: 1 to 32 bytes of `a-z`, `0-9`, `-`.
 #[derive(Clone, Copy, Debug)]
 pub struct Event {
-    name: [u8; 32],
+    name: [u8; LONGEST_NAME],
     len: u8,
 }
 
@@ -66,7 +68,7 @@ impl Event {
 fn is_event_name(bytes: &[u8]) -> bool
     ensures { IsTrue result ↔ IsEventName bytes.now }
 {
-    1 <= bytes.len() && bytes.len() <= 32 && are_event_bytes(bytes)
+    1 <= bytes.len() && bytes.len() <= LONGEST_NAME && are_event_bytes(bytes)
 }
 
 fn are_event_bytes(bytes: &[u8]) -> bool
@@ -75,11 +77,11 @@ fn are_event_bytes(bytes: &[u8]) -> bool
     bytes.iter().all(|byte| is_event_byte(*byte))
 }
 
-fn padded_name(bytes: &[u8]) -> [u8; 32]
-    requires { length bytes.now ≤ 32 }
+fn padded_name(bytes: &[u8]) -> [u8; LONGEST_NAME]
+    requires { length bytes.now ≤ longest_name }
     ensures { result ≡ padded_name bytes.now }
 {
-    let mut name = [0u8; 32];
+    let mut name = [0u8; LONGEST_NAME];
     name[..bytes.len()].copy_from_slice(bytes);
     name
 }

@@ -6,7 +6,6 @@
 #![tactic(auto)]
 
 pub mod amount;
-mod blocks;
 pub mod cell;
 pub mod event;
 pub mod laws;
@@ -19,7 +18,7 @@ pub mod site;
 pub use amount::Amount;
 pub use cell::{Cell, owner};
 pub use event::Event;
-pub use limits::{GREATEST_SITE, MOST_SITES};
+pub use limits::{GREATEST_SITE, LONGEST_NAME, MOST_SITES, SITE_NUMBERS};
 pub use mark::{MAX_VALUE, Mark};
 pub use merge::{key_order, merge_marks, merge_names};
 pub use rights::Rights;

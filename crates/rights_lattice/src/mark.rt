@@ -1,7 +1,4 @@
 // Marks: values of cells.
-ghost use Rattle.std.specs.Prelude.{◌≤◌};
-ghost use Rattle.rights_lattice.specs.Cells.{max_value};
-
 use crate::cell::Cell;
 use crate::event::Event;
 use std::marker::Model;
@@ -30,14 +27,4 @@ impl Model for Mark {
     ghost invariant = { λ m. (1 ≤ m.value) × (m.value ≤ max_value) };
 
     ghost inverse = { λ m. record { event = m.event; cell = m.cell; value = m.value } };
-}
-
-impl Mark {
-    /// Shows the range of a mark's value to the caller's proof, and does nothing.
-    pub fn bounds(self)
-        ensures positive { 1 ≤ self.value }
-        ensures at_most_max { self.value ≤ max_value }
-    {
-        let _ = &self.value;
-    }
 }

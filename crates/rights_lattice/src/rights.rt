@@ -1,42 +1,42 @@
 // The state of rights.
-ghost use Rattle.std.specs.Prelude.{◌≡◌, ◌+◌, ◌<◌, ◌≤◌, ◌↔◌, ◌==◌, IsTrue, IsOk, OnOk, IfOk, if◌then◌else◌};
+ghost use Rattle.std.specs.Prelude.{◌≡◌, ◌+◌, ◌<◌, ◌≤◌, ◌↔◌, ◌==◌, ◌||◌, not, nat_le, IsTrue, IsOk, OnOk, IfOk, if◌then◌else◌};
 ghost use Rattle.rights_lattice.specs.Cells.{max_value, value_at, all_zero, raise, join, AtOrBelow, RowAtOrBelow};
+ghost use Rattle.std.specs.List.{list_all};
+ghost use Rattle.rights_lattice.specs.Cell.{owner_of};
 ghost use Rattle.rights_lattice.specs.RightsView.{IsCellOf, IsWithin, missing};
 
-use crate::blocks::{add_block, is_cell_of, mark_at, offset, place, raise_at, width};
 use crate::cell::{Cell, owner};
 use crate::event::Event;
 use crate::mark::Mark;
 use crate::site::{SiteId, Sites};
+use indexmap::IndexMap;
 use std::alloc::{AllocError, Global};
 use std::marker::Model;
 
-/// The values of the cells of all events.
+/// The values of the cells of all events. A look-up is in a hash map: on average it takes as long
+/// over ten thousand events as over one.
 #[derive(Drop)]
 pub struct Rights {
     sites: Sites,
-    events: Vec<Event>,
-    values: Vec<u64>,
+    /// The cells that are not 0.
+    values: IndexMap<(Event, Cell), u64>,
+    /// For how many more cells room was reserved. The map may have room for others.
+    room: usize,
 }
 
 impl Model for Rights {
-    ghost use Rattle.std.specs.Prelude.{◌-◌, ◌/◌, min, vec_len, vec_capacity};
+    ghost use Rattle.std.specs.Prelude.{◌≤◌};
+    ghost use Rattle.indexmap.specs.IndexMap.{spare};
     ghost use Rattle.rights_lattice.specs.RightsView.{RightsView, coded_rights};
-    ghost use Rattle.rights_lattice.specs.Dense.{width_of, cells_in, AreBlocks};
+    ghost use Rattle.rights_lattice.specs.Spots.{cells_in, AreSpots};
 
     ghost Value = { RightsView };
 
     ghost coded = { coded_rights };
 
-    ghost view = { λ r. record {
-      sites = r.sites;
-      cells = cells_in r.sites r.events.items r.values.items;
-      room =
-          min (vec_capacity r.events - vec_len r.events)
-          ((vec_capacity r.values - vec_len r.values) / width_of r.sites);
-    } };
+    ghost view = { λ r. record { sites = r.sites; cells = cells_in r.values.entries; room = r.room } };
 
-    ghost invariant = { λ r. AreBlocks r.sites r.events.items r.values.items };
+    ghost invariant = { λ r. AreSpots r.sites r.values.entries × (r.room ≤ spare r.values) };
 }
 
 impl Rights {
@@ -46,12 +46,10 @@ impl Rights {
         ensures cells { result.cells ≡ all_zero }
         ensures room { result.room ≡ 0 }
     {
-        // The prover has to have seen that there is a site.
-        let _count = sites.count();
         Rights {
             sites,
-            events: Vec::new(alloc),
-            values: Vec::new(alloc),
+            values: IndexMap::new(alloc),
+            room: 0,
         }
     }
 
@@ -68,13 +66,7 @@ impl Rights {
         ensures value { result ≡ value_at self.now.cells event cell }
         ensures at_most_max { result ≤ max_value }
     {
-        if !is_cell_of(self.sites, &cell) {
-            return 0;
-        }
-        match place(&self.events, &event) {
-            Some(block) => self.values[block * width(self.sites) + offset(self.sites, &cell)],
-            None => 0,
-        }
+        self.values.get(&(event, cell)).copied().unwrap_or(0)
     }
 
     /// Makes room for `more` cells that are 0 now. An error leaves the cells as they were.
@@ -85,11 +77,9 @@ impl Rights {
         ensures cells { self.new.cells ≡ self.old.cells }
         ensures sites { self.new.sites ≡ self.old.sites }
     {
-        let Some(numbers) = more.checked_mul(width(self.sites)) else {
-            return Err(AllocError);
-        };
-        self.events.reserve(more)?;
-        self.values.reserve(numbers)
+        self.values.reserve(more)?;
+        self.room = self.room.max(more);
+        Ok(())
     }
 
     /// Raises a cell to the greater of its old value and the mark's.
@@ -103,14 +93,15 @@ impl Rights {
             + (if value_at self.old.cells mark.event mark.cell == 0 then 1 else 0) }
         ensures no_more_room { self.new.room ≤ self.old.room }
     {
-        let width = width(self.sites);
-        let offset = offset(self.sites, &mark.cell);
-        match place(&self.events, &mark.event) {
-            Some(block) => raise_at(&mut self.values, block * width + offset, mark.value),
+        let spot = (mark.event, mark.cell);
+        match self.values.get_mut(&spot) {
+            Some(value) => *value = mark.value.max(*value),
             None => {
-                let block = self.events.len();
-                add_block(&mut self.events, &mut self.values, mark.event, width);
-                raise_at(&mut self.values, block * width + offset, mark.value);
+                match self.values.insert(spot, mark.value) {
+                    Ok(_) => {}
+                    Err(_) => unreachable!(),
+                }
+                self.room -= 1;
             }
         }
     }
@@ -124,10 +115,12 @@ impl Rights {
         ensures room { self.old.room ≤ self.new.room + missing self.old.cells other.now.cells }
         ensures no_more_room { self.new.room ≤ self.old.room }
     {
-        for i in 0..other.values.len() {
-            if let Some(mark) = mark_at(other.sites, &other.events, &other.values, i) {
-                self.raise(mark);
-            }
+        for ((event, cell), value) in other.values.iter() {
+            self.raise(Mark {
+                event: *event,
+                cell: *cell,
+                value: *value,
+            });
         }
     }
 
@@ -135,28 +128,14 @@ impl Rights {
     pub fn at_or_below(&self, other: &Rights) -> bool
         ensures { IsTrue result ↔ AtOrBelow self.now.cells other.now.cells }
     {
-        for i in 0..self.values.len() {
-            if let Some(mark) = mark_at(self.sites, &self.events, &self.values, i) {
-                if other.get(mark.event, mark.cell) < mark.value {
-                    return false;
-                }
-            }
-        }
-        true
+        are_at_most(&self.values, other)
     }
 
     /// Whether each cell of a site's row is at most that of the other state.
     pub fn row_at_or_below(&self, site: SiteId, other: &Rights) -> bool
         ensures { IsTrue result ↔ RowAtOrBelow site self.now.cells other.now.cells }
     {
-        for i in 0..self.values.len() {
-            if let Some(mark) = mark_at(self.sites, &self.events, &self.values, i) {
-                if owner(mark.cell) == site && other.get(mark.event, mark.cell) < mark.value {
-                    return false;
-                }
-            }
-        }
-        true
+        are_at_most_in_row(&self.values, site, other)
     }
 
     /// The same state again, with what room there happens to be.
@@ -164,10 +143,24 @@ impl Rights {
         ensures sites { IfOk result (λ copy. copy.sites ≡ self.now.sites) }
         ensures cells { IfOk result (λ copy. copy.cells ≡ self.now.cells) }
     {
-        Ok(Rights {
-            sites: self.sites,
-            events: Vec::from_slice(alloc, &self.events)?,
-            values: Vec::from_slice(alloc, &self.values)?,
-        })
+        let mut copy = Rights::new(alloc, self.sites);
+        copy.values = self.values.clone()?;
+        Ok(copy)
     }
+}
+
+// Whether each value is at most what the other state has there.
+fn are_at_most(values: &IndexMap<(Event, Cell), u64>, other: &Rights) -> bool
+    ensures { result ≡ list_all (λ e. nat_le e.1 (value_at other.now.cells e.0.0 e.0.1)) values.now.entries }
+{
+    values.iter().all(|((event, cell), value)| *value <= other.get(*event, *cell))
+}
+
+// The same of the cells of a site's row.
+fn are_at_most_in_row(values: &IndexMap<(Event, Cell), u64>, site: SiteId, other: &Rights) -> bool
+    ensures { result ≡ list_all (λ e. not (owner_of e.0.1 == site) || nat_le e.1 (value_at other.now.cells e.0.0 e.0.1)) values.now.entries }
+{
+    values.iter().all(|((event, cell), value)| {
+        owner(*cell) != site || *value <= other.get(*event, *cell)
+    })
 }

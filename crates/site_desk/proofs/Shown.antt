@@ -22,7 +22,7 @@ use Rattle.book_core.specs.declared.entry.Entry.{Entry}
 use Rattle.book_core.specs.declared.entry.Entry.TheVariants.{Asked}
 use Rattle.book_core.specs.History.{delta_of, state_of}
 use Rattle.book_core.proofs.Histories.{state_of-push, at-push}
-use Rattle.site_desk.specs.EventCells.{number_at, Shows}
+use Rattle.site_desk.specs.EventCells.{value_in_table, Shows}
 use Rattle.site_desk.specs.declared.receipt.Receipt.{Receipt}
 use Rattle.site_desk.specs.Finish.{StandsIn}
 
@@ -51,7 +51,7 @@ take_next xs k x is = let at = got xs k x is in take_more xs k x at.0 ∙ ap (λ
 
 -- one entry more raises the cells to its marks
 pub shows_more : (h : List Entry) (k : ℕ) (entry : Entry) (marks : List Valued) (old new event : List ℕ) → slice_get h k ≡ Some entry → marks ≡ marks_of (delta_of entry).cells
-    → Shows old (state_of (take k h)).cells event → ((cell : Cell) → IsCellOf max_sites cell → number_at new cell ≡ max (number_at old cell) (greatest marks event cell))
+    → Shows old (state_of (take k h)).cells event → ((cell : Cell) → IsCellOf max_sites cell → value_in_table new cell ≡ max (value_in_table old cell) (greatest marks event cell))
     → Shows new (state_of (take (k + 1) h)).cells event
 shows_more h k entry marks old new event is all before raised cell of =
     raised cell of

@@ -4,23 +4,26 @@ ghost use Rattle.std.specs.List.{list_any};
 ghost use Rattle.rights_lattice.specs.declared.cell.Cell.{Cell as TheCell};
 ghost use Rattle.rights_lattice.specs.Cell.{same_cell, same_event};
 ghost use Rattle.rights_lattice.specs.Cells.{Cells, greatest, max_value};
-ghost use Rattle.rights_lattice.specs.Dense.{offset_of};
+ghost use Rattle.rights_lattice.specs.Limits.{site_numbers};
 ghost use Rattle.rights_lattice.specs.RightsView.{IsCellOf};
 ghost use Rattle.rights_lattice.specs.Sums.{max_sites};
 ghost use Rattle.rights_lattice.specs.State.{knows};
 ghost use Rattle.book_core.specs.History.{state_of};
 ghost use Rattle.local_rights.specs.Rights.{left_of, released_in, sold_in, refunded_in};
-ghost use Rattle.site_desk.specs.EventCells.{number_at, Shows};
+ghost use Rattle.site_desk.specs.EventCells.{offset_of, value_in_table, Shows};
 
 use book_core::Book;
 use local_rights::Totals;
-use rights_lattice::{Cell, Event, Mark, SiteId};
+use rights_lattice::{Cell, Event, Mark, SITE_NUMBERS, SiteId};
 use std::marker::Model;
+
+// How many cells an event has, for every number that a site may have.
+const CELLS: usize = SITE_NUMBERS * SITE_NUMBERS + 2 * SITE_NUMBERS;
 
 /// The values of the cells of one event, for every number that a site may have. They are in place and take no memory.
 #[derive(Drop)]
 pub struct EventCells {
-    values: [u64; 4224],
+    values: [u64; CELLS],
 }
 
 impl Model for EventCells {
@@ -37,9 +40,9 @@ impl Model for EventCells {
 impl EventCells {
     /// All cells are 0.
     pub fn new() -> EventCells
-        ensures { (cell : TheCell) → number_at result cell ≡ 0 }
+        ensures { (cell : TheCell) → value_in_table result cell ≡ 0 }
     {
-        EventCells { values: [0; 4224] }
+        EventCells { values: [0; CELLS] }
     }
 
     /// The cells of an event by the first `at` entries of a history, and `None` where none of them names it.
@@ -62,11 +65,10 @@ impl EventCells {
 
     /// Raises the cells of an event to the greatest value that the marks say.
     pub fn raise_all(&mut self, event: &Event, marks: &[Mark])
-        ensures { (cell : TheCell) → IsCellOf max_sites cell → number_at self.new cell ≡ max (number_at self.old cell) (greatest marks.now event.now cell) }
+        ensures { (cell : TheCell) → IsCellOf max_sites cell → value_in_table self.new cell ≡ max (value_in_table self.old cell) (greatest marks.now event.now cell) }
     {
         for mark in marks {
             if mark.event == *event {
-                mark.bounds();
                 self.raise(&mark.cell, mark.value);
             }
         }
@@ -79,7 +81,7 @@ impl EventCells {
         let mut gained = self.get(&Cell::Gave { by: me, to: me });
         gained += self.get(&Cell::Back { by: me });
         let mut spent = self.get(&Cell::Used { by: me });
-        for number in 0..64 {
+        for number in 0..SITE_NUMBERS as u64 {
             let other = site(number);
             if other != me {
                 gained += self.get(&Cell::Gave { by: other, to: me });
@@ -98,7 +100,7 @@ impl EventCells {
         let mut released = 0;
         let mut sold = 0;
         let mut refunded = 0;
-        for number in 0..64 {
+        for number in 0..SITE_NUMBERS as u64 {
             let by = site(number);
             released += self.get(&Cell::Gave { by, to: by });
             sold += self.get(&Cell::Used { by });
@@ -113,7 +115,7 @@ impl EventCells {
 
     fn get(&self, cell: &Cell) -> u64
         ensures of_sites { IsCellOf max_sites cell.now }
-        ensures value { result ≡ number_at self.now cell.now }
+        ensures value { result ≡ value_in_table self.now cell.now }
         ensures at_most_max { result ≤ max_value }
     {
         self.values[offset(cell)]
@@ -121,7 +123,7 @@ impl EventCells {
 
     fn raise(&mut self, cell: &Cell, value: u64)
         requires { value ≤ max_value }
-        ensures { (other : TheCell) → IsCellOf max_sites other → number_at self.new other ≡ max (number_at self.old other) (if same_cell other cell.now then value else 0) }
+        ensures { (other : TheCell) → IsCellOf max_sites other → value_in_table self.new other ≡ max (value_in_table self.old other) (if same_cell other cell.now then value else 0) }
     {
         let place = offset(cell);
         self.values[place] = self.values[place].max(value);
@@ -135,23 +137,23 @@ fn has(names: &[Event], event: &Event) -> bool
     names.iter().any(|name| event == name)
 }
 
-// Where the number of a cell is, for 64 sites: row by row what each gave, then what each sold, then what came back.
+// Where the number of a cell is: row by row what each gave, then what each sold, then what came back.
 #[tactic(auto, unfolding(rights_lattice::specs::Sums::max_sites))]
 fn offset(cell: &Cell) -> usize
     ensures of_sites { IsCellOf max_sites cell.now }
     ensures place { result ≡ offset_of max_sites cell.now }
-    ensures within { result < 4224 }
+    ensures within { result < CELLS }
 {
     match cell {
-        Cell::Gave { by, to } => by.number() as usize * 64 + to.number() as usize,
-        Cell::Used { by } => 4096 + by.number() as usize,
-        Cell::Back { by } => 4160 + by.number() as usize,
+        Cell::Gave { by, to } => by.number() as usize * SITE_NUMBERS + to.number() as usize,
+        Cell::Used { by } => SITE_NUMBERS * SITE_NUMBERS + by.number() as usize,
+        Cell::Back { by } => SITE_NUMBERS * SITE_NUMBERS + SITE_NUMBERS + by.number() as usize,
     }
 }
 
 // The site with this number.
 fn site(number: u64) -> SiteId
-    requires { number < 64 }
+    requires { number < site_numbers }
     ensures { result ≡ number }
 {
     match SiteId::of(number) {

@@ -1,4 +1,5 @@
 //! Why a site's book does not answer.
+use std::alloc::AllocError;
 use thiserror::Error;
 
 /// Why a request is not answered. All but `Store` change nothing.
@@ -30,6 +31,17 @@ pub enum NextFault {
     NoSite,
     #[error("out of memory")]
     Memory,
+}
+
+impl From<AllocError> for NextFault {
+    ghost use Rattle.std.specs.Prelude.{◌≡◌};
+    ghost use Rattle.site_desk.specs.declared.fault.NextFault.TheVariants.{Memory};
+
+    ghost from_gives = { λ _ fault. fault ≡ Memory };
+
+    fn from(_error: AllocError) -> NextFault {
+        NextFault::Memory
+    }
 }
 
 /// Why nothing is shown of an event.

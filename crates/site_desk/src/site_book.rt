@@ -230,10 +230,7 @@ impl<K: Keeper> SiteBook<K> {
         if to.number() >= self.book.sites().count() || to == self.book.me() {
             return Err(NextFault::NoSite);
         }
-        match self.exchange.next(alloc, &self.book, to) {
-            Ok(message) => Ok(message),
-            Err(_) => Err(NextFault::Memory),
-        }
+        Ok(self.exchange.next(alloc, &self.book, to)?)
     }
 
     /// What the history shows of an event that it knows.

@@ -28,11 +28,7 @@ pub(crate) fn store<K: Keeper>(
     ensures own_row { OnOk result (LeavesOwnRow planned book.old book.new) }
     ensures has_rights { OnOk result (HasOwnRights book.new) }
 {
-    match keeper.append(planned.entry()) {
-        Ok(()) => {
-            book.enter(planned);
-            Ok(())
-        }
-        Err(fault) => Err(fault),
-    }
+    keeper.append(planned.entry())?;
+    book.enter(planned);
+    Ok(())
 }

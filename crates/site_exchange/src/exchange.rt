@@ -6,14 +6,14 @@ use crate::message::Message;
 use crate::upto::Upto;
 use book_core::Book;
 use delta_buffer::interval;
-use rights_lattice::SiteId;
+use rights_lattice::{SITE_NUMBERS, SiteId};
 use std::alloc::{AllocError, Global};
 use std::marker::Model;
 
 /// How much of a site's history each peer has acknowledged. It is kept in memory alone: after a restart it is fresh.
 #[derive(Drop)]
 pub struct Exchange {
-    acked: [u64; 64],
+    acked: [u64; SITE_NUMBERS],
 }
 
 impl Model for Exchange {
@@ -30,7 +30,9 @@ impl Exchange {
     pub fn fresh() -> Exchange
         ensures { result ≡ zeros }
     {
-        Exchange { acked: [0; 64] }
+        Exchange {
+            acked: [0; SITE_NUMBERS],
+        }
     }
 
     /// How many entries the peer has acknowledged.

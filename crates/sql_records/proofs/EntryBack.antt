@@ -4,10 +4,11 @@ use Rattle.std.specs.Prelude.{IfSome}
 use Rattle.std.specs.Result.{result_ok}
 use Rattle.std.proofs.lemmas.Bool.{and_from, le-leb, cond-true}
 use Rattle.sqlite.specs.declared.types.Value.TheVariants.{Int, Text}
-use Rattle.rights_lattice.specs.Cells.{max_value}
-use Rattle.rights_lattice.specs.Limits.{greatest_site}
+use Rattle.rights_lattice.specs.Cells.{max_value, IsValue}
+use Rattle.rights_lattice.specs.Limits.{greatest_site, IsSite}
 use Rattle.rights_lattice.specs.State.{State}
 use Rattle.rights_lattice.specs.EventName.{IsEventName}
+use Rattle.request_ledger.specs.Ranges.{IsRequest}
 use Rattle.request_ledger.specs.declared.request.Request.{Request}
 use Rattle.request_ledger.specs.declared.request.Request.TheVariants.{Announce, Release, Sell, Refund, Cede}
 use Rattle.request_ledger.specs.declared.reply.Reply.{Reply}
@@ -16,10 +17,10 @@ use Rattle.request_ledger.specs.Words.{verb_word, request_verb, reply_word, repl
 use Rattle.request_ledger.proofs.WordLaws.{verb_again, reply_again}
 use Rattle.book_core.specs.declared.entry.Entry.{Entry}
 use Rattle.book_core.specs.declared.entry.Entry.TheVariants.{Asked, Joined}
-use Rattle.delta_wire.specs.Grammar.{IsSite, IsValue, IsDelta, delta_text}
+use Rattle.delta_wire.specs.Grammar.{most_bytes, IsDelta, delta_text}
 use Rattle.rights_lattice.proofs.EventLaws.{name_of_again}
 use Rattle.delta_wire.proofs.Texts.{delta_again}
-use Rattle.sql_records.specs.Rows.{event_column, amount_column, target_column, number_column, rest_column, columns_of, HasRequestColumns, HasReplyColumns, longest, IsStorable, number_within, value_in, site_in, event_in, verb_in, announce_of, release_of, sell_of, refund_of, cede_of, request_in, rest_in, reply_in, delta_in, asked_of, joined_of, entry_of}
+use Rattle.sql_records.specs.Rows.{event_column, amount_column, target_column, number_column, rest_column, columns_of, HasReplyColumns, IsStorable, number_within, value_in, site_in, event_in, verb_in, announce_of, release_of, sell_of, refund_of, cede_of, request_in, rest_in, reply_in, delta_in, asked_of, joined_of, entry_of}
 
 pub within_back : (low high n : ℕ) → low ≤ n → n ≤ high → number_within low high (Int (pos n)) ≡ Some n
 within_back low high n p q = cond-true _ _ _ (and_from _ _ (le-leb _ _ p) (le-leb _ _ q))
@@ -34,7 +35,7 @@ event_back : (e : List ℕ) → IsEventName e → event_in (Text e) ≡ Some e
 unfolding event_in
 event_back e h = name_of_again e h
 
-pub request_back : (r : Request) → HasRequestColumns r → request_in (Text (verb_word (request_verb r))) (event_column r) (amount_column r) (target_column r) ≡ Some r
+pub request_back : (r : Request) → IsRequest r → request_in (Text (verb_word (request_verb r))) (event_column r) (amount_column r) (target_column r) ≡ Some r
 unfolding request_in verb_in announce_of release_of sell_of refund_of cede_of
 request_back (Announce e) h = rw (verb_again verb.Announce, event_back e h) refl
 request_back (Release e n) h = rw (verb_again verb.Release, event_back e h.0, value_back n h.1) refl
@@ -51,7 +52,7 @@ pub reply_back : (r : Reply) → HasReplyColumns r → reply_in (Text (reply_wor
 unfolding reply_in
 reply_back r h = rw (rest_back (reply_number r) h) (reply_again r)
 
-delta_back : (S : State) → IsDelta S → length (delta_text S) ≤ longest → delta_in (Text (delta_text S)) ≡ Some S
+delta_back : (S : State) → IsDelta S → length (delta_text S) ≤ most_bytes → delta_in (Text (delta_text S)) ≡ Some S
 unfolding delta_in
 delta_back S h short = cond-true _ _ _ (le-leb _ _ short) ∙ ap result_ok (delta_again S h)
 

@@ -9,6 +9,8 @@ use Rattle.sqlite.specs.declared.types.Value.TheVariants.{Null, Int, Real, Text,
 use Rattle.sqlite.specs.Order.{Row, column}
 use Rattle.sqlite.specs.Tree.{Trees}
 use Rattle.sqlite.specs.State.{State}
+use Rattle.rights_lattice.specs.Limits.{greatest_site, most_sites}
+use Rattle.book_core.specs.Limits.{greatest_limit}
 use Rattle.plain_words.specs.Words.{◌>>=◌}
 use Rattle.plain_words.proofs.WordLaws.{bind_some}
 use Rattle.sql_records.specs.declared.meta.Meta.{Meta}
@@ -43,14 +45,14 @@ numbers_found : (meta : Meta) (values : Row) → numbers_in values ≡ Some meta
 unfolding numbers_in
 numbers_found meta values e =
     let rest = λ (me sites limit : ℕ). cond (ltb me sites) (Some (record { me = me; sites = sites; limit = limit })) None in
-    let a = bind_some (site_in (column values 2)) (λ me. number_within 1 16 (column values 3) >>= λ sites. number_within 1 1000000 (column values 4) >>= rest me sites) meta e in
-    let b = bind_some (number_within 1 16 (column values 3)) (λ sites. number_within 1 1000000 (column values 4) >>= rest a.0 sites) meta a.2 in
-    let c = bind_some (number_within 1 1000000 (column values 4)) (rest a.0 b.0) meta b.2 in
+    let a = bind_some (site_in (column values 2)) (λ me. number_within 1 most_sites (column values 3) >>= λ sites. number_within 1 greatest_limit (column values 4) >>= rest me sites) meta e in
+    let b = bind_some (number_within 1 most_sites (column values 3)) (λ sites. number_within 1 greatest_limit (column values 4) >>= rest a.0 sites) meta a.2 in
+    let c = bind_some (number_within 1 greatest_limit (column values 4)) (rest a.0 b.0) meta b.2 in
     let found : Meta = record { me = a.0; sites = b.0; limit = c.0 } in
     let d = cond_some (ltb a.0 b.0) found meta c.2 in
-    let me = within_found 0 63 a.0 (column values 2) a.1 in
-    let sites = within_found 1 16 b.0 (column values 3) b.1 in
-    let limit = within_found 1 1000000 c.0 (column values 4) c.1 in
+    let me = within_found 0 greatest_site a.0 (column values 2) a.1 in
+    let sites = within_found 1 most_sites b.0 (column values 3) b.1 in
+    let limit = within_found 1 greatest_limit c.0 (column values 4) c.1 in
     let numbers : HasNumbers found values = record { me_is = me.0; sites_are = sites.0; limit_is = limit.0 } in
     let within : AreNumbers found = record { me_is_site = ltb-true a.0 b.0 d.0; few_sites = sites.2; limit_is_positive = limit.1; limit_is_low = limit.2 } in
     (subst (λ m. HasNumbers m values) d.1 numbers, subst AreNumbers d.1 within)
@@ -58,9 +60,9 @@ numbers_found meta values e =
 numbers_again : (meta : Meta) (values : Row) → HasNumbers meta values → AreNumbers meta → numbers_in values ≡ Some meta
 unfolding numbers_in
 numbers_again meta values has within =
-    let me : site_in (column values 2) ≡ Some meta.me = ap site_in has.me_is ∙ within_back 0 63 meta.me (omega arith) (omega (arith, within.me_is_site, within.few_sites)) in
-    let sites : number_within 1 16 (column values 3) ≡ Some meta.sites = ap (number_within 1 16) has.sites_are ∙ within_back 1 16 meta.sites (omega (arith, within.me_is_site)) within.few_sites in
-    let limit : number_within 1 1000000 (column values 4) ≡ Some meta.limit = ap (number_within 1 1000000) has.limit_is ∙ within_back 1 1000000 meta.limit within.limit_is_positive within.limit_is_low in
+    let me : site_in (column values 2) ≡ Some meta.me = ap site_in has.me_is ∙ within_back 0 greatest_site meta.me (omega arith) (omega (arith, within.me_is_site, within.few_sites)) in
+    let sites : number_within 1 most_sites (column values 3) ≡ Some meta.sites = ap (number_within 1 most_sites) has.sites_are ∙ within_back 1 most_sites meta.sites (omega (arith, within.me_is_site)) within.few_sites in
+    let limit : number_within 1 greatest_limit (column values 4) ≡ Some meta.limit = ap (number_within 1 greatest_limit) has.limit_is ∙ within_back 1 greatest_limit meta.limit within.limit_is_positive within.limit_is_low in
     rw (me, sites, limit) (cond-true _ _ _ (lt-ltb _ _ within.me_is_site))
 
 -- ---- the one row

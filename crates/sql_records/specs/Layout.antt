@@ -18,6 +18,8 @@ use Rattle.sqlite_schema.specs.declared.schema.Column.{Column}
 use Rattle.sqlite_schema.specs.declared.schema.Index.{Index}
 use Rattle.sqlite_schema.specs.declared.schema.View.{View}
 use Rattle.sqlite_schema.specs.Names.{same_name}
+use Rattle.rights_lattice.specs.Limits.{most_sites}
+use Rattle.book_core.specs.Limits.{greatest_limit}
 use Rattle.sql_records.specs.declared.meta.Meta.{Meta}
 
 abbrev pub plain : List ℕ → Kind → Column
@@ -166,9 +168,9 @@ pub record HasOtherSchema (version : ℤ) (db : Trees) : Type 0 where
 -- the numbers of a site
 pub record AreNumbers (meta : Meta) : Type 0 where
   pub me_is_site : meta.me < meta.sites
-  pub few_sites : meta.sites ≤ 16
+  pub few_sites : meta.sites ≤ most_sites
   pub limit_is_positive : 1 ≤ meta.limit
-  pub limit_is_low : meta.limit ≤ 1000000
+  pub limit_is_low : meta.limit ≤ greatest_limit
 
 -- the one row has the numbers of a site, under the version that is read here
 abbrev pub HasGoodMeta : Trees → Type 0

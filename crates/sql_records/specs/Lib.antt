@@ -1,10 +1,10 @@
-pub mod Keeping
-pub mod Listed
-pub mod Rows
-pub mod Layout
-pub mod Texts
-pub mod Held
 pub mod Faults
+pub mod Held
+pub mod Keeping
+pub mod Layout
+pub mod ListView
 pub mod Lookups
-pub mod Opening
 pub mod Making
+pub mod Opening
+pub mod Rows
+pub mod Texts

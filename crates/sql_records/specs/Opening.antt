@@ -11,6 +11,8 @@ use Rattle.sqlite.specs.declared.error.Error.{Error}
 use Rattle.sqlite.specs.declared.error.Error.TheVariants.{SqliteFailure}
 use Rattle.sqlite.specs.declared.error.ErrorCode.TheVariants.{OutOfMemory, SystemIoFailure, DatabaseCorrupt, DiskFull, Closed}
 use Rattle.plain_words.specs.Words.{◌>>=◌}
+use Rattle.rights_lattice.specs.Limits.{most_sites}
+use Rattle.book_core.specs.Limits.{greatest_limit}
 use Rattle.sql_records.specs.declared.meta.Meta.{Meta}
 use Rattle.sql_records.specs.declared.fault.OpenFault.{OpenFault}
 use Rattle.sql_records.specs.declared.fault.OpenFault.TheVariants.{NotOurs, OtherSchema, Damaged, Memory, Disk}
@@ -28,8 +30,8 @@ int_in _ = None
 unfoldable pub numbers_in : Row → Option Meta
 numbers_in values = do
   me ← site_in (column values 2)
-  sites ← number_within 1 16 (column values 3)
-  limit ← number_within 1 1000000 (column values 4)
+  sites ← number_within 1 most_sites (column values 3)
+  limit ← number_within 1 greatest_limit (column values 4)
   if nat_lt me sites then Some (record { me = me; sites = sites; limit = limit }) else None
 
 -- the row is of our kind, in the version that is read here, and has these numbers

@@ -8,21 +8,21 @@ use Rattle.sqlite.specs.declared.types.Value.{Value}
 use Rattle.sqlite.specs.declared.types.Value.TheVariants.{Null, Int, Text}
 use Rattle.sqlite.specs.Order.{Row, column, value_cmp}
 use Rattle.sqlite_keyed.specs.Lists.{sort_by}
-use Rattle.rights_lattice.specs.Cells.{max_value}
-use Rattle.rights_lattice.specs.Limits.{greatest_site}
+use Rattle.rights_lattice.specs.Cells.{max_value, IsValue}
+use Rattle.rights_lattice.specs.Limits.{greatest_site, IsSite}
 use Rattle.rights_lattice.specs.State.{State}
-use Rattle.rights_lattice.specs.EventName.{IsEventName}
+use Rattle.rights_lattice.specs.EventName.{name_of}
 use Rattle.request_ledger.specs.declared.request.Request.{Request}
 use Rattle.request_ledger.specs.declared.request.Request.TheVariants.{Announce, Release, Sell, Refund, Cede}
 use Rattle.request_ledger.specs.declared.reply.Reply.{Reply}
 use Rattle.request_ledger.specs.declared.verb.Verb.{Verb}
 use Rattle.request_ledger.specs.declared.verb.Verb.TheVariants as verb
+use Rattle.request_ledger.specs.Ranges.{IsRequest}
 use Rattle.request_ledger.specs.Words.{verb_word, verb_of, request_verb, reply_word, reply_number, reply_of}
 use Rattle.book_core.specs.declared.entry.Entry.{Entry}
 use Rattle.book_core.specs.declared.entry.Entry.TheVariants.{Asked, Joined}
 use Rattle.plain_words.specs.Words.{◌>>=◌}
-use Rattle.delta_wire.specs.Grammar.{IsSite, IsValue, IsDelta, delta_text}
-use Rattle.rights_lattice.specs.EventName.{name_of}
+use Rattle.delta_wire.specs.Grammar.{most_bytes, IsDelta, delta_text}
 use Rattle.delta_wire.specs.Wire.{delta_of}
 
 -- ---- the columns of an entry
@@ -81,31 +81,20 @@ shown values =
 
 -- ---- what has columns that are read back
 
-abbrev pub HasRequestColumns : Request → Type 0
-HasRequestColumns (Announce event) = IsEventName event
-HasRequestColumns (Release event amount) = IsEventName event × IsValue amount
-HasRequestColumns (Sell event amount) = IsEventName event × IsValue amount
-HasRequestColumns (Refund sale) = IsValue sale
-HasRequestColumns (Cede event amount to) = IsEventName event × IsValue amount × IsSite to
-
 -- a number of a column is below 2^63
 abbrev pub HasReplyColumns : Reply → Type 0
 HasReplyColumns reply = IfSome (reply_number reply) (λ n. n < 2 ^ 63)
 
--- the most bytes of a delta's text that is read
-abbrev pub longest : ℕ
-longest = 4294967296
-
 -- the columns have room for an entry with a text so long
 abbrev pub HasRoom : Entry → ℕ → Type 0
-HasRoom (Asked number request reply delta) bytes = HasReplyColumns reply × (bytes ≤ longest)
-HasRoom (Joined peer delta) bytes = bytes ≤ longest
+HasRoom (Asked number request reply delta) bytes = HasReplyColumns reply × (bytes ≤ most_bytes)
+HasRoom (Joined peer delta) bytes = bytes ≤ most_bytes
 
 -- the entry is read back from its columns
 abbrev pub IsStorable : Entry → Type 0
 IsStorable (Asked number request reply delta) =
-    IsValue number × HasRequestColumns request × HasReplyColumns reply × IsDelta delta × (length (delta_text delta) ≤ longest)
-IsStorable (Joined peer delta) = IsSite peer × IsDelta delta × (length (delta_text delta) ≤ longest)
+    IsValue number × IsRequest request × HasReplyColumns reply × IsDelta delta × (length (delta_text delta) ≤ most_bytes)
+IsStorable (Joined peer delta) = IsSite peer × IsDelta delta × (length (delta_text delta) ≤ most_bytes)
 
 -- ---- what columns say
 
@@ -194,7 +183,7 @@ reply_in word rest = do
 
 -- the delta that a text spells, where it is not too long
 abbrev pub delta_named : List ℕ → Option State
-delta_named text = if nat_le (length text) longest then result_ok (delta_of text) else None
+delta_named text = if nat_le (length text) most_bytes then result_ok (delta_of text) else None
 
 unfoldable pub delta_in : Value → Option State
 delta_in v = do

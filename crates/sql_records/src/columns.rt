@@ -1,17 +1,16 @@
 //! The columns that an entry is written as.
 ghost use Rattle.std.specs.Prelude.{◌≡◌, ◌↔◌, ◌<◌, ◌^◌, length, IsTrue};
 ghost use Rattle.sqlite.specs.Values.{bound};
+ghost use Rattle.request_ledger.specs.Ranges.{IsRequest};
 ghost use Rattle.request_ledger.specs.Words.{verb_word, request_verb};
 ghost use Rattle.book_core.specs.History.{delta_of};
 ghost use Rattle.delta_wire.specs.Grammar.{IsDelta, delta_text};
-ghost use Rattle.sql_records.specs.Rows.{request_columns, reply_columns, columns_of, HasRequestColumns, HasReplyColumns, HasRoom, IsStorable};
+ghost use Rattle.sql_records.specs.Rows.{request_columns, reply_columns, columns_of, HasReplyColumns, HasRoom, IsStorable};
 
 use book_core::Entry;
+use delta_wire::MOST_BYTES;
 use request_ledger::{Reply, Request};
 use sqlite::types::ValueRef;
-
-/// The most bytes of a delta's text that is read back.
-pub const LONGEST: usize = 4_294_967_296;
 
 // The word of the request's verb.
 fn verb_word(request: &Request) -> &[u8]
@@ -23,7 +22,7 @@ fn verb_word(request: &Request) -> &[u8]
 // The verb, the event, the amount and the target.
 fn request_columns(request: &Request) -> [ValueRef<'_>; 4]
     ensures columns { bound result ≡ request_columns request.now }
-    ensures fits { HasRequestColumns request.now }
+    ensures fits { IsRequest request.now }
 {
     let verb = verb_word(request);
     match request {
@@ -79,9 +78,9 @@ pub fn fits(entry: &Entry, text: &str) -> bool
     match entry {
         Entry::Asked { reply, .. } => {
             let number = reply.number().unwrap_or(0);
-            number <= i64::MAX as u64 && text.len() <= LONGEST
+            number <= i64::MAX as u64 && text.len() <= MOST_BYTES
         }
-        Entry::Joined { .. } => text.len() <= LONGEST,
+        Entry::Joined { .. } => text.len() <= MOST_BYTES,
     }
 }
 

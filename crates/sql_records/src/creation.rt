@@ -8,7 +8,7 @@ ghost use Rattle.sql_records.specs.Held.{IsNew, IsAtRest, LeavesAsBeforeOrNew, L
 ghost use Rattle.sql_records.specs.Keeping.{LeavesOnly};
 ghost use Rattle.sql_records.specs.Making.{making, RunInTurn, FailInTurn, FailsToMake, IsRefusal, IsVacant, IsInitFault};
 
-use crate::fault::{InitFault, told};
+use crate::fault::InitFault;
 use crate::meta::Meta;
 use crate::records::Records;
 use crate::shape::has_our_table;
@@ -141,9 +141,7 @@ impl<S: Alter> Records<S> {
         if let Some(fault) = refusal(conn) {
             return Err(fault);
         }
-        match make(conn, Meta { me, sites, limit }) {
-            Ok(()) => Ok(()),
-            Err(error) => Err(told(InitFault::Memory, InitFault::Disk, error)),
-        }
+        make(conn, Meta { me, sites, limit })?;
+        Ok(())
     }
 }

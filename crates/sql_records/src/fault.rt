@@ -3,6 +3,7 @@ ghost use Rattle.std.specs.Prelude.{◌≡◌};
 ghost use Rattle.sql_records.specs.Faults.{told};
 
 use sqlite::{Error as StoreError, ErrorCode};
+use std::alloc::{AllocError, AllocFailed};
 use thiserror::Error;
 
 /// Why no new records were made.
@@ -35,6 +36,52 @@ pub enum OpenFault {
     /// The database could not be read.
     #[error("the database could not be read")]
     Disk,
+}
+
+impl From<StoreError> for InitFault {
+    ghost use Rattle.std.specs.Prelude.{◌≡◌};
+    ghost use Rattle.sql_records.specs.Faults.{told};
+    ghost use Rattle.sql_records.specs.declared.fault.InitFault.TheVariants.{Memory, Disk};
+
+    ghost from_gives = { λ error fault. fault ≡ told Memory Disk error };
+
+    fn from(error: StoreError) -> InitFault {
+        told(InitFault::Memory, InitFault::Disk, error)
+    }
+}
+
+impl From<StoreError> for OpenFault {
+    ghost use Rattle.std.specs.Prelude.{◌≡◌};
+    ghost use Rattle.sql_records.specs.Faults.{told};
+    ghost use Rattle.sql_records.specs.declared.fault.OpenFault.TheVariants.{Memory, Disk};
+
+    ghost from_gives = { λ error fault. fault ≡ told Memory Disk error };
+
+    fn from(error: StoreError) -> OpenFault {
+        told(OpenFault::Memory, OpenFault::Disk, error)
+    }
+}
+
+impl From<AllocError> for OpenFault {
+    ghost use Rattle.std.specs.Prelude.{◌≡◌};
+    ghost use Rattle.sql_records.specs.declared.fault.OpenFault.TheVariants.{Memory};
+
+    ghost from_gives = { λ _ fault. fault ≡ Memory };
+
+    fn from(_error: AllocError) -> OpenFault {
+        OpenFault::Memory
+    }
+}
+
+impl<T: Drop> From<AllocFailed<T>> for OpenFault {
+    ghost use Rattle.std.specs.Prelude.{◌≡◌};
+    ghost use Rattle.sql_records.specs.declared.fault.OpenFault.TheVariants.{Memory};
+
+    ghost from_gives = { λ _ fault. fault ≡ Memory };
+
+    fn from(_error: AllocFailed<T>) -> OpenFault {
+        OpenFault::Memory
+    }
 }
 
 /// The fault for an error of the store: the first for want of memory, the second for each other error.

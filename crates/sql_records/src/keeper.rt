@@ -4,7 +4,10 @@ ghost use Rattle.book_core.specs.declared.entry.Entry.{Entry as Entered};
 ghost use Rattle.sql_records.specs.declared.meta.Meta.{Meta};
 ghost use Rattle.sql_records.specs.Keeping.{Keeps, LeavesOnly, LeavesWithOrWithout};
 
+use crate::fault::told;
 use book_core::Entry;
+use sqlite::Error as StoreError;
+use std::alloc::AllocError;
 use thiserror::Error;
 
 /// Why an entry is not known to be kept.
@@ -18,6 +21,29 @@ pub enum KeepFault {
     /// An earlier append failed.
     #[error("an earlier append failed")]
     Shut,
+}
+
+impl From<StoreError> for KeepFault {
+    ghost use Rattle.std.specs.Prelude.{◌≡◌};
+    ghost use Rattle.sql_records.specs.Faults.{told};
+    ghost use Rattle.sql_records.specs.declared.keeper.KeepFault.TheVariants.{Memory, Disk};
+
+    ghost from_gives = { λ error fault. fault ≡ told Memory Disk error };
+
+    fn from(error: StoreError) -> KeepFault {
+        told(KeepFault::Memory, KeepFault::Disk, error)
+    }
+}
+
+impl From<AllocError> for KeepFault {
+    ghost use Rattle.std.specs.Prelude.{◌≡◌};
+    ghost use Rattle.sql_records.specs.declared.keeper.KeepFault.TheVariants.{Memory};
+
+    ghost from_gives = { λ _ fault. fault ≡ Memory };
+
+    fn from(_error: AllocError) -> KeepFault {
+        KeepFault::Memory
+    }
 }
 
 /// What a history is stored in: a list of entries that grows at its end.

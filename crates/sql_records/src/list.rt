@@ -1,7 +1,7 @@
 //! A keeper in memory.
 ghost use Rattle.std.specs.Prelude.{◌≡◌, ◌≢◌, ◌⊎◌, ◌++◌, [], ◌∷◌, Some, None, IsErr, false, true, refl};
 ghost use Rattle.std.specs.Prelude.{OnOk, OnErr};
-ghost use Rattle.sql_records.specs.Listed.{IsDue, left_by, one_less};
+ghost use Rattle.sql_records.specs.ListView.{FailsNext, left_by, one_less};
 
 use crate::keeper::{KeepFault, Keeper};
 use book_core::Entry;
@@ -25,11 +25,11 @@ pub struct ListKeeper {
 }
 
 impl Model for ListKeeper {
-    ghost use Rattle.sql_records.specs.Listed.{Listed, coded_listed};
+    ghost use Rattle.sql_records.specs.ListView.{ListView, coded_list_view};
 
-    ghost Value = { Listed };
+    ghost Value = { ListView };
 
-    ghost coded = { coded_listed };
+    ghost coded = { coded_list_view };
 
     ghost view = { λ k. record { kept = k.entries.items; failures = k.failures; failing = k.failing } };
 }
@@ -74,8 +74,8 @@ impl ListKeeper {
     fn put(&mut self, entry: &Entry) -> Result<(), KeepFault>
         requires { self.old.failures ≡ 0 }
         ensures ok { OnOk result (self.new ≡ record self.old { kept = self.old.kept ++ entry.now ∷ []; failing = one_less self.old.failing }) }
-        ensures due { IsDue self.old.failing → IsErr result }
-        ensures disk { result ≡ Err KeepFault.Disk → IsDue self.old.failing × (self.new.kept ≡ left_by self.old.failing self.old.kept entry.now) }
+        ensures due { FailsNext self.old.failing → IsErr result }
+        ensures disk { result ≡ Err KeepFault.Disk → FailsNext self.old.failing × (self.new.kept ≡ left_by self.old.failing self.old.kept entry.now) }
         ensures memory { result ≡ Err KeepFault.Memory → self.new.kept ≡ self.old.kept }
         ensures either { OnErr result ((self.new.kept ≡ self.old.kept) ⊎ (self.new.kept ≡ self.old.kept ++ entry.now ∷ [])) }
         ensures counted { OnErr result (self.new.failures ≡ 1) }
@@ -130,8 +130,8 @@ impl Keeper for ListKeeper {
     /// append is never Ok.
     fn append(&mut self, entry: &Entry) -> Result<(), KeepFault>
         ensures added { OnOk result ((self.old.failures ≡ 0) × (self.new ≡ record self.old { kept = self.old.kept ++ entry.now ∷ []; failing = one_less self.old.failing })) }
-        ensures due { IsDue self.old.failing → IsErr result }
-        ensures disk { result ≡ Err KeepFault.Disk → IsDue self.old.failing × (self.new.kept ≡ left_by self.old.failing self.old.kept entry.now) }
+        ensures due { FailsNext self.old.failing → IsErr result }
+        ensures disk { result ≡ Err KeepFault.Disk → FailsNext self.old.failing × (self.new.kept ≡ left_by self.old.failing self.old.kept entry.now) }
         ensures memory { result ≡ Err KeepFault.Memory → self.new.kept ≡ self.old.kept }
         ensures stopped { OnErr result ((self.new.kept ≡ self.old.kept) ⊎ (self.new.kept ≡ self.old.kept ++ entry.now ∷ [])) }
         ensures counted { self.old.failures ≡ 0 → OnErr result (self.new.failures ≡ 1) }

@@ -1,5 +1,8 @@
 //! What the records are asked, and why they do not tell.
+use crate::fault::told;
 use request_ledger::{Reply, Request, RequestNumber};
+use sqlite::Error as StoreError;
+use std::alloc::AllocFailed;
 use thiserror::Error;
 
 /// A request that was decided: its place in the history and its reply.
@@ -32,4 +35,27 @@ pub enum FindFault {
     /// The store could not be read.
     #[error("the store could not be read")]
     Disk,
+}
+
+impl From<StoreError> for FindFault {
+    ghost use Rattle.std.specs.Prelude.{◌≡◌};
+    ghost use Rattle.sql_records.specs.Faults.{told};
+    ghost use Rattle.sql_records.specs.declared.lookup.FindFault.TheVariants.{Memory, Disk};
+
+    ghost from_gives = { λ error fault. fault ≡ told Memory Disk error };
+
+    fn from(error: StoreError) -> FindFault {
+        told(FindFault::Memory, FindFault::Disk, error)
+    }
+}
+
+impl<T: Drop> From<AllocFailed<T>> for FindFault {
+    ghost use Rattle.std.specs.Prelude.{◌≡◌};
+    ghost use Rattle.sql_records.specs.declared.lookup.FindFault.TheVariants.{Memory};
+
+    ghost from_gives = { λ _ fault. fault ≡ Memory };
+
+    fn from(_error: AllocFailed<T>) -> FindFault {
+        FindFault::Memory
+    }
 }

@@ -6,17 +6,19 @@ ghost use Rattle.sqlite.specs.State.{HasCleanDisk, IsLive, IsUnchanged};
 ghost use Rattle.sqlite.specs.Held.{state};
 ghost use Rattle.sqlite.specs.Order.{column};
 ghost use Rattle.sqlite_value.specs.Value.{owned};
+ghost use Rattle.rights_lattice.specs.Limits.{most_sites};
+ghost use Rattle.book_core.specs.Limits.{greatest_limit};
 ghost use Rattle.sql_records.specs.Layout.{IsOurs, our_kind, HasMeta, AreNumbers};
 ghost use Rattle.sql_records.specs.Rows.{entry_of, is_below, rows_below, number_within, IsEntryAt, AreInOrder, AreWhole, IsFirstDamaged};
 ghost use Rattle.sql_records.specs.Held.{entries_tree, rows_in, history_in, LeavesNoMore};
 ghost use Rattle.sql_records.specs.Opening.{int_in, numbers_in, IsRowOf, IsRowFault, IsMetaFault, AreRowsFault, IsStoreFault, IsForeignFault, IsForeignCause, AreOfVersion, AreTold, foreign_told, IsOpenFault, IsLeftOrUndone};
 
-use crate::fault::{OpenFault, told};
+use crate::fault::OpenFault;
 use crate::meta::Meta;
 use crate::reading::{number_within, read_entry, site_in, value_at};
 use crate::shape::is_ours;
 use book_core::{Entry, Limit};
-use rights_lattice::Sites;
+use rights_lattice::{MOST_SITES, Sites};
 use sqlite::types::ValueRef;
 use sqlite::{Alter, Connection, Error, ErrorCode, Row};
 use std::alloc::Global;
@@ -38,10 +40,7 @@ fn read_rows<S: Alter>(conn: &mut Connection<S>) -> Result<Vec<Row>, OpenFault>
     ensures limit { conn.new.step_limit ≡ conn.old.step_limit }
     ensures clean { HasCleanDisk (state S.Store conn.new) → HasCleanDisk (state S.Store conn.old) }
 {
-    match conn.query_all(SELECT, &[]) {
-        Ok(rows) => Ok(rows),
-        Err(error) => Err(told(OpenFault::Memory, OpenFault::Disk, error)),
-    }
+    Ok(conn.query_all(SELECT, &[])?)
 }
 
 fn is_at(place: u64, value: ValueRef<'_>) -> bool
@@ -66,10 +65,9 @@ fn read_next(alloc: Global, place: u64, row: &Row) -> Result<Entry, OpenFault>
     if !is_at(place, value_at(row, 0)) {
         return Err(OpenFault::Damaged { place });
     }
-    match read_entry(alloc, row) {
-        Ok(Some(entry)) => Ok(entry),
-        Ok(None) => Err(OpenFault::Damaged { place }),
-        Err(_) => Err(OpenFault::Memory),
+    match read_entry(alloc, row)? {
+        Some(entry) => Ok(entry),
+        None => Err(OpenFault::Damaged { place }),
     }
 }
 
@@ -82,9 +80,7 @@ fn read_entries(alloc: Global, rows: &[Row]) -> Result<Vec<Entry>, OpenFault>
     let mut entries = Vec::new(alloc);
     'rows: for (place, row) in rows.iter().enumerate() {
         let entry = read_next(alloc, place as u64, row)?;
-        let Ok(()) = entries.push(entry) else {
-            return Err(OpenFault::Memory);
-        };
+        entries.push(entry)?;
     }
     Ok(entries)
 }
@@ -146,16 +142,16 @@ fn int_in(value: ValueRef<'_>) -> Option<i64>
 }
 
 fn sites_in(value: ValueRef<'_>) -> Option<Sites>
-    ensures { result ≡ number_within 1 16 (owned value.entry) }
+    ensures { result ≡ number_within 1 most_sites (owned value.entry) }
 {
-    let count = number_within(1, 16, value)?;
+    let count = number_within(1, MOST_SITES, value)?;
     Sites::of(count)
 }
 
 fn limit_in(value: ValueRef<'_>) -> Option<Limit>
-    ensures { result ≡ number_within 1 1000000 (owned value.entry) }
+    ensures { result ≡ number_within 1 greatest_limit (owned value.entry) }
 {
-    let entries = number_within(1, 1_000_000, value)?;
+    let entries = number_within(1, Limit::MAX, value)?;
     Limit::of(entries)
 }
 
@@ -217,10 +213,7 @@ fn read_meta<S: Alter>(conn: &mut Connection<S>) -> Result<Meta, OpenFault>
     ensures left { HasCleanDisk (state S.Store conn.new) → LeavesNoMore (state S.Store conn.old) (state S.Store conn.new) }
     ensures clean { HasCleanDisk (state S.Store conn.new) → HasCleanDisk (state S.Store conn.old) }
 {
-    let rows = match conn.query_all(META_SELECT, &[]) {
-        Ok(rows) => rows,
-        Err(error) => return Err(told(OpenFault::Memory, OpenFault::Disk, error)),
-    };
+    let rows = conn.query_all(META_SELECT, &[])?;
     match only(rows) {
         Some(row) => read_numbers(&row),
         None => Err(OpenFault::NotOurs),

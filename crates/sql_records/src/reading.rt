@@ -5,10 +5,9 @@ ghost use Rattle.sqlite.specs.Order.{column};
 ghost use Rattle.sqlite_value.specs.Value.{owned};
 ghost use Rattle.sql_records.specs.Rows.{is_null, text_in, number_within, value_in, site_in, event_in, verb_in, announce_of, release_of, sell_of, refund_of, cede_of, request_of, request_in, rest_in, reply_in, delta_in, asks_nothing, asked_of, joined_of, entry_with, entry_of};
 
-use crate::columns::LONGEST;
 use book_core::Entry;
 use delta_mutators::Delta;
-use delta_wire::{WireFault, read_delta};
+use delta_wire::{MOST_BYTES, WireFault, read_delta};
 use request_ledger::{Reply, Request, RequestNumber, Verb};
 use rights_lattice::{Amount, Event, GREATEST_SITE, MAX_VALUE, SiteId};
 use sqlite::Row;
@@ -211,7 +210,7 @@ fn delta_in(alloc: Global, value: ValueRef<'_>) -> Result<Option<Delta>, AllocEr
     let Some(text) = text_in(value) else {
         return Ok(None);
     };
-    if text.len() > LONGEST {
+    if text.len() > MOST_BYTES {
         return Ok(None);
     }
     match read_delta(alloc, text) {

@@ -7,7 +7,7 @@ ghost use Rattle.sql_records.specs.Held.{IsAtRest, IsKeepFault, LeavesSite, MayL
 ghost use Rattle.sql_records.specs.Keeping.{LeavesWithOrWithout};
 
 use crate::columns::fits;
-use crate::fault::{OpenFault, told};
+use crate::fault::OpenFault;
 use crate::inserting::insert;
 use crate::keeper::{KeepFault, Keeper};
 use crate::meta::Meta;
@@ -77,16 +77,12 @@ fn store<S: Alter>(
     ensures limit { conn.new.step_limit ≡ conn.old.step_limit }
     ensures clean { HasCleanDisk (state S.Store conn.new) → HasCleanDisk (state S.Store conn.old) }
 {
-    let Ok(text) = delta_text(alloc, entry.delta()) else {
-        return Err(KeepFault::Memory);
-    };
+    let text = delta_text(alloc, entry.delta())?;
     if place >= MOST || !fits(entry, &text) {
         return Err(KeepFault::Disk);
     }
-    match insert(conn, place, entry, &text) {
-        Ok(()) => Ok(()),
-        Err(error) => Err(told(KeepFault::Memory, KeepFault::Disk, error)),
-    }
+    insert(conn, place, entry, &text)?;
+    Ok(())
 }
 
 impl<S: Alter> Keeper for Records<S> {

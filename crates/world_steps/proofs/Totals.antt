@@ -3,6 +3,7 @@ use Rattle.std.proofs.Common.{◌≡◌, ℕ, suc, ◌+◌, ◌*◌, ◌^◌, �
 use Rattle.rights_lattice.specs.declared.cell.Cell.{Cell}
 use Rattle.rights_lattice.specs.declared.cell.Cell.TheVariants.{Gave, Used, Back}
 use Rattle.rights_lattice.specs.Cells.{value_at, max_value}
+use Rattle.rights_lattice.specs.Limits.{site_numbers}
 use Rattle.rights_lattice.specs.Sums.{max_sites, sum_below}
 use Rattle.local_rights.specs.declared.report.Totals.{Totals}
 use Rattle.book_core.specs.declared.entry.Entry.{Entry}
@@ -53,7 +54,7 @@ own_all_more h event i book totals here is before =
     }
 
 -- sums of own cells stay small
-pub own_fits : (i n : ℕ) (totals : Totals) → i < n → n ≤ max_sites → AreAtMost (max_value * i) totals → AreAtMost (max_value * 64) totals
+pub own_fits : (i n : ℕ) (totals : Totals) → i < n → n ≤ max_sites → AreAtMost (max_value * i) totals → AreAtMost (max_value * site_numbers) totals
 unfolding max_sites
 own_fits i n totals l few at_most =
     record { released = omega (arith, at_most.released); sold = omega (arith, at_most.sold); refunded = omega (arith, at_most.refunded) }

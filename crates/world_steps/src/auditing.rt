@@ -26,6 +26,17 @@ pub enum AuditFault {
     Memory,
 }
 
+impl From<AllocError> for AuditFault {
+    ghost use Rattle.std.specs.Prelude.{◌≡◌};
+    ghost use Rattle.world_steps.specs.declared.auditing.AuditFault.TheVariants.{Memory};
+
+    ghost from_gives = { λ _ fault. fault ≡ Memory };
+
+    fn from(_error: AllocError) -> AuditFault {
+        AuditFault::Memory
+    }
+}
+
 /// Each name that a book knows, rising, with what all books released, sold and took back of it: the sums over the
 /// flat list of the requests that were done.
 ///
@@ -49,14 +60,11 @@ pub fn audit(alloc: Global, books: &[&Book]) -> Result<Vec<(Event, Totals)>, Aud
     if let Some((viewer, owner)) = first_ahead(books) {
         return Err(AuditFault::Ahead { viewer, owner });
     }
-    match lines(alloc, books) {
-        Ok(lines) => Ok(lines),
-        Err(_) => Err(AuditFault::Memory),
-    }
+    Ok(lines(alloc, books)?)
 }
 
-// Whether the k-th book is of site k, among as many sites as there are books.
-fn is_whole(books: &[&Book]) -> bool
+/// Whether the k-th book is of site k, among as many sites as there are books.
+pub fn is_whole(books: &[&Book]) -> bool
     ensures whole { IsTrue result ↔ IsWhole (books_of books.now) }
     ensures sites { IsTrue result → AreSites (books_of books.now) }
 {

@@ -8,6 +8,6 @@ mod node;
 pub mod step;
 pub mod world;
 
-pub use auditing::{AuditFault, audit};
+pub use auditing::{AuditFault, audit, is_whole};
 pub use step::{Input, Outcome, Step, WorldFault};
 pub use world::World;

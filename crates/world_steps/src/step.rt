@@ -3,6 +3,7 @@ use book_core::PlanFault;
 use request_ledger::{Reply, Request, RequestNumber};
 use rights_lattice::SiteId;
 use site_exchange::TakeFault;
+use std::alloc::AllocError;
 use thiserror::Error;
 
 /// What a site had in hand when it stopped.
@@ -87,4 +88,15 @@ pub enum WorldFault {
     /// is due, a delivery where an acknowledgement is due, and a stop that stores a new entry.
     #[error("out of memory")]
     Memory,
+}
+
+impl From<AllocError> for WorldFault {
+    ghost use Rattle.std.specs.Prelude.{◌≡◌};
+    ghost use Rattle.world_steps.specs.declared.step.WorldFault.TheVariants.{Memory};
+
+    ghost from_gives = { λ _ fault. fault ≡ Memory };
+
+    fn from(_error: AllocError) -> WorldFault {
+        WorldFault::Memory
+    }
 }

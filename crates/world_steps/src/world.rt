@@ -221,13 +221,8 @@ impl World {
             return Err(WorldFault::NoSite);
         }
         let node = &self.sites[by.number() as usize];
-        let due = match node.exchange.next(alloc, &node.book, to) {
-            Ok(due) => due,
-            Err(_) => return Err(WorldFault::Memory),
-        };
-        if make_room(&mut self.sent, due.is_some()).is_err() {
-            return Err(WorldFault::Memory);
-        }
+        let due = node.exchange.next(alloc, &node.book, to)?;
+        make_room(&mut self.sent, due.is_some())?;
         let outcome = sent_as(&due, self.sent.len());
         put(&mut self.sent, due);
         Ok(outcome)

@@ -39,7 +39,7 @@ impl Book {
         ensures has_rights { HasOwnRights self.new }
     {
         // The prover opens the book, whose type says that its history is legal.
-        let _ = &self.me;
+        let _ = &self.limit;
         if let Some(kept) = self.kept(number) {
             if is_same(request, &kept.request) {
                 return Ok(Plan::Again {
@@ -102,7 +102,7 @@ impl Book {
         if !self.knows(event) {
             return (Reply::Unknown, None);
         }
-        match release(&self.rights, self.me, event, amount) {
+        match release(self.rights.rights(), self.me(), event, amount) {
             Ok(mark) => (Reply::Done, Some(Item::Cell(mark))),
             Err(_) => (Reply::CellFull, None),
         }
@@ -120,7 +120,7 @@ impl Book {
         if left < amount.seats() {
             return (Reply::Short { left }, None);
         }
-        match sale(&self.rights, self.me, event, amount) {
+        match sale(self.rights.rights(), self.me(), event, amount) {
             Ok(mark) => (Reply::Done, Some(Item::Cell(mark))),
             Err(_) => (Reply::CellFull, None),
         }
@@ -137,9 +137,10 @@ impl Book {
         let Some(rest) = Amount::of(sale.seats.seats().saturating_sub(sale.given_back)) else {
             return (Reply::Refunded, None);
         };
+        let me = self.me();
         // No site gives back more than it sold, so the cell has room.
-        let _sold = self.rights.get(sale.event, Cell::Used { by: self.me });
-        match refund(&self.rights, self.me, sale.event, rest) {
+        let _sold = self.rights.get(sale.event, Cell::Used { by: me });
+        match refund(self.rights.rights(), me, sale.event, rest) {
             Ok(mark) => (Reply::Done, Some(Item::Cell(mark))),
             Err(_) => unreachable!(),
         }
@@ -153,17 +154,17 @@ impl Book {
         if !self.knows(event) {
             return (Reply::Unknown, None);
         }
-        if to == self.me {
+        if to == self.me() {
             return (Reply::ToSelf, None);
         }
-        if to.number() >= self.rights.sites().count() {
+        if to.number() >= self.sites().count() {
             return (Reply::NoSite, None);
         }
         let rights = self.left(event);
         if rights < amount.seats() {
             return (Reply::Short { left: rights }, None);
         }
-        match cession(&self.rights, self.me, event, amount, to) {
+        match cession(self.rights.rights(), self.me(), event, amount, to) {
             Ok(mark) => (Reply::Done, Some(Item::Cell(mark))),
             Err(_) => (Reply::CellFull, None),
         }

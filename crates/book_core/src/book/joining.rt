@@ -34,7 +34,7 @@ impl Book {
         ensures has_rights { HasOwnRights self.new }
     {
         // The prover opens the book, whose type says that its history is legal.
-        let _ = &self.me;
+        let _ = &self.limit;
         match self.join_decision(peer, &delta) {
             JoinDecision::Joins => {}
             JoinDecision::NothingNew => return Ok(JoinPlan::NothingNew),
@@ -56,7 +56,7 @@ impl Book {
         if !self.is_of_sites(peer, delta) {
             return JoinDecision::Refuses(JoinFault::UnknownSite);
         }
-        if let Some(mark) = foreign(&self.rights, self.me, delta.marks()) {
+        if let Some(mark) = foreign(self.rights.rights(), self.me(), delta.marks()) {
             return JoinDecision::Refuses(JoinFault::ForeignRow { mark });
         }
         if self.has_all_of(delta) {
@@ -71,8 +71,8 @@ impl Book {
     pub(super) fn is_of_sites(&self, peer: SiteId, delta: &Delta) -> bool
         ensures { result ≡ is_of_sites self.now.office peer delta.now }
     {
-        let sites = self.rights.sites();
-        peer.number() < sites.count() && peer != self.me && are_within(sites, delta.marks())
+        let sites = self.sites();
+        peer.number() < sites.count() && peer != self.me() && are_within(sites, delta.marks())
     }
 
     pub(super) fn has_all_of(&self, delta: &Delta) -> bool

@@ -90,7 +90,7 @@ impl Book {
         if !self.is_of_sites(peer, delta) {
             return false;
         }
-        if foreign(&self.rights, self.me, delta.marks()).is_some() {
+        if foreign(self.rights.rights(), self.me(), delta.marks()).is_some() {
             return false;
         }
         !self.has_all_of(delta)
@@ -110,11 +110,11 @@ fn is_of_item(delta: &Delta, item: Option<Item>) -> bool
 fn is_of_one(delta: &Delta, item: &Item) -> bool
     ensures { IsTrue result ↔ (delta.now ≡ state_of item.now) }
 {
-    match item {
-        Item::Name(event) => has_lists(delta, &[*event], &[]),
+    match *item {
+        Item::Name(event) => has_lists(delta, &[event], &[]),
         Item::Cell(mark) => {
-            mark.bounds();
-            has_lists(delta, &[], &[*mark])
+            prove!(mark.value > 0);
+            has_lists(delta, &[], &[mark])
         }
     }
 }

@@ -11,7 +11,6 @@ ghost use Rattle.sql_records.specs.Held.{IsAtRest, IsTrusted, LeavesNoMore, hist
 ghost use Rattle.sql_records.specs.Lookups.{IsFirstUnread, IsQueryFault, damage_of, found_columns, found_in, found_of, first_found, has_event, has_number, listed_columns, listed_in, listed_of, place_in};
 
 use super::Records;
-use crate::fault::told;
 use crate::lookup::{FindFault, Found, Listed};
 use crate::reading::{reply_in, request_in, request_number_in, value_at};
 use request_ledger::{Request, RequestNumber};
@@ -53,10 +52,7 @@ fn find_rows<S: Alter>(
     ensures damaged { (place : ℕ) → result ≢ Err (FindFault.Damaged place) }
 {
     let params = number_param(number);
-    match conn.query_all(FIND, &params) {
-        Ok(rows) => Ok(rows),
-        Err(error) => Err(told(FindFault::Memory, FindFault::Disk, error)),
-    }
+    Ok(conn.query_all(FIND, &params)?)
 }
 
 // What each row with this event says, by place.
@@ -72,10 +68,7 @@ fn list_rows<S: Alter>(conn: &mut Connection<S>, event: &Event) -> Result<Vec<Ro
     ensures damaged { (place : ℕ) → result ≢ Err (FindFault.Damaged place) }
 {
     let params = event_param(event);
-    match conn.query_all(LIST, &params) {
-        Ok(rows) => Ok(rows),
-        Err(error) => Err(told(FindFault::Memory, FindFault::Disk, error)),
-    }
+    Ok(conn.query_all(LIST, &params)?)
 }
 
 fn place_in(row: &Row) -> Option<u64>
@@ -155,9 +148,7 @@ fn all_of(alloc: Global, rows: &[Row]) -> Result<Vec<Listed>, FindFault>
         let Some(listed) = listed_of(row) else {
             return Err(damaged(row));
         };
-        let Ok(()) = all.push(listed) else {
-            return Err(FindFault::Memory);
-        };
+        all.push(listed)?;
     }
     Ok(all)
 }
@@ -230,10 +221,8 @@ fn find_first<S: Alter>(
     ensures clean { HasCleanDisk (state S.Store conn.new) → HasCleanDisk (state S.Store conn.old) }
     ensures shut { result ≢ Err FindFault.Shut }
 {
-    match find_rows(conn, number) {
-        Ok(rows) => first_of(rows.as_slice()),
-        Err(fault) => Err(fault),
-    }
+    let rows = find_rows(conn, number)?;
+    first_of(rows.as_slice())
 }
 
 // The requests that name the event.
@@ -251,8 +240,6 @@ fn list_all<S: Alter>(
     ensures clean { HasCleanDisk (state S.Store conn.new) → HasCleanDisk (state S.Store conn.old) }
     ensures shut { result ≢ Err FindFault.Shut }
 {
-    match list_rows(conn, event) {
-        Ok(rows) => all_of(alloc, rows.as_slice()),
-        Err(fault) => Err(fault),
-    }
+    let rows = list_rows(conn, event)?;
+    all_of(alloc, rows.as_slice())
 }

@@ -10,7 +10,7 @@ pub overflow_sub-result : goal.overflow_sub-result
 overflow_sub-result c =
     let X = c.args.rights.now.cells in
     let sites = c.args.rights.now.sites in
-    let few : c.loop-other.other ≤ max_sites = few_sites c.loop-other.other (omega (arith, c.loop-other.auto.other-end, c.count-other-end.ensures.at_most_16)) in
+    let few : c.loop-other.other ≤ max_sites = few_sites c.loop-other.other (omega (arith, c.loop-other.auto.other-end, c.count-other-end.ensures.few)) in
     let past : sites ≤ c.loop-other.other = omega (arith, c.loop-other-test.false, c.count-other-end.ensures.count, c.sites-sites.ensures.sites) in
     omega (
       arith,
@@ -25,7 +25,7 @@ pub returns-clause-left : goal.returns-clause-left
 returns-clause-left c =
     let X = c.args.rights.now.cells in
     let sites = c.args.rights.now.sites in
-    let few : c.loop-other.other ≤ max_sites = few_sites c.loop-other.other (omega (arith, c.loop-other.auto.other-end, c.count-other-end.ensures.at_most_16)) in
+    let few : c.loop-other.other ≤ max_sites = few_sites c.loop-other.other (omega (arith, c.loop-other.auto.other-end, c.count-other-end.ensures.few)) in
     let past : sites ≤ c.loop-other.other = omega (arith, c.loop-other-test.false, c.count-other-end.ensures.count, c.sites-sites.ensures.sites) in
     omega (
       arith,

@@ -1,6 +1,7 @@
 use Rattle.std.proofs.Common.{rules, arith, ap, ◌∷◌, [], ◌≡◌, ℕ, ◌<◌, ◌≤◌, length}
 use Rattle.std.proofs.lemmas.Bool.{ne_eqb}
 use Rattle.std.proofs.lemmas.List.{nil_from_length}
+use Rattle.plain_words.specs.Input.{longest_line}
 use Rattle.plain_words.proofs.LineLaws.{ends_line, ends_input, has_no_line, passes_limit}
 use Rattle.plain_words.proofs.lines.next_line.Goals as goal
 
@@ -22,5 +23,5 @@ returns-in-Ok-None g c =
 
 pub returns-then-is_full : goal.returns-then-is_full
 returns-then-is_full g c =
-    let full : 200 ≤ length c.bytes.line.items = search rules in
+    let full : longest_line ≤ length c.bytes.line.items = search rules in
     passes_limit _ _ _ _ c.in-Ok-Some.byte c.bytes.invariant.0 c.bytes.invariant.2 (search rules) (ne_eqb _ 10 (λ e. omega arith)) (omega (arith, full, c.bytes.invariant.1))

@@ -14,5 +14,5 @@ rows-preserved c =
     let is = c.in_ok-entry.ensures in
     record {
       whole = whole_more c.args.rows.now c.rows.place _ c.in_ok-entry.entry low c.index-rows-place.is c.rows.invariant.whole is.placed is.reads;
-      entries = c.in-Ok.ensures.items ∙ ap (λ l. l ++ c.in_ok-entry.entry ∷ []) c.rows.invariant.entries ∙ sym (entries_more c.args.rows.now c.rows.place _ c.in_ok-entry.entry low c.index-rows-place.is is.reads);
+      entries = c.in_ok-push.ensures.items ∙ ap (λ l. l ++ c.in_ok-entry.entry ∷ []) c.rows.invariant.entries ∙ sym (entries_more c.args.rows.now c.rows.place _ c.in_ok-entry.entry low c.index-rows-place.is is.reads);
     }

@@ -1,11 +1,11 @@
-use Rattle.std.proofs.Common.{arith, inl, subst, sym}
+use Rattle.std.proofs.Common.{arith, inl}
 use Rattle.sqlite.specs.Held.{state}
 use Rattle.sql_records.proofs.QueryLemmas.{shown_meta, meta_same, meta_left, meta_select_fails, meta_select_undone}
 use Rattle.sql_records.proofs.FaultLemmas.{told_fault}
 use Rattle.sql_records.specs.Opening.{IsMetaFault}
 use Rattle.sql_records.specs.declared.fault.OpenFault.TheVariants.{Memory, Disk}
 use Rattle.sql_records.proofs.MetaLemmas.{alone, no_row, meta_found, numbers_are, meta_fault}
-use Rattle.sql_records.proofs.OpeningLemmas.{on_ok}
+use Rattle.sql_records.proofs.OpeningLemmas.{if_err, on_ok}
 use Rattle.sql_records.proofs.UndoneLemmas.{left_or_undone, on_err}
 use Rattle.sql_records.proofs.opening.read_meta.Goals as goal
 
@@ -14,7 +14,7 @@ returns-in-Some-clause-meta g c clean =
     let old = state g.S.Store c.args.conn.now in
     let new = state g.S.Store c.query_all.new.self in
     let schema = c.requires (omega (arith, c.query_all.ensures.survives.clean)) in
-    let one = alone old.now.trees _ c.in-Some.row (shown_meta old new _ schema (c.in-Ok.ensures.ok clean)) c.in-Some.ensures.one in
+    let one = alone old.now.trees _ c.in-Some.row (shown_meta old new _ schema (c.in_ok-rows.ensures.ok clean)) c.in-Some.ensures.one in
     meta_found old.now.trees c.in-Some.row c.read_numbers.result one c.read_numbers.ensures.numbers
 
 pub returns-in-Some-clause-numbers : goal.returns-in-Some-clause-numbers
@@ -25,14 +25,14 @@ returns-in-Some-clause-same g c clean =
     let old = state g.S.Store c.args.conn.now in
     let new = state g.S.Store c.query_all.new.self in
     let schema = c.requires (omega (arith, c.query_all.ensures.survives.clean)) in
-    on_ok c.read_numbers.result _ (meta_same old new _ schema (c.in-Ok.ensures.ok clean))
+    on_ok c.read_numbers.result _ (meta_same old new _ schema (c.in_ok-rows.ensures.ok clean))
 
 pub returns-in-Some-clause-fault : goal.returns-in-Some-clause-fault
 returns-in-Some-clause-fault g c clean =
     let old = state g.S.Store c.args.conn.now in
     let new = state g.S.Store c.query_all.new.self in
     let schema = c.requires (omega (arith, c.query_all.ensures.survives.clean)) in
-    let one = alone old.now.trees _ c.in-Some.row (shown_meta old new _ schema (c.in-Ok.ensures.ok clean)) c.in-Some.ensures.one in
+    let one = alone old.now.trees _ c.in-Some.row (shown_meta old new _ schema (c.in_ok-rows.ensures.ok clean)) c.in-Some.ensures.one in
     meta_fault old new c.in-Some.row c.read_numbers.result one c.read_numbers.ensures.fault
 
 pub returns-in-None-clause-fault : goal.returns-in-None-clause-fault
@@ -40,7 +40,7 @@ returns-in-None-clause-fault g c clean =
     let old = state g.S.Store c.args.conn.now in
     let new = state g.S.Store c.query_all.new.self in
     let schema = c.requires (omega (arith, c.query_all.ensures.survives.clean)) in
-    no_row old.now.trees _ (shown_meta old new _ schema (c.in-Ok.ensures.ok clean)) c.in-None.ensures.none
+    no_row old.now.trees _ (shown_meta old new _ schema (c.in_ok-rows.ensures.ok clean)) c.in-None.ensures.none
 
 pub returns-in-Some-clause-left : goal.returns-in-Some-clause-left
 returns-in-Some-clause-left g c clean =
@@ -50,31 +50,31 @@ pub returns-in-None-clause-left : goal.returns-in-None-clause-left
 returns-in-None-clause-left g c clean =
     meta_left (state g.S.Store c.args.conn.now) (state g.S.Store c.query_all.new.self) (c.requires (omega (arith, c.query_all.ensures.survives.clean))) c.query_all.ensures.survives clean
 
-pub returns-in-Err-clause-left : goal.returns-in-Err-clause-left
-returns-in-Err-clause-left g c clean =
+pub returns-in_err-rows-clause-left : goal.returns-in_err-rows-clause-left
+returns-in_err-rows-clause-left g c clean =
     meta_left (state g.S.Store c.args.conn.now) (state g.S.Store c.query_all.new.self) (c.requires (omega (arith, c.query_all.ensures.survives.clean))) c.query_all.ensures.survives clean
 
-pub returns-in-Err-clause-fault : goal.returns-in-Err-clause-fault
-returns-in-Err-clause-fault g c clean =
+pub returns-in_err-rows-clause-fault : goal.returns-in_err-rows-clause-fault
+returns-in_err-rows-clause-fault g c clean =
     let old = state g.S.Store c.args.conn.now in
     let new = state g.S.Store c.query_all.new.self in
     let schema = c.requires (omega (arith, c.query_all.ensures.survives.clean)) in
-    subst (IsMetaFault old new) (sym c.told.ensures) (told_fault (IsMetaFault old new) Memory Disk old new c.in-Err.error tt (λ h. h) (meta_select_fails old new c.in-Err.error schema (c.in-Err.ensures.err clean)))
+    if_err c.from_residual.result _ _ c.from_residual.ensures.1 (λ f e. rw e (told_fault (IsMetaFault old new) Memory Disk old new c.in_err-rows.field-0.0 tt (λ h. h) (meta_select_fails old new c.in_err-rows.field-0.0 schema (c.in_err-rows.ensures.err clean))))
 
-pub returns-in-Err-clause-undone : goal.returns-in-Err-clause-undone
-returns-in-Err-clause-undone g c clean =
-    meta_select_undone (state g.S.Store c.args.conn.now) (state g.S.Store c.query_all.new.self) c.in-Err.error (c.requires (omega (arith, c.query_all.ensures.survives.clean))) (c.in-Err.ensures.err clean)
+pub returns-in_err-rows-clause-undone : goal.returns-in_err-rows-clause-undone
+returns-in_err-rows-clause-undone g c clean =
+    on_err c.from_residual.result _ (meta_select_undone (state g.S.Store c.args.conn.now) (state g.S.Store c.query_all.new.self) c.in_err-rows.field-0.0 (c.requires (omega (arith, c.query_all.ensures.survives.clean))) (c.in_err-rows.ensures.err clean))
 
 pub returns-in-Some-clause-undone : goal.returns-in-Some-clause-undone
 returns-in-Some-clause-undone g c clean =
     let old = state g.S.Store c.args.conn.now in
     let new = state g.S.Store c.query_all.new.self in
     let schema = c.requires (omega (arith, c.query_all.ensures.survives.clean)) in
-    on_err c.read_numbers.result _ (left_or_undone old new (inl (meta_same old new _ schema (c.in-Ok.ensures.ok clean))))
+    on_err c.read_numbers.result _ (left_or_undone old new (inl (meta_same old new _ schema (c.in_ok-rows.ensures.ok clean))))
 
 pub returns-in-None-clause-undone : goal.returns-in-None-clause-undone
 returns-in-None-clause-undone g c clean =
     let old = state g.S.Store c.args.conn.now in
     let new = state g.S.Store c.query_all.new.self in
     let schema = c.requires (omega (arith, c.query_all.ensures.survives.clean)) in
-    left_or_undone old new (inl (meta_same old new _ schema (c.in-Ok.ensures.ok clean)))
+    left_or_undone old new (inl (meta_same old new _ schema (c.in_ok-rows.ensures.ok clean)))

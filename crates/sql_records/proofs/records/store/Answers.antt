@@ -3,7 +3,7 @@ use Rattle.sqlite.specs.Held.{state}
 use Rattle.delta_wire.specs.Grammar.{delta_text}
 use Rattle.sql_records.specs.Rows.{HasRoom}
 use Rattle.sql_records.specs.Held.{Kept, IsKeepFault}
-use Rattle.sql_records.proofs.OpeningLemmas.{leaves_still, rest_count}
+use Rattle.sql_records.proofs.OpeningLemmas.{if_err, leaves_still, rest_count}
 use Rattle.sql_records.proofs.KeepLemmas.{told_keep}
 use Rattle.sql_records.proofs.records.store.Goals as goal
 use Rattle.sql_records.proofs.records.store.Goals.{then-place-ge-MOST-via-then-place-ge-MOST, then-place-ge-MOST-via-else-place-ge-MOST+then-not-fits}
@@ -11,8 +11,8 @@ use Rattle.sql_records.proofs.records.store.Goals.{then-place-ge-MOST-via-then-p
 never : {b : Bool} → b ≡ true → b ≡ false → ⊥
 never p q = cc
 
-pub returns-in_default-clause-stopped : goal.returns-in_default-clause-stopped
-returns-in_default-clause-stopped g c clean =
+pub returns-in_err-text-clause-stopped : goal.returns-in_err-text-clause-stopped
+returns-in_err-text-clause-stopped g c clean =
     let conn = c.args.conn.now in
     leaves_still (state g.S.Store conn) c.args.place (c.requires.rest clean) (λ db is_open left. g.met.S.Store.settled conn.store db is_open left) c.args.entry.now
 
@@ -27,14 +27,15 @@ returns-then-place-ge-MOST-clause-cause g c clean =
     elim c.then-place-ge-MOST.branch [
       | then-place-ge-MOST-via-then-place-ge-MOST w ↦ inl (inr (omega (arith, w.if-place-ge-MOST.true, count)))
       | then-place-ge-MOST-via-else-place-ge-MOST+then-not-fits w ↦ inl (inl (λ room.
-          let text = w.deref.ensures ∙ c.in-Ok.ensures.text ∙ ap delta_text c.delta.ensures in
+          let text = w.deref.ensures ∙ c.in_ok-text.ensures.text ∙ ap delta_text c.delta.ensures in
           let here = subst (λ (t : List ℕ). HasRoom c.args.entry.now (length t)) (sym text) room in
           never (w.fits.ensures.1 here) w.if-not-fits.true))
     ]
 
-pub returns-clause-cause : goal.returns-clause-cause
-returns-clause-cause g c clean =
+pub returns-in_err-insert-clause-cause : goal.returns-in_err-insert-clause-cause
+returns-in_err-insert-clause-cause g c =
+    if_err c.from_residual-in_err-insert.result _ _ c.from_residual-in_err-insert.ensures.1 (λ f e clean.
     let old : Kept g.row.S.Denot = record { conn = c.args.conn.now; failures = 0 } in
     let new : Kept g.row.S.Denot = record { conn = c.insert.new.conn; failures = 1 } in
-    let is = told_keep g.S.Store old new c.args.entry.now c.args.place c.in-Err.error (c.requires.rest (c.insert.ensures.clean clean)) (c.in-Err.ensures.fails clean) in
-    subst (IsKeepFault g.S.Store old new c.args.entry.now) (sym c.told.ensures) is
+    let is = told_keep g.S.Store old new c.args.entry.now c.args.place c.in_err-insert.field-0.0 (c.requires.rest (c.insert.ensures.clean clean)) (c.in_err-insert.ensures.fails clean) in
+    rw e is)

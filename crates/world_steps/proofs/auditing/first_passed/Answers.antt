@@ -1,6 +1,6 @@
 use Rattle.std.proofs.Common.{◌≡◌, ℕ, Some, false, true, sym, ap, ◌∙◌, subst, arith}
 use Rattle.std.specs.Prelude.{IsTrue, slice_get}
-use Rattle.rights_lattice.proofs.SlotLaws.{refused}
+use Rattle.rights_lattice.proofs.TestLaws.{refused}
 use Rattle.book_core.specs.BookView.{BookView, SeesWithin}
 use Rattle.world_steps.specs.Audit.{books_of, IsFirstPassed}
 use Rattle.world_steps.proofs.Audits.{found_view, each_more, each_all, length-views}

@@ -1,6 +1,6 @@
 use Rattle.std.proofs.Common.{◌≡◌, ◌≤◌, ℕ, zero, suc, List, [], ◌∷◌, Some, true, false, Bor, sym, ap, ◌∙◌, subst, arith, length}
 use Rattle.std.specs.Prelude.{IsTrue, slice_get}
-use Rattle.rights_lattice.proofs.SlotLaws.{refused, granted}
+use Rattle.rights_lattice.proofs.TestLaws.{refused, granted}
 use Rattle.rights_lattice.specs.Sums.{max_sites}
 use Rattle.book_core.specs.BookView.{BookView}
 use Rattle.book_core.specs.Legal.{IsLegal}

@@ -9,4 +9,4 @@ unfolding max_sites
 returns-then-number-place-clause-few c = λ same.
     let e : nat_eq c.count.result c.args.sites ≡ true = same in
     let is : c.count.result ≡ c.args.sites = grind (arith, nat_tests) in
-    omega (arith, is, c.count.ensures.at_most_16)
+    omega (arith, is, c.count.ensures.few)

@@ -2,14 +2,16 @@ use Rattle.std.proofs.Common.{◌≡◌, ◌<◌, ℕ, subst, sym, ap, ◌∙◌
 use Rattle.event_catalogue.specs.Catalogue.{with_new}
 use Rattle.rights_lattice.specs.Cells.{raise_all, marks_of}
 use Rattle.rights_lattice.specs.State.{State, names_in_order}
+use Rattle.local_rights.specs.Rights.{HasRights}
 use Rattle.book_core.specs.declared.entry.Entry.{Entry}
 use Rattle.book_core.specs.Decision.{Office}
-use Rattle.book_core.specs.History.{asked_from, delta_of}
+use Rattle.book_core.specs.History.{asked_from, delta_of, state_of}
 use Rattle.book_core.specs.Legal.{IsNext, IsLegal}
 use Rattle.book_core.specs.BookView.{BookView, MarksAreWithin, IsInOrder}
 use Rattle.book_core.proofs.Histories.{legal_push}
 use Rattle.book_core.proofs.Rows.{legal_rights}
 use Rattle.book_core.proofs.OwnRows.{entered_own}
+use Rattle.book_core.proofs.RightsAlong.{rights_along}
 use Rattle.book_core.proofs.BookLaws.{marks_within, entered, unkept, keeps_refunds}
 use Rattle.book_core.proofs.book.Book.enter.Goals as goal
 
@@ -21,10 +23,20 @@ raise_marks-requires-clause-in_range c =
     (marks_within book.office book.history c.args.planned c.marks.result.now me c.requires.next
     (c.marks.ensures ∙ ap (λ (d : State). marks_of d.cells) (c.delta.ensures ∙ ap delta_of c.planned.view_is)))
 
+pub raise_marks-requires-clause-not_negative : goal.raise_marks-requires-clause-not_negative
+raise_marks-requires-clause-not_negative c =
+    let fields = c.self.inside in
+    let office : Office = record { me = fields.rights.me; sites = fields.rights.sites; limit = fields.limit } in
+    let next : IsNext office fields.history.items c.planned.inside.entry =
+    subst (λ (b : BookView). IsNext b.office b.history c.planned.inside.entry) (sym c.self.view_is)
+    (subst (λ (x : Entry). IsNext c.args.self.now.office c.args.self.now.history x) (sym c.planned.view_is) c.requires.next) in
+    rights_along office fields.history.items c.planned.inside.entry c.marks.result.now fields.rights.cells c.self.invariant.legal next c.self.invariant.cells_are
+    (c.marks.ensures ∙ ap (λ (d : State). marks_of d.cells) c.delta.ensures)
+
 pub keep-requires-clause-new : goal.keep-requires-clause-new
 keep-requires-clause-new c =
     let fields = c.self.inside in
-    let office : Office = record { me = fields.me; sites = fields.rights.sites; limit = fields.limit } in
+    let office : Office = record { me = fields.rights.me; sites = fields.rights.sites; limit = fields.limit } in
     let next : IsNext office fields.history.items c.planned.inside.entry =
     subst (λ (b : BookView). IsNext b.office b.history c.planned.inside.entry) (sym c.self.view_is)
     (subst (λ (x : Entry). IsNext c.args.self.now.office c.args.self.now.history x) (sym c.planned.view_is) c.requires.next) in
@@ -33,7 +45,7 @@ keep-requires-clause-new c =
 pub keep-requires-clause-refund : goal.keep-requires-clause-refund
 keep-requires-clause-refund c =
     let fields = c.self.inside in
-    let office : Office = record { me = fields.me; sites = fields.rights.sites; limit = fields.limit } in
+    let office : Office = record { me = fields.rights.me; sites = fields.rights.sites; limit = fields.limit } in
     let next : IsNext office fields.history.items c.planned.inside.entry =
     subst (λ (b : BookView). IsNext b.office b.history c.planned.inside.entry) (sym c.self.view_is)
     (subst (λ (x : Entry). IsNext c.args.self.now.office c.args.self.now.history x) (sym c.planned.view_is) c.requires.next) in
@@ -42,7 +54,7 @@ keep-requires-clause-refund c =
 pub invariant_of-self : goal.invariant_of-self
 invariant_of-self c =
     let fields = c.self.inside in
-    let office : Office = record { me = fields.me; sites = fields.rights.sites; limit = fields.limit } in
+    let office : Office = record { me = fields.rights.me; sites = fields.rights.sites; limit = fields.limit } in
     let entry = c.planned.inside.entry in
     let next : IsNext office fields.history.items entry =
     subst (λ (b : BookView). IsNext b.office b.history entry) (sym c.self.view_is)
@@ -54,8 +66,9 @@ invariant_of-self c =
     let kept : c.keep.new.ledger.entries ≡ fields.ledger.entries ++ asked_from (length fields.history.items) (entry ∷ []) =
     c.keep.ensures ∙ ap (λ (place : ℕ). fields.ledger.entries ++ asked_from place (entry ∷ [])) (search rules) in
     let after = entered office fields.history.items entry fields.rights.cells c.raise_marks.new.rights.cells fields.names.names c.join.new.self.names fields.ledger.entries c.keep.new.ledger.entries c.self.invariant next cells names kept in
-    subst (λ (l : List Entry). IsInOrder (record { me = fields.me; sites = c.raise_marks.new.rights.sites; limit = fields.limit }) l c.raise_marks.new.rights.cells c.join.new.self.names c.keep.new.ledger.entries) (sym c.push_reserved.ensures.items)
-    (subst (λ (n : ℕ). IsInOrder (record { me = fields.me; sites = n; limit = fields.limit }) (fields.history.items ++ entry ∷ []) c.raise_marks.new.rights.cells c.join.new.self.names c.keep.new.ledger.entries) (sym c.raise_marks.ensures.sites) after)
+    subst (λ (l : List Entry). IsInOrder (record { me = c.raise_marks.new.rights.me; sites = c.raise_marks.new.rights.sites; limit = fields.limit }) l c.raise_marks.new.rights.cells c.join.new.self.names c.keep.new.ledger.entries) (sym c.push_reserved.ensures.items)
+    (subst (λ (n : ℕ). IsInOrder (record { me = c.raise_marks.new.rights.me; sites = n; limit = fields.limit }) (fields.history.items ++ entry ∷ []) c.raise_marks.new.rights.cells c.join.new.self.names c.keep.new.ledger.entries) (sym c.raise_marks.ensures.sites)
+    (subst (λ (n : ℕ). IsInOrder (record { me = n; sites = fields.rights.sites; limit = fields.limit }) (fields.history.items ++ entry ∷ []) c.raise_marks.new.rights.cells c.join.new.self.names c.keep.new.ledger.entries) (sym c.raise_marks.ensures.me) after))
 
 pub returns-clause-own_row : goal.returns-clause-own_row
 returns-clause-own_row c =
@@ -70,10 +83,11 @@ returns-clause-own_row c =
 pub returns-clause-has_rights : goal.returns-clause-has_rights
 returns-clause-has_rights c =
     let fields = c.self.inside in
-    let office : Office = record { me = fields.me; sites = fields.rights.sites; limit = fields.limit } in
+    let office : Office = record { me = fields.rights.me; sites = fields.rights.sites; limit = fields.limit } in
     let entry = c.planned.inside.entry in
     let next : IsNext office fields.history.items entry =
     subst (λ (b : BookView). IsNext b.office b.history entry) (sym c.self.view_is)
     (subst (λ (x : Entry). IsNext c.args.self.now.office c.args.self.now.history x) (sym c.planned.view_is) c.requires.next) in
-    legal_rights office c.push_reserved.new.self.items
-    (subst (λ (h : List Entry). IsLegal office h) (sym c.push_reserved.ensures.items) (legal_push office fields.history.items entry c.self.invariant.legal next))
+    let legal : IsLegal office c.push_reserved.new.self.items =
+    subst (λ (h : List Entry). IsLegal office h) (sym c.push_reserved.ensures.items) (legal_push office fields.history.items entry c.self.invariant.legal next) in
+    λ event. subst (λ (me : ℕ). HasRights (state_of c.push_reserved.new.self.items).cells event me) (sym c.raise_marks.ensures.me) (legal_rights office c.push_reserved.new.self.items legal event)

@@ -1,106 +1,68 @@
-use Rattle.std.proofs.Common.{◌≡◌, ◌<◌, ℕ, List, length, ◌+◌, ◌*◌, arith, sym, ap, ◌∙◌, rules, subst, ◌-◌, refl, length-append, ◌∷◌, [], replicate}
-use Rattle.std.specs.Prelude.{vec_len, vec_capacity}
-use Rattle.rights_lattice.specs.Dense.{width_of}
-use Rattle.std.proofs.lemmas.List.{length-replicate}
-use Rattle.std.proofs.Math.ListN.{length-set}
-use Rattle.rights_lattice.proofs.DenseLaws.{of_sites, new_cell, located, raised_found, grown, room_for, room_after, room_before, width_positive}
+use Rattle.std.proofs.Common.{◌≡◌, ◌∙◌, [], ◌∷◌, ◌++◌, sym, ap, subst, arith}
+use Rattle.indexmap.specs.IndexMap.{spare, insert_entry}
+use Rattle.indexmap.proofs.CallerLemmas.{insert_entry-new}
+use Rattle.rights_lattice.specs.Cells.{Valued, raise}
+use Rattle.rights_lattice.specs.RightsView.{RightsView, IsCellOf}
+use Rattle.rights_lattice.proofs.TestLaws.{one_if_zero}
+use Rattle.rights_lattice.proofs.TableLaws.{key_eq, room_for, written, added}
 use Rattle.rights_lattice.proofs.rights.Rights.raise.Goals as goal
 
-pub raise_at-requires : goal.raise_at-requires
-raise_at-requires c =
+pub invariant_of-self : goal.invariant_of-self
+invariant_of-self c =
     let s = c.self.inside in
-    let of = of_sites s.sites _ c.mark.inside.cell _ (ap (λ v. v.sites) c.self.view_is) (ap (λ m. m.cell) c.mark.view_is) c.requires.in_range in
-    let lt = located s.sites s.events.items c.deref.result.now s.values.items c.in-Some.block _ _ c.mark.inside.cell c.self.invariant c.deref.ensures.value c.in-Some.ensures.within of c.width-width.ensures.width c.offset-offset.ensures in
-    omega (arith, lt, s.values.ok.0)
-
-pub overflow_add-block : goal.overflow_add-block
-overflow_add-block c =
-    let s = c.self.inside in
-    let of = of_sites s.sites _ c.mark.inside.cell _ (ap (λ v. v.sites) c.self.view_is) (ap (λ m. m.cell) c.mark.view_is) c.requires.in_range in
-    let lt : c.in-Some.block * c.width-width.result + c.offset-offset.result < length s.values.items
-    = located s.sites s.events.items c.deref.result.now s.values.items c.in-Some.block _ _ c.mark.inside.cell c.self.invariant c.deref.ensures.value c.in-Some.ensures.within of c.width-width.ensures.width c.offset-offset.ensures in
-    let len = s.values.ok.0 in
-    search rules
+    let new = c.get_mut.follows.lender c.max.result in
+    let holds = c.get_mut.follows.holds c.max.result in
+    let m : Valued = record { event = c.mark.inside.event; cell = c.mark.inside.cell; value = c.mark.inside.value } in
+    let raised = written s.sites s.values.entries new.entries m c.in-Some.value.now c.max.result c.self.invariant.0 c.mark.invariant.0 c.mark.invariant.1 (sym c.in-Some.ensures.value) c.max.ensures holds.0 holds.1 in
+    (raised.kept, omega (arith, c.self.invariant.1, holds.6))
 
 pub returns-in-Some-clause-cells : goal.returns-in-Some-clause-cells
 returns-in-Some-clause-cells c =
     let s = c.self.inside in
-    let of = of_sites s.sites _ c.mark.inside.cell _ (ap (λ v. v.sites) c.self.view_is) (ap (λ m. m.cell) c.mark.view_is) c.requires.in_range in
-    rw (← c.self.view_is, ← c.mark.view_is)
-    (raised_found s.sites s.events.items c.deref.result.now s.values.items c.raise_at.new.values.items c.in-Some.block _ _ _ c.self.invariant c.deref.ensures.value c.in-Some.ensures.within c.in-Some.ensures.found of c.width-width.ensures.width c.offset-offset.ensures c.raise_at.ensures.items)
+    let new = c.get_mut.follows.lender c.max.result in
+    let holds = c.get_mut.follows.holds c.max.result in
+    let m : Valued = record { event = c.mark.inside.event; cell = c.mark.inside.cell; value = c.mark.inside.value } in
+    let raised = written s.sites s.values.entries new.entries m c.in-Some.value.now c.max.result c.self.invariant.0 c.mark.invariant.0 c.mark.invariant.1 (sym c.in-Some.ensures.value) c.max.ensures holds.0 holds.1 in
+    raised.raised ∙ (λ i. raise (c.self.view_is i).cells (c.mark.view_is i))
 
-pub add_block-requires-clause-event_room : goal.add_block-requires-clause-event_room
-add_block-requires-clause-event_room c =
+pub unreachable-requires : goal.unreachable-requires
+unreachable-requires c =
     let s = c.self.inside in
-    let zero = new_cell s.sites s.events.items c.deref.result.now s.values.items _ _ c.args.mark c.self.invariant c.deref.ensures.value c.in-None.ensures.none (ap (λ v. v.cells) c.self.view_is) c.mark.view_is in
-    let room = room_for (vec_capacity s.events - vec_len s.events) (vec_capacity s.values - vec_len s.values) (width_of s.sites) (subst (λ r. 0 < r) (sym (ap (λ v. v.room) c.self.view_is)) (c.requires.room zero)) in
-    omega (arith, room.0)
+    let room = room_for s.sites s.room s.values.entries (record { event = c.mark.inside.event; cell = c.mark.inside.cell; value = c.mark.inside.value }) c.args.mark c.args.self.now c.self.invariant.0 (sym c.in-None.ensures.value) c.self.view_is c.mark.view_is c.requires.room in
+    let same : spare c.get_mut.follows.lender-at-none ≡ spare s.values = ap (λ m. spare m) c.get_mut.follows.holds-at-none in
+    let done = c.in-Err.ensures.succeeds (omega (arith, same, room.1, c.self.invariant.1)) in cc
 
-pub add_block-requires-clause-value_room : goal.add_block-requires-clause-value_room
-add_block-requires-clause-value_room c =
+pub overflow_sub-self : goal.overflow_sub-self
+overflow_sub-self c =
     let s = c.self.inside in
-    let zero = new_cell s.sites s.events.items c.deref.result.now s.values.items _ _ c.args.mark c.self.invariant c.deref.ensures.value c.in-None.ensures.none (ap (λ v. v.cells) c.self.view_is) c.mark.view_is in
-    let room = room_for (vec_capacity s.events - vec_len s.events) (vec_capacity s.values - vec_len s.values) (width_of s.sites) (subst (λ r. 0 < r) (sym (ap (λ v. v.room) c.self.view_is)) (c.requires.room zero)) in
-    omega (arith, room.1, c.width-width.ensures.width, width_positive s.sites c.self.invariant.some_site)
-
-pub overflow_add-block-in-None : goal.overflow_add-block-in-None
-overflow_add-block-in-None c =
-    let s = c.self.inside in
-    let of = of_sites s.sites _ c.mark.inside.cell _ (ap (λ v. v.sites) c.self.view_is) (ap (λ m. m.cell) c.mark.view_is) c.requires.in_range in
-    let at_end : c.len-block.result ≡ length s.events.items = omega (arith, c.len-block.ensures, s.events.ok.0) in
-    let both = grown s.sites s.events.items c.deref.result.now c.add_block.new.events.items s.values.items c.add_block.new.values.items _ c.len-block.result _ _ (record { event = c.mark.inside.event; cell = c.mark.inside.cell; value = c.mark.inside.value }) c.self.invariant c.deref.ensures.value c.in-None.ensures.none c.mark.invariant.1 of c.width-width.ensures.width c.offset-offset.ensures at_end c.add_block.ensures.events c.add_block.ensures.values refl in
-    let lt : c.len-block.result * c.width-width.result + c.offset-offset.result < length c.add_block.new.values.items = both.0 in
-    let len = c.add_block.new.values.ok.0 in
-    search rules
-
-pub raise_at-requires-in-None : goal.raise_at-requires-in-None
-raise_at-requires-in-None c =
-    let s = c.self.inside in
-    let of = of_sites s.sites _ c.mark.inside.cell _ (ap (λ v. v.sites) c.self.view_is) (ap (λ m. m.cell) c.mark.view_is) c.requires.in_range in
-    let at_end : c.len-block.result ≡ length s.events.items = omega (arith, c.len-block.ensures, s.events.ok.0) in
-    let both = grown s.sites s.events.items c.deref.result.now c.add_block.new.events.items s.values.items c.add_block.new.values.items _ c.len-block.result _ _ (record { event = c.mark.inside.event; cell = c.mark.inside.cell; value = c.mark.inside.value }) c.self.invariant c.deref.ensures.value c.in-None.ensures.none c.mark.invariant.1 of c.width-width.ensures.width c.offset-offset.ensures at_end c.add_block.ensures.events c.add_block.ensures.values refl in
-    omega (arith, both.0, c.add_block.new.values.ok.0)
+    (room_for s.sites s.room s.values.entries (record { event = c.mark.inside.event; cell = c.mark.inside.cell; value = c.mark.inside.value }) c.args.mark c.args.self.now c.self.invariant.0 (sym c.in-None.ensures.value) c.self.view_is c.mark.view_is c.requires.room).1
 
 pub invariant_of-self-in-None : goal.invariant_of-self-in-None
 invariant_of-self-in-None c =
     let s = c.self.inside in
-    let of = of_sites s.sites _ c.mark.inside.cell _ (ap (λ v. v.sites) c.self.view_is) (ap (λ m. m.cell) c.mark.view_is) c.requires.in_range in
-    let at_end : c.len-block.result ≡ length s.events.items = omega (arith, c.len-block.ensures, s.events.ok.0) in
-    let both = grown s.sites s.events.items c.deref.result.now c.add_block.new.events.items s.values.items c.add_block.new.values.items c.raise_at-in-None.new.values.items c.len-block.result _ _ (record { event = c.mark.inside.event; cell = c.mark.inside.cell; value = c.mark.inside.value }) c.self.invariant c.deref.ensures.value c.in-None.ensures.none c.mark.invariant.1 of c.width-width.ensures.width c.offset-offset.ensures at_end c.add_block.ensures.events c.add_block.ensures.values c.raise_at-in-None.ensures.items in
-    both.1.kept
+    let m : Valued = record { event = c.mark.inside.event; cell = c.mark.inside.cell; value = c.mark.inside.value } in
+    let of : IsCellOf s.sites m.cell = subst (λ (x : Valued). IsCellOf s.sites x.cell) (sym c.mark.view_is) (subst (λ (v : RightsView). IsCellOf v.sites c.args.mark.cell) (sym c.self.view_is) c.requires.in_range) in
+    let same = c.get_mut.follows.holds-at-none in
+    let room : spare c.get_mut.follows.lender-at-none ≡ spare s.values = ap (λ m. spare m) same in
+    let entries : c.insert.new.self.entries ≡ s.values.entries ++ ((m.event, m.cell), m.value) ∷ [] =
+    c.in-Ok.ensures.entries ∙ ap (λ m. insert_entry key_eq m.entries (c.mark.inside.event, c.mark.inside.cell) c.mark.inside.value) same ∙ insert_entry-new key_eq s.values (m.event, m.cell) m.value (sym c.in-None.ensures.value) in
+    let more = added s.sites s.values.entries c.insert.new.self.entries m c.self.invariant.0 c.mark.invariant.0 c.mark.invariant.1 of entries c.in-Ok.ensures.unique in
+    (more.kept, omega (arith, room, c.self.invariant.1, c.in-Ok.ensures.spare))
 
-pub returns-in-None-clause-cells : goal.returns-in-None-clause-cells
-returns-in-None-clause-cells c =
+pub returns-in-Ok-clause-cells : goal.returns-in-Ok-clause-cells
+returns-in-Ok-clause-cells c =
     let s = c.self.inside in
-    let of = of_sites s.sites _ c.mark.inside.cell _ (ap (λ v. v.sites) c.self.view_is) (ap (λ m. m.cell) c.mark.view_is) c.requires.in_range in
-    let at_end : c.len-block.result ≡ length s.events.items = omega (arith, c.len-block.ensures, s.events.ok.0) in
-    let both = grown s.sites s.events.items c.deref.result.now c.add_block.new.events.items s.values.items c.add_block.new.values.items c.raise_at-in-None.new.values.items c.len-block.result _ _ (record { event = c.mark.inside.event; cell = c.mark.inside.cell; value = c.mark.inside.value }) c.self.invariant c.deref.ensures.value c.in-None.ensures.none c.mark.invariant.1 of c.width-width.ensures.width c.offset-offset.ensures at_end c.add_block.ensures.events c.add_block.ensures.values c.raise_at-in-None.ensures.items in
-    rw (← c.self.view_is, ← c.mark.view_is) both.1.raised
+    let m : Valued = record { event = c.mark.inside.event; cell = c.mark.inside.cell; value = c.mark.inside.value } in
+    let of : IsCellOf s.sites m.cell = subst (λ (x : Valued). IsCellOf s.sites x.cell) (sym c.mark.view_is) (subst (λ (v : RightsView). IsCellOf v.sites c.args.mark.cell) (sym c.self.view_is) c.requires.in_range) in
+    let same = c.get_mut.follows.holds-at-none in
+    let entries : c.insert.new.self.entries ≡ s.values.entries ++ ((m.event, m.cell), m.value) ∷ [] =
+    c.in-Ok.ensures.entries ∙ ap (λ m. insert_entry key_eq m.entries (c.mark.inside.event, c.mark.inside.cell) c.mark.inside.value) same ∙ insert_entry-new key_eq s.values (m.event, m.cell) m.value (sym c.in-None.ensures.value) in
+    let more = added s.sites s.values.entries c.insert.new.self.entries m c.self.invariant.0 c.mark.invariant.0 c.mark.invariant.1 of entries c.in-Ok.ensures.unique in
+    more.raised ∙ (λ i. raise (c.self.view_is i).cells (c.mark.view_is i))
 
-pub returns-in-None-clause-room : goal.returns-in-None-clause-room
-returns-in-None-clause-room c =
+pub returns-in-Ok-clause-room : goal.returns-in-Ok-clause-room
+returns-in-Ok-clause-room c =
     let s = c.self.inside in
-    let zero = new_cell s.sites s.events.items c.deref.result.now s.values.items _ _ c.args.mark c.self.invariant c.deref.ensures.value c.in-None.ensures.none (ap (λ v. v.cells) c.self.view_is) c.mark.view_is in
-    let room = room_for (vec_capacity s.events - vec_len s.events) (vec_capacity s.values - vec_len s.values) (width_of s.sites) (subst (λ r. 0 < r) (sym (ap (λ v. v.room) c.self.view_is)) (c.requires.room zero)) in
-    let width = c.width-width.ensures.width in
-    let events_len : vec_len c.add_block.new.events ≡ vec_len s.events + 1 = omega (arith, s.events.ok.0, c.add_block.new.events.ok.0, ap (λ (l : List (List ℕ)). length l) c.add_block.ensures.events ∙ length-append s.events.items (c.mark.inside.event ∷ [])) in
-    let old_values : length c.add_block.new.values.items ≡ length s.values.items + c.width-width.result = ap (λ (l : List ℕ). length l) c.add_block.ensures.values ∙ length-append s.values.items (replicate c.width-width.result 0) ∙ ap (λ (n : ℕ). length s.values.items + n) (length-replicate c.width-width.result 0) in
-    let new_values : length c.raise_at-in-None.new.values.items ≡ length c.add_block.new.values.items = ap (λ (l : List ℕ). length l) c.raise_at-in-None.ensures.items ∙ length-set c.add_block.new.values.items _ _ in
-    let values_len : vec_len c.raise_at-in-None.new.values ≡ vec_len s.values + width_of s.sites = omega (arith, s.values.ok.0, c.raise_at-in-None.new.values.ok.0, old_values, new_values, width) in
-    let events_left : vec_capacity c.add_block.new.events - vec_len c.add_block.new.events ≡ vec_capacity s.events - vec_len s.events - 1 = omega (arith, events_len, c.add_block.ensures.event_capacity) in
-    let values_left : vec_capacity c.raise_at-in-None.new.values - vec_len c.raise_at-in-None.new.values ≡ vec_capacity s.values - vec_len s.values - width_of s.sites = omega (arith, values_len, c.add_block.ensures.value_capacity, c.raise_at-in-None.ensures.capacity) in
-    rw (zero, events_left, values_left, ← c.self.view_is) (room_after (vec_capacity s.events - vec_len s.events) (vec_capacity s.values - vec_len s.values) (width_of s.sites) (width_positive s.sites c.self.invariant.some_site) room.1)
-
-pub returns-in-None-clause-no_more_room : goal.returns-in-None-clause-no_more_room
-returns-in-None-clause-no_more_room c =
-    let s = c.self.inside in
-    let zero = new_cell s.sites s.events.items c.deref.result.now s.values.items _ _ c.args.mark c.self.invariant c.deref.ensures.value c.in-None.ensures.none (ap (λ v. v.cells) c.self.view_is) c.mark.view_is in
-    let room = room_for (vec_capacity s.events - vec_len s.events) (vec_capacity s.values - vec_len s.values) (width_of s.sites) (subst (λ r. 0 < r) (sym (ap (λ v. v.room) c.self.view_is)) (c.requires.room zero)) in
-    let width = c.width-width.ensures.width in
-    let events_len : vec_len c.add_block.new.events ≡ vec_len s.events + 1 = omega (arith, s.events.ok.0, c.add_block.new.events.ok.0, ap (λ (l : List (List ℕ)). length l) c.add_block.ensures.events ∙ length-append s.events.items (c.mark.inside.event ∷ [])) in
-    let old_values : length c.add_block.new.values.items ≡ length s.values.items + c.width-width.result = ap (λ (l : List ℕ). length l) c.add_block.ensures.values ∙ length-append s.values.items (replicate c.width-width.result 0) ∙ ap (λ (n : ℕ). length s.values.items + n) (length-replicate c.width-width.result 0) in
-    let new_values : length c.raise_at-in-None.new.values.items ≡ length c.add_block.new.values.items = ap (λ (l : List ℕ). length l) c.raise_at-in-None.ensures.items ∙ length-set c.add_block.new.values.items _ _ in
-    let values_len : vec_len c.raise_at-in-None.new.values ≡ vec_len s.values + width_of s.sites = omega (arith, s.values.ok.0, c.raise_at-in-None.new.values.ok.0, old_values, new_values, width) in
-    let events_left : vec_capacity c.add_block.new.events - vec_len c.add_block.new.events ≡ vec_capacity s.events - vec_len s.events - 1 = omega (arith, events_len, c.add_block.ensures.event_capacity) in
-    let values_left : vec_capacity c.raise_at-in-None.new.values - vec_len c.raise_at-in-None.new.values ≡ vec_capacity s.values - vec_len s.values - width_of s.sites = omega (arith, values_len, c.add_block.ensures.value_capacity, c.raise_at-in-None.ensures.capacity) in
-    rw (events_left, values_left, ← c.self.view_is) (room_before (vec_capacity s.events - vec_len s.events) (vec_capacity s.values - vec_len s.values) (width_of s.sites) (width_positive s.sites c.self.invariant.some_site) room.1)
+    let room = room_for s.sites s.room s.values.entries (record { event = c.mark.inside.event; cell = c.mark.inside.cell; value = c.mark.inside.value }) c.args.mark c.args.self.now c.self.invariant.0 (sym c.in-None.ensures.value) c.self.view_is c.mark.view_is c.requires.room in
+    let before : s.room ≡ c.args.self.now.room = ap (λ v. v.room) c.self.view_is in
+    omega (arith, one_if_zero _ room.0, before, room.1)

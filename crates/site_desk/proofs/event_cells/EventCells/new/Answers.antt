@@ -1,6 +1,6 @@
 use Rattle.std.proofs.Common.{arith}
-use Rattle.rights_lattice.specs.Dense.{offset_of}
 use Rattle.rights_lattice.specs.Sums.{max_sites}
+use Rattle.site_desk.specs.EventCells.{offset_of}
 use Rattle.site_desk.proofs.EventTables.{none_at}
 use Rattle.site_desk.proofs.event_cells.EventCells.new.Goals as goal
 

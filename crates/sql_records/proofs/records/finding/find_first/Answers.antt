@@ -4,17 +4,17 @@ use Rattle.sql_records.specs.Held.{rows_in, history_in}
 use Rattle.sql_records.proofs.LookupLemmas.{first_kept, first_fault}
 use Rattle.sql_records.proofs.records.finding.find_first.Goals as goal
 
-pub returns-in-Ok-clause-found : goal.returns-in-Ok-clause-found
-returns-in-Ok-clause-found g c clean =
+pub returns-clause-found : goal.returns-clause-found
+returns-clause-found g c clean =
     let db = (state g.S.Store c.args.conn.now).now.trees in
     let rest = c.requires.rest (c.find_rows.ensures.clean clean) in
-    first_kept c.as_slice.result.now (rows_in db) (history_in db) c.args.number rest.1.whole refl (c.as_slice.ensures.value ∙ c.in-Ok.ensures.rows clean) c.first_of.result c.first_of.ensures.ok
+    first_kept c.as_slice.result.now (rows_in db) (history_in db) c.args.number rest.1.whole refl (c.as_slice.ensures.value ∙ c.in_ok-rows.ensures.rows clean) c.first_of.result c.first_of.ensures.ok
 
-pub returns-in-Ok-clause-fault : goal.returns-in-Ok-clause-fault
-returns-in-Ok-clause-fault g c clean =
+pub returns-clause-fault : goal.returns-clause-fault
+returns-clause-fault g c clean =
     let db = (state g.S.Store c.args.conn.now).now.trees in
     let rest = c.requires.rest (c.find_rows.ensures.clean clean) in
-    first_fault c.as_slice.result.now (rows_in db) (history_in db) c.args.number rest.1.whole refl (c.as_slice.ensures.value ∙ c.in-Ok.ensures.rows clean) _ c.first_of.result c.first_of.ensures.err
+    first_fault c.as_slice.result.now (rows_in db) (history_in db) c.args.number rest.1.whole refl (c.as_slice.ensures.value ∙ c.in_ok-rows.ensures.rows clean) _ c.first_of.result c.first_of.ensures.err
 
-pub returns-in-Ok-clause-limit : goal.returns-in-Ok-clause-limit
-returns-in-Ok-clause-limit g c = c.find_rows.ensures.limit
+pub returns-clause-limit : goal.returns-clause-limit
+returns-clause-limit g c = c.find_rows.ensures.limit

@@ -1,41 +1,42 @@
-use Rattle.std.proofs.Common.{arith, subst, sym}
+use Rattle.std.proofs.Common.{arith, subst}
 use Rattle.sqlite.specs.Held.{state}
 use Rattle.sqlite.specs.State.{Shown, FailsToQuery}
 use Rattle.sql_records.specs.Texts.{find_text}
 use Rattle.sql_records.proofs.FindLemmas.{find_shows, find_same, find_left, find_fails}
 use Rattle.sql_records.proofs.FaultLemmas.{told_fault}
+use Rattle.sql_records.proofs.OpeningLemmas.{if_err}
 use Rattle.sql_records.specs.Lookups.{IsQueryFault}
 use Rattle.sql_records.specs.declared.lookup.FindFault.TheVariants.{Memory, Disk}
 use Rattle.sql_records.proofs.records.finding.find_rows.Goals as goal
 
-pub returns-in-Ok-clause-rows : goal.returns-in-Ok-clause-rows
-returns-in-Ok-clause-rows g c clean =
+pub returns-clause-rows : goal.returns-clause-rows
+returns-clause-rows g c clean =
     let old = state g.S.Store c.args.conn.now in
     let new = state g.S.Store c.query_all.new.self in
     let rest = c.requires.rest (omega (arith, c.query_all.ensures.survives.clean)) in
-    find_shows old new c.args.number c.in-Ok.rows.items rest.1.schema rest.1.whole (subst (λ p. Shown find_text p old new c.in-Ok.rows.items) c.number_param-params.ensures (c.in-Ok.ensures.ok clean))
+    find_shows old new c.args.number c.in_ok-query_all.field-0.items rest.1.schema rest.1.whole (subst (λ p. Shown find_text p old new c.in_ok-query_all.field-0.items) c.number_param-params.ensures (c.in_ok-query_all.ensures.ok clean))
 
-pub returns-in-Ok-clause-same : goal.returns-in-Ok-clause-same
-returns-in-Ok-clause-same g c clean =
+pub returns-clause-same : goal.returns-clause-same
+returns-clause-same g c clean =
     let old = state g.S.Store c.args.conn.now in
     let new = state g.S.Store c.query_all.new.self in
     let rest = c.requires.rest (omega (arith, c.query_all.ensures.survives.clean)) in
-    find_same old new c.args.number c.in-Ok.rows.items rest.1.schema (subst (λ p. Shown find_text p old new c.in-Ok.rows.items) c.number_param-params.ensures (c.in-Ok.ensures.ok clean))
+    find_same old new c.args.number c.in_ok-query_all.field-0.items rest.1.schema (subst (λ p. Shown find_text p old new c.in_ok-query_all.field-0.items) c.number_param-params.ensures (c.in_ok-query_all.ensures.ok clean))
 
-pub returns-in-Ok-clause-left : goal.returns-in-Ok-clause-left
-returns-in-Ok-clause-left g c clean =
+pub returns-clause-left : goal.returns-clause-left
+returns-clause-left g c clean =
     let rest = c.requires.rest (omega (arith, c.query_all.ensures.survives.clean)) in
     find_left (state g.S.Store c.args.conn.now) (state g.S.Store c.query_all.new.self) _ rest.1.schema c.query_all.ensures.survives clean
 
-pub returns-in-Err-clause-left : goal.returns-in-Err-clause-left
-returns-in-Err-clause-left g c clean =
+pub returns-in_err-query_all-clause-left : goal.returns-in_err-query_all-clause-left
+returns-in_err-query_all-clause-left g c clean =
     let rest = c.requires.rest (omega (arith, c.query_all.ensures.survives.clean)) in
     find_left (state g.S.Store c.args.conn.now) (state g.S.Store c.query_all.new.self) _ rest.1.schema c.query_all.ensures.survives clean
 
-pub returns-in-Err-clause-fault : goal.returns-in-Err-clause-fault
-returns-in-Err-clause-fault g c clean =
+pub returns-in_err-query_all-clause-fault : goal.returns-in_err-query_all-clause-fault
+returns-in_err-query_all-clause-fault g c clean =
     let old = state g.S.Store c.args.conn.now in
     let new = state g.S.Store c.query_all.new.self in
     let rest = c.requires.rest (omega (arith, c.query_all.ensures.survives.clean)) in
-    let fails = subst (λ p. FailsToQuery find_text p old new c.in-Err.error) c.number_param-params.ensures (c.in-Err.ensures.err clean) in
-    subst (IsQueryFault old new) (sym c.told.ensures) (told_fault (IsQueryFault old new) Memory Disk old new c.in-Err.error tt (λ h. h) (find_fails old new c.args.number c.in-Err.error rest.1.schema fails))
+    let fails = subst (λ p. FailsToQuery find_text p old new c.in_err-query_all.field-0.0) c.number_param-params.ensures (c.in_err-query_all.ensures.err clean) in
+    if_err c.from_residual.result _ _ c.from_residual.ensures.1 (λ f e. rw e (told_fault (IsQueryFault old new) Memory Disk old new c.in_err-query_all.field-0.0 tt (λ h. h) (find_fails old new c.args.number c.in_err-query_all.field-0.0 rest.1.schema fails)))

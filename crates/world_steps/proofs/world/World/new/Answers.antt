@@ -1,5 +1,6 @@
 use Rattle.std.proofs.Common.{◌≡◌, ℕ, ◌≤◌, List, [], ◌∷◌, ◌++◌, Some, length, length-append, subst, sym, ap, ◌∙◌, arith}
 use Rattle.std.specs.Prelude.{slice_get}
+use Rattle.rights_lattice.specs.Limits.{most_sites}
 use Rattle.rights_lattice.specs.Sums.{max_sites}
 use Rattle.world_steps.specs.declared.node.Node.{Node}
 use Rattle.book_core.specs.Decision.{Office}
@@ -9,7 +10,7 @@ use Rattle.world_steps.proofs.Promised.{promises_hold}
 use Rattle.world_steps.proofs.Sites.{IsOpened, opened_push, kept_opening}
 use Rattle.world_steps.proofs.world.World.new.Goals as goal
 
-few : (n : ℕ) → n ≤ 16 → n ≤ max_sites
+few : (n : ℕ) → n ≤ most_sites → n ≤ max_sites
 unfolding max_sites
 few n l = omega arith
 
@@ -30,7 +31,7 @@ loop-number-preserved c =
 
 kept : (c : goal.After-new-2) → IsKept c.loop-number.nodes.items c.new-2.result.items × (world_of c.loop-number.nodes.items c.new-2.result.items ≡ opening c.args.sites c.args.limit)
 kept c =
-    kept_opening c.args.sites c.args.limit c.loop-number.nodes.items c.new-2.result.items (few c.args.sites (omega (arith, c.count-number-end.ensures.count, c.count-number-end.ensures.at_most_16)))
+    kept_opening c.args.sites c.args.limit c.loop-number.nodes.items c.new-2.result.items (few c.args.sites (omega (arith, c.count-number-end.ensures.count, c.count-number-end.ensures.few)))
     (omega (arith, c.count-number-end.ensures.count, c.loop-number.invariant.len)) c.new-2.ensures.items c.loop-number.invariant.opened
 
 pub invariant_of-result : goal.invariant_of-result

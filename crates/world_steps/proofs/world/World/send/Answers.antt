@@ -15,14 +15,14 @@ next-requires-clause-acked c =
     acked_within c.self.inside.sites.items c.self.inside.sent.items c.number.result c.args.to c.index-node.result.now c.self.invariant
     (peer_below c.self.inside.sites.items c.self.inside.sent.items c.number.result c.args.to (peers c)) c.index-node.ensures
 
-made : (c : goal.After-put) → IsMade c.self.inside.sites.items c.self.inside.sent.items c.self.inside.sites.items (with_sent c.self.inside.sent.items c.in-Ok.due) (Send c.number.result c.args.to)
+made : (c : goal.After-put) → IsMade c.self.inside.sites.items c.self.inside.sent.items c.self.inside.sites.items (with_sent c.self.inside.sent.items c.in_ok-due.due) (Send c.number.result c.args.to)
 made c =
     let there = peers_in c.self.inside.sites.items c.self.inside.sent.items c.args.self.now c.number.result c.args.by c.args.to c.self.view_is c.number.ensures.number c.if-not-are_peers.ensures in
-    send_made c.self.inside.sites.items c.self.inside.sent.items c.number.result c.args.to c.index-node.result.now c.in-Ok.due c.self.invariant
-    (peer_below c.self.inside.sites.items c.self.inside.sent.items c.number.result c.args.to there) c.index-node.ensures there c.in-Ok.ensures.message
+    send_made c.self.inside.sites.items c.self.inside.sent.items c.number.result c.args.to c.index-node.result.now c.in_ok-due.due c.self.invariant
+    (peer_below c.self.inside.sites.items c.self.inside.sent.items c.number.result c.args.to there) c.index-node.ensures there c.in_ok-due.ensures.message
 
-sent_is : (c : goal.After-put) → with_sent c.self.inside.sent.items c.in-Ok.due ≡ c.put.new.sent.items
-sent_is c = ap (λ (sent : List Message). with_sent sent c.in-Ok.due) (sym c.make_room.ensures.items) ∙ sym c.put.ensures
+sent_is : (c : goal.After-put) → with_sent c.self.inside.sent.items c.in_ok-due.due ≡ c.put.new.sent.items
+sent_is c = ap (λ (sent : List Message). with_sent sent c.in_ok-due.due) (sym c.make_room.ensures.items) ∙ sym c.put.ensures
 
 pub invariant_of-self-2 : goal.invariant_of-self-2
 invariant_of-self-2 c = subst (λ (sent : List Message). IsKept c.self.inside.sites.items sent) (sent_is c) (made c).kept

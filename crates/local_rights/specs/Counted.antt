@@ -1,0 +1,29 @@
+-- What contracts see of a state of rights in which one site's own are kept by event. Our own.
+use Rattle.std.specs.Prelude.{◌≡◌, ℕ, ◌+◌, ◌≤◌, ◌<◌, List, IsSome, refl}
+use Rattle.std.specs.Coded.{Coded, code_by, coded_ℕ, coded×}
+use Rattle.std.specs.Map.{lookup}
+use Rattle.std.specs.Option.{unwrap_or}
+use Rattle.rights_lattice.specs.Cell.{same_event}
+use Rattle.rights_lattice.specs.Cells.{Cells, coded_cells, value_at}
+use Rattle.rights_lattice.specs.declared.cell.Cell.{Cell}
+use Rattle.local_rights.specs.Rights.{gained, spent}
+
+-- the site whose rights are kept, the values of the cells over a count of sites, and room for cells that are 0 now
+pub record CountedView : Type 0 where
+  pub me : ℕ
+  pub sites : ℕ
+  pub cells : Cells
+  pub room : ℕ
+
+abbrev pub coded_counted : Coded CountedView
+coded_counted = code_by (((ℕ × ℕ) × Cells) × ℕ) (coded× (coded× (coded× coded_ℕ coded_ℕ) coded_cells) coded_ℕ) (λ c. (((c.me, c.sites), c.cells), c.room)) (λ p. record { me = p.0.0.0; sites = p.0.0.1; cells = p.0.1; room = p.1 }) (λ _. refl)
+
+-- the number that is kept for an event, 0 where there is none
+abbrev pub left_in : List (List ℕ × ℕ) → List ℕ → ℕ
+left_in kept event = unwrap_or (lookup (same_event event) kept) 0
+
+-- the kept numbers are what the site has left, and each event with a cell that is not 0 has one
+pub record AreKept (kept : List (List ℕ × ℕ)) (sites me : ℕ) (X : Cells) : Type 0 where
+  pub me_is_site : me < sites
+  pub are_left : (event : List ℕ) → left_in kept event + spent X event me ≡ gained X event me
+  pub are_all : (event : List ℕ) (cell : Cell) → 1 ≤ value_at X event cell → IsSome (lookup (same_event event) kept)

@@ -1,0 +1,32 @@
+-- What contracts see of a keeper in memory. (Our own.)
+use Rattle.std.specs.Prelude.{◌≤◌, ◌-◌, ◌++◌, ◌∷◌, [], ℕ, List, Option, Some, None, if◌then◌else◌, refl}
+use Rattle.std.specs.Coded.{Coded, code_by, coded×, coded_ℕ, coded_list, coded_option}
+use Rattle.book_core.specs.BookCode.{coded_entry}
+use Rattle.book_core.specs.declared.entry.Entry.{Entry}
+use Rattle.sql_records.specs.contracts.list.Failing as failing
+use Rattle.sql_records.specs.declared.list.Failing.{Failing}
+
+pub record ListView : Type 0 where
+  pub kept : List Entry
+  pub failures : ℕ
+  pub failing : Option Failing
+
+abbrev pub coded_list_view : Coded ListView
+coded_list_view =
+    code_by ((List Entry × ℕ) × Option Failing) (coded× (coded× (coded_list coded_entry) coded_ℕ) (coded_option failing.the_row.coded))
+    (λ l. ((l.kept, l.failures), l.failing)) (λ p. record { kept = p.0.0; failures = p.0.1; failing = p.1 }) (λ _. refl)
+
+-- the next append is to fail
+abbrev pub FailsNext : Option Failing → Type 0
+FailsNext None = ⊥
+FailsNext (Some failing) = failing.append ≤ 1
+
+-- one append later
+abbrev pub one_less : Option Failing → Option Failing
+one_less None = None
+one_less (Some failing) = Some (record failing { append = failing.append - 1 })
+
+-- what is kept once an append failed that was to fail: the entry too, where it is stored
+abbrev pub left_by : Option Failing → List Entry → Entry → List Entry
+left_by None kept entry = kept
+left_by (Some failing) kept entry = if failing.is_stored then kept ++ entry ∷ [] else kept
