@@ -1,9 +1,10 @@
-#!/bin/sh
-# Builds the program, which proves it first; two box offices then sell from records of their own, cede by file, and are
-# looked through. Their files stay in the folder that is named at the end.
+#!/usr/bin/env bash
+# Builds the program, which proves it first; two box offices then sell from records of their own, cede by file, are looked
+# through, and sell at once behind one port (7000, or that of PORT). Their files stay in the folder that is named at the end.
 #
 # usage: two-offices.sh [PROGRAM]     PROGRAM is a boxoffice that was built before
 set -eu
+port=${PORT:-7000}
 here=$(cd "$(dirname "$0")" && pwd)
 if [ $# -gt 0 ]; then
     boxoffice=$(realpath "$1")
@@ -42,4 +43,34 @@ show list south.db gala
 show find north.db 3
 show find south.db 9
 show audit north.db south.db
+
+# Connects, once somebody listens, as the descriptor of this number.
+connect() {
+    for _ in $(seq 100); do
+        if eval "exec $1<>/dev/tcp/127.0.0.1/$port" 2> /dev/null; then return; fi
+        sleep 0.1
+    done
+    echo "nobody listens at port $port" >&2
+    exit 1
+}
+
+# Shows a line that a caller sends, and what it is answered.
+call() {
+    echo "$2" >&"$1"
+    read -r reply <&"$1"
+    printf '    %s\n' "$2"$'\t'"$reply" | expand -t 36
+}
+
+echo "\$ boxoffice serve $port 2 10 north.db south.db &"
+"$boxoffice" serve "$port" 2 10 north.db south.db &
+serving=$!
+trap 'kill $serving 2> /dev/null || true' EXIT
+connect 3
+connect 4
+call 3 'sell 6 gala 50'
+call 4 'sell 3 gala 1'
+echo quit >&3
+echo quit >&4
+wait $serving
+trap - EXIT
 echo "The records are plain SQLite files: sqlite3 $folder/north.db 'SELECT * FROM entries'"

@@ -34,6 +34,8 @@ mod scripts;
 #[cfg(test)]
 mod served;
 #[cfg(test)]
+mod serving;
+#[cfg(test)]
 mod sessions;
 #[cfg(test)]
 mod sites;

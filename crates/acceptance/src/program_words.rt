@@ -59,10 +59,12 @@ fn words(rt: HostRuntime) {
     );
 }
 
-// The files of an audit, in their order, or none for another command.
+// The files of several sites, in their order, or none for another command.
 fn files<'a>(rt: &impl Abort, alloc: Global, words: &'a [&'a str]) -> Vec<&'a str> {
     match order(rt, alloc, words) {
-        Order::Audit { files } => Vec::from_slice(alloc, files.as_slice()).expect(rt, "memory"),
+        Order::Audit { files } | Order::Serve { files, .. } => {
+            Vec::from_slice(alloc, files.as_slice()).expect(rt, "memory")
+        }
         _ => Vec::new(alloc),
     }
 }
@@ -77,6 +79,29 @@ fn words_of_several_files(rt: HostRuntime) {
     words[0] = "boxoffice";
     words[1] = "audit";
     assert_eq!(rt; files(&rt, rt.alloc(), &words).len(), 16);
+}
+
+// The port, the sessions and the rounds of the command that serves.
+fn serving(rt: &impl Abort, alloc: Global, words: &[&str]) -> (u16, usize, u64) {
+    match order(rt, alloc, words) {
+        Order::Serve {
+            port,
+            sessions,
+            rounds,
+            ..
+        } => (port, sessions, rounds),
+        _ => panic!(rt; "the words serve"),
+    }
+}
+
+#[test]
+fn words_of_serving(rt: HostRuntime) {
+    let least = ["boxoffice", "serve", "1", "0", "0", "b.db", "a.db"];
+    assert_eq!(rt; serving(&rt, rt.alloc(), &least), (1, 0, 0));
+    let found = files(&rt, rt.alloc(), &least);
+    assert_eq!(rt; found.as_slice(), ["b.db", "a.db"].as_slice());
+    let most = ["boxoffice", "serve", "65535", "1024", "1000000", "a.db"];
+    assert_eq!(rt; serving(&rt, rt.alloc(), &most), (65_535, 1024, 1_000_000));
 }
 
 // What is told of words that are no command.
@@ -133,7 +158,7 @@ fn words_not_understood(rt: HostRuntime) -> Result<(), Fail> {
 #[test]
 fn numbers_out_of_limit(rt: HostRuntime) -> Result<(), Fail> {
     let number = "error: NUMBER is the number of a request, 1 to 1000000000000\n";
-    let cases: [(&[&str], &str); 8] = [
+    let cases: [(&[&str], &str); 11] = [
         (
             &["boxoffice", "init", "a.db", "64", "2", "9"],
             "error: ME is the number of a site, 0 to 63\n",
@@ -153,6 +178,18 @@ fn numbers_out_of_limit(rt: HostRuntime) -> Result<(), Fail> {
         (
             &["boxoffice", "export", "a.db", "64"],
             "error: TO is the number of a site, 0 to 63\n",
+        ),
+        (
+            &["boxoffice", "serve", "0", "1", "1", "a.db"],
+            "error: PORT is the number of a port, 1 to 65535\n",
+        ),
+        (
+            &["boxoffice", "serve", "1", "1025", "1", "a.db"],
+            "error: SESSIONS is a count of connections, 0 to 1024\n",
+        ),
+        (
+            &["boxoffice", "serve", "1", "1", "1000001", "a.db"],
+            "error: ROUNDS is a count of rounds, 0 to 1000000\n",
         ),
     ];
     for (words, wanted) in cases {

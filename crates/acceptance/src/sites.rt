@@ -18,7 +18,7 @@ use std::thread::{Threads, yield_now};
 use world_steps::audit;
 
 // The book of no entries of one of so many sites.
-fn empty_book(
+pub(crate) fn empty_book(
     rt: &impl Abort,
     alloc: Global,
     me: u64,

@@ -1,28 +1,34 @@
 //! The program `boxoffice`: box offices at several sites that sell the same seats.
 #![tactic(auto)]
 
+mod connections;
 mod files;
 
+use crate::connections::visits;
 use crate::files::{Files, close, open_or_make, open_there};
 use book_core::Limit;
 use operator_cli::{
     FileNames, Order, Status, WordsFault, ask_store, audit_stores, export_store, find_store,
-    import_store, init_store, list_store, open_store, read_words, refuse_site, world_script,
+    import_store, init_store, list_store, open_store, read_words, refuse_parts, refuse_site,
+    serve_stores, tell_listen_fault, world_script,
 };
 use request_ledger::RequestNumber;
 use rights_lattice::{SiteId, Sites};
+use session_server::listen;
 use site_desk::SiteBook;
 use sql_records::Records;
 use sqlite_std_file::{Start, Unknown};
 use std::alloc::{AllocError, Global};
 use std::env;
 use std::io::{BufWriter, ErrorKind, Stdout};
+use std::net::{Net, TcpListener, TcpStream};
 use std::process::ExitCode;
 use std::sync::Wait;
+use std::thread::Threads;
 
 /// What a file and its log are taken to hold as the program opens them, whichever file it is.
 trait Begins {
-    type First: Start;
+    type First: Start + Send;
 
     fn first(&self) -> Self::First;
 }
@@ -198,10 +204,40 @@ fn run_audit<S: Start>(
     Ok(close_all(rt, status, sites))
 }
 
-// An error is the status of a command that could not begin, and whose fault was told.
-fn run_order<S: Start>(
+// All sites are opened, and are known to be all, before anybody can connect.
+fn run_serve<S: Start + Send>(
     rt: &HostRuntime,
-    waiter: &impl Wait,
+    host: &(impl Threads + Wait + Sync + Net<Listener = TcpListener, Stream = TcpStream>),
+    files: &FileNames<'_>,
+    (port, sessions, rounds): (u16, usize, u64),
+    start: &impl Begins<First = S>,
+) -> Result<Status, Status> {
+    let mut out = buffered(rt)?;
+    let mut err = rt.stderr();
+    let mut sites = Vec::new(rt.alloc());
+    if let Err(status) = open_all(rt, files, start, &mut sites) {
+        return Ok(close_all(rt, status, sites));
+    }
+    if let Some(status) = refuse_parts(rt.alloc(), sites.as_slice(), &mut out, &mut err) {
+        return Ok(close_all(rt, status, sites));
+    }
+    let streams = match listen(host, rt.alloc(), port, sessions) {
+        Ok(streams) => streams,
+        Err(fault) => return Ok(close_all(rt, tell_listen_fault(fault, &mut err), sites)),
+    };
+    let Ok(visits) = visits(rt.alloc(), streams.as_slice()) else {
+        return Ok(close_all(rt, out_of_memory(rt), sites));
+    };
+    match serve_stores(host, rt.alloc(), sites, visits, rounds, &mut out, &mut err) {
+        (status, Some(sites)) => Ok(close_all(rt, status, sites)),
+        (status, None) => Ok(status),
+    }
+}
+
+// An error is the status of a command that could not begin, and whose fault was told.
+fn run_order<S: Start + Send>(
+    rt: &HostRuntime,
+    host: &(impl Threads + Wait + Sync + Net<Listener = TcpListener, Stream = TcpStream>),
     order: Order<'_>,
     start: &impl Begins<First = S>,
 ) -> Result<Status, Status> {
@@ -213,23 +249,29 @@ fn run_order<S: Start>(
             sites,
             limit,
         } => run_init(rt, file, me, sites, limit, start.first()),
-        Order::Ask { file } => run_ask(rt, waiter, file, start.first()),
+        Order::Ask { file } => run_ask(rt, host, file, start.first()),
         Order::Find { file, number } => run_find(rt, file, number, start.first()),
         Order::List { file, event } => run_list(rt, file, event, start.first()),
         Order::Export { file, to } => run_export(rt, file, to, start.first()),
         Order::Import { file } => run_import(rt, file, start.first()),
         Order::Audit { files } => run_audit(rt, &files, start),
+        Order::Serve {
+            port,
+            sessions,
+            rounds,
+            files,
+        } => run_serve(rt, host, &files, (port, sessions, rounds), start),
     }
 }
 
-fn run<S: Start>(
+fn run<S: Start + Send>(
     rt: &HostRuntime,
-    waiter: &impl Wait,
+    host: &(impl Threads + Wait + Sync + Net<Listener = TcpListener, Stream = TcpStream>),
     words: &[&str],
     start: &impl Begins<First = S>,
 ) -> Status {
     match read_words(rt.alloc(), words) {
-        Ok(order) => match run_order(rt, waiter, order, start) {
+        Ok(order) => match run_order(rt, host, order, start) {
             Ok(status) | Err(status) => status,
         },
         Err(WordsFault::NotUnderstood { text }) => {
@@ -244,18 +286,18 @@ fn texts(alloc: Global, words: &[String]) -> Result<Vec<&str>, AllocError> {
     words.iter().map(|word| word.as_str()).collect(alloc)
 }
 
-fn started<S: Start>(
+fn started<S: Start + Send>(
     rt: &HostRuntime,
-    waiter: &impl Wait,
+    host: &(impl Threads + Wait + Sync + Net<Listener = TcpListener, Stream = TcpStream>),
     start: &impl Begins<First = S>,
 ) -> std::io::Result<Status> {
     let words: Vec<String> = env::args(rt)?.collect(rt.alloc())?;
     let texts = texts(rt.alloc(), &words)?;
-    Ok(run(rt, waiter, texts.as_slice(), start))
+    Ok(run(rt, host, texts.as_slice(), start))
 }
 
-// What the file holds is nobody's to know here, so the rest is proved for any first contents. Only here is the runtime
-// a handle that may wait.
+// What the files hold is nobody's to know here, so the rest is proved for any first contents. Only here is the runtime
+// a handle that may wait, start threads and take connections.
 fn main(rt: HostRuntime) -> ExitCode {
     let status = match started(&rt, &rt, &Unread) {
         Ok(status) => status,

@@ -1,3 +1,4 @@
+pub mod Adding
 pub mod BreakLaws
 pub mod EndLaws
 pub mod ExchangeLaws
@@ -7,4 +8,5 @@ pub mod PrintLaws
 pub mod Promised
 pub mod ScriptLaws
 pub mod SessionLaws
+pub mod Serves
 pub mod TotalLines

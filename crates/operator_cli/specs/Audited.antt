@@ -26,3 +26,10 @@ IsAuditText books Refused text =
     ((IsWhole books → ⊥) × (text ≡ told_line NotWhole)) ⊎ ((v o : ℕ) × IsWhole books × IsFirstAhead books v o × (text ≡ told_line (Ahead v o)))
 IsAuditText books NotUnderstood text = ⊥
 IsAuditText books Failed text = ⊥
+
+-- what is told of books that are not those of all sites
+abbrev pub IsPartsText : List BookView → Status → List ℕ → Type 0
+IsPartsText books Refused text = (IsWhole books → ⊥) × (text ≡ told_line NotWhole)
+IsPartsText books Done text = ⊥
+IsPartsText books NotUnderstood text = ⊥
+IsPartsText books Failed text = ⊥

@@ -12,3 +12,4 @@ pub mod Told
 pub mod Printed
 pub mod Exchanged
 pub mod Opened
+pub mod Serving

@@ -9,7 +9,7 @@ use Rattle.plain_words.specs.Number.{number_of}
 use Rattle.operator_cli.specs.declared.orders.Order.{Order}
 use Rattle.operator_cli.specs.declared.orders.Order.TheVariants as order
 use Rattle.operator_cli.specs.declared.orders.Misfit.{Misfit}
-use Rattle.operator_cli.specs.declared.orders.Misfit.TheVariants.{Command, File, Event, Me, Sites, Limit, Number, To, Files}
+use Rattle.operator_cli.specs.declared.orders.Misfit.TheVariants.{Command, File, Event, Me, Sites, Limit, Number, To, Files, Port, Sessions, Rounds}
 use Rattle.operator_cli.specs.declared.orders.WordsFault.{WordsFault}
 use Rattle.operator_cli.specs.declared.orders.WordsFault.TheVariants.{NotUnderstood, Memory}
 
@@ -49,6 +49,9 @@ import_app = taking (new_app (codes "import")) (codes "FILE")
 abbrev pub audit_app : App
 audit_app = with_rule (new_app (codes "audit")) (operands (codes "FILE"))
 
+abbrev pub serve_app : App
+serve_app = with_rule (taking (taking (taking (new_app (codes "serve")) (codes "PORT")) (codes "SESSIONS")) (codes "ROUNDS")) (operands (codes "FILE"))
+
 -- a command that is not used alone
 abbrev pub needing : App → App
 needing a = record a { top = record a.top { subcommand_required = true } }
@@ -58,7 +61,7 @@ abbrev pub above : App → App → App
 above a b = with_subcommand a b.top
 
 abbrev pub boxoffice : App
-boxoffice = above (above (above (above (above (above (above (above (needing (new_app (codes "boxoffice"))) world_app) init_app) ask_app) find_app) list_app) export_app) import_app) audit_app
+boxoffice = above (above (above (above (above (above (above (above (above (needing (new_app (codes "boxoffice"))) world_app) init_app) ask_app) find_app) list_app) export_app) import_app) audit_app) serve_app
 
 -- What is ordered: a command with its values, words as bytes and numbers as themselves.
 pub data Said : Type 0 where
@@ -70,6 +73,7 @@ pub data Said : Type 0 where
   SaysExport : (file : Text) (to : ℕ) → Said
   SaysImport : (file : Text) → Said
   SaysAudit : (files : List Text) → Said
+  SaysServe : (port sessions rounds : ℕ) (files : List Text) → Said
 
 abbrev pub said_by : Order → Said
 said_by order.World = SaysWorld
@@ -80,6 +84,7 @@ said_by (order.List file event) = SaysList file.now event.now
 said_by (order.Export file to) = SaysExport file.now to
 said_by (order.Import file) = SaysImport file.now
 said_by (order.Audit files) = SaysAudit (map (λ file. file.now) files.items)
+said_by (order.Serve port sessions rounds files) = SaysServe port sessions rounds (map (λ file. file.now) files.items)
 
 -- the number from low to high that the value of this name spells
 unfoldable pub number_in : Text → ℕ → ℕ → List Row → Option ℕ
@@ -138,6 +143,14 @@ audit_in rows = do
   files ← files_in rows
   Some (SaysAudit files)
 
+unfoldable pub serve_in : List Row → Option Said
+serve_in rows = do
+  port ← number_in (codes "PORT") 1 65535 rows
+  sessions ← number_in (codes "SESSIONS") 0 1024 rows
+  rounds ← number_in (codes "ROUNDS") 0 1000000 rows
+  files ← files_in rows
+  Some (SaysServe port sessions rounds files)
+
 -- the order that the command of this name gives with these values
 unfoldable pub named_order : Text → List Row → Option Said
 named_order name rows =
@@ -148,7 +161,8 @@ named_order name rows =
     if bytes_eq name (codes "list") then list_in rows else (
     if bytes_eq name (codes "export") then export_in rows else (
     if bytes_eq name (codes "import") then import_in rows else (
-    if bytes_eq name (codes "audit") then audit_in rows else None)))))))
+    if bytes_eq name (codes "audit") then audit_in rows else (
+    if bytes_eq name (codes "serve") then serve_in rows else None))))))))
 
 -- the order of the subcommand that was met
 abbrev pub order_in : Option (Text × List Row) → Option Said
@@ -177,7 +191,8 @@ values_of name =
     if bytes_eq name (codes "list") then File ∷ Event ∷ [] else (
     if bytes_eq name (codes "export") then File ∷ To ∷ [] else (
     if bytes_eq name (codes "import") then File ∷ [] else (
-    if bytes_eq name (codes "audit") then Files ∷ [] else Command ∷ [])))))))
+    if bytes_eq name (codes "audit") then Files ∷ [] else (
+    if bytes_eq name (codes "serve") then Port ∷ Sessions ∷ Rounds ∷ Files ∷ [] else Command ∷ []))))))))
 
 -- whether a value is given and in its range
 abbrev pub fits : List Row → Misfit → Bool
@@ -190,6 +205,9 @@ fits rows Limit = is_some (number_in (codes "LIMIT") 1 1000000 rows)
 fits rows Number = is_some (number_in (codes "NUMBER") 1 1000000000000 rows)
 fits rows To = is_some (number_in (codes "TO") 0 63 rows)
 fits rows Files = is_some (files_in rows)
+fits rows Port = is_some (number_in (codes "PORT") 1 65535 rows)
+fits rows Sessions = is_some (number_in (codes "SESSIONS") 0 1024 rows)
+fits rows Rounds = is_some (number_in (codes "ROUNDS") 0 1000000 rows)
 
 -- the first of the values that does not fit
 abbrev pub first_misfit : List Misfit → List Row → Option Misfit
@@ -212,6 +230,9 @@ misfit_line Limit = codes "error: LIMIT is a count of entries, 1 to 1000000\n"
 misfit_line Number = codes "error: NUMBER is the number of a request, 1 to 1000000000000\n"
 misfit_line To = codes "error: TO is the number of a site, 0 to 63\n"
 misfit_line Files = codes "error: FILE is given 1 to 16 times\n"
+misfit_line Port = codes "error: PORT is the number of a port, 1 to 65535\n"
+misfit_line Sessions = codes "error: SESSIONS is a count of connections, 0 to 1024\n"
+misfit_line Rounds = codes "error: ROUNDS is a count of rounds, 0 to 1000000\n"
 
 -- it is told, or memory was wanted for its line
 abbrev pub TellsMisfit : Misfit → WordsFault → Type 0

@@ -31,7 +31,7 @@ of_talk_fault talk.Write = fault.Write
 of_talk_fault talk.TooLong = fault.TooManyLines
 of_talk_fault talk.LineTooLong = fault.LineTooLong
 of_talk_fault talk.Memory = fault.Memory
-of_talk_fault talk.NotStarted = fault.Memory
+of_talk_fault talk.NotStarted = fault.NotStarted
 
 -- what a session that ended so comes to
 abbrev pub status_of : Result Ended TalkFault → Result Status StoreFault

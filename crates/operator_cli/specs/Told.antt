@@ -35,6 +35,13 @@ store_fault_text fault.Read = codes "read"
 store_fault_text fault.Write = codes "write"
 store_fault_text fault.LineTooLong = codes "line-too-long"
 store_fault_text fault.TooManyLines = codes "too-many-lines"
+store_fault_text fault.Bind = codes "bind"
+store_fault_text fault.Accept = codes "accept"
+store_fault_text fault.NotStarted = codes "not-started"
+store_fault_text fault.SeatsOut = codes "seats-out"
+store_fault_text (fault.Stranger at) = codes "stranger " ++ decimal at
+store_fault_text (fault.StrangerSeen at) = codes "stranger-seen " ++ decimal at
+store_fault_text (fault.Closed site) = codes "closed " ++ decimal site
 
 abbrev pub store_fault_line : StoreFault → List ℕ
 store_fault_line f = store_fault_text f ++ 10 ∷ []

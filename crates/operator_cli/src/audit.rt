@@ -1,18 +1,19 @@
 //! The command `audit`: what all sites released, sold and took back, from their stopped books.
 
-ghost use Rattle.std.specs.Prelude.{◌≡◌, ◌≢◌, ◌⊎◌, IfOk, IfErr, map};
+ghost use Rattle.std.specs.Prelude.{◌≡◌, ◌≢◌, ◌⊎◌, IfOk, IfErr, IfSome, MatchOption, None, map};
+ghost use Rattle.std.specs.Io.KnownBytes.{Keeps};
 ghost use Rattle.operator_cli.specs.declared.status.Status.TheVariants.{Done, Failed};
 ghost use Rattle.operator_cli.specs.declared.store_fault.StoreFault.TheVariants.{Write as WriteFailed, Memory as NoMemory};
-ghost use Rattle.world_steps.specs.Audit.{AreNotOversold, books_of};
+ghost use Rattle.world_steps.specs.Audit.{AreNotOversold, IsWhole, books_of};
 ghost use Rattle.operator_cli.specs.Told.{FaultTold};
 ghost use Rattle.operator_cli.specs.Opened.{FailsFor};
 ghost use Rattle.operator_cli.specs.Printed.{Printed};
-ghost use Rattle.operator_cli.specs.Audited.{AreSums, IsAuditText, sum_lines};
+ghost use Rattle.operator_cli.specs.Audited.{AreSums, IsAuditText, IsPartsText, sum_lines};
 
 use crate::ending::{ended, write_line};
 use crate::status::Status;
 use crate::store_fault::StoreFault;
-use crate::told::{ended_by_audit, tell};
+use crate::told::{Told, ended_by_audit, tell};
 use crate::totals::total_line;
 use book_core::Book;
 use local_rights::Totals;
@@ -21,7 +22,7 @@ use site_desk::SiteBook;
 use sql_records::Keeper;
 use std::alloc::{AllocError, Global};
 use std::io::Write;
-use world_steps::audit;
+use world_steps::{audit, is_whole};
 
 // A line for each event with its sums.
 fn write_sums<W: Write>(sums: &[(Event, Totals)], out: &mut W) -> Result<Status, StoreFault>
@@ -99,4 +100,45 @@ pub fn audit_stores<K: Keeper, W: Write, E: Write>(
 {
     let came = audit_all(alloc, sites, out);
     ended(came, out, err)
+}
+
+// Tells `not-whole` where the books are not those of all sites.
+fn refused_parts<K: Keeper, W: Write>(
+    alloc: Global,
+    sites: &[SiteBook<K>],
+    out: &mut W,
+) -> Result<Option<Status>, StoreFault>
+    ensures out { IfOk result (λ refused. MatchOption refused
+        (IsWhole (map (λ site. site.book) sites.now) × Keeps (W.contents out.old) (W.contents out.new))
+        (Printed (IsPartsText (map (λ site. site.book) sites.now)) (W.contents out.old) (W.contents out.new))) }
+    ensures fault { IfErr result (λ fault. (fault ≡ NoMemory) ⊎ (fault ≡ WriteFailed)) }
+    ensures ends { IfOk result (λ refused. IfSome refused (λ status. status ≢ Failed)) }
+{
+    let books = books_in(alloc, sites)?;
+    if is_whole(books.as_slice()) {
+        return Ok(None);
+    }
+    Ok(Some(tell(&Told::NotWhole, out)?))
+}
+
+/// Prints `not-whole`, with status 1, where the books are not those of all sites, and nothing where they are.
+///
+/// They are where the k-th is that of site k, and counts as many sites as there are books. Want of memory and a writer that
+/// fails are told on `err`, with status 3.
+pub fn refuse_parts<K: Keeper, W: Write, E: Write>(
+    alloc: Global,
+    sites: &[SiteBook<K>],
+    out: &mut W,
+    err: &mut E,
+) -> Option<Status>
+    ensures whole { result ≡ None → IsWhole (map (λ site. site.book) sites.now) × Keeps (W.contents out.old) (W.contents out.new) × Keeps (E.contents err.old) (E.contents err.new) }
+    ensures out { IfSome result (Printed (IsPartsText (map (λ site. site.book) sites.now)) (W.contents out.old) (W.contents out.new)) }
+    ensures err { IfSome result (FaultTold (E.contents err.old) (E.contents err.new)) }
+    ensures cause { IfSome result (FailsFor (λ fault. (fault ≡ NoMemory) ⊎ (fault ≡ WriteFailed)) (E.contents err.old) (E.contents err.new)) }
+{
+    match refused_parts(alloc, sites, out) {
+        Ok(None) => None,
+        Ok(Some(status)) => Some(ended(Ok(status), out, err)),
+        Err(fault) => Some(ended(Err(fault), out, err)),
+    }
 }

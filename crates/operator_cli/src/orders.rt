@@ -3,7 +3,7 @@
 ghost use Rattle.std.specs.Prelude.{◌≡◌, ◌≤◌, [], ◌∷◌, IfSome, IfOk, OnOk, IfErr, MatchResult, Some, None, map, codes};
 ghost use Rattle.std.specs.Option.{option_map};
 ghost use Rattle.clap.specs.Words.{subcommand_of, subcommand_rows_of, kind_of, all_of, first_of, found_of, rows_of};
-ghost use Rattle.operator_cli.specs.Orders.{boxoffice, AreUnderstood, order_in, said_by, number_in, init_in, ask_in, find_in, list_in, export_in, import_in, files_in, audit_in, named_order, values_of, first_misfit, misfit_in, misfit_line, TellsMisfit, IsRefusal};
+ghost use Rattle.operator_cli.specs.Orders.{boxoffice, AreUnderstood, order_in, said_by, number_in, init_in, ask_in, find_in, list_in, export_in, import_in, files_in, audit_in, serve_in, named_order, values_of, first_misfit, misfit_in, misfit_line, TellsMisfit, IsRefusal};
 
 use crate::words::boxoffice;
 use arrayvec::ArrayVec;
@@ -57,6 +57,14 @@ pub enum Order<'a> {
     Audit {
         files: FileNames<'a>,
     },
+    /// Sells at all sites at once, over so many connections to a port, while each site sends what is due to the others so
+    /// often.
+    Serve {
+        port: u16,
+        sessions: usize,
+        rounds: u64,
+        files: FileNames<'a>,
+    },
 }
 
 /// Why the words give no command.
@@ -81,6 +89,9 @@ enum Misfit {
     Number,
     To,
     Files,
+    Port,
+    Sessions,
+    Rounds,
 }
 
 // The line that tells it.
@@ -97,6 +108,9 @@ fn misfit_line(misfit: Misfit) -> &'static str
         Misfit::Number => "error: NUMBER is the number of a request, 1 to 1000000000000\n",
         Misfit::To => "error: TO is the number of a site, 0 to 63\n",
         Misfit::Files => "error: FILE is given 1 to 16 times\n",
+        Misfit::Port => "error: PORT is the number of a port, 1 to 65535\n",
+        Misfit::Sessions => "error: SESSIONS is a count of connections, 0 to 1024\n",
+        Misfit::Rounds => "error: ROUNDS is a count of rounds, 0 to 1000000\n",
     }
 }
 
@@ -232,6 +246,37 @@ fn audit_of<'a>(values: &ArgMatches<'a>) -> Result<Order<'a>, Misfit>
     Ok(Order::Audit { files })
 }
 
+fn port_of(values: &ArgMatches<'_>) -> Option<u16>
+    ensures { result ≡ number_in (codes "PORT") 1 65535 (rows_of (found_of values.now)) }
+{
+    let port = number_of(values, "PORT", 1, 65_535)?;
+    Some(port as u16)
+}
+
+fn sessions_of(values: &ArgMatches<'_>) -> Option<usize>
+    ensures { result ≡ number_in (codes "SESSIONS") 0 1024 (rows_of (found_of values.now)) }
+{
+    let sessions = number_of(values, "SESSIONS", 0, 1024)?;
+    Some(sessions as usize)
+}
+
+#[tactic(auto, unfolding(crate::specs::Orders::serve_in))]
+fn serve_of<'a>(values: &ArgMatches<'a>) -> Result<Order<'a>, Misfit>
+    ensures order { MatchResult result (λ order. serve_in (rows_of (found_of values.now)) ≡ Some (said_by order)) (λ _. serve_in (rows_of (found_of values.now)) ≡ None) }
+    ensures misfit { IfErr result (λ misfit. first_misfit (Misfit.Port ∷ Misfit.Sessions ∷ Misfit.Rounds ∷ Misfit.Files ∷ []) (rows_of (found_of values.now)) ≡ Some misfit) }
+{
+    let port = port_of(values).ok_or(Misfit::Port)?;
+    let sessions = sessions_of(values).ok_or(Misfit::Sessions)?;
+    let rounds = number_of(values, "ROUNDS", 0, 1_000_000).ok_or(Misfit::Rounds)?;
+    let files = files_of(values).ok_or(Misfit::Files)?;
+    Ok(Order::Serve {
+        port,
+        sessions,
+        rounds,
+        files,
+    })
+}
+
 #[tactic(auto, unfolding(crate::specs::Orders::named_order, crate::specs::Orders::values_of))]
 fn named_order<'a>(name: &str, values: &ArgMatches<'a>) -> Result<Order<'a>, Misfit>
     ensures order { MatchResult result (λ order. named_order name.now (rows_of (found_of values.now)) ≡ Some (said_by order)) (λ _. named_order name.now (rows_of (found_of values.now)) ≡ None) }
@@ -253,6 +298,8 @@ fn named_order<'a>(name: &str, values: &ArgMatches<'a>) -> Result<Order<'a>, Mis
         import_of(values)
     } else if name == "audit" {
         audit_of(values)
+    } else if name == "serve" {
+        serve_of(values)
     } else {
         Err(Misfit::Command)
     }

@@ -6,7 +6,10 @@ ghost use Rattle.std.specs.Fmt.{signed_decimal};
 ghost use Rattle.operator_cli.specs.Told.{store_fault_text, store_fault_line};
 
 use plain_words::{Text, numbered, put, put_number, word};
-use session_server::TalkFault;
+use rights_lattice::SiteId;
+use session_server::{ExchangeFault, ListenFault, TalkFault};
+use site_desk::FinishFault;
+use std::alloc::AllocError;
 
 /// What ends a command over records early, and is told on standard error.
 #[derive(Clone, Copy, Debug, PartialEq, Eq)]
@@ -29,6 +32,31 @@ pub(crate) enum StoreFault {
     LineTooLong,
     /// A session has more than 1,000,000 lines.
     TooManyLines,
+    /// The port could not be taken.
+    Bind,
+    /// A connection could not be taken.
+    Accept,
+    /// A thread could not be started.
+    NotStarted,
+    /// The sessions of a site do not have all that was entered at it.
+    SeatsOut,
+    /// A site's receipt at this place, over all its sessions, is not in its history.
+    Stranger { at: u64 },
+    /// A site's look at this place, over all its sessions, does not show what its history says.
+    StrangerSeen { at: u64 },
+    /// The site's book is closed, since an entry could not be stored.
+    Closed { site: SiteId },
+}
+
+impl From<AllocError> for StoreFault {
+    ghost use Rattle.std.specs.Prelude.{◌≡◌};
+    ghost use Rattle.operator_cli.specs.declared.store_fault.StoreFault.TheVariants.{Memory};
+
+    ghost from_gives = { λ _ fault. fault ≡ Memory };
+
+    fn from(_fault: AllocError) -> StoreFault {
+        StoreFault::Memory
+    }
 }
 
 impl From<TalkFault> for StoreFault {
@@ -43,7 +71,52 @@ impl From<TalkFault> for StoreFault {
             TalkFault::Write => StoreFault::Write,
             TalkFault::TooLong => StoreFault::TooManyLines,
             TalkFault::LineTooLong => StoreFault::LineTooLong,
-            TalkFault::Memory | TalkFault::NotStarted => StoreFault::Memory,
+            TalkFault::Memory => StoreFault::Memory,
+            TalkFault::NotStarted => StoreFault::NotStarted,
+        }
+    }
+}
+
+impl From<ListenFault> for StoreFault {
+    ghost use Rattle.std.specs.Prelude.{◌≡◌};
+    ghost use Rattle.operator_cli.specs.Serving.{of_listen_fault};
+
+    ghost from_gives = { λ listen fault. fault ≡ of_listen_fault listen };
+
+    fn from(fault: ListenFault) -> StoreFault {
+        match fault {
+            ListenFault::Bind => StoreFault::Bind,
+            ListenFault::Accept => StoreFault::Accept,
+            ListenFault::Memory => StoreFault::Memory,
+        }
+    }
+}
+
+impl From<ExchangeFault> for StoreFault {
+    ghost use Rattle.std.specs.Prelude.{◌≡◌};
+    ghost use Rattle.operator_cli.specs.Serving.{of_exchange_fault};
+
+    ghost from_gives = { λ exchange fault. fault ≡ of_exchange_fault exchange };
+
+    fn from(fault: ExchangeFault) -> StoreFault {
+        match fault {
+            ExchangeFault::Memory => StoreFault::Memory,
+            ExchangeFault::NotStarted => StoreFault::NotStarted,
+        }
+    }
+}
+
+impl From<FinishFault> for StoreFault {
+    ghost use Rattle.std.specs.Prelude.{◌≡◌};
+    ghost use Rattle.operator_cli.specs.Serving.{of_finish_fault};
+
+    ghost from_gives = { λ finish fault. fault ≡ of_finish_fault finish };
+
+    fn from(fault: FinishFault) -> StoreFault {
+        match fault {
+            FinishFault::SeatsOut => StoreFault::SeatsOut,
+            FinishFault::Stranger { at } => StoreFault::Stranger { at: at as u64 },
+            FinishFault::StrangerSeen { at } => StoreFault::StrangerSeen { at: at as u64 },
         }
     }
 }
@@ -77,6 +150,13 @@ fn store_fault_text(fault: StoreFault) -> Text
         StoreFault::Write => word(b"write"),
         StoreFault::LineTooLong => word(b"line-too-long"),
         StoreFault::TooManyLines => word(b"too-many-lines"),
+        StoreFault::Bind => word(b"bind"),
+        StoreFault::Accept => word(b"accept"),
+        StoreFault::NotStarted => word(b"not-started"),
+        StoreFault::SeatsOut => word(b"seats-out"),
+        StoreFault::Stranger { at } => numbered(b"stranger ", at),
+        StoreFault::StrangerSeen { at } => numbered(b"stranger-seen ", at),
+        StoreFault::Closed { site } => numbered(b"closed ", site.number()),
     }
 }
 

@@ -3,7 +3,7 @@
 ghost use Rattle.std.specs.Prelude.{◌≡◌, IfOk, false, codes};
 ghost use Rattle.clap.specs.Words.{app_of, new_app, rule_of};
 ghost use Rattle.clap.specs.declared.builder.command.Command.TheViews.{out-Command as fields_of};
-ghost use Rattle.operator_cli.specs.Orders.{operand, boxoffice, init_app, ask_app, find_app, list_app, export_app, import_app, audit_app};
+ghost use Rattle.operator_cli.specs.Orders.{operand, boxoffice, init_app, ask_app, find_app, list_app, export_app, import_app, audit_app, serve_app, operands};
 
 use clap::{Arg, Command};
 use std::alloc::{AllocError, Global};
@@ -27,6 +27,13 @@ fn file<'a>(alloc: Global) -> Arg<'a>
     ensures local { result.global ≡ false }
 {
     operand(alloc, "FILE", "The file of a site's records")
+}
+
+fn files<'a>(alloc: Global) -> Arg<'a>
+    ensures rule { rule_of result ≡ operands (codes "FILE") }
+    ensures local { result.global ≡ false }
+{
+    file(alloc).num_args(1..=16)
 }
 
 fn init<'a>(alloc: Global) -> Result<Command<'a>, AllocError>
@@ -112,7 +119,33 @@ fn audit<'a>(alloc: Global) -> Result<Command<'a>, AllocError>
         "audit",
         "Sums up the records of all sites, the k-th file those of site k",
     )
-    .arg(file(alloc).num_args(1..=16))
+    .arg(files(alloc))
+}
+
+fn serve<'a>(alloc: Global) -> Result<Command<'a>, AllocError>
+    ensures app { IfOk result (λ command. app_of command ≡ serve_app) }
+    ensures local { IfOk result (λ command. (fields_of command).has_globals ≡ false) }
+{
+    let port = operand(alloc, "PORT", "The port of this machine, 1 to 65535");
+    let sessions = operand(
+        alloc,
+        "SESSIONS",
+        "How many connections are taken, 0 to 1024",
+    );
+    let rounds = operand(
+        alloc,
+        "ROUNDS",
+        "How often each site sends what is due to the others, 0 to 1000000",
+    );
+    named(
+        alloc,
+        "serve",
+        "Sells at all sites at once, over connections, and sums up at the end; the k-th file is that of site k",
+    )
+    .arg(port)?
+    .arg(sessions)?
+    .arg(rounds)?
+    .arg(files(alloc))
 }
 
 /// The program's command line.
@@ -133,6 +166,7 @@ pub(crate) fn boxoffice<'a>(alloc: Global) -> Result<Command<'a>, AllocError>
     .subcommand(list(alloc)?)?
     .subcommand(export(alloc)?)?
     .subcommand(import(alloc)?)?
-    .subcommand(audit(alloc)?)?;
+    .subcommand(audit(alloc)?)?
+    .subcommand(serve(alloc)?)?;
     Ok(whole)
 }

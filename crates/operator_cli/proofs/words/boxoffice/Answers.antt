@@ -18,4 +18,5 @@ returns c =
     let list = c.in_ok-subcommand-5.ensures.shape c.in_ok-list.ensures.local ∙ ap₂ with_subcommand find (ap top_of c.in_ok-list.ensures.app) in
     let export = c.in_ok-subcommand-6.ensures.shape c.in_ok-export.ensures.local ∙ ap₂ with_subcommand list (ap top_of c.in_ok-export.ensures.app) in
     let import = c.in_ok-subcommand-7.ensures.shape c.in_ok-import.ensures.local ∙ ap₂ with_subcommand export (ap top_of c.in_ok-import.ensures.app) in
-    c.in_ok-whole.ensures.shape c.in_ok-audit.ensures.local ∙ ap₂ with_subcommand import (ap top_of c.in_ok-audit.ensures.app)
+    let audit = c.in_ok-subcommand-8.ensures.shape c.in_ok-audit.ensures.local ∙ ap₂ with_subcommand import (ap top_of c.in_ok-audit.ensures.app) in
+    c.in_ok-whole.ensures.shape c.in_ok-serve.ensures.local ∙ ap₂ with_subcommand audit (ap top_of c.in_ok-serve.ensures.app)

@@ -1,12 +1,7 @@
-use Rattle.std.specs.Prelude.{Result, Ok, Err, IfOk}
 use Rattle.std.proofs.Common.{ap₂, ◌∙◌}
 use Rattle.clap.specs.Words.{with_rule}
+use Rattle.operator_cli.proofs.Adding.{at_ok}
 use Rattle.operator_cli.proofs.words.init.Goals as goal
-
--- what follows from P of a value follows of the result
-at_ok : {T E : Type 0} → (came : Result T E) → (P Q : T → Type 0) → ((x : T) → P x → Q x) → IfOk came P → IfOk came Q
-at_ok (Ok x) P Q f h = f x h
-at_ok (Err e) P Q f h = h
 
 pub returns-clause-app : goal.returns-clause-app
 returns-clause-app c =

@@ -1,0 +1,58 @@
+// Calls the port of this machine that is named by as many connections as are named, each from a thread of its own, and has
+// each sell a seat so often, each line behind the reply to the one before. Prints the microseconds from the first line to
+// the last reply.
+//
+// usage: callers PORT CALLERS SALES
+
+use std::io::{BufRead, BufReader, Write};
+use std::net::TcpStream;
+use std::sync::{Arc, Barrier};
+use std::thread;
+use std::time::{Duration, Instant};
+
+fn connected(port: u16) -> TcpStream {
+    loop {
+        match TcpStream::connect(("127.0.0.1", port)) {
+            Ok(stream) => return stream,
+            Err(_) => thread::sleep(Duration::from_millis(5)),
+        }
+    }
+}
+
+fn sell(stream: &TcpStream, caller: u64, sales: u64) {
+    let mut replies = BufReader::new(stream);
+    let mut out = stream;
+    let mut reply = String::new();
+    for sale in 0..sales {
+        let line = format!("sell {} gala 1\n", 10 + caller * sales + sale);
+        out.write_all(line.as_bytes()).expect("a connection");
+        reply.clear();
+        replies.read_line(&mut reply).expect("a reply");
+        assert_eq!(reply, "done\n");
+    }
+}
+
+fn main() {
+    let words: Vec<u64> = std::env::args().skip(1).map(|word| word.parse().expect("a number")).collect();
+    let (port, callers, sales) = (words[0] as u16, words[1], words[2]);
+    let streams: Vec<TcpStream> = (0..callers).map(|_| connected(port)).collect();
+    let ready = Arc::new(Barrier::new(callers as usize + 1));
+    let threads: Vec<_> = streams
+        .into_iter()
+        .enumerate()
+        .map(|(caller, stream)| {
+            let ready = ready.clone();
+            thread::spawn(move || {
+                stream.set_nodelay(true).expect("a connection");
+                ready.wait();
+                sell(&stream, caller as u64, sales);
+            })
+        })
+        .collect();
+    ready.wait();
+    let began = Instant::now();
+    for thread in threads {
+        thread.join().expect("a caller");
+    }
+    println!("{}", began.elapsed().as_micros());
+}

@@ -1,0 +1,226 @@
+#!/usr/bin/env python3
+"""Starts the built `serve` on the files of two sites, sells at both at once over loopback, and holds the audit's lines
+against what was answered and against C SQLite's view of the files.
+
+Usage: tests/serve_at_once.py [PROGRAM]     (PROGRAM: crates/boxoffice/out/boxoffice)
+
+Says what differs and ends with status 1 where anything does.
+"""
+
+import contextlib
+import os
+import shutil
+import socket
+import sqlite3
+import subprocess
+import sys
+import tempfile
+import threading
+import time
+
+HERE = os.path.dirname(os.path.abspath(__file__))
+PROGRAM = os.path.abspath(
+    sys.argv[1] if len(sys.argv) > 1 else os.path.join(HERE, "..", "crates", "boxoffice", "out", "boxoffice")
+)
+SECONDS = 60
+CALLERS = 8
+SALES = 20
+# Of 100 seats 40 are ceded to the other site, so that each has fewer than its callers ask for.
+NORTH = ["announce 1 gala", "release 2 gala 100", "cede 3 gala 40 1"]
+
+# What all sites sold, once both have sold all that they had.
+LINE = "gala released 100 sold 100 refunded 0 outstanding 100\n"
+
+failures = 0
+
+
+def same(what, found, wanted):
+    global failures
+    if found != wanted:
+        failures += 1
+        print(f"{what}: found {found!r}, wanted {wanted!r}")
+
+
+def call(folder, words, given=""):
+    done = subprocess.run(
+        [PROGRAM, *words], input=given.encode(), capture_output=True, cwd=folder, timeout=SECONDS, check=False
+    )
+    return done.returncode, done.stdout.decode(), done.stderr.decode()
+
+
+def free_port():
+    with contextlib.closing(socket.socket()) as probe:
+        probe.bind(("127.0.0.1", 0))
+        return probe.getsockname()[1]
+
+
+def offices(folder):
+    """The files of two new sites, of which the first has seats and ceded some."""
+    for me, file in enumerate(["north.db", "south.db"]):
+        same(f"init {file}", call(folder, ["init", file, str(me), "2", "1000"]), (0, "done\n", ""))
+    asked = call(folder, ["ask", "north.db"], "".join(line + "\n" for line in NORTH))
+    same("ask north.db", asked, (0, "done\n" * len(NORTH), ""))
+    return ["north.db", "south.db"]
+
+
+def started(folder, port, sessions, rounds, files):
+    return subprocess.Popen(
+        [PROGRAM, "serve", str(port), str(sessions), str(rounds), *files],
+        stdin=subprocess.DEVNULL,
+        stdout=subprocess.PIPE,
+        stderr=subprocess.PIPE,
+        cwd=folder,
+    )
+
+
+def ended(serving):
+    """What it came to; a program that does not end is ended, so that it holds no file."""
+    try:
+        out, err = serving.communicate(timeout=SECONDS)
+    finally:
+        serving.kill()
+    return serving.returncode, out.decode(), err.decode()
+
+
+def connected(port):
+    """A connection, once the program listens."""
+    end = time.monotonic() + SECONDS
+    while True:
+        try:
+            return socket.create_connection(("127.0.0.1", port), timeout=SECONDS)
+        except OSError:
+            if time.monotonic() > end:
+                raise
+            time.sleep(0.01)
+
+
+class Caller:
+    """A session over a connection: each line is sent once the reply to the one before was read."""
+
+    def __init__(self, port):
+        self.stream = connected(port)
+        self.lines = self.stream.makefile("r")
+
+    def ask(self, line):
+        self.stream.sendall(line.encode() + b"\n")
+        return self.lines.readline().rstrip("\n")
+
+    def quit(self):
+        """Whether the connection ends after `quit` with no reply, while other sessions go on."""
+        self.stream.sendall(b"quit\n")
+        return self.lines.read() == ""
+
+
+def sell(number, caller, replies):
+    """Asks for a seat at a time, once the site has some, and keeps each reply under its request's number."""
+    end = time.monotonic() + SECONDS
+    while caller.ask("left gala") == "unknown" and time.monotonic() < end:
+        time.sleep(0.01)
+    for k in range(SALES):
+        line = f"sell {number * 100 + k + 10} gala 1"
+        replies[number * 100 + k + 10] = caller.ask(line)
+    same(f"the first sale of caller {number} again", caller.ask(f"sell {number * 100 + 10} gala 1"), replies[number * 100 + 10])
+    same(f"a line of caller {number} that cannot be read", caller.ask("sell"), "bad-line")
+    same(f"caller {number} is let go", caller.quit(), True)
+
+
+def kept(folder, file):
+    with contextlib.closing(sqlite3.connect(os.path.join(folder, file))) as records:
+        asked = records.execute("SELECT number, reply, rest FROM entries WHERE verb = 'sell'").fetchall()
+        whole = records.execute("PRAGMA integrity_check").fetchall()
+    same(f"the file {file}", whole, [("ok",)])
+    return {number: reply if rest is None else f"{reply} {rest}" for number, reply, rest in asked}
+
+
+def sell_at_once(folder, files):
+    port = free_port()
+    serving = started(folder, port, CALLERS, 1000, files)
+    # The connection at each place comes to the site whose number is the place modulo the count of sites.
+    callers = [Caller(port) for _ in range(CALLERS)]
+    replies = {}
+    threads = [threading.Thread(target=sell, args=(number, caller, replies)) for number, caller in enumerate(callers)]
+    for thread in threads:
+        thread.start()
+    for thread in threads:
+        thread.join()
+    same("the end of serving", ended(serving), (0, LINE, ""))
+    same("all are answered", len(replies), CALLERS * SALES)
+    for site, file in enumerate(files):
+        at_site = {number: reply for number, reply in replies.items() if number // 100 % 2 == site}
+        same(f"what {file} has kept", kept(folder, file), at_site)
+        sold = [60, 40][site]
+        same(f"the sales at {file}", sum(reply == "done" for reply in at_site.values()), sold)
+    same("the audit behind it", call(folder, ["audit", *files]), (0, LINE, ""))
+
+
+def netcat(folder, files):
+    """A session by `nc`, whose input is a pipe, beside one at the other site."""
+    if shutil.which("nc") is None:
+        print("serve at once: there is no nc here, so no session by it")
+        return
+    port = free_port()
+    serving = started(folder, port, 2, 0, files)
+    caller = Caller(port)
+    lines = b"left gala\nsell 5000 gala 1\nquit\n"
+    told = subprocess.run(["nc", "127.0.0.1", str(port)], input=lines, capture_output=True, timeout=SECONDS, check=False)
+    same("what nc was answered", told.stdout, b"left 0\nshort 0\n")
+    same("what is left beside it", caller.ask("left gala"), "left 0")
+    same("the caller beside nc is let go", caller.quit(), True)
+    same("the end of serving nc", ended(serving), (0, LINE, ""))
+
+
+def bad_sessions(folder, files):
+    """A session that ends by a fault changes neither the status nor the others, and its connection is ended."""
+    port = free_port()
+    serving = started(folder, port, 3, 0, files)
+    long, gone, other = Caller(port), Caller(port), Caller(port)
+    same("a line too long ends its session", long.ask("a" * 201), "")
+    same("a caller that goes away", gone.ask("sell 6000 gala 1"), "short 0")
+    gone.stream.close()
+    gone.lines.close()
+    same("another session beside them", other.ask("sell 6001 gala 1"), "short 0")
+    same("it is let go", other.quit(), True)
+    same("the end of bad sessions", ended(serving), (0, LINE, ""))
+
+
+def forged(folder, files):
+    """A view above its owner's row is told in place of the sums, behind the sessions, whose sales stay."""
+    message = "delta 0 1 1\nname gala\ngave gala 0 0 1000\nend\n"
+    same("a forged message", call(folder, ["import", files[1]], message), (0, "joined\n", ""))
+    port = free_port()
+    serving = started(folder, port, 1, 0, files)
+    caller = Caller(port)
+    same("a request before it is found out", caller.ask("announce 7000 late"), "done")
+    same("the caller is let go", caller.quit(), True)
+    same("a view above its owner", ended(serving), (1, "ahead 1 0\n", ""))
+    same("what was entered stays", call(folder, ["find", files[0], "7000"])[1].split(" ", 1)[1], "done\n")
+
+
+def refusals(folder, files):
+    north, south = files
+    port = str(free_port())
+    same("one of two", call(folder, ["serve", port, "1", "0", north]), (1, "not-whole\n", ""))
+    same("in another order", call(folder, ["serve", port, "1", "0", south, north]), (1, "not-whole\n", ""))
+    same("no such file", call(folder, ["serve", port, "1", "0", north, "west.db"]), (3, "", "not-ours\n"))
+    same("no west.db is made", os.path.exists(os.path.join(folder, "west.db")), False)
+    same("a file twice", call(folder, ["serve", port, "1", "0", north, north]), (3, "", "disk\n"))
+    with contextlib.closing(socket.socket()) as taken:
+        taken.bind(("127.0.0.1", int(port)))
+        taken.listen()
+        same("a port that is taken", call(folder, ["serve", port, "0", "0", north, south]), (3, "", "bind\n"))
+    no_words = [["0", "1", "0"], ["65536", "1", "0"], [port, "1025", "0"], [port, "1", "1000001"], [port, "1"]]
+    for words in no_words:
+        same(f"serve {words}", call(folder, ["serve", *words, north, south])[:2], (2, ""))
+    no_session = call(folder, ["serve", port, "0", "1", north, south])
+    same("no session", no_session, (0, LINE, ""))
+
+
+with tempfile.TemporaryDirectory() as folder:
+    files = offices(folder)
+    sell_at_once(folder, files)
+    netcat(folder, files)
+    bad_sessions(folder, files)
+    refusals(folder, files)
+    forged(folder, files)
+print(f"serve at once: {failures} differ")
+sys.exit(1 if failures else 0)
