@@ -76,8 +76,8 @@ fn served<R: Threads + Wait + Abort + Sync>(
     let visits = visits(rt, alloc, inputs);
     let (status, left) = serve_stores(rt, alloc, books, visits, rounds, &mut out, &mut err);
     let mut lengths = Vec::new(alloc);
-    for book in left.expect(rt, "threads").as_slice() {
-        lengths.push(book.book().len()).expect(rt, "memory");
+    for end in left.expect(rt, "threads").as_slice() {
+        lengths.push(end.book.book().len()).expect(rt, "memory");
     }
     (status, out, err, lengths)
 }
@@ -100,7 +100,24 @@ fn visits_come_to_their_sites(rt: HostRuntime) {
     assert_eq!(rt; lengths.as_slice(), [4, 1].as_slice());
 }
 
-// A session that ends early changes nothing; a book that is closed is told, and nothing is printed.
+// A line of 201 bytes ends its session, with what stands behind it, and nothing else.
+#[test]
+fn a_session_ends_by_its_own_fault(rt: HostRuntime) {
+    let alloc = rt.alloc();
+    let inputs: [&'static [u8]; 2] = [
+        b"announce 1 gala\nxxxxxxxxxxxxxxxxxxxxxxxxxxxxxxxxxxxxxxxxxxxxxxxxxxxxxxxxxxxxxxxxxxxxxxxxxxxxxxxxxxxxxxxxxxxxxxxxxxxxxxxxxxxxxxxxxxxxxxxxxxxxxxxxxxxxxxxxxxxxxxxxxxxxxxxxxxxxxxxxxxxxxxxxxxxxxxxxxxxxxxxxxxxxxxxxxxxxxxxxx\nannounce 2 late\n",
+        b"announce 1 expo\n",
+    ];
+    let (status, out, err, lengths) = served(&rt, alloc, two_books(&rt, alloc), &inputs, 0);
+    assert_eq!(rt; status, Status::Done);
+    let lines =
+        b"expo released 0 sold 0 refunded 0 outstanding 0\ngala released 0 sold 0 refunded 0 outstanding 0\n";
+    assert_eq!(rt; out.as_slice(), lines.as_slice());
+    assert!(rt; err.is_empty());
+    assert_eq!(rt; lengths.as_slice(), [1, 1].as_slice());
+}
+
+// A book that is closed is told, and nothing is printed.
 #[test]
 fn a_closed_book_is_told(rt: HostRuntime) {
     let alloc = rt.alloc();

@@ -14,7 +14,7 @@ use operator_cli::{
 };
 use request_ledger::RequestNumber;
 use rights_lattice::{SiteId, Sites};
-use session_server::listen;
+use session_server::{SiteEnd, listen};
 use site_desk::SiteBook;
 use sql_records::Records;
 use sqlite_std_file::{Start, Unknown};
@@ -178,14 +178,22 @@ fn open_all<S: Start>(
     Ok(())
 }
 
-// The status of a command that came to this over several files, which are closed.
+// The status of a command that came to this over a file among others, which is closed.
+fn close_site<S: Start>(
+    rt: &HostRuntime,
+    status: Status,
+    site: SiteBook<Records<Files<S>>>,
+) -> Status {
+    close(rt, (status, Some(site.into_keeper().close())))
+}
+
 fn close_all<S: Start>(
     rt: &HostRuntime,
     mut status: Status,
     sites: Vec<SiteBook<Records<Files<S>>>>,
 ) -> Status {
     for site in sites {
-        status = close(rt, (status, Some(site.into_keeper().close())));
+        status = close_site(rt, status, site);
     }
     status
 }
@@ -204,34 +212,64 @@ fn run_audit<S: Start>(
     Ok(close_all(rt, status, sites))
 }
 
-// All sites are opened, and are known to be all, before anybody can connect.
+// All sites are opened, and are known to be all.
+fn open_whole<S: Start>(
+    rt: &HostRuntime,
+    files: &FileNames<'_>,
+    start: &impl Begins<First = S>,
+    sites: &mut Vec<SiteBook<Records<Files<S>>>>,
+    out: &mut BufWriter<Stdout>,
+) -> Result<(), Status> {
+    open_all(rt, files, start, sites)?;
+    match refuse_parts(rt.alloc(), sites.as_slice(), out, &mut rt.stderr()) {
+        Some(status) => Err(status),
+        None => Ok(()),
+    }
+}
+
+// The connections that are made to the port.
+fn callers(
+    rt: &HostRuntime,
+    host: &impl Net<Listener = TcpListener, Stream = TcpStream>,
+    port: u16,
+    sessions: usize,
+) -> Result<Vec<TcpStream>, Status> {
+    match listen(host, rt.alloc(), port, sessions) {
+        Ok(streams) => Ok(streams),
+        Err(fault) => Err(tell_listen_fault(fault, &mut rt.stderr())),
+    }
+}
+
+// Nobody can connect before all sites are open.
 fn run_serve<S: Start + Send>(
     rt: &HostRuntime,
     host: &(impl Threads + Wait + Sync + Net<Listener = TcpListener, Stream = TcpStream>),
     files: &FileNames<'_>,
-    (port, sessions, rounds): (u16, usize, u64),
+    port: u16,
+    sessions: usize,
+    rounds: u64,
     start: &impl Begins<First = S>,
 ) -> Result<Status, Status> {
     let mut out = buffered(rt)?;
-    let mut err = rt.stderr();
     let mut sites = Vec::new(rt.alloc());
-    if let Err(status) = open_all(rt, files, start, &mut sites) {
+    if let Err(status) = open_whole(rt, files, start, &mut sites, &mut out) {
         return Ok(close_all(rt, status, sites));
     }
-    if let Some(status) = refuse_parts(rt.alloc(), sites.as_slice(), &mut out, &mut err) {
-        return Ok(close_all(rt, status, sites));
-    }
-    let streams = match listen(host, rt.alloc(), port, sessions) {
+    let streams = match callers(rt, host, port, sessions) {
         Ok(streams) => streams,
-        Err(fault) => return Ok(close_all(rt, tell_listen_fault(fault, &mut err), sites)),
+        Err(status) => return Ok(close_all(rt, status, sites)),
     };
     let Ok(visits) = visits(rt.alloc(), streams.as_slice()) else {
         return Ok(close_all(rt, out_of_memory(rt), sites));
     };
-    match serve_stores(host, rt.alloc(), sites, visits, rounds, &mut out, &mut err) {
-        (status, Some(sites)) => Ok(close_all(rt, status, sites)),
-        (status, None) => Ok(status),
+    let (mut status, ends) =
+        serve_stores(host, rt.alloc(), sites, visits, rounds, &mut out, &mut rt.stderr());
+    if let Some(ends) = ends {
+        for SiteEnd { book, .. } in ends {
+            status = close_site(rt, status, book);
+        }
     }
+    Ok(status)
 }
 
 // An error is the status of a command that could not begin, and whose fault was told.
@@ -260,7 +298,7 @@ fn run_order<S: Start + Send>(
             sessions,
             rounds,
             files,
-        } => run_serve(rt, host, &files, (port, sessions, rounds), start),
+        } => run_serve(rt, host, &files, port, sessions, rounds, start),
     }
 }
 

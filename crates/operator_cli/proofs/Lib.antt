@@ -1,5 +1,7 @@
 pub mod Adding
 pub mod BreakLaws
+pub mod BrokenOff
+pub mod Dealing
 pub mod EndLaws
 pub mod ExchangeLaws
 pub mod Inputs

@@ -5,7 +5,7 @@ use Rattle.std.specs.List.{join_with_byte}
 use Rattle.std.specs.Io.KnownBytes.{Appends, Keeps}
 use Rattle.std.proofs.KnownBytes.{Appends-trans, Appends-nil, Appends-kept, Keeps-refl}
 use Rattle.std.proofs.lemmas.Bool.{cases_lt}
-use Rattle.plain_words.specs.Input.{lines_of, Between, BeginsTooLong, LineGives, End, AtEnd, AtLongLine, AtTooMany, Taken, taken, with_line, none_taken}
+use Rattle.plain_words.specs.Input.{longest_line, lines_of, Between, BeginsTooLong, LineGives, End, AtEnd, AtLongLine, AtTooMany, Taken, taken, with_line, none_taken}
 use Rattle.plain_words.specs.Writing.{AppendsFront, Writes}
 use Rattle.plain_words.specs.declared.lines.LineFault.{LineFault}
 use Rattle.plain_words.specs.declared.lines.LineFault.TheVariants as line_fault
@@ -104,7 +104,7 @@ printed_longer AtTooMany some whole lines rest a b e p = p
 -- ---- one line
 
 -- a reply line that went out in part
-pub reply_broken : (a b old new : Option Text) (w : World) (line : Text) (f : ScriptFault) → length line ≤ 200 → Between a b (λ xs ys. lines_of xs ≡ line ∷ lines_of ys)
+pub reply_broken : (a b old new : Option Text) (w : World) (line : Text) (f : ScriptFault) → length line ≤ longest_line → Between a b (λ xs ys. lines_of xs ≡ line ∷ lines_of ys)
     → AppendsFront old new (reply_line (answer_to w (line_of line)).0) → IsOutFault f → IfSome a (λ xs. (more : ℕ) → EndsEarly Always (answers w) (run w) (taken (suc more) (lines_of xs)) old new f)
 reply_broken None b old new w line f short p q h = tt
 reply_broken (Some x) None old new w line f short p q h = absurd p
@@ -121,10 +121,10 @@ start_none None b p = tt
 start_none (Some x) None p = absurd p
 start_none (Some x) (Some y) p = (λ w. subst StartsWell p.0 w, λ w. subst BeginsTooLong p.0 w)
 
-not_too_long : (line : Text) (lines : Lines) → length line ≤ 200 → BeginsTooLong (line ∷ lines) → ⊥
+not_too_long : (line : Text) (lines : Lines) → length line ≤ longest_line → BeginsTooLong (line ∷ lines) → ⊥
 not_too_long line lines short long = absurd (omega arith)
 
-pub start_ran : (a b : Option Text) (line : Text) (r : Option ℕ) → length line ≤ 200 → Between a b (λ xs ys. lines_of xs ≡ line ∷ lines_of ys)
+pub start_ran : (a b : Option Text) (line : Text) (r : Option ℕ) → length line ≤ longest_line → Between a b (λ xs ys. lines_of xs ≡ line ∷ lines_of ys)
     → IfSome r (λ n. IsSites n × (line ≡ join_with_byte 32 (sites_words n))) → ((n : ℕ) → IsSites n → line ≡ join_with_byte 32 (sites_words n) → r ≡ Some n) → r ≡ sites_of line
     → StartRan a b (Ok r)
 start_ran None b line None short p found only exact = tt
@@ -173,7 +173,7 @@ begins input old start = record { lines = []; counted = refl; short = tt; read =
     unread None = tt
     unread (Some xs) = refl
 
-AreShort-push : (lines : Lines) (line : Text) → AreShort lines → length line ≤ 200 → AreShort (lines ++ line ∷ [])
+AreShort-push : (lines : Lines) (line : Text) → AreShort lines → length line ≤ longest_line → AreShort (lines ++ line ∷ [])
 AreShort-push [] line h short = (short, tt)
 AreShort-push (l ∷ lines) line h short = (h.0, AreShort-push lines line h.1 short)
 
@@ -329,7 +329,7 @@ second_done most sites second (Some x) old mid new new' w w' h k out =
 
 -- ---- the lines behind the first
 
-pub sites_second : (most sites : ℕ) (second : Text) (a b old new : Option Text) (r : Result (Unit {0}) ScriptFault) → length second ≤ 200 → Between a b (λ xs ys. lines_of xs ≡ second ∷ lines_of ys)
+pub sites_second : (most sites : ℕ) (second : Text) (a b old new : Option Text) (r : Result (Unit {0}) ScriptFault) → length second ≤ longest_line → Between a b (λ xs ys. lines_of xs ≡ second ∷ lines_of ys)
     → SecondRan most sites second b old new r → SitesRan (suc most) sites a old new r
 sites_second most sites second None b old new (Ok u) short p h = tt
 sites_second most sites second None b old new (Err f) short p h = tt
@@ -370,7 +370,7 @@ unfolding script
 script_done None b old new n h k = tt
 script_done (Some x) None old new n h k = absurd h
 script_done (Some x) (Some y) old new n h k =
-    let t = ap (taken 1000000) h.1 ∙ taken-line 999999 h.0 (lines_of y) h.2 in (
+    let t = ap (taken most_lines) h.1 ∙ taken-line 999999 h.0 (lines_of y) h.2 in (
       ap (λ (u : Taken). u.end) t ∙ k.0,
       h.4,
       subst (Appends old new) (ap (run_at n) (taken-whole 999999 (lines_of y) k.0) ∙ sym (started_whole h.0 n (lines_of y) h.3) ∙ ap script_of_lines (sym h.1)) k.1,
@@ -383,7 +383,7 @@ pub script_broken : (a b old new : Option Text) (n : ℕ) (f : ScriptFault) → 
 script_broken None b old new n f h k = tt
 script_broken (Some x) None old new n f h k = absurd h
 script_broken (Some x) (Some y) old new n f h k =
-    let t = ap (taken 1000000) h.1 ∙ taken-line 999999 h.0 (lines_of y) h.2 in
+    let t = ap (taken most_lines) h.1 ∙ taken-line 999999 h.0 (lines_of y) h.2 in
     let well = subst StartsWell h.1 h.4 in
     let rest = taken 999999 (lines_of y) in
     subst (λ (u : Taken). EndsEarly MayGoOn replies script_of_lines u old new f) (sym t)
@@ -414,7 +414,7 @@ printed_bad AtTooMany first lines e = ap (λ (o : Option ℕ). replies_started o
 bad_is_printed : (more : ℕ) (lines : Lines) → (StartsWell lines → ⊥) → (BeginsTooLong lines → ⊥) → printed (taken (suc more) lines).end replies script_of_lines (taken (suc more) lines).lines ≡ bad_line
 bad_is_printed more [] h short = ap (λ (t : Taken). printed t.end replies script_of_lines t.lines) (taken-nil (suc more))
 bad_is_printed more (first ∷ lines) h short =
-    let le : length first ≤ 200 = elim (cases_lt 200 (length first)) [ inl q ↦ absurd (short q) | inr p ↦ p ] in
+    let le : length first ≤ longest_line = elim (cases_lt longest_line (length first)) [ inl q ↦ absurd (short q) | inr p ↦ p ] in
     ap (λ (t : Taken). printed t.end replies script_of_lines t.lines) (taken-line more first lines le)
     ∙ printed_bad (taken more lines).end first (taken more lines).lines (no_count first lines h (sites_of first) refl)
 

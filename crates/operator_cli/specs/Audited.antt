@@ -1,5 +1,5 @@
 -- What the audit of stopped books prints, status by status. (Our own.)
-use Rattle.std.specs.Prelude.{◌≡◌, ℕ, ◌≤◌, ◌⊎◌, List, Some, slice_get}
+use Rattle.std.specs.Prelude.{◌≡◌, ℕ, ◌≤◌, ◌⊎◌, List, Option, Some, slice_get}
 use Rattle.std.specs.List.{flat_map}
 use Rattle.local_rights.specs.declared.report.Totals.{Totals}
 use Rattle.book_core.specs.BookView.{BookView}
@@ -8,6 +8,8 @@ use Rattle.operator_cli.specs.declared.told.Told.TheVariants.{NotWhole, Ahead}
 use Rattle.operator_cli.specs.declared.status.Status.{Status}
 use Rattle.operator_cli.specs.declared.status.Status.TheVariants.{Done, Refused, NotUnderstood, Failed}
 use Rattle.operator_cli.specs.Told.{told_line}
+use Rattle.operator_cli.specs.Opened.{FailsFor}
+use Rattle.operator_cli.specs.Printed.{Printed, Unprinted}
 use Rattle.operator_cli.specs.Script.{total_line}
 
 -- no more is given back of an event than was sold
@@ -26,6 +28,11 @@ IsAuditText books Refused text =
     ((IsWhole books → ⊥) × (text ≡ told_line NotWhole)) ⊎ ((v o : ℕ) × IsWhole books × IsFirstAhead books v o × (text ≡ told_line (Ahead v o)))
 IsAuditText books NotUnderstood text = ⊥
 IsAuditText books Failed text = ⊥
+
+-- an audit ends with that text, or with what of it was written before want of memory or the writer's fault was told
+abbrev pub EndsAudited : List BookView → Option (List ℕ) → Option (List ℕ) → Option (List ℕ) → Option (List ℕ) → Status → Type 0
+EndsAudited books old_out new_out old_err new_err status =
+    Printed (IsAuditText books) old_out new_out status × FailsFor (Unprinted (IsAuditText books) old_out new_out) old_err new_err status
 
 -- what is told of books that are not those of all sites
 abbrev pub IsPartsText : List BookView → Status → List ℕ → Type 0

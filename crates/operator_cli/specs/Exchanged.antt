@@ -10,7 +10,7 @@ use Rattle.site_exchange.specs.Exchange as exchange
 use Rattle.site_exchange.specs.Exchange.{Site, Verdict, entry_of_take, next, verdict, zeros}
 use Rattle.site_exchange.specs.Taking.{extended}
 use Rattle.delta_wire.specs.declared.fault.WireFault.{WireFault}
-use Rattle.delta_wire.specs.Grammar.{message_text}
+use Rattle.delta_wire.specs.Grammar.{message_text, most_bytes}
 use Rattle.delta_wire.specs.Wire.{message_of}
 use Rattle.sql_records.specs.declared.meta.Meta.{Meta}
 use Rattle.sql_records.specs.Held.{MayLeaveIn, history_in}
@@ -50,10 +50,6 @@ told_of_read office h (Err fault) = Unread fault
 abbrev pub behind_read : Office → List Entry → Result Message WireFault → List Entry
 behind_read office h (Ok message) = extended (entry_of_take office h message) h
 behind_read office h (Err fault) = h
-
--- the most bytes that a message may have
-abbrev pub most_bytes : ℕ
-most_bytes = 4294967296
 
 -- what is told of the bytes of an input
 abbrev pub told_of_bytes : Office → List Entry → List ℕ → Told

@@ -10,6 +10,7 @@ pub mod Laws
 pub mod Records
 pub mod Told
 pub mod Printed
+pub mod Dealt
 pub mod Exchanged
 pub mod Opened
 pub mod Serving

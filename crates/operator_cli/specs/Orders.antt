@@ -6,6 +6,9 @@ use Rattle.std.specs.Str.{bytes_eq}
 use Rattle.clap.specs.Words.{App, Row, Rule, Text, all_of, first_of, new_app, new_rule, with_rule, with_subcommand, subcommand_of, fault_of}
 use Rattle.plain_words.specs.Words.{◌>>=◌}
 use Rattle.plain_words.specs.Number.{number_of}
+use Rattle.rights_lattice.specs.Cells.{max_value}
+use Rattle.rights_lattice.specs.Limits.{greatest_site, most_sites}
+use Rattle.book_core.specs.Limits.{greatest_limit}
 use Rattle.operator_cli.specs.declared.orders.Order.{Order}
 use Rattle.operator_cli.specs.declared.orders.Order.TheVariants as order
 use Rattle.operator_cli.specs.declared.orders.Misfit.{Misfit}
@@ -17,9 +20,19 @@ use Rattle.operator_cli.specs.declared.orders.WordsFault.TheVariants.{NotUnderst
 abbrev pub operand : Text → Rule
 operand id = record (new_rule id) { required = true }
 
--- a value that is given 1 to 16 times, by its place
+-- the greatest number of a port, the most connections that `serve` takes, and the most rounds in which its sites send
+abbrev pub greatest_port : ℕ
+greatest_port = 65535
+
+abbrev pub most_sessions : ℕ
+most_sessions = 1024
+
+abbrev pub most_rounds : ℕ
+most_rounds = 1000000
+
+-- a value that is given once for each site of a world, by its place
 abbrev pub operands : Text → Rule
-operands id = record (operand id) { range = Some (record { start_inclusive = 1; end_inclusive = 16 }) }
+operands id = record (operand id) { range = Some (record { start_inclusive = 1; end_inclusive = most_sites }) }
 
 -- a command that takes one more value
 abbrev pub taking : App → Text → App
@@ -95,9 +108,9 @@ number_in id low high rows = do
 unfoldable pub init_in : List Row → Option Said
 init_in rows = do
   file ← first_of (codes "FILE") rows
-  me ← number_in (codes "ME") 0 63 rows
-  sites ← number_in (codes "SITES") 1 16 rows
-  limit ← number_in (codes "LIMIT") 1 1000000 rows
+  me ← number_in (codes "ME") 0 greatest_site rows
+  sites ← number_in (codes "SITES") 1 most_sites rows
+  limit ← number_in (codes "LIMIT") 1 greatest_limit rows
   Some (SaysInit file me sites limit)
 
 unfoldable pub ask_in : List Row → Option Said
@@ -108,7 +121,7 @@ ask_in rows = do
 unfoldable pub find_in : List Row → Option Said
 find_in rows = do
   file ← first_of (codes "FILE") rows
-  number ← number_in (codes "NUMBER") 1 1000000000000 rows
+  number ← number_in (codes "NUMBER") 1 max_value rows
   Some (SaysFind file number)
 
 unfoldable pub list_in : List Row → Option Said
@@ -120,7 +133,7 @@ list_in rows = do
 unfoldable pub export_in : List Row → Option Said
 export_in rows = do
   file ← first_of (codes "FILE") rows
-  to ← number_in (codes "TO") 0 63 rows
+  to ← number_in (codes "TO") 0 greatest_site rows
   Some (SaysExport file to)
 
 unfoldable pub import_in : List Row → Option Said
@@ -128,15 +141,15 @@ import_in rows = do
   file ← first_of (codes "FILE") rows
   Some (SaysImport file)
 
--- at most 16 words
-abbrev pub at_most_16 : List Text → Option (List Text)
-at_most_16 words = if nat_le (length words) 16 then Some words else None
+-- no more words than a world has sites
+abbrev pub of_sites : List Text → Option (List Text)
+of_sites words = if nat_le (length words) most_sites then Some words else None
 
--- the files that are given, of which there are at most 16
+-- the files that are given, no more than a world has sites
 unfoldable pub files_in : List Row → Option (List Text)
 files_in rows = do
   files ← all_of (codes "FILE") rows
-  at_most_16 files
+  of_sites files
 
 unfoldable pub audit_in : List Row → Option Said
 audit_in rows = do
@@ -145,9 +158,9 @@ audit_in rows = do
 
 unfoldable pub serve_in : List Row → Option Said
 serve_in rows = do
-  port ← number_in (codes "PORT") 1 65535 rows
-  sessions ← number_in (codes "SESSIONS") 0 1024 rows
-  rounds ← number_in (codes "ROUNDS") 0 1000000 rows
+  port ← number_in (codes "PORT") 1 greatest_port rows
+  sessions ← number_in (codes "SESSIONS") 0 most_sessions rows
+  rounds ← number_in (codes "ROUNDS") 0 most_rounds rows
   files ← files_in rows
   Some (SaysServe port sessions rounds files)
 
@@ -199,15 +212,15 @@ abbrev pub fits : List Row → Misfit → Bool
 fits rows Command = false
 fits rows File = is_some (first_of (codes "FILE") rows)
 fits rows Event = is_some (first_of (codes "EVENT") rows)
-fits rows Me = is_some (number_in (codes "ME") 0 63 rows)
-fits rows Sites = is_some (number_in (codes "SITES") 1 16 rows)
-fits rows Limit = is_some (number_in (codes "LIMIT") 1 1000000 rows)
-fits rows Number = is_some (number_in (codes "NUMBER") 1 1000000000000 rows)
-fits rows To = is_some (number_in (codes "TO") 0 63 rows)
+fits rows Me = is_some (number_in (codes "ME") 0 greatest_site rows)
+fits rows Sites = is_some (number_in (codes "SITES") 1 most_sites rows)
+fits rows Limit = is_some (number_in (codes "LIMIT") 1 greatest_limit rows)
+fits rows Number = is_some (number_in (codes "NUMBER") 1 max_value rows)
+fits rows To = is_some (number_in (codes "TO") 0 greatest_site rows)
 fits rows Files = is_some (files_in rows)
-fits rows Port = is_some (number_in (codes "PORT") 1 65535 rows)
-fits rows Sessions = is_some (number_in (codes "SESSIONS") 0 1024 rows)
-fits rows Rounds = is_some (number_in (codes "ROUNDS") 0 1000000 rows)
+fits rows Port = is_some (number_in (codes "PORT") 1 greatest_port rows)
+fits rows Sessions = is_some (number_in (codes "SESSIONS") 0 most_sessions rows)
+fits rows Rounds = is_some (number_in (codes "ROUNDS") 0 most_rounds rows)
 
 -- the first of the values that does not fit
 abbrev pub first_misfit : List Misfit → List Row → Option Misfit

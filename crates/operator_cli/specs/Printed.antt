@@ -1,7 +1,8 @@
 -- What the commands over records print on standard output, status by status. (Our own.)
 use Rattle.std.specs.Prelude.{◌≡◌, ℕ, ◌<◌, Bool, nat_le, if◌then◌else◌, ⊤, List, [], length, Option, Some, None}
 use Rattle.std.specs.List.{flat_map}
-use Rattle.std.specs.Io.KnownBytes.{Appends}
+use Rattle.std.specs.Io.KnownBytes.{Appends, Keeps}
+use Rattle.plain_words.specs.Writing.{AppendsFront}
 use Rattle.request_ledger.specs.declared.reply.Reply.{Reply}
 use Rattle.site_exchange.specs.declared.message.Message.{Message}
 use Rattle.delta_wire.specs.Grammar.{IsMessage, message_text}
@@ -14,6 +15,8 @@ use Rattle.operator_cli.specs.declared.told.Told.{Told}
 use Rattle.operator_cli.specs.declared.told.Told.TheVariants.{Made, Joined, NothingNew, Acked, AlreadyThere, NoSite, Nothing, NotFound, TooLong, Unread, NotTaken}
 use Rattle.operator_cli.specs.declared.status.Status.{Status}
 use Rattle.operator_cli.specs.declared.status.Status.TheVariants.{Done, Refused, NotUnderstood, Failed}
+use Rattle.operator_cli.specs.declared.store_fault.StoreFault.{StoreFault}
+use Rattle.operator_cli.specs.declared.store_fault.StoreFault.TheVariants as fault
 use Rattle.operator_cli.specs.Records.{found_line, listed_line}
 use Rattle.operator_cli.specs.Told.{told_line, told_status}
 
@@ -23,6 +26,12 @@ Printed P old new Failed = ⊤
 Printed P old new Done = (text : List ℕ) × P Done text × Appends old new text
 Printed P old new Refused = (text : List ℕ) × P Refused text × Appends old new text
 Printed P old new NotUnderstood = (text : List ℕ) × P NotUnderstood text × Appends old new text
+
+-- what went out where the command failed: nothing where memory was wanted, and a front of such a text where it is not written
+abbrev pub Unprinted : (Status → List ℕ → Type 0) → Option (List ℕ) → Option (List ℕ) → StoreFault → Type 0
+Unprinted P old new fault.Memory = Keeps old new
+Unprinted P old new fault.Write = (status : Status) × (text : List ℕ) × P status text × AppendsFront old new text
+Unprinted P old new _ = ⊥
 
 -- the line of something told, with its status
 abbrev pub IsTellingOf : (Told → Type 0) → Status → List ℕ → Type 0

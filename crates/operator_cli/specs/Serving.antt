@@ -1,5 +1,5 @@
 -- How sites that ran at once come to an end, and what is told of it. (Our own.)
-use Rattle.std.specs.Prelude.{◌≡◌, ◌⊎◌, ℕ, List, [], ◌∷◌, Option, None, Some, Result, Ok, Err, if◌then◌else◌, length}
+use Rattle.std.specs.Prelude.{◌≡◌, ℕ, List, [], ◌∷◌, Option, None, Some, Result, Ok, Err, MatchResult, if◌then◌else◌}
 use Rattle.std.specs.Io.KnownBytes.{Keeps}
 use Rattle.plain_words.specs.Writing.{AppendsFront}
 use Rattle.book_core.specs.BookView.{BookView}
@@ -14,9 +14,8 @@ use Rattle.operator_cli.specs.declared.store_fault.StoreFault.{StoreFault}
 use Rattle.operator_cli.specs.declared.store_fault.StoreFault.TheVariants as fault
 use Rattle.operator_cli.specs.declared.status.Status.{Status}
 use Rattle.operator_cli.specs.declared.status.Status.TheVariants.{Failed}
-use Rattle.operator_cli.specs.Audited.{IsAuditText}
-use Rattle.operator_cli.specs.Opened.{FailsFor}
-use Rattle.operator_cli.specs.Printed.{Printed}
+use Rattle.operator_cli.specs.Audited.{EndsAudited, IsAuditText}
+use Rattle.operator_cli.specs.Printed.{Printed, Unprinted}
 use Rattle.operator_cli.specs.Told.{store_fault_line}
 
 abbrev pub of_listen_fault : ListenFault → StoreFault
@@ -38,25 +37,18 @@ abbrev pub end_fault : {K : Type 0} → Result (Unit {0}) FinishFault → SiteVi
 end_fault (Err found) site = Some (of_finish_fault found)
 end_fault (Ok _) site = if site.closed then Some (fault.Closed site.book.office.me) else None
 
--- what the ends of these sites tell, where this was found of their books
-abbrev pub end_faults : {K : Type 0} → List (Result (Unit {0}) FinishFault) → List (SiteView K) → List (Option StoreFault)
-end_faults (f ∷ found) (site ∷ sites) = end_fault f site ∷ end_faults found sites
-end_faults _ _ = []
-
 -- the first that is there
 abbrev pub first_of_all : {X : Type 0} → List (Option X) → Option X
 first_of_all [] = None
 first_of_all (None ∷ xs) = first_of_all xs
 first_of_all (Some x ∷ xs) = Some x
 
--- Something was found of each of these books, and this is what the first end tells that tells something.
-pub record TellFirst {K : Type 0} (sites : List (SiteView K)) (told : Option StoreFault) : Type 0 where
-  pub found : List (Result (Unit {0}) FinishFault)
-  pub each : length found ≡ length sites
-  pub first : told ≡ first_of_all (end_faults found sites)
-
--- What an end told is told, and nothing is printed; else the books are summed up, or want of memory or a failed writer is told.
+-- What an end tells is told, and nothing is printed; else the books are audited.
 abbrev pub EndsServed : List BookView → Option StoreFault → Option (List ℕ) → Option (List ℕ) → Option (List ℕ) → Option (List ℕ) → Status → Type 0
 EndsServed books (Some told) old_out new_out old_err new_err status = Keeps old_out new_out × AppendsFront old_err new_err (store_fault_line told) × (status ≡ Failed)
-EndsServed books None old_out new_out old_err new_err status =
-    Printed (IsAuditText books) old_out new_out status × FailsFor (λ cause. (cause ≡ fault.Memory) ⊎ (cause ≡ fault.Write)) old_err new_err status
+EndsServed books None old_out new_out old_err new_err status = EndsAudited books old_out new_out old_err new_err status
+
+-- what that comes to before its end: what an end told, or the audit
+abbrev pub ComesTo : List BookView → Option StoreFault → Option (List ℕ) → Option (List ℕ) → Result Status StoreFault → Type 0
+ComesTo books (Some told) old new came = Keeps old new × (came ≡ Err told)
+ComesTo books None old new came = MatchResult came (Printed (IsAuditText books) old new) (Unprinted (IsAuditText books) old new)

@@ -1,14 +1,15 @@
 //! The command `audit`: what all sites released, sold and took back, from their stopped books.
 
-ghost use Rattle.std.specs.Prelude.{◌≡◌, ◌≢◌, ◌⊎◌, IfOk, IfErr, IfSome, MatchOption, None, map};
+ghost use Rattle.std.specs.Prelude.{◌≡◌, ◌≢◌, IfOk, IfErr, IfSome, None, map};
 ghost use Rattle.std.specs.Io.KnownBytes.{Keeps};
 ghost use Rattle.operator_cli.specs.declared.status.Status.TheVariants.{Done, Failed};
-ghost use Rattle.operator_cli.specs.declared.store_fault.StoreFault.TheVariants.{Write as WriteFailed, Memory as NoMemory};
+ghost use Rattle.plain_words.specs.Writing.{AppendsFront};
+ghost use Rattle.operator_cli.specs.declared.store_fault.StoreFault.TheVariants.{Write as WriteFailed};
 ghost use Rattle.world_steps.specs.Audit.{AreNotOversold, IsWhole, books_of};
 ghost use Rattle.operator_cli.specs.Told.{FaultTold};
 ghost use Rattle.operator_cli.specs.Opened.{FailsFor};
-ghost use Rattle.operator_cli.specs.Printed.{Printed};
-ghost use Rattle.operator_cli.specs.Audited.{AreSums, IsAuditText, IsPartsText, sum_lines};
+ghost use Rattle.operator_cli.specs.Printed.{Printed, Unprinted};
+ghost use Rattle.operator_cli.specs.Audited.{AreSums, EndsAudited, IsAuditText, IsPartsText, sum_lines};
 
 use crate::ending::{ended, write_line};
 use crate::status::Status;
@@ -28,7 +29,7 @@ use world_steps::{audit, is_whole};
 fn write_sums<W: Write>(sums: &[(Event, Totals)], out: &mut W) -> Result<Status, StoreFault>
     requires { AreSums sums.now }
     ensures out { IfOk result (Printed (λ status text. text ≡ sum_lines sums.now) (W.contents out.old) (W.contents out.new)) }
-    ensures fault { IfErr result (λ fault. fault ≡ WriteFailed) }
+    ensures fault { IfErr result (λ fault. (fault ≡ WriteFailed) × AppendsFront (W.contents out.old) (W.contents out.new) (sum_lines sums.now)) }
     ensures status { IfOk result (λ status. status ≡ Done) }
 {
     'sums: for (event, totals) in sums {
@@ -45,7 +46,7 @@ pub(crate) fn print_audit<W: Write>(
 ) -> Result<Status, StoreFault>
     ensures out { IfOk result (Printed (IsAuditText (books_of books.now)) (W.contents out.old) (W.contents out.new)) }
     ensures not_oversold { IfOk result (λ status. status ≡ Done → AreNotOversold (books_of books.now)) }
-    ensures fault { IfErr result (λ fault. (fault ≡ NoMemory) ⊎ (fault ≡ WriteFailed)) }
+    ensures fault { IfErr result (Unprinted (IsAuditText (books_of books.now)) (W.contents out.old) (W.contents out.new)) }
     ensures ends { IfOk result (λ status. status ≢ Failed) }
 {
     match audit(alloc, books) {
@@ -72,13 +73,11 @@ fn audit_all<K: Keeper, W: Write>(
 ) -> Result<Status, StoreFault>
     ensures out { IfOk result (Printed (IsAuditText (map (λ site. site.book) sites.now)) (W.contents out.old) (W.contents out.new)) }
     ensures not_oversold { IfOk result (λ status. status ≡ Done → AreNotOversold (map (λ site. site.book) sites.now)) }
-    ensures fault { IfErr result (λ fault. (fault ≡ NoMemory) ⊎ (fault ≡ WriteFailed)) }
+    ensures fault { IfErr result (Unprinted (IsAuditText (map (λ site. site.book) sites.now)) (W.contents out.old) (W.contents out.new)) }
     ensures ends { IfOk result (λ status. status ≢ Failed) }
 {
-    match books_in(alloc, sites) {
-        Ok(books) => print_audit(alloc, books.as_slice(), out),
-        Err(_) => Err(StoreFault::Memory),
-    }
+    let books = books_in(alloc, sites)?;
+    print_audit(alloc, books.as_slice(), out)
 }
 
 /// Prints a line for each event that a site knows, rising, with what all sites released, sold and took back of it.
@@ -86,39 +85,40 @@ fn audit_all<K: Keeper, W: Write>(
 /// The k-th book is that of site k: `not-whole` where a book is of another site or counts another number of sites than
 /// there are books, and `ahead VIEWER OWNER` where a site shows more of another's row than that site does, with status 1.
 /// Whatever messages the sites took, no more is outstanding than was released where the status is 0. Want of memory and
-/// a writer that fails are told on `err`, with status 3. No book changes.
+/// a writer that fails are told on `err`, with status 3: nothing was printed at the first, and a front of it at the other.
+/// No book changes.
 pub fn audit_stores<K: Keeper, W: Write, E: Write>(
     alloc: Global,
     sites: &[SiteBook<K>],
     out: &mut W,
     err: &mut E,
 ) -> Status
-    ensures out { Printed (IsAuditText (map (λ site. site.book) sites.now)) (W.contents out.old) (W.contents out.new) result }
+    ensures audited { EndsAudited (map (λ site. site.book) sites.now) (W.contents out.old) (W.contents out.new) (E.contents err.old) (E.contents err.new) result }
     ensures not_oversold { result ≡ Done → AreNotOversold (map (λ site. site.book) sites.now) }
     ensures err { FaultTold (E.contents err.old) (E.contents err.new) result }
-    ensures cause { FailsFor (λ fault. (fault ≡ NoMemory) ⊎ (fault ≡ WriteFailed)) (E.contents err.old) (E.contents err.new) result }
 {
     let came = audit_all(alloc, sites, out);
     ended(came, out, err)
 }
 
-// Tells `not-whole` where the books are not those of all sites.
+// What telling `not-whole` came to, where the books are not those of all sites.
 fn refused_parts<K: Keeper, W: Write>(
     alloc: Global,
     sites: &[SiteBook<K>],
     out: &mut W,
-) -> Result<Option<Status>, StoreFault>
-    ensures out { IfOk result (λ refused. MatchOption refused
-        (IsWhole (map (λ site. site.book) sites.now) × Keeps (W.contents out.old) (W.contents out.new))
-        (Printed (IsPartsText (map (λ site. site.book) sites.now)) (W.contents out.old) (W.contents out.new))) }
-    ensures fault { IfErr result (λ fault. (fault ≡ NoMemory) ⊎ (fault ≡ WriteFailed)) }
-    ensures ends { IfOk result (λ refused. IfSome refused (λ status. status ≢ Failed)) }
+) -> Option<Result<Status, StoreFault>>
+    ensures whole { result ≡ None → IsWhole (map (λ site. site.book) sites.now) × Keeps (W.contents out.old) (W.contents out.new) }
+    ensures out { IfSome result (λ came. IfOk came (Printed (IsPartsText (map (λ site. site.book) sites.now)) (W.contents out.old) (W.contents out.new))) }
+    ensures fault { IfSome result (λ came. IfErr came (Unprinted (IsPartsText (map (λ site. site.book) sites.now)) (W.contents out.old) (W.contents out.new))) }
+    ensures ends { IfSome result (λ came. IfOk came (λ status. status ≢ Failed)) }
 {
-    let books = books_in(alloc, sites)?;
+    let Ok(books) = books_in(alloc, sites) else {
+        return Some(Err(StoreFault::Memory));
+    };
     if is_whole(books.as_slice()) {
-        return Ok(None);
+        return None;
     }
-    Ok(Some(tell(&Told::NotWhole, out)?))
+    Some(tell(&Told::NotWhole, out))
 }
 
 /// Prints `not-whole`, with status 1, where the books are not those of all sites, and nothing where they are.
@@ -134,11 +134,8 @@ pub fn refuse_parts<K: Keeper, W: Write, E: Write>(
     ensures whole { result ≡ None → IsWhole (map (λ site. site.book) sites.now) × Keeps (W.contents out.old) (W.contents out.new) × Keeps (E.contents err.old) (E.contents err.new) }
     ensures out { IfSome result (Printed (IsPartsText (map (λ site. site.book) sites.now)) (W.contents out.old) (W.contents out.new)) }
     ensures err { IfSome result (FaultTold (E.contents err.old) (E.contents err.new)) }
-    ensures cause { IfSome result (FailsFor (λ fault. (fault ≡ NoMemory) ⊎ (fault ≡ WriteFailed)) (E.contents err.old) (E.contents err.new)) }
+    ensures cause { IfSome result (FailsFor (Unprinted (IsPartsText (map (λ site. site.book) sites.now)) (W.contents out.old) (W.contents out.new)) (E.contents err.old) (E.contents err.new)) }
 {
-    match refused_parts(alloc, sites, out) {
-        Ok(None) => None,
-        Ok(Some(status)) => Some(ended(Ok(status), out, err)),
-        Err(fault) => Some(ended(Err(fault), out, err)),
-    }
+    let came = refused_parts(alloc, sites, out)?;
+    Some(ended(came, out, err))
 }

@@ -7,6 +7,7 @@ ghost use Rattle.sql_records.specs.Layout.{HasMeta};
 ghost use Rattle.sql_records.specs.declared.meta.Meta.{Meta as Numbers};
 ghost use Rattle.site_desk.specs.SiteView.{office_of};
 ghost use Rattle.operator_cli.specs.Exchanged.{HoldsOnly, LeavesOneOf, IsTakeEnd, IsInput, IsInputEnd, behind_bytes, behind_read, told_of_bytes, told_of_read};
+ghost use Rattle.delta_wire.specs.Grammar.{most_bytes};
 ghost use Rattle.delta_wire.specs.Wire.{message_of};
 ghost use Rattle.sql_records.specs.Held.{MayLeaveIn, history_in};
 ghost use Rattle.operator_cli.specs.Told.{FaultTold, told_status};
@@ -21,19 +22,16 @@ use crate::opening::open_book;
 use crate::status::Status;
 use crate::store_fault::StoreFault;
 use crate::told::{Told, ended_by_take, ended_by_wire, tell};
-use delta_wire::read_message;
+use delta_wire::{MOST_BYTES, read_message};
 use site_desk::{SiteBook, Taken};
 use sql_records::Keeper;
 use sqlite::{Alter, Connection};
 use std::alloc::Global;
 use std::io::{ErrorKind, Read, Write};
 
-// The most bytes that a message may have.
-const MOST_BYTES: usize = 4_294_967_296;
-
 // All of the input, or None where it is longer than a message may be.
 fn read_input<R: Read + Drop>(alloc: Global, input: R) -> Result<Option<Vec<u8>>, StoreFault>
-    ensures few { IfOk result (λ read. IfSome read (λ bytes. vec_len bytes ≤ 4294967296)) }
+    ensures few { IfOk result (λ read. IfSome read (λ bytes. vec_len bytes ≤ most_bytes)) }
     ensures read { IfOk result (λ read. IfSome (R.remaining input)
         (λ bytes. IsInput bytes (option_map (λ v. v.items) read))) }
     ensures fault { IfErr result (λ fault. (fault ≡ WantsMemory) ⊎ (fault ≡ ReadFailed)) }

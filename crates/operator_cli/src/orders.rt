@@ -3,7 +3,10 @@
 ghost use Rattle.std.specs.Prelude.{◌≡◌, ◌≤◌, [], ◌∷◌, IfSome, IfOk, OnOk, IfErr, MatchResult, Some, None, map, codes};
 ghost use Rattle.std.specs.Option.{option_map};
 ghost use Rattle.clap.specs.Words.{subcommand_of, subcommand_rows_of, kind_of, all_of, first_of, found_of, rows_of};
-ghost use Rattle.operator_cli.specs.Orders.{boxoffice, AreUnderstood, order_in, said_by, number_in, init_in, ask_in, find_in, list_in, export_in, import_in, files_in, audit_in, serve_in, named_order, values_of, first_misfit, misfit_in, misfit_line, TellsMisfit, IsRefusal};
+ghost use Rattle.rights_lattice.specs.Cells.{max_value};
+ghost use Rattle.rights_lattice.specs.Limits.{greatest_site, most_sites};
+ghost use Rattle.book_core.specs.Limits.{greatest_limit};
+ghost use Rattle.operator_cli.specs.Orders.{boxoffice, greatest_port, most_sessions, AreUnderstood, order_in, said_by, number_in, init_in, ask_in, find_in, list_in, export_in, import_in, files_in, audit_in, serve_in, named_order, values_of, first_misfit, misfit_in, misfit_line, TellsMisfit, IsRefusal};
 
 use crate::words::boxoffice;
 use arrayvec::ArrayVec;
@@ -12,11 +15,19 @@ use clap::error::ErrorKind;
 use clap::{ArgMatches, Error};
 use plain_words::read_number;
 use request_ledger::RequestNumber;
-use rights_lattice::{MAX_VALUE, SiteId, Sites};
+use rights_lattice::{GREATEST_SITE, MAX_VALUE, MOST_SITES, SiteId, Sites};
 use std::alloc::Global;
 
+// As many files as there may be sites.
+pub(crate) const MOST_FILES: usize = MOST_SITES as usize;
+
+// The greatest number of a port, the most connections that `serve` takes, and the most rounds in which its sites send.
+const GREATEST_PORT: u64 = 65_535;
+const MOST_SESSIONS: u64 = 1024;
+const MOST_ROUNDS: u64 = 1_000_000;
+
 /// The files of several sites, in the order of the sites: at most 16.
-pub type FileNames<'a> = ArrayVec<&'a str, 16>;
+pub type FileNames<'a> = ArrayVec<&'a str, MOST_FILES>;
 
 /// A command of the program, with its values.
 #[derive(Debug, PartialEq, Eq, Drop)]
@@ -130,28 +141,28 @@ fn number_of(values: &ArgMatches<'_>, id: &str, low: u64, high: u64) -> Option<u
 }
 
 fn site_of(values: &ArgMatches<'_>, id: &str) -> Option<SiteId>
-    ensures { result ≡ number_in id.now 0 63 (rows_of (found_of values.now)) }
+    ensures { result ≡ number_in id.now 0 greatest_site (rows_of (found_of values.now)) }
 {
-    let number = number_of(values, id, 0, 63)?;
+    let number = number_of(values, id, 0, GREATEST_SITE)?;
     SiteId::of(number)
 }
 
 fn sites_of(values: &ArgMatches<'_>) -> Option<Sites>
-    ensures { result ≡ number_in (codes "SITES") 1 16 (rows_of (found_of values.now)) }
+    ensures { result ≡ number_in (codes "SITES") 1 most_sites (rows_of (found_of values.now)) }
 {
-    let count = number_of(values, "SITES", 1, 16)?;
+    let count = number_of(values, "SITES", 1, MOST_SITES)?;
     Sites::of(count)
 }
 
 fn limit_of(values: &ArgMatches<'_>) -> Option<Limit>
-    ensures { result ≡ number_in (codes "LIMIT") 1 1000000 (rows_of (found_of values.now)) }
+    ensures { result ≡ number_in (codes "LIMIT") 1 greatest_limit (rows_of (found_of values.now)) }
 {
     let entries = number_of(values, "LIMIT", 1, Limit::MAX)?;
     Limit::of(entries)
 }
 
 fn request_number_of(values: &ArgMatches<'_>) -> Option<RequestNumber>
-    ensures { result ≡ number_in (codes "NUMBER") 1 1000000000000 (rows_of (found_of values.now)) }
+    ensures { result ≡ number_in (codes "NUMBER") 1 max_value (rows_of (found_of values.now)) }
 {
     let number = number_of(values, "NUMBER", 1, MAX_VALUE)?;
     RequestNumber::of(number)
@@ -247,16 +258,16 @@ fn audit_of<'a>(values: &ArgMatches<'a>) -> Result<Order<'a>, Misfit>
 }
 
 fn port_of(values: &ArgMatches<'_>) -> Option<u16>
-    ensures { result ≡ number_in (codes "PORT") 1 65535 (rows_of (found_of values.now)) }
+    ensures { result ≡ number_in (codes "PORT") 1 greatest_port (rows_of (found_of values.now)) }
 {
-    let port = number_of(values, "PORT", 1, 65_535)?;
+    let port = number_of(values, "PORT", 1, GREATEST_PORT)?;
     Some(port as u16)
 }
 
 fn sessions_of(values: &ArgMatches<'_>) -> Option<usize>
-    ensures { result ≡ number_in (codes "SESSIONS") 0 1024 (rows_of (found_of values.now)) }
+    ensures { result ≡ number_in (codes "SESSIONS") 0 most_sessions (rows_of (found_of values.now)) }
 {
-    let sessions = number_of(values, "SESSIONS", 0, 1024)?;
+    let sessions = number_of(values, "SESSIONS", 0, MOST_SESSIONS)?;
     Some(sessions as usize)
 }
 
@@ -267,7 +278,7 @@ fn serve_of<'a>(values: &ArgMatches<'a>) -> Result<Order<'a>, Misfit>
 {
     let port = port_of(values).ok_or(Misfit::Port)?;
     let sessions = sessions_of(values).ok_or(Misfit::Sessions)?;
-    let rounds = number_of(values, "ROUNDS", 0, 1_000_000).ok_or(Misfit::Rounds)?;
+    let rounds = number_of(values, "ROUNDS", 0, MOST_ROUNDS).ok_or(Misfit::Rounds)?;
     let files = files_of(values).ok_or(Misfit::Files)?;
     Ok(Order::Serve {
         port,

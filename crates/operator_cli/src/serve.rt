@@ -1,20 +1,25 @@
 //! The command `serve`: the sites of several files at once, with sessions over connections.
 
-ghost use Rattle.std.specs.Prelude.{◌≡◌, ◌⊎◌, IfOk, IfErr, IfSome, None, OnOk, Option, map};
+ghost use Rattle.std.specs.Prelude.{◌≡◌, ◌≢◌, ◌⊎◌, All, IfOk, IfErr, IfSome, IsSome, None, OnOk, length, map, []};
+ghost use Rattle.std.specs.List.{flat_map};
 ghost use Rattle.std.specs.Io.KnownBytes.{Keeps};
 ghost use Rattle.plain_words.specs.Writing.{AppendsFront};
-ghost use Rattle.world_steps.specs.Audit.{AreNotOversold};
+ghost use Rattle.session_server.specs.Finished.{IsFinished};
+ghost use Rattle.site_desk.specs.declared.finish.FinishFault.TheVariants.{SeatsOut};
+ghost use Rattle.world_steps.specs.Audit.{AreNotOversold, books_of};
 ghost use Rattle.operator_cli.specs.declared.status.Status.TheVariants.{Done, Failed};
 ghost use Rattle.operator_cli.specs.declared.store_fault.StoreFault.{StoreFault};
 ghost use Rattle.operator_cli.specs.declared.store_fault.StoreFault.TheVariants.{Memory as NoMemory, NotStarted};
+ghost use Rattle.operator_cli.specs.Dealt.{AreDealt};
 ghost use Rattle.operator_cli.specs.Opened.{FailsFor};
-ghost use Rattle.operator_cli.specs.Serving.{EndsServed, TellFirst, end_fault, first_of_all, of_listen_fault};
+ghost use Rattle.operator_cli.specs.Serving.{ComesTo, EndsServed, end_fault, first_of_all, of_listen_fault};
 ghost use Rattle.operator_cli.specs.Told.{FaultTold, store_fault_line};
 
-use crate::audit::audit_stores;
+use crate::audit::print_audit;
 use crate::ending::{ended, tell_fault};
 use crate::status::Status;
 use crate::store_fault::StoreFault;
+use book_core::Book;
 use session_server::{ListenFault, Site, SiteEnd, Visit, run_all};
 use site_desk::{NoGate, SiteBook};
 use sql_records::Keeper;
@@ -31,7 +36,8 @@ fn unvisited<K: Keeper + Drop, R: Read + Drop, W: Write + Drop>(
     alloc: Global,
     books: Vec<SiteBook<K>>,
 ) -> Result<Vec<Site<K, R, W>>, AllocError>
-    ensures { IfOk result (λ sites. map (λ s. s.book) sites.items ≡ books.items) }
+    ensures count { IfOk result (λ sites. length sites.items ≡ length books.items) }
+    ensures empty { IfOk result (λ sites. map (λ s. s.sessions.items) sites.items ≡ map (λ _. []) sites.items) }
 {
     let mut sites = Vec::new(alloc);
     for book in books {
@@ -43,18 +49,17 @@ fn unvisited<K: Keeper + Drop, R: Read + Drop, W: Write + Drop>(
 
 // Has each visit come to the site whose number is its place modulo the count of sites.
 fn deal<K: Keeper + Drop, R: Read + Drop, W: Write + Drop>(
-    mut visits: Vec<Visit<R, W>>,
+    visits: Vec<Visit<R, W>>,
     sites: &mut Vec<Site<K, R, W>>,
 ) -> Result<(), AllocError>
-    ensures { OnOk result (map (λ s. s.book) sites.new.items ≡ map (λ s. s.book) sites.old.items) }
+    requires { map (λ s. s.sessions.items) sites.old.items ≡ map (λ _. []) sites.old.items }
+    ensures count { OnOk result (length sites.new.items ≡ length sites.old.items) }
+    ensures dealt { OnOk result (AreDealt visits.items (map (λ s. s.sessions.items) sites.new.items)) }
 {
-    let Some(visit) = visits.pop() else {
-        return Ok(());
-    };
-    let place = visits.len();
-    deal(visits, sites)?;
-    if let Some(k) = place.checked_rem(sites.len()) {
-        sites[k].sessions.push(visit)?;
+    'visits: for (place, visit) in visits.into_iter().enumerate() {
+        if let Some(k) = place.checked_rem(sites.len()) {
+            sites[k].sessions.push(visit)?;
+        }
     }
     Ok(())
 }
@@ -91,18 +96,18 @@ fn first_fault<K: Keeper + Drop, R: Read + Drop, W: Write + Drop>(
 // The books that are left.
 fn books_left<K: Keeper + Drop, R: Read + Drop, W: Write + Drop>(
     alloc: Global,
-    ends: Vec<SiteEnd<K, R, W>>,
-) -> Result<Vec<SiteBook<K>>, AllocError>
-    ensures { IfOk result (λ books. books.items ≡ map (λ e. e.book) ends.items) }
+    ends: &[SiteEnd<K, R, W>],
+) -> Result<Vec<&Book>, AllocError>
+    ensures { IfOk result (λ books. books_of books.items ≡ map (λ e. e.book.book) ends.now) }
 {
     let mut books = Vec::new(alloc);
-    for SiteEnd { book, .. } in ends {
-        books.push(book)?;
+    for end in ends {
+        books.push(end.book.book())?;
     }
     Ok(books)
 }
 
-// The books of all sites once they have run, and what the first end told that told something.
+// The ends of these sites once they have run, with their visits.
 fn run_sites<
     T: Threads + Wait + Sync,
     K: Keeper + Drop + Send,
@@ -114,15 +119,36 @@ fn run_sites<
     books: Vec<SiteBook<K>>,
     visits: Vec<Visit<R, V>>,
     rounds: u64,
-) -> Result<(Vec<SiteBook<K>>, Option<StoreFault>), StoreFault>
-    ensures ended { IfOk result (λ r. TellFirst r.0.items r.1) }
+) -> Result<Vec<SiteEnd<K, R, V>>, StoreFault>
+    ensures count { IfOk result (λ ends. length ends.items ≡ length books.items) }
+    ensures ids { IfOk result (λ ends. AreDealt (map (λ v. v.id) visits.items) (map (λ e. map (λ x. x.id) e.sessions.items) ends.items)) }
+    ensures readers { IfOk result (λ ends. AreDealt (map (λ v. v.reader) visits.items) (map (λ e. map (λ x. x.reader_began.value) e.sessions.items) ends.items)) }
+    ensures writers { IfOk result (λ ends. AreDealt (map (λ v. v.writer) visits.items) (map (λ e. map (λ x. x.writer_began.value) e.sessions.items) ends.items)) }
+    ensures finished { IfOk result (λ ends. All (λ e. IsFinished e.book.book (flat_map (λ x. x.receipts.items) e.sessions.items) (flat_map (λ x. x.seen.items) e.sessions.items) e.finished) ends.items) }
+    ensures whole { IfOk result (λ ends. All (λ e. All (λ x. IsSome x.writer) e.sessions.items → IfErr e.finished (λ fault. fault ≢ SeatsOut)) ends.items) }
     ensures fault { IfErr result (λ fault. (fault ≡ NoMemory) ⊎ (fault ≡ NotStarted)) }
 {
     let mut sites = unvisited(alloc, books)?;
     deal(visits, &mut sites)?;
     let (ends, _links) = run_all(rt, alloc, sites, rounds, LINK_CAPACITY, &NoGate)?;
-    let fault = first_fault(ends.as_slice());
-    Ok((books_left(alloc, ends)?, fault))
+    Ok(ends)
+}
+
+// Prints the audit of the books that are left, unless an end tells something.
+fn summed_up<K: Keeper + Drop, R: Read + Drop, V: Write + Drop, W: Write>(
+    alloc: Global,
+    ends: &[SiteEnd<K, R, V>],
+    out: &mut W,
+) -> Result<Status, StoreFault>
+    ensures came { ComesTo (map (λ e. e.book.book) ends.now) (first_of_all (map (λ e. end_fault e.finished e.book) ends.now)) (W.contents out.old) (W.contents out.new) result }
+    ensures not_oversold { IfOk result (λ status. status ≡ Done → AreNotOversold (map (λ e. e.book.book) ends.now)) }
+    ensures lives { IfOk result (λ status. status ≢ Failed) }
+{
+    if let Some(fault) = first_fault(ends) {
+        return Err(fault);
+    }
+    let books = books_left(alloc, ends)?;
+    print_audit(alloc, books.as_slice(), out)
 }
 
 /// Runs the sites of these books at once, with the visits and with links among them, and then prints a line for each event
@@ -131,9 +157,10 @@ fn run_sites<
 /// The visit at each place, from 0, comes to the site whose number is the place modulo the count of books. Each site sends
 /// what is due to each other for so many rounds, over links that hold 16 messages. A session's own fault changes nothing
 /// here. Once all sites have come to their end, the first of them whose sessions were not given what its history holds, or
-/// whose book is closed, is told on `err`, with status 3: `seats-out`, `stranger K`, `stranger-seen K` or `closed S`. So are
-/// want of memory, a thread that could not be started and a writer that fails. Books do not come back where the sites could
-/// not be run: what was entered stays in their records.
+/// whose book is closed, is told on `err`, with status 3, and nothing is printed: `seats-out`, `stranger K`,
+/// `stranger-seen K` or `closed S`. So are want of memory, a thread that could not be started and a writer that fails. The
+/// ends of all sites come back, in the order of the books, each with the visits that came to it; none do where the sites
+/// could not be run: what was entered stays in their records.
 pub fn serve_stores<
     T: Threads + Wait + Sync,
     K: Keeper + Drop + Send,
@@ -149,21 +176,23 @@ pub fn serve_stores<
     rounds: u64,
     out: &mut W,
     err: &mut E,
-) -> (Status, Option<Vec<SiteBook<K>>>)
-    ensures ran { IfSome result.1 (λ left. (told : Option StoreFault) × TellFirst left.items told
-        × EndsServed (map (λ s. s.book) left.items) told (W.contents out.old) (W.contents out.new) (E.contents err.old) (E.contents err.new) result.0) }
-    ensures not_oversold { result.0 ≡ Done → IfSome result.1 (λ left. AreNotOversold (map (λ s. s.book) left.items)) }
+) -> (Status, Option<Vec<SiteEnd<K, R, V>>>)
+    ensures count { IfSome result.1 (λ ends. length ends.items ≡ length books.items) }
+    ensures ids { IfSome result.1 (λ ends. AreDealt (map (λ v. v.id) visits.items) (map (λ e. map (λ x. x.id) e.sessions.items) ends.items)) }
+    ensures readers { IfSome result.1 (λ ends. AreDealt (map (λ v. v.reader) visits.items) (map (λ e. map (λ x. x.reader_began.value) e.sessions.items) ends.items)) }
+    ensures writers { IfSome result.1 (λ ends. AreDealt (map (λ v. v.writer) visits.items) (map (λ e. map (λ x. x.writer_began.value) e.sessions.items) ends.items)) }
+    ensures finished { IfSome result.1 (λ ends. All (λ e. IsFinished e.book.book (flat_map (λ x. x.receipts.items) e.sessions.items) (flat_map (λ x. x.seen.items) e.sessions.items) e.finished) ends.items) }
+    ensures whole { IfSome result.1 (λ ends. All (λ e. All (λ x. IsSome x.writer) e.sessions.items → IfErr e.finished (λ fault. fault ≢ SeatsOut)) ends.items) }
+    ensures ran { IfSome result.1 (λ ends. EndsServed (map (λ e. e.book.book) ends.items) (first_of_all (map (λ e. end_fault e.finished e.book) ends.items)) (W.contents out.old) (W.contents out.new) (E.contents err.old) (E.contents err.new) result.0) }
+    ensures not_oversold { result.0 ≡ Done → IfSome result.1 (λ ends. AreNotOversold (map (λ e. e.book.book) ends.items)) }
     ensures lost { result.1 ≡ None → (result.0 ≡ Failed) × Keeps (W.contents out.old) (W.contents out.new) × FailsFor (λ fault. (fault ≡ NoMemory) ⊎ (fault ≡ NotStarted)) (E.contents err.old) (E.contents err.new) result.0 }
     ensures err { FaultTold (E.contents err.old) (E.contents err.new) result.0 }
 {
     match run_sites(rt, alloc, books, visits, rounds) {
-        Ok((books, told)) => match told {
-            Some(fault) => (ended(Err(fault), out, err), Some(books)),
-            None => {
-                let status = audit_stores(alloc, books.as_slice(), out, err);
-                (status, Some(books))
-            }
-        },
+        Ok(ends) => {
+            let came = summed_up(alloc, ends.as_slice(), out);
+            (ended(came, out, err), Some(ends))
+        }
         Err(fault) => (ended(Err(fault), out, err), None),
     }
 }

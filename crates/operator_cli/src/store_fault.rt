@@ -3,6 +3,7 @@
 ghost use Rattle.std.specs.Prelude.{◌≡◌, ◌++◌, ◌≤◌, length};
 ghost use Rattle.arrayvec.specs.ArrayVec.{array_vec_len};
 ghost use Rattle.std.specs.Fmt.{signed_decimal};
+ghost use Rattle.plain_words.specs.Input.{longest_line};
 ghost use Rattle.operator_cli.specs.Told.{store_fault_text, store_fault_line};
 
 use plain_words::{Text, numbered, put, put_number, word};
@@ -125,7 +126,7 @@ impl From<FinishFault> for StoreFault {
 fn signed(bytes: &[u8], number: i64) -> Text
     requires { length bytes.now ≤ 100 }
     ensures value { result.items ≡ bytes.now ++ signed_decimal number }
-    ensures len { array_vec_len result ≤ 200 }
+    ensures len { array_vec_len result ≤ longest_line }
 {
     let mut text = word(bytes);
     if number < 0 {
@@ -137,7 +138,7 @@ fn signed(bytes: &[u8], number: i64) -> Text
 
 fn store_fault_text(fault: StoreFault) -> Text
     ensures value { result.items ≡ store_fault_text fault }
-    ensures len { array_vec_len result ≤ 200 }
+    ensures len { array_vec_len result ≤ longest_line }
 {
     match fault {
         StoreFault::NotOurs => word(b"not-ours"),

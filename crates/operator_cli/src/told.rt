@@ -3,6 +3,7 @@
 ghost use Rattle.std.specs.Prelude.{◌≡◌, ◌≤◌, ◌++◌, IfOk, IfErr, codes};
 ghost use Rattle.std.specs.Fmt.{decimal};
 ghost use Rattle.arrayvec.specs.ArrayVec.{array_vec_len};
+ghost use Rattle.plain_words.specs.Input.{longest_line};
 ghost use Rattle.plain_words.specs.Writing.{Writes};
 ghost use Rattle.operator_cli.specs.Told.{told_text, told_line, told_status, wire_fault_text, ended_by_wire, ended_by_take, ended_by_audit};
 ghost use Rattle.operator_cli.specs.declared.store_fault.StoreFault.TheVariants.{Write as WriteFailed};
@@ -50,7 +51,7 @@ pub(crate) enum Told {
 
 fn wire_fault_text(fault: WireFault) -> Text
     ensures value { result.items ≡ wire_fault_text fault }
-    ensures len { array_vec_len result ≤ 200 }
+    ensures len { array_vec_len result ≤ longest_line }
 {
     match fault {
         WireFault::Truncated => word(b"truncated"),
@@ -63,7 +64,7 @@ fn wire_fault_text(fault: WireFault) -> Text
 
 fn ahead_text(viewer: SiteId, owner: SiteId) -> Text
     ensures value { result.items ≡ codes "ahead " ++ decimal viewer ++ codes " " ++ decimal owner }
-    ensures len { array_vec_len result ≤ 200 }
+    ensures len { array_vec_len result ≤ longest_line }
 {
     let mut text = numbered(b"ahead ", viewer.number());
     put(&mut text, b" ");
@@ -73,7 +74,7 @@ fn ahead_text(viewer: SiteId, owner: SiteId) -> Text
 
 fn told_text(told: &Told) -> Text
     ensures value { result.items ≡ told_text told.now }
-    ensures len { array_vec_len result ≤ 200 }
+    ensures len { array_vec_len result ≤ longest_line }
 {
     match told {
         Told::Made => word(b"done"),

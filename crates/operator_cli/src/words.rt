@@ -5,6 +5,7 @@ ghost use Rattle.clap.specs.Words.{app_of, new_app, rule_of};
 ghost use Rattle.clap.specs.declared.builder.command.Command.TheViews.{out-Command as fields_of};
 ghost use Rattle.operator_cli.specs.Orders.{operand, boxoffice, init_app, ask_app, find_app, list_app, export_app, import_app, audit_app, serve_app, operands};
 
+use crate::orders::MOST_FILES;
 use clap::{Arg, Command};
 use std::alloc::{AllocError, Global};
 
@@ -33,7 +34,7 @@ fn files<'a>(alloc: Global) -> Arg<'a>
     ensures rule { rule_of result ≡ operands (codes "FILE") }
     ensures local { result.global ≡ false }
 {
-    file(alloc).num_args(1..=16)
+    file(alloc).num_args(1..=MOST_FILES)
 }
 
 fn init<'a>(alloc: Global) -> Result<Command<'a>, AllocError>

@@ -1,15 +1,14 @@
-use Rattle.std.proofs.Common.{◌≡◌, ◌≤◌, ℕ, zero, suc, List, [], ◌∷◌, map, inl, inr, Option, Some, Result, Ok, Err, refl, sym, ap, ◌∙◌, subst}
-use Rattle.std.specs.Prelude.{slice_get}
+use Rattle.std.proofs.Common.{◌≡◌, ◌≤◌, ℕ, zero, suc, List, [], ◌∷◌, map, inl, inr, Ok, Err, refl, sym, ap, ◌∙◌, subst}
 use Rattle.local_rights.specs.declared.report.Totals.{Totals}
 use Rattle.book_core.specs.BookView.{BookView}
 use Rattle.world_steps.specs.declared.auditing.AuditFault.{AuditFault}
 use Rattle.world_steps.specs.declared.auditing.AuditFault.TheVariants as audit
 use Rattle.world_steps.specs.Audit.{AreNotOversold, IsFirstAhead, IsWhole, books_of, events_in, totals_in}
-use Rattle.operator_cli.specs.declared.store_fault.StoreFault.{StoreFault}
 use Rattle.operator_cli.specs.declared.told.Told.{Told}
 use Rattle.operator_cli.specs.declared.told.Told.TheVariants.{NotWhole, Ahead}
 use Rattle.operator_cli.specs.Told.{ended_by_audit, told_line, told_status}
 use Rattle.operator_cli.specs.Audited.{AreSums, IsAuditText}
+use Rattle.operator_cli.proofs.BrokenOff.{unprinted_write}
 use Rattle.operator_cli.proofs.PrintLaws.{told_printed}
 use Rattle.operator_cli.proofs.audit.print_audit.Goals as goal
 
@@ -45,3 +44,11 @@ returns-in_ok-ended_by_audit-in-Err-clause-out g c =
     told_printed (IsAuditText books) (g.W.Write.contents c.args.out.now) (g.W.Write.contents c.tell.new.out) c.tell.result told
     (tells books c.in-Err.fault told (sym c.ended_by_audit.ensures ∙ c.in_ok-ended_by_audit-in-Err.was) (λ e. c.in-Err.ensures.not_whole.0 (ap Err e)) (λ v o e. c.in-Err.ensures.ahead v o (ap Err e)))
     c.tell.ensures.written c.tell.ensures.status
+
+pub returns-in_ok-ended_by_audit-in-Err-clause-fault : goal.returns-in_ok-ended_by_audit-in-Err-clause-fault
+returns-in_ok-ended_by_audit-in-Err-clause-fault g c =
+    let books = books_of c.args.books.now in
+    let told = c.in_ok-ended_by_audit-in-Err.field-0 in
+    unprinted_write (IsAuditText books) (g.W.Write.contents c.args.out.now) (g.W.Write.contents c.tell.new.out) c.tell.result (told_status told) (told_line told)
+    (tells books c.in-Err.fault told (sym c.ended_by_audit.ensures ∙ c.in_ok-ended_by_audit-in-Err.was) (λ e. c.in-Err.ensures.not_whole.0 (ap Err e)) (λ v o e. c.in-Err.ensures.ahead v o (ap Err e)))
+    c.tell.ensures.fault c.tell.ensures.written

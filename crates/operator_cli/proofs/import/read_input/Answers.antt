@@ -1,5 +1,5 @@
 use Rattle.std.proofs.Common.{ap, arith}
-use Rattle.operator_cli.specs.Exchanged.{most_bytes}
+use Rattle.delta_wire.specs.Grammar.{most_bytes}
 use Rattle.operator_cli.proofs.Inputs.{read_whole}
 use Rattle.operator_cli.proofs.import.read_input.Goals as goal
 

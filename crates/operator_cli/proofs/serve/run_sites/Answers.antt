@@ -1,7 +1,23 @@
-use Rattle.std.proofs.Common.{◌∙◌}
-use Rattle.operator_cli.proofs.Serves.{tell_first}
+use Rattle.std.proofs.Common.{◌∙◌, map}
+use Rattle.operator_cli.proofs.Dealing.{dealt_as, same_count}
 use Rattle.operator_cli.proofs.serve.run_sites.Goals as goal
 
-pub returns-clause-ended : goal.returns-clause-ended
-returns-clause-ended g c =
-    tell_first (λ e. e.finished) (λ e. e.book) _ _ _ (rw c.as_slice.ensures.value at c.first_fault-fault.ensures) c.in_ok-books_left.ensures
+pub returns-clause-count : goal.returns-clause-count
+returns-clause-count g c =
+    same_count (λ e. map (λ x. x.id) e.sessions.items) (λ s. map (λ v. v.id) s.sessions.items) c.deal.new.sites.items c.in_ok-ends.ends.items c.in_ok-ends.ensures.ids
+    ∙ (c.in_ok-deal.ensures.count ∙ c.in_ok-sites.ensures.count)
+
+pub returns-clause-ids : goal.returns-clause-ids
+returns-clause-ids g c =
+    dealt_as (λ v. v.id) (λ s. s.sessions.items) (λ e. map (λ x. x.id) e.sessions.items) c.args.visits.items c.deal.new.sites.items c.in_ok-ends.ends.items
+    c.in_ok-ends.ensures.ids c.in_ok-deal.ensures.dealt
+
+pub returns-clause-readers : goal.returns-clause-readers
+returns-clause-readers g c =
+    dealt_as (λ v. v.reader) (λ s. s.sessions.items) (λ e. map (λ x. x.reader_began.value) e.sessions.items) c.args.visits.items c.deal.new.sites.items c.in_ok-ends.ends.items
+    c.in_ok-ends.ensures.readers c.in_ok-deal.ensures.dealt
+
+pub returns-clause-writers : goal.returns-clause-writers
+returns-clause-writers g c =
+    dealt_as (λ v. v.writer) (λ s. s.sessions.items) (λ e. map (λ x. x.writer_began.value) e.sessions.items) c.args.visits.items c.deal.new.sites.items c.in_ok-ends.ends.items
+    c.in_ok-ends.ensures.writers c.in_ok-deal.ensures.dealt

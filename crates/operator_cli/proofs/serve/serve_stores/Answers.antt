@@ -1,8 +1,13 @@
-use Rattle.operator_cli.proofs.Serves.{audited}
+use Rattle.std.proofs.Common.{map, subst}
+use Rattle.operator_cli.specs.Serving.{ComesTo, end_fault, first_of_all}
+use Rattle.operator_cli.proofs.Serves.{ends_served}
 use Rattle.operator_cli.proofs.serve.serve_stores.Goals as goal
 
-pub returns-in-None-clause-ran : goal.returns-in-None-clause-ran
-returns-in-None-clause-ran g c =
-    audited c.in-Ok.books.items c.as_slice.result.now c.in-Ok.told (g.W.Write.contents c.args.out.now) (g.W.Write.contents c.audit_stores-status.new.out)
-    (g.E.Write.contents c.args.err.now) (g.E.Write.contents c.audit_stores-status.new.err) c.audit_stores-status.result
-    c.as_slice.ensures.value c.in-None.is c.in-Ok.ensures.ended c.audit_stores-status.ensures.out c.audit_stores-status.ensures.cause
+pub returns-in-Ok-clause-ran : goal.returns-in-Ok-clause-ran
+returns-in-Ok-clause-ran g c =
+    let ends = c.in-Ok.ends.items in
+    let came : ComesTo (map (λ e. e.book.book) ends) (first_of_all (map (λ e. end_fault e.finished e.book) ends)) (g.W.Write.contents c.args.out.now) (g.W.Write.contents c.summed_up-came.new.out) c.summed_up-came.result =
+    subst (λ l. ComesTo (map (λ e. e.book.book) l) (first_of_all (map (λ e. end_fault e.finished e.book) l)) (g.W.Write.contents c.args.out.now) (g.W.Write.contents c.summed_up-came.new.out) c.summed_up-came.result)
+    c.as_slice.ensures.value c.summed_up-came.ensures.came in
+    ends_served (map (λ e. e.book.book) ends) (first_of_all (map (λ e. end_fault e.finished e.book) ends)) (g.W.Write.contents c.args.out.now) (g.W.Write.contents c.summed_up-came.new.out) (g.W.Write.contents c.ended.new.out)
+    (g.E.Write.contents c.args.err.now) (g.E.Write.contents c.ended.new.err) c.summed_up-came.result c.ended.result came c.ended.ensures.kept c.summed_up-came.ensures.lives c.ended.ensures.line c.ended.ensures.flush c.ended.ensures.status
