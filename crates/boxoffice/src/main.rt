@@ -14,13 +14,13 @@ use operator_cli::{
 };
 use request_ledger::RequestNumber;
 use rights_lattice::{SiteId, Sites};
-use session_server::{SiteEnd, listen};
+use session_server::{SiteEnd, Visit, listen};
 use site_desk::SiteBook;
-use sql_records::Records;
+use sql_records::{Keeper, Records};
 use sqlite_std_file::{Start, Unknown};
 use std::alloc::{AllocError, Global};
 use std::env;
-use std::io::{BufWriter, ErrorKind, Stdout};
+use std::io::{BufWriter, ErrorKind, Read, Stdout, Write};
 use std::net::{Net, TcpListener, TcpStream};
 use std::process::ExitCode;
 use std::sync::Wait;
@@ -240,6 +240,47 @@ fn callers(
     }
 }
 
+// The ends of these sites once they have run with their visits, whatever their books stand in.
+fn served<K: Keeper + Drop + Send, R: Read + Drop + Send, V: Write + Drop + Send>(
+    rt: &HostRuntime,
+    host: &(impl Threads + Wait + Sync),
+    sites: Vec<SiteBook<K>>,
+    visits: Vec<Visit<R, V>>,
+    rounds: u64,
+    out: &mut BufWriter<Stdout>,
+) -> (Status, Option<Vec<SiteEnd<K, R, V>>>) {
+    serve_stores(host, rt.alloc(), sites, visits, rounds, out, &mut rt.stderr())
+}
+
+fn close_ends<S: Start, R: Read + Drop, V: Write + Drop>(
+    rt: &HostRuntime,
+    mut status: Status,
+    ends: Vec<SiteEnd<Records<Files<S>>, R, V>>,
+) -> Status {
+    for SiteEnd { book, .. } in ends {
+        status = close_site(rt, status, book);
+    }
+    status
+}
+
+// Runs the sites, whose callers are there, and closes their files.
+fn serve_callers<S: Start + Send>(
+    rt: &HostRuntime,
+    host: &(impl Threads + Wait + Sync),
+    sites: Vec<SiteBook<Records<Files<S>>>>,
+    streams: &[TcpStream],
+    rounds: u64,
+    out: &mut BufWriter<Stdout>,
+) -> Status {
+    let Ok(visits) = visits(rt.alloc(), streams) else {
+        return close_all(rt, out_of_memory(rt), sites);
+    };
+    match served(rt, host, sites, visits, rounds, out) {
+        (status, Some(ends)) => close_ends(rt, status, ends),
+        (status, None) => status,
+    }
+}
+
 // Nobody can connect before all sites are open.
 fn run_serve<S: Start + Send>(
     rt: &HostRuntime,
@@ -255,21 +296,13 @@ fn run_serve<S: Start + Send>(
     if let Err(status) = open_whole(rt, files, start, &mut sites, &mut out) {
         return Ok(close_all(rt, status, sites));
     }
-    let streams = match callers(rt, host, port, sessions) {
-        Ok(streams) => streams,
-        Err(status) => return Ok(close_all(rt, status, sites)),
-    };
-    let Ok(visits) = visits(rt.alloc(), streams.as_slice()) else {
-        return Ok(close_all(rt, out_of_memory(rt), sites));
-    };
-    let (mut status, ends) =
-        serve_stores(host, rt.alloc(), sites, visits, rounds, &mut out, &mut rt.stderr());
-    if let Some(ends) = ends {
-        for SiteEnd { book, .. } in ends {
-            status = close_site(rt, status, book);
+    match callers(rt, host, port, sessions) {
+        Ok(streams) => {
+            let status = serve_callers(rt, host, sites, streams.as_slice(), rounds, &mut out);
+            Ok(status)
         }
+        Err(status) => Ok(close_all(rt, status, sites)),
     }
-    Ok(status)
 }
 
 // An error is the status of a command that could not begin, and whose fault was told.
