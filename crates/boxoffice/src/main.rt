@@ -4,7 +4,7 @@
 mod connections;
 mod files;
 
-use crate::connections::visits;
+use crate::connections::{Caller, visits};
 use crate::files::{Files, close, open_or_make, open_there};
 use book_core::Limit;
 use operator_cli::{
@@ -16,7 +16,8 @@ use request_ledger::RequestNumber;
 use rights_lattice::{SiteId, Sites};
 use session_server::{SiteEnd, Visit, listen};
 use site_desk::SiteBook;
-use sql_records::{Keeper, Records};
+use sql_records::Records;
+use sqlite::Alter;
 use sqlite_std_file::{Start, Unknown};
 use std::alloc::{AllocError, Global};
 use std::env;
@@ -240,15 +241,15 @@ fn callers(
     }
 }
 
-// The ends of these sites once they have run with their visits, whatever their books stand in.
-fn served<K: Keeper + Drop + Send, R: Read + Drop + Send, V: Write + Drop + Send>(
+// The ends of these sites once they have run with their callers, whatever their records stand in.
+fn served<'a, S: Alter + Drop + Send>(
     rt: &HostRuntime,
     host: &(impl Threads + Wait + Sync),
-    sites: Vec<SiteBook<K>>,
-    visits: Vec<Visit<R, V>>,
+    sites: Vec<SiteBook<Records<S>>>,
+    visits: Vec<Visit<Caller<'a>, &'a TcpStream>>,
     rounds: u64,
     out: &mut BufWriter<Stdout>,
-) -> (Status, Option<Vec<SiteEnd<K, R, V>>>) {
+) -> (Status, Option<Vec<SiteEnd<Records<S>, Caller<'a>, &'a TcpStream>>>) {
     serve_stores(host, rt.alloc(), sites, visits, rounds, out, &mut rt.stderr())
 }
 
