@@ -146,6 +146,7 @@ fn refused(
 fn books_that_are_not_whole_are_refused(rt: HostRuntime) {
     let alloc = rt.alloc();
     let books = two_books(&rt, alloc);
+    assert!(rt; books.len() == 2);
     let (status, out) = refused(&rt, alloc, books.as_slice());
     assert_eq!(rt; status, None);
     assert!(rt; out.is_empty());
