@@ -15,41 +15,47 @@ import tempfile
 import time
 
 
-def one_site(lines, out):
-    """Sales at one site, a tenth of them given back."""
-    chance = random.Random(7)
-    out.write('sites 1\n0 announce 1 gala\n0 release 2 gala 1000000000\n')
-    sales = []
-    for number in range(3, lines):
-        if sales and chance.random() < 0.1:
-            out.write('0 refund %d %d\n' % (number, sales.pop()))
-        else:
-            out.write('0 sell %d gala %d\n' % (number, chance.randint(1, 9)))
-            sales.append(number)
+def one_site(events):
+    """Sales of so many events at one site, a tenth of them given back."""
+    def write(lines, out):
+        chance = random.Random(7)
+        out.write('sites 1\n')
+        for event in range(events):
+            out.write('0 announce %d ev%d\n0 release %d ev%d 1000000000\n' % (2 * event + 1, event, 2 * event + 2, event))
+        sales = []
+        for number in range(2 * events + 1, lines):
+            if sales and chance.random() < 0.1:
+                out.write('0 refund %d %d\n' % (number, sales.pop()))
+            else:
+                out.write('0 sell %d ev%d %d\n' % (number, chance.randrange(events), chance.randint(1, 9)))
+                sales.append(number)
+    return write
 
 
-def four_sites(sales, out):
-    """Sales of twenty events at four sites, with a message and its acknowledgement after every fifty."""
-    chance = random.Random(7)
-    out.write('sites 4\n')
-    number, message = 1, 0
-    for event in range(20):
-        out.write('0 announce %d ev%d\n0 release %d ev%d 100000000\n' % (number, event, number + 1, event))
-        number += 2
-        for to in (1, 2, 3):
-            out.write('0 cede %d ev%d 20000000 %d\n' % (number, event, to))
-            number += 1
-    for to in (1, 2, 3):
-        out.write('send 0 %d\ndeliver %d\ndeliver %d\n' % (to, message, message + 1))
-        message += 2
-    for k in range(sales):
-        number += 1
-        out.write('%d sell %d ev%d 1\n' % (chance.randrange(4), number, chance.randrange(20)))
-        if k % 50 == 49:
-            by = chance.randrange(4)
-            to = (by + 1 + chance.randrange(3)) % 4
-            out.write('send %d %d\ndeliver %d\ndeliver %d\n' % (by, to, message, message + 1))
+def sites_of(sites, events):
+    """Sales of so many events at so many sites, with a message and its acknowledgement after every fifty."""
+    def write(sales, out):
+        chance = random.Random(7)
+        out.write('sites %d\n' % sites)
+        number, message = 1, 0
+        for event in range(events):
+            out.write('0 announce %d ev%d\n0 release %d ev%d 100000000\n' % (number, event, number + 1, event))
+            number += 2
+            for to in range(1, sites):
+                out.write('0 cede %d ev%d %d %d\n' % (number, event, 80000000 // sites, to))
+                number += 1
+        for to in range(1, sites):
+            out.write('send 0 %d\ndeliver %d\ndeliver %d\n' % (to, message, message + 1))
             message += 2
+        for k in range(sales):
+            number += 1
+            out.write('%d sell %d ev%d 1\n' % (chance.randrange(sites), number, chance.randrange(events)))
+            if k % 50 == 49:
+                by = chance.randrange(sites)
+                to = (by + 1 + chance.randrange(sites - 1)) % sites
+                out.write('send %d %d\ndeliver %d\ndeliver %d\n' % (by, to, message, message + 1))
+                message += 2
+    return write
 
 
 def best(words, path):
@@ -67,7 +73,15 @@ def main(words):
     if len(words) != 1:
         sys.exit(__doc__)
     here = os.path.dirname(os.path.abspath(__file__))
-    cases = [('one site', one_site, 10000), ('one site', one_site, 1000000), ('four sites', four_sites, 20000), ('four sites', four_sites, 200000)]
+    cases = [
+        ('one site', one_site(1), 10000),
+        ('one site', one_site(1), 1000000),
+        ('one site, 100 events', one_site(100), 1000000),
+        ('one site, 10000 events', one_site(10000), 1000000),
+        ('four sites', sites_of(4, 20), 20000),
+        ('four sites', sites_of(4, 20), 200000),
+        ('sixteen sites, 100 events', sites_of(16, 100), 20000),
+    ]
     with tempfile.TemporaryDirectory() as folder:
         plain = os.path.join(folder, 'plain_world')
         source = os.path.join(here, 'plain_world.rs')

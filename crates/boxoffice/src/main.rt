@@ -249,8 +249,19 @@ fn served<'a, S: Alter + Drop + Send>(
     visits: Vec<Visit<Caller<'a>, &'a TcpStream>>,
     rounds: u64,
     out: &mut BufWriter<Stdout>,
-) -> (Status, Option<Vec<SiteEnd<Records<S>, Caller<'a>, &'a TcpStream>>>) {
-    serve_stores(host, rt.alloc(), sites, visits, rounds, out, &mut rt.stderr())
+) -> (
+    Status,
+    Option<Vec<SiteEnd<Records<S>, Caller<'a>, &'a TcpStream>>>,
+) {
+    serve_stores(
+        host,
+        rt.alloc(),
+        sites,
+        visits,
+        rounds,
+        out,
+        &mut rt.stderr(),
+    )
 }
 
 fn close_ends<S: Start, R: Read + Drop, V: Write + Drop>(

@@ -93,6 +93,7 @@ dealt_as {V} {X} {S} {E} f hand told cards sites ends same fair = subst (AreDeal
   each : (sites : List S) → map (λ s. map f (hand s)) sites ≡ map (map f) (map hand sites)
   each [] = refl
   each (s ∷ sites) = ap (λ l. map f (hand s) ∷ l) (each sites)
+
   all : AreDealt (map f cards) (map (map f) (map hand sites))
   all k fits =
       let count : length (map (map f) (map hand sites)) ≡ length (map hand sites) = length-map (map hand sites) (map f) in

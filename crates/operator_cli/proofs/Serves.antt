@@ -29,10 +29,11 @@ pub ends_served : (books : List BookView) (told : Option StoreFault) (a b c x y 
     → ComesTo books told a b came → Keeps b c → IfOk came (λ s. s ≢ Failed)
     → IfErr came (λ f. AppendsFront x y (store_fault_line f)) → IfOk came (λ s. status ≢ s → AppendsFront x y (store_fault_line fault.Write))
     → MatchResult came (λ s. (status ≡ s) ⊎ (status ≡ Failed)) (λ _. status ≡ Failed) → EndsServed books told a c x y status
-ends_served books (Some f) a b c x y came status h k lives line flush is =
-    ( Keeps-trans a b c h.0 k
-    , subst (λ (r : Result Status StoreFault). IfErr r (λ f. AppendsFront x y (store_fault_line f))) h.1 line
-    , subst (λ (r : Result Status StoreFault). MatchResult r (λ s. (status ≡ s) ⊎ (status ≡ Failed)) (λ _. status ≡ Failed)) h.1 is)
+ends_served books (Some f) a b c x y came status h k lives line flush is = (
+  Keeps-trans a b c h.0 k,
+  subst (λ (r : Result Status StoreFault). IfErr r (λ f. AppendsFront x y (store_fault_line f))) h.1 line,
+  subst (λ (r : Result Status StoreFault). MatchResult r (λ s. (status ≡ s) ⊎ (status ≡ Failed)) (λ _. status ≡ Failed)) h.1 is,
+)
 ends_served books None a b c x y (Ok s) status h k lives line flush is = ends_audited books a b c x y (Ok s) status h tt k lives line flush is
 ends_served books None a b c x y (Err f) status h k lives line flush is = ends_audited books a b c x y (Err f) status tt h k lives line flush is
 

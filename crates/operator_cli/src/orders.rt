@@ -23,7 +23,9 @@ pub(crate) const MOST_FILES: usize = MOST_SITES as usize;
 
 // The greatest number of a port, the most connections that `serve` takes, and the most rounds in which its sites send.
 const GREATEST_PORT: u64 = 65_535;
+
 const MOST_SESSIONS: u64 = 1024;
+
 const MOST_ROUNDS: u64 = 1_000_000;
 
 /// The files of several sites, in the order of the sites: at most 16.

@@ -37,6 +37,7 @@ fn unvisited<K: Keeper + Drop, R: Read + Drop, W: Write + Drop>(
     books: Vec<SiteBook<K>>,
 ) -> Result<Vec<Site<K, R, W>>, AllocError>
     ensures count { IfOk result (λ sites. length sites.items ≡ length books.items) }
+    ensures books { IfOk result (λ sites. map (λ s. s.book) sites.items ≡ books.items) }
     ensures empty { IfOk result (λ sites. map (λ s. s.sessions.items) sites.items ≡ map (λ _. []) sites.items) }
 {
     let mut sites = Vec::new(alloc);
@@ -54,6 +55,7 @@ fn deal<K: Keeper + Drop, R: Read + Drop, W: Write + Drop>(
 ) -> Result<(), AllocError>
     requires { map (λ s. s.sessions.items) sites.old.items ≡ map (λ _. []) sites.old.items }
     ensures count { OnOk result (length sites.new.items ≡ length sites.old.items) }
+    ensures books { OnOk result (map (λ s. s.book) sites.new.items ≡ map (λ s. s.book) sites.old.items) }
     ensures dealt { OnOk result (AreDealt visits.items (map (λ s. s.sessions.items) sites.new.items)) }
 {
     'visits: for (place, visit) in visits.into_iter().enumerate() {
@@ -154,13 +156,14 @@ fn summed_up<K: Keeper + Drop, R: Read + Drop, V: Write + Drop, W: Write>(
 /// Runs the sites of these books at once, with the visits and with links among them, and then prints a line for each event
 /// that a site knows, with what all sites released, sold and took back of it, as an audit does.
 ///
-/// The visit at each place, from 0, comes to the site whose number is the place modulo the count of books. Each site sends
-/// what is due to each other for so many rounds, over links that hold 16 messages. A session's own fault changes nothing
-/// here. Once all sites have come to their end, the first of them whose sessions were not given what its history holds, or
-/// whose book is closed, is told on `err`, with status 3, and nothing is printed: `seats-out`, `stranger K`,
-/// `stranger-seen K` or `closed S`. So are want of memory, a thread that could not be started and a writer that fails. The
-/// ends of all sites come back, in the order of the books, each with the visits that came to it; none do where the sites
-/// could not be run: what was entered stays in their records.
+/// The visit at each place, from 0, comes to the site whose number is the place modulo the count of books, where there is
+/// one. Each site sends what is due to each other for so many rounds, over links that hold 16 messages. A session's own
+/// fault changes nothing here, nor does a thread that a session could not have. Once all sites have come to their end, the
+/// first of them whose sessions were not given what its history holds, or whose book is closed, is told on `err`, with
+/// status 3, and nothing is printed: `seats-out`, `stranger K`, `stranger-seen K` or `closed S`. So are want of memory, a
+/// thread of a site or of its exchange that could not be started, and a writer that fails. The ends of all sites come back,
+/// in the order of the books, each with the visits that came to it; none do where the sites could not be run: what was
+/// entered stays in their records.
 pub fn serve_stores<
     T: Threads + Wait + Sync,
     K: Keeper + Drop + Send,
