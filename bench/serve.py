@@ -8,7 +8,7 @@ loopback, each line behind the reply to the one before; each sale is in the file
 PostgreSQL does the same work in one transaction, sent as one statement over a local socket by pgbench with as many
 clients, its commits synchronous: it takes a seat where one is left, and inserts the request's number. Where PostgreSQL's
 server and pgbench are not installed, this is said, and `serve` is timed alone. The files stand in FOLDER (a temporary one
-without it), and each rate is the median of three runs, which take turns.
+without it), and each rate is the median of five runs, which take turns.
 """
 import glob
 import os
@@ -19,7 +19,7 @@ import subprocess
 import sys
 import tempfile
 
-SALES = 4000
+SALES = 8000
 SALE = (
     "WITH sale AS (UPDATE events SET seats_left = seats_left - 1 WHERE name = 'gala' AND seats_left >= 1 RETURNING 1)"
     " INSERT INTO requests (number, event, amount) SELECT nextval('numbers'), 'gala', 1 FROM sale;\n"
@@ -111,7 +111,7 @@ def main(words):
         if server is None:
             print('PostgreSQL is not installed here: serve alone')
         for callers in (1, 4, 16):
-            runs = [(ours(program, caller, folder, callers), server.rate(callers) if server else None) for _ in range(3)]
+            runs = [(ours(program, caller, folder, callers), server.rate(callers) if server else None) for _ in range(5)]
             mine = statistics.median(run[0] for run in runs)
             line = '%d callers: %.0f durable sales a second' % (callers, mine)
             if server:
