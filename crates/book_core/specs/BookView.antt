@@ -40,7 +40,7 @@ pub record HasRoomFor (room : Room) (entry : Entry) : Type 0 where
   pub for_names : length (names_in_order (delta_of entry).names) ≤ room.names
   pub for_number : numbers_in entry ≤ room.numbers
 
--- no room is made for entries and for cells (what a map of names or of numbers makes for itself no contract of it bounds)
+-- no more room is reserved for entries and for cells (what a map makes for itself no contract bounds from above)
 abbrev pub MakesNoRoom : Room → Room → Type 0
 MakesNoRoom old new = (new.entries ≤ old.entries) × (new.cells ≤ old.cells)
 

@@ -40,7 +40,7 @@ impl Model for Rights {
 }
 
 impl Rights {
-    /// The rights of so many sites, where every cell is 0. It allocates nothing.
+    /// The rights of so many sites, where every cell is 0, with no room reserved.
     pub fn new(alloc: Global, sites: Sites) -> Rights
         ensures sites { result.sites ≡ sites }
         ensures cells { result.cells ≡ all_zero }
@@ -138,7 +138,7 @@ impl Rights {
         are_at_most_in_row(&self.values, site, other)
     }
 
-    /// The same state again, with what room there happens to be.
+    /// The same state again, with no room reserved.
     pub fn copy(&self, alloc: Global) -> Result<Rights, AllocError>
         ensures sites { IfOk result (λ copy. copy.sites ≡ self.now.sites) }
         ensures cells { IfOk result (λ copy. copy.cells ≡ self.now.cells) }
