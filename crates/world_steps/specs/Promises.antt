@@ -90,7 +90,7 @@ OperationsAreDistinct w = AreDistinct (all_operations w)
 pub record SeatsAddUp (w : World) (event : List ℕ) : Type 0 where
   -- sold and not given back
   pub outstanding : ℕ
-  -- what a site may sell: its rights, by its own row in its own view
+  -- what a site may sell: its rights, by its own view
   pub sellable : ℕ → ℕ
   -- what a site ceded to another that has not learned of it
   pub under_way : ℕ → ℕ → ℕ
