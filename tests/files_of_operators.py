@@ -35,6 +35,9 @@ TENDED = [
     "VACUUM",
 ]
 
+# The bytes of a log without entries.
+EMPTY_LOG = 41
+
 failures = 0
 
 
@@ -157,10 +160,12 @@ def no_database(folder):
             file.write(content)
         refused(folder, name, commands(name) + [["init", name, "0", "2", "1000"]], "not-ours")
     change(folder, "other.db", ["CREATE TABLE seats (number INTEGER)", "INSERT INTO seats VALUES (7)"])
-    before = tree(folder)["other.db"]
+    before = tree(folder)
     for words in commands("other.db"):
         same(f"a database of others: {words}", call(folder, words, "quit\n"), (3, "", "not-ours\n"))
-    same("a database of others", tree(folder)["other.db"], before)
+        after = tree(folder)
+        log = after.pop("other.db-wal")
+        same(f"the folder after {words}, but for a log that holds nothing", (after, len(log)), (before, EMPTY_LOG))
 
 
 def damaged(folder):
@@ -207,6 +212,39 @@ def other_records(folder):
             same(f"{name}: integrity", db.execute("PRAGMA integrity_check").fetchall(), [("ok",)])
 
 
+def locked_out(folder):
+    """What cannot be read beside our tables locks a site out until it is dropped again, and no entry is lost."""
+    changes = [
+        ("partial", ["CREATE INDEX report ON entries(event) WHERE verb = 'sell'"], ["DROP INDEX report"]),
+        ("expression", ["CREATE INDEX report ON entries(event || verb)"], ["DROP INDEX report"]),
+        ("trigger", ["CREATE TRIGGER seen AFTER INSERT ON entries BEGIN SELECT 1; END"], ["DROP TRIGGER seen"]),
+        ("window", ["CREATE VIEW sold AS SELECT sum(amount) OVER (ORDER BY pos) FROM entries"], ["DROP VIEW sold"]),
+        ("refers", ["CREATE TABLE a (n INTEGER PRIMARY KEY)", "CREATE TABLE b (n INTEGER REFERENCES a(n))"], ["DROP TABLE b"]),
+        (
+            "added",
+            ["CREATE TABLE a (n INTEGER)", "INSERT INTO a VALUES (1)", "ALTER TABLE a ADD COLUMN m INTEGER DEFAULT 7"],
+            ["DROP TABLE a"],
+        ),
+    ]
+    for name, made, dropped in changes:
+        make(folder, name)
+        ask(folder, name, ASKED)
+        change(folder, name, made)
+        for words in commands(name):
+            same(f"{name}: {words}", call(folder, words, "quit\n"), (3, "", "not-ours\n"))
+        change(folder, name, dropped)
+        ask(folder, name, [("sell 5 gala 2", "done"), ("left gala", "left 55")])
+    make(folder, "vacuumed")
+    ask(folder, "vacuumed", ASKED)
+    change(folder, "vacuumed", ["PRAGMA auto_vacuum = 1", "VACUUM"])
+    for words in commands("vacuumed"):
+        same(f"vacuumed: {words}", call(folder, words, "quit\n"), (3, "", "disk\n"))
+    with opened(folder, "vacuumed") as db:
+        db.execute("PRAGMA auto_vacuum = 0")
+        db.execute("VACUUM")
+    ask(folder, "vacuumed", [("sell 5 gala 2", "done"), ("left gala", "left 55")])
+
+
 def in_use(folder):
     make(folder, "site.db")
     with opened(folder, "site.db") as db:
@@ -225,7 +263,7 @@ def words_not_understood(folder):
 
 
 def main():
-    for trial in [tended, too_short, paths_as_they_stand, no_database, damaged, other_records, in_use, words_not_understood]:
+    for trial in [tended, too_short, paths_as_they_stand, no_database, damaged, other_records, locked_out, in_use, words_not_understood]:
         with tempfile.TemporaryDirectory() as folder:
             trial(folder)
     print("the files bear what operators do" if failures == 0 else f"{failures} differences")
