@@ -92,7 +92,7 @@ def memory_is_refused(folder):
     script += b"".join(b"0 sell %d gala 1\n" % number for number in range(3, MANY_SALES + 3))
     status, out, word = ended(folder, ["world"], script, memory=FEW_BYTES)
     same("a world without memory", (status, word), (3, "memory\n"))
-    same("its replies", out == b"done\n" * (len(out) // 5) and len(out) < 5 * MANY_SALES, True)
+    same("a front of its replies", (b"done\n" * MANY_SALES).startswith(out), True)
     status, out, word = ended(folder, ["world"], script)
     same("the same world with memory", (status, out[: 5 * MANY_SALES] == b"done\n" * MANY_SALES, word), (0, True, ""))
 
