@@ -206,8 +206,10 @@ def other_records(folder):
         make(folder, name)
         ask(folder, name, ASKED)
         change(folder, name, statements)
+        before = tree(folder)[name]
         for words in commands(name):
             same(f"{name}: {words}", call(folder, words, "quit\n"), (3, "", word + "\n"))
+        same(f"{name}: the file", tree(folder)[name], before)
         with opened(folder, name) as db:
             same(f"{name}: integrity", db.execute("PRAGMA integrity_check").fetchall(), [("ok",)])
 
