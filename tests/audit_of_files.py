@@ -6,37 +6,14 @@ Usage: tests/audit_of_files.py [PROGRAM]     (PROGRAM: crates/boxoffice/out/boxo
 Says what differs and ends with status 1 where anything does.
 """
 
-import contextlib
 import os
-import sqlite3
-import subprocess
 import sys
-import tempfile
 
-HERE = os.path.dirname(os.path.abspath(__file__))
-PROGRAM = os.path.abspath(
-    sys.argv[1] if len(sys.argv) > 1 else os.path.join(HERE, "..", "crates", "boxoffice", "out", "boxoffice")
-)
+from trial import FORGED, call, change, make_sites, opened, same, try_each
+
 # What each site asks, in this order, with what is delivered between.
 NORTH = ["announce 1 gala", "release 2 gala 100", "cede 3 gala 40 1", "sell 4 gala 7", "sell 5 gala 5", "refund 6 4"]
 SOUTH = ["sell 1 gala 30", "sell 2 gala 11", "announce 3 expo", "release 4 expo 9", "sell 5 expo 2", "refund 6 1"]
-FORGED = "delta 0 1 1\nname gala\ngave gala 0 0 1000\nend\n"
-
-failures = 0
-
-
-def same(what, found, wanted):
-    global failures
-    if found != wanted:
-        failures += 1
-        print(f"{what}: found {found!r}, wanted {wanted!r}")
-
-
-def call(folder, words, given=""):
-    done = subprocess.run(
-        [PROGRAM, *words], input=given.encode(), capture_output=True, cwd=folder, timeout=60, check=False
-    )
-    return done.returncode, done.stdout.decode(), done.stderr.decode()
 
 
 def asked(folder, file, lines):
@@ -48,7 +25,7 @@ def summed(folder, files):
     """The lines of an audit, from the entries of all files by C SQLite."""
     sums = {}
     for file in files:
-        with contextlib.closing(sqlite3.connect(os.path.join(folder, file))) as records:
+        with opened(folder, file) as records:
             for (event,) in records.execute("SELECT event FROM entries WHERE verb = 'announce' AND reply = 'done'"):
                 sums.setdefault(event, [0, 0, 0])
             done = "SELECT event, amount FROM entries WHERE verb = ? AND reply = 'done'"
@@ -67,8 +44,7 @@ def summed(folder, files):
 
 
 def two_sites(folder):
-    for me, file in enumerate(["north.db", "south.db"]):
-        same(f"init {file}", call(folder, ["init", file, str(me), "2", "1000"]), (0, "done\n", ""))
+    make_sites(folder, ["north.db", "south.db"])
     both = ["audit", "north.db", "south.db"]
     same("two new sites", call(folder, both), (0, "", ""))
     asked(folder, "north.db", NORTH)
@@ -93,13 +69,12 @@ def refusals(folder, both):
     same("17 files", call(folder, ["audit"] + ["north.db"] * 17)[:2], (2, ""))
     same("a forged message", call(folder, ["import", "south.db"], FORGED), (0, "joined\n", ""))
     same("a view above its owner", call(folder, both), (1, "ahead 1 0\n", ""))
-    with contextlib.closing(sqlite3.connect(os.path.join(folder, "north.db"))) as records:
-        records.execute("UPDATE entries SET amount = 8 WHERE pos = 4")
-        records.commit()
+    change(folder, "north.db", ["UPDATE entries SET amount = 8 WHERE pos = 4"])
     same("the first fault ends it", call(folder, both + ["west.db"]), (3, "", "damaged 4\n"))
 
 
-with tempfile.TemporaryDirectory() as folder:
+def sums_and_refusals(folder):
     refusals(folder, two_sites(folder))
-print(f"audit of files: {failures} differ")
-sys.exit(1 if failures else 0)
+
+
+sys.exit(try_each([sums_and_refusals], "audit of files: 0 differ", "audit of files: {} differ"))

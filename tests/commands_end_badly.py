@@ -10,26 +10,14 @@ import os
 import resource
 import subprocess
 import sys
-import tempfile
 
-HERE = os.path.dirname(os.path.abspath(__file__))
-PROGRAM = os.path.abspath(
-    sys.argv[1] if len(sys.argv) > 1 else os.path.join(HERE, "..", "crates", "boxoffice", "out", "boxoffice")
-)
+from trial import PROGRAM, same, try_each
+
 MOST_LINES = 1_000_000
 LONGEST_LINE = 200
 # Far less than a world of so many sales takes, and more than the program takes to begin.
 FEW_BYTES = 128 << 20
 MANY_SALES = 600_000
-
-failures = 0
-
-
-def same(what, found, wanted):
-    global failures
-    if found != wanted:
-        failures += 1
-        print(f"{what}: found {found!r}, wanted {wanted!r}")
 
 
 def ended(folder, words, given=b"", out=subprocess.PIPE, memory=None):
@@ -97,15 +85,12 @@ def memory_is_refused(folder):
     same("the same world with memory", (status, out[: 5 * MANY_SALES] == b"done\n" * MANY_SALES, word), (0, True, ""))
 
 
-def main():
-    with tempfile.TemporaryDirectory() as folder:
-        for site, name in enumerate(["site.db", "other.db"]):
-            same(f"init {name}", ended(folder, ["init", name, str(site), "2", "1000"]), (0, b"done\n", ""))
-        same("ask", ended(folder, ["ask", "site.db"], b"announce 1 gala\n"), (0, b"done\n", ""))
-        for trial in [reading_fails, writing_fails, lines_are_too_many_or_long, memory_is_refused]:
-            trial(folder)
-    print("commands end badly as they should" if failures == 0 else f"{failures} differences")
-    return 1 if failures else 0
+def bad_ends(folder):
+    for site, name in enumerate(["site.db", "other.db"]):
+        same(f"init {name}", ended(folder, ["init", name, str(site), "2", "1000"]), (0, b"done\n", ""))
+    same("ask", ended(folder, ["ask", "site.db"], b"announce 1 gala\n"), (0, b"done\n", ""))
+    for trial in [reading_fails, writing_fails, lines_are_too_many_or_long, memory_is_refused]:
+        trial(folder)
 
 
-sys.exit(main())
+sys.exit(try_each([bad_ends], "commands end badly as they should"))

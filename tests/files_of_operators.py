@@ -6,17 +6,10 @@ Usage: tests/files_of_operators.py [PROGRAM]     (PROGRAM: crates/boxoffice/out/
 Says what differs and ends with status 1 where anything does.
 """
 
-import contextlib
 import os
-import sqlite3
-import subprocess
 import sys
-import tempfile
 
-HERE = os.path.dirname(os.path.abspath(__file__))
-PROGRAM = os.path.abspath(
-    sys.argv[1] if len(sys.argv) > 1 else os.path.join(HERE, "..", "crates", "boxoffice", "out", "boxoffice")
-)
+from trial import call, change, intact, opened, same, try_each
 
 # Each request of a first evening with its reply.
 ASKED = [
@@ -37,22 +30,6 @@ TENDED = [
 
 # The bytes of a log without entries.
 EMPTY_LOG = 41
-
-failures = 0
-
-
-def same(what, found, wanted):
-    global failures
-    if found != wanted:
-        failures += 1
-        print(f"{what}: found {found!r}, wanted {wanted!r}")
-
-
-def call(folder, words, given=""):
-    done = subprocess.run(
-        [PROGRAM, *words], input=given.encode(), capture_output=True, cwd=folder, timeout=60, check=False
-    )
-    return done.returncode, done.stdout.decode(), done.stderr.decode()
 
 
 def run(folder, words, given=""):
@@ -90,18 +67,6 @@ def refused(folder, what, all_words, word):
         same(f"{what}: the folder after {words}", tree(folder), before)
 
 
-@contextlib.contextmanager
-def opened(folder, file):
-    with contextlib.closing(sqlite3.connect(os.path.join(folder, file), isolation_level=None)) as db:
-        yield db
-
-
-def change(folder, file, statements):
-    with opened(folder, file) as db:
-        for statement in statements:
-            db.execute(statement)
-
-
 def tended(folder):
     make(folder, "north.db")
     make(folder, "south.db", 1)
@@ -121,7 +86,7 @@ def tended(folder):
     same("import again", run(folder, ["import", "north.db"], back), "nothing-new\n")
     same("init again", call(folder, ["init", "north.db", "0", "2", "1000"]), (1, "already-there\n", ""))
     with opened(folder, "north.db") as db:
-        same("integrity", db.execute("PRAGMA integrity_check").fetchall(), [("ok",)])
+        intact("integrity", db)
         same("the view", db.execute("SELECT * FROM sold").fetchall(), [("gala", 5)])
         count = db.execute("SELECT count(*) FROM entries INDEXED BY report WHERE event = 'gala'").fetchone()
         same("the index", count, (len(kept),))
@@ -211,7 +176,7 @@ def other_records(folder):
             same(f"{name}: {words}", call(folder, words, "quit\n"), (3, "", word + "\n"))
         same(f"{name}: the file", tree(folder)[name], before)
         with opened(folder, name) as db:
-            same(f"{name}: integrity", db.execute("PRAGMA integrity_check").fetchall(), [("ok",)])
+            intact(f"{name}: integrity", db)
 
 
 def locked_out(folder):
@@ -264,12 +229,6 @@ def words_not_understood(folder):
     same("made by words that are not understood", os.listdir(folder), [])
 
 
-def main():
-    for trial in [tended, too_short, paths_as_they_stand, no_database, damaged, other_records, locked_out, in_use, words_not_understood]:
-        with tempfile.TemporaryDirectory() as folder:
-            trial(folder)
-    print("the files bear what operators do" if failures == 0 else f"{failures} differences")
-    return 1 if failures else 0
+TRIALS = [tended, too_short, paths_as_they_stand, no_database, damaged, other_records, locked_out, in_use, words_not_understood]
 
-
-sys.exit(main())
+sys.exit(try_each(TRIALS, "the files bear what operators do"))

@@ -6,15 +6,11 @@ Usage: tests/records_are_plain_sqlite.py [PROGRAM]     (PROGRAM: crates/boxoffic
 Says what differs and ends with status 1 where anything does.
 """
 
-import contextlib
 import os
-import sqlite3
 import subprocess
 import sys
-import tempfile
 
-HERE = os.path.dirname(os.path.abspath(__file__))
-PROGRAM = sys.argv[1] if len(sys.argv) > 1 else os.path.join(HERE, "..", "crates", "boxoffice", "out", "boxoffice")
+from trial import PROGRAM, SECONDS, intact, opened, same, try_each
 
 META = (
     "CREATE TABLE meta (one INTEGER PRIMARY KEY CHECK (one = 1), kind TEXT NOT NULL, version INTEGER NOT NULL,"
@@ -48,25 +44,17 @@ ASKED = [
 MESSAGE = "delta 0 1 13\nname gala\ngave gala 0 0 100\ngave gala 0 1 40\nused gala 0 7\nback gala 0 7\nend\n"
 JOINED = (0, None, None, None, None, None, None, None, "name gala\ngave gala 0 0 100\ngave gala 0 1 40\nused gala 0 7\nback gala 0 7\n")
 
-failures = 0
-
-
-def same(what, found, wanted):
-    global failures
-    if found != wanted:
-        failures += 1
-        print(f"{what}: found {found!r}, wanted {wanted!r}")
-
 
 def run(words, given="", status=0):
-    done = subprocess.run([PROGRAM, *words], input=given, capture_output=True, text=True, timeout=60)
+    done = subprocess.run([PROGRAM, *words], input=given, capture_output=True, text=True, timeout=SECONDS)
     same(f"status of {' '.join(words)}", done.returncode, status)
     return done.stdout
 
 
-def read(path, me, rows):
-    with contextlib.closing(sqlite3.connect(path)) as db:
-        same(f"{path}: integrity", db.execute("PRAGMA integrity_check").fetchall(), [("ok",)])
+def read(folder, file, me, rows):
+    path = os.path.join(folder, file)
+    with opened(folder, file) as db:
+        intact(f"{path}: integrity", db)
         texts = db.execute("SELECT name, sql FROM sqlite_schema WHERE type = 'table' ORDER BY name").fetchall()
         same(f"{path}: tables", texts, [("entries", ENTRIES), ("meta", META)])
         strict = db.execute("SELECT name, strict FROM pragma_table_list WHERE schema = 'main' AND name IN ('meta', 'entries') ORDER BY name")
@@ -81,29 +69,26 @@ def read(path, me, rows):
         same(f"{path}: place {place}", row, (place, *wanted))
 
 
-def main():
-    with tempfile.TemporaryDirectory() as folder:
-        first, second = os.path.join(folder, "first.db"), os.path.join(folder, "second.db")
-        same("init of the first site", run(["init", first, "0", "2", "1000"]), "done\n")
-        same("init of the second site", run(["init", second, "1", "2", "1000"]), "done\n")
-        same("init again", run(["init", first, "0", "2", "1000"], status=1), "already-there\n")
-        missing = os.path.join(folder, "missing.db")
-        same("init of a site past the count", run(["init", missing, "2", "2", "1000"], status=1), "no-site\n")
-        same("its file", os.path.exists(missing), False)
-        asked = "".join(line + "\n" for line, _, _ in ASKED)
-        same("replies", run(["ask", first], asked), "".join(reply + "\n" for _, reply, _ in ASKED))
-        message = run(["export", first, "1"])
-        same("message", message, MESSAGE)
-        same("first import", run(["import", second], message), "joined\n")
-        same("second import", run(["import", second], message), "nothing-new\n")
-        read(first, 0, [columns for _, _, columns in ASKED])
-        read(second, 1, [JOINED])
-        # The program opens what C SQLite had open.
-        same("find", run(["find", first, "5"]), "4 short 60\n")
-        listed = [f"{place} {line} {reply}\n" for place, (line, reply, _) in enumerate(ASKED) if " gala" in line]
-        same("list", run(["list", first, "gala"]), "".join(listed))
-    print("the records are plain SQLite files" if failures == 0 else f"{failures} differences")
-    return 1 if failures else 0
+def two_sites(folder):
+    first, second = os.path.join(folder, "first.db"), os.path.join(folder, "second.db")
+    same("init of the first site", run(["init", first, "0", "2", "1000"]), "done\n")
+    same("init of the second site", run(["init", second, "1", "2", "1000"]), "done\n")
+    same("init again", run(["init", first, "0", "2", "1000"], status=1), "already-there\n")
+    missing = os.path.join(folder, "missing.db")
+    same("init of a site past the count", run(["init", missing, "2", "2", "1000"], status=1), "no-site\n")
+    same("its file", os.path.exists(missing), False)
+    asked = "".join(line + "\n" for line, _, _ in ASKED)
+    same("replies", run(["ask", first], asked), "".join(reply + "\n" for _, reply, _ in ASKED))
+    message = run(["export", first, "1"])
+    same("message", message, MESSAGE)
+    same("first import", run(["import", second], message), "joined\n")
+    same("second import", run(["import", second], message), "nothing-new\n")
+    read(folder, "first.db", 0, [columns for _, _, columns in ASKED])
+    read(folder, "second.db", 1, [JOINED])
+    # The program opens what C SQLite had open.
+    same("find", run(["find", first, "5"]), "4 short 60\n")
+    listed = [f"{place} {line} {reply}\n" for place, (line, reply, _) in enumerate(ASKED) if " gala" in line]
+    same("list", run(["list", first, "gala"]), "".join(listed))
 
 
-sys.exit(main())
+sys.exit(try_each([two_sites], "the records are plain SQLite files"))

@@ -11,18 +11,13 @@ import contextlib
 import os
 import shutil
 import socket
-import sqlite3
 import subprocess
 import sys
-import tempfile
 import threading
 import time
 
-HERE = os.path.dirname(os.path.abspath(__file__))
-PROGRAM = os.path.abspath(
-    sys.argv[1] if len(sys.argv) > 1 else os.path.join(HERE, "..", "crates", "boxoffice", "out", "boxoffice")
-)
-SECONDS = 60
+from trial import FORGED, PROGRAM, SECONDS, call, intact, make_sites, opened, same, try_each
+
 CALLERS = 8
 SALES = 20
 # Of 100 seats 40 are ceded to the other site, so that each has fewer than its callers ask for.
@@ -30,22 +25,6 @@ NORTH = ["announce 1 gala", "release 2 gala 100", "cede 3 gala 40 1"]
 
 # What all sites sold, once both have sold all that they had.
 LINE = "gala released 100 sold 100 refunded 0 outstanding 100\n"
-
-failures = 0
-
-
-def same(what, found, wanted):
-    global failures
-    if found != wanted:
-        failures += 1
-        print(f"{what}: found {found!r}, wanted {wanted!r}")
-
-
-def call(folder, words, given=""):
-    done = subprocess.run(
-        [PROGRAM, *words], input=given.encode(), capture_output=True, cwd=folder, timeout=SECONDS, check=False
-    )
-    return done.returncode, done.stdout.decode(), done.stderr.decode()
 
 
 def free_port():
@@ -56,11 +35,11 @@ def free_port():
 
 def offices(folder):
     """The files of two new sites, of which the first has seats and ceded some."""
-    for me, file in enumerate(["north.db", "south.db"]):
-        same(f"init {file}", call(folder, ["init", file, str(me), "2", "1000"]), (0, "done\n", ""))
+    files = ["north.db", "south.db"]
+    make_sites(folder, files)
     asked = call(folder, ["ask", "north.db"], "".join(line + "\n" for line in NORTH))
     same("ask north.db", asked, (0, "done\n" * len(NORTH), ""))
-    return ["north.db", "south.db"]
+    return files
 
 
 def started(folder, port, sessions, rounds, files):
@@ -125,10 +104,9 @@ def sell(number, caller, replies):
 
 
 def kept(folder, file):
-    with contextlib.closing(sqlite3.connect(os.path.join(folder, file))) as records:
+    with opened(folder, file) as records:
         asked = records.execute("SELECT number, reply, rest FROM entries WHERE verb = 'sell'").fetchall()
-        whole = records.execute("PRAGMA integrity_check").fetchall()
-    same(f"the file {file}", whole, [("ok",)])
+        intact(f"the file {file}", records)
     return {number: reply if rest is None else f"{reply} {rest}" for number, reply, rest in asked}
 
 
@@ -185,8 +163,7 @@ def bad_sessions(folder, files):
 
 def forged(folder, files):
     """A view above its owner's row is told in place of the sums, behind the sessions, whose sales stay."""
-    message = "delta 0 1 1\nname gala\ngave gala 0 0 1000\nend\n"
-    same("a forged message", call(folder, ["import", files[1]], message), (0, "joined\n", ""))
+    same("a forged message", call(folder, ["import", files[1]], FORGED), (0, "joined\n", ""))
     port = free_port()
     serving = started(folder, port, 1, 0, files)
     caller = Caller(port)
@@ -215,12 +192,13 @@ def refusals(folder, files):
     same("no session", no_session, (0, LINE, ""))
 
 
-with tempfile.TemporaryDirectory() as folder:
+def all_at_two_sites(folder):
     files = offices(folder)
     sell_at_once(folder, files)
     netcat(folder, files)
     bad_sessions(folder, files)
     refusals(folder, files)
     forged(folder, files)
-print(f"serve at once: {failures} differ")
-sys.exit(1 if failures else 0)
+
+
+sys.exit(try_each([all_at_two_sites], "serve at once: 0 differ", "serve at once: {} differ"))

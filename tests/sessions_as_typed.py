@@ -6,16 +6,12 @@ Usage: tests/sessions_as_typed.py [PROGRAM]     (PROGRAM: crates/boxoffice/out/b
 Says what differs and ends with status 1 where anything does.
 """
 
-import os
 import select
 import subprocess
 import sys
-import tempfile
 
-HERE = os.path.dirname(os.path.abspath(__file__))
-PROGRAM = os.path.abspath(
-    sys.argv[1] if len(sys.argv) > 1 else os.path.join(HERE, "..", "crates", "boxoffice", "out", "boxoffice")
-)
+from trial import PROGRAM, call, same, try_each
+
 SECONDS = 30
 
 # Each line of an evening with its reply.
@@ -33,15 +29,6 @@ TYPED = [
 ]
 # What the records keep of them: number, place and reply.
 KEPT = [("1", "0 done"), ("2", "1 done"), ("3", "2 done"), ("4", "3 short 39"), ("5", "4 done")]
-
-failures = 0
-
-
-def same(what, found, wanted):
-    global failures
-    if found != wanted:
-        failures += 1
-        print(f"{what}: found {found!r}, wanted {wanted!r}")
 
 
 class Session:
@@ -86,10 +73,7 @@ class Session:
 
 
 def run(folder, words, given=""):
-    done = subprocess.run(
-        [PROGRAM, *words], input=given.encode(), capture_output=True, cwd=folder, timeout=SECONDS, check=False
-    )
-    return done.returncode, done.stdout.decode(), done.stderr.decode()
+    return call(folder, words, given, SECONDS)
 
 
 def make(folder):
@@ -150,12 +134,6 @@ def killed_behind_a_reply(folder):
         same(f"find {number} behind a kill", run(folder, ["find", "site.db", number]), (0, kept + "\n", ""))
 
 
-def main():
-    for trial in [line_by_line, in_pieces, until_quit, alone, killed_behind_a_reply]:
-        with tempfile.TemporaryDirectory() as folder:
-            trial(folder)
-    print("sessions answer as they are typed" if failures == 0 else f"{failures} differences")
-    return 1 if failures else 0
+TRIALS = [line_by_line, in_pieces, until_quit, alone, killed_behind_a_reply]
 
-
-sys.exit(main())
+sys.exit(try_each(TRIALS, "sessions answer as they are typed"))

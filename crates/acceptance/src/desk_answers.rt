@@ -147,6 +147,7 @@ fn filled<R: Wait + Abort, L: Opens>(
     requires parts { blank.parts ≡ L.parts }
     requires some { 0 < blank.parts }
     requires opening { L.opening ≡ length book.book.history }
+    requires office { L.office ≡ book.book.office }
 {
     let (desk, mut seat) = Desk::<ListKeeper, L>::new(book, blank);
     let gate = Inside::new();
@@ -193,6 +194,7 @@ fn exchanged<R: Wait + Abort, L: Opens>(
     requires parts { blank.parts ≡ L.parts }
     requires some { 0 < blank.parts }
     requires opening { L.opening ≡ length book.book.history }
+    requires office { L.office ≡ book.book.office }
 {
     let (desk, mut seat) = Desk::<ListKeeper, L>::new(book, blank);
     let zero = site(rt, 0);
@@ -236,6 +238,7 @@ fn closed<R: Wait + Abort, L: Opens>(
     requires parts { blank.parts ≡ L.parts }
     requires some { 0 < blank.parts }
     requires opening { L.opening ≡ length book.book.history }
+    requires office { L.office ≡ book.book.office }
 {
     let (desk, mut seat) = Desk::<ListKeeper, L>::new(book, blank);
     let gate = Inside::new();

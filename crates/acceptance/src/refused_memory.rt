@@ -58,6 +58,7 @@ fn session<R: Wait + Abort, L: Opens>(
     requires parts { blank.parts ≡ L.parts }
     requires some { 0 < blank.parts }
     requires opening { L.opening ≡ length book.book.history }
+    requires office { L.office ≡ book.book.office }
 {
     let mut handed_in = Vec::with_capacity(alloc, 1).ok()?;
     let (desk, seat) = Desk::<ListKeeper, L>::new(book, blank);

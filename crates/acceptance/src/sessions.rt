@@ -97,6 +97,7 @@ fn two_sessions<R: Threads + Wait + Abort + Sync, L: Opens + Send + Sync>(
     requires parts { blank.parts ≡ L.parts }
     requires two { blank.parts ≡ 2 }
     requires opening { L.opening ≡ length book.book.history }
+    requires office { L.office ≡ book.book.office }
 {
     let (desk, seat) = Desk::<ListKeeper, L>::new(book, blank);
     let (mut zero, mut one) = seat.split();
@@ -243,6 +244,7 @@ fn two_sessions_meet<R: Threads + Wait + Abort + Sync, L: Opens + Send + Sync>(
     requires parts { blank.parts ≡ L.parts }
     requires two { blank.parts ≡ 2 }
     requires opening { L.opening ≡ length book.book.history }
+    requires office { L.office ≡ book.book.office }
 {
     let (desk, seat) = Desk::<ListKeeper, L>::new(book, blank);
     let (mut zero, mut one) = seat.split();
@@ -289,6 +291,7 @@ fn finished_with<R: Wait + Abort, L: Opens>(
     requires parts { blank.parts ≡ L.parts }
     requires some { 0 < blank.parts }
     requires opening { L.opening ≡ length book.book.history }
+    requires office { L.office ≡ book.book.office }
 {
     let (desk, mut seat) = Desk::<ListKeeper, L>::new(book, blank);
     let (receipt, seen) = sell_and_look(rt, alloc, &desk, &mut seat, 10, 3);
@@ -380,6 +383,7 @@ fn messages_pass<R: Wait + Abort, L: Opens>(
     requires parts { blank.parts ≡ L.parts }
     requires some { 0 < blank.parts }
     requires opening { L.opening ≡ length book.book.history }
+    requires office { L.office ≡ book.book.office }
 {
     let (desk, seat) = Desk::<ListKeeper, L>::new(book, blank);
     let taken = desk

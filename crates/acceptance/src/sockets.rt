@@ -60,6 +60,7 @@ fn serve_calls<
     requires parts { blank.parts ≡ L.parts }
     requires two { blank.parts ≡ 2 }
     requires opening { L.opening ≡ length book.book.history }
+    requires office { L.office ≡ book.book.office }
 {
     let (desk, seat) = Desk::<ListKeeper, L>::new(book, blank);
     let (zero, one) = seat.split();

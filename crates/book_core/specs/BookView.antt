@@ -1,5 +1,5 @@
 -- What contracts see of a book. (Our own.)
-use Rattle.std.specs.Prelude.{◌≡◌, ℕ, ◌≤◌, ◌<◌, List, length, take, None}
+use Rattle.std.specs.Prelude.{◌≡◌, ℕ, ◌+◌, ◌≤◌, ◌<◌, List, length, take, None}
 use Rattle.request_ledger.specs.Ledger.{Keeping, kept_under, IsRefundable}
 use Rattle.rights_lattice.specs.Cells.{Cells, Valued, RowAtOrBelow, raise_all, marks_of, greatest}
 use Rattle.rights_lattice.specs.RightsView.{IsCellOf}
@@ -40,9 +40,23 @@ pub record HasRoomFor (room : Room) (entry : Entry) : Type 0 where
   pub for_names : length (names_in_order (delta_of entry).names) ≤ room.names
   pub for_number : numbers_in entry ≤ room.numbers
 
+-- no room is lost
+pub record KeepsRoom (old new : Room) : Type 0 where
+  pub entries : old.entries ≤ new.entries
+  pub cells : old.cells ≤ new.cells
+  pub names : old.names ≤ new.names
+  pub numbers : old.numbers ≤ new.numbers
+
 -- no more room is reserved for entries and for cells (what a map makes for itself no contract bounds from above)
 abbrev pub MakesNoRoom : Room → Room → Type 0
 MakesNoRoom old new = (new.entries ≤ old.entries) × (new.cells ≤ old.cells)
+
+-- no more room is used than the entry takes
+pub record Spends (entry : Entry) (old new : Room) : Type 0 where
+  pub entries : old.entries ≤ new.entries + 1
+  pub cells : old.cells ≤ new.cells + length (marks_of (delta_of entry).cells)
+  pub names : old.names ≤ new.names + length (names_in_order (delta_of entry).names)
+  pub numbers : old.numbers ≤ new.numbers + numbers_in entry
 
 -- the number of the entry, if it has one, is not kept yet
 abbrev pub IsUnkept : Keeping → Entry → Type 0

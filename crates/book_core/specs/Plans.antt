@@ -18,7 +18,7 @@ use Rattle.rights_lattice.specs.State.{State}
 use Rattle.book_core.specs.Joining as join
 use Rattle.book_core.specs.Joining.{join_decision}
 use Rattle.book_core.specs.Legal.{IsNext}
-use Rattle.book_core.specs.BookView.{BookView, HasRoomFor}
+use Rattle.book_core.specs.BookView.{BookView, HasRoomFor, KeepsRoom}
 
 -- the entry is of this number and this request
 abbrev pub IsEntryOf : ℕ → Request → Entry → Type 0
@@ -58,9 +58,9 @@ IsFault book number request (fault.Reused place) = decision book.office book.his
 IsFault book number request fault.Full = decision book.office book.history number request ≡ Full
 IsFault book number request fault.Memory = IsFresh (decision book.office book.history number request)
 
--- where nothing is entered the book stays wholly as it is, its room too
+-- where nothing is entered the book stays wholly as it is, its room too; for an entry no room is lost
 abbrev pub LeavesRoom : Decision → BookView → BookView → Type 0
-LeavesRoom (Fresh reply) old new = Unit {0}
+LeavesRoom (Fresh reply) old new = KeepsRoom old.room new.room
 LeavesRoom _ old new = new ≡ old
 
 -- a fresh reply that adds nothing to the state
@@ -74,9 +74,9 @@ IsJoinPlan book peer delta join_plan.NothingNew = join_decision book.office book
 IsJoinPlan book peer delta (join_plan.New entry) =
     (join_decision book.office book.history peer delta ≡ join.Joins) × (entry ≡ Joined peer delta) × IsReady book entry
 
--- where nothing is joined the book stays wholly as it is, its room too
+-- where nothing is joined the book stays wholly as it is, its room too; for an entry no room is lost
 abbrev pub LeavesJoinRoom : join.JoinDecision → BookView → BookView → Type 0
-LeavesJoinRoom join.Joins old new = Unit {0}
+LeavesJoinRoom join.Joins old new = KeepsRoom old.room new.room
 LeavesJoinRoom _ old new = new ≡ old
 
 -- the fault is the decision on the delta, or memory was refused to one that is joined

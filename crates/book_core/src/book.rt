@@ -1,5 +1,5 @@
 //! The book of a site.
-ghost use Rattle.std.specs.Prelude.{vec_len, vec_capacity, nat_le, IsTrue, ◌↔◌, IsOk, IfOk, IfErr, OnOk, ◌++◌, ◌∷◌, ◌≡◌, ℕ, ◌<◌, ◌≤◌, [], length, slice_get, Some, None};
+ghost use Rattle.std.specs.Prelude.{vec_len, vec_capacity, nat_le, IsTrue, ◌↔◌, IsOk, IfOk, IfErr, OnOk, ◌++◌, ◌∷◌, ◌≡◌, ℕ, ◌<◌, ◌≤◌, [], ◌+◌, length, slice_get, Some, None};
 ghost use Rattle.std.specs.Option.{option_copied};
 ghost use Rattle.rights_lattice.specs.Cells.{value_at, raise_all, max_value};
 ghost use Rattle.rights_lattice.specs.State.{knows};
@@ -8,7 +8,7 @@ ghost use Rattle.request_ledger.specs.Ledger.{kept_under, IsRefundable};
 ghost use Rattle.book_core.specs.History.{state_of, kept, sale_of, names_of, asked_from};
 ghost use Rattle.book_core.specs.Decision.{own_left};
 ghost use Rattle.book_core.specs.Legal.{IsLegal};
-ghost use Rattle.book_core.specs.BookView.{HasRoomFor, IsUnkept, KeepsRefunds, MakesNoRoom, KeepRights, MarksAreWithin, SeesWithin, numbers_in};
+ghost use Rattle.book_core.specs.BookView.{HasRoomFor, KeepsRoom, IsUnkept, KeepsRefunds, MakesNoRoom, Spends, KeepRights, MarksAreWithin, SeesWithin, numbers_in};
 ghost use Rattle.book_core.specs.OwnRow.{HasOwnRights, LeavesOwnRow};
 ghost use Rattle.book_core.specs.Plans.{IsReady};
 ghost use Rattle.book_core.specs.declared.entry.Entry.TheVariants.{Asked};
@@ -196,6 +196,7 @@ impl Book {
         ensures own_row { LeavesOwnRow planned self.old self.new }
         ensures has_rights { HasOwnRights self.new }
         ensures no_more_room { MakesNoRoom self.old.room self.new.room }
+        ensures spent { Spends planned self.old.room self.new.room }
     {
         let Planned { entry } = planned;
         raise_marks(&mut self.rights, entry.delta().marks());
@@ -214,6 +215,7 @@ impl Book {
     // Makes room for an entry, of which nothing is shown.
     fn reserve(&mut self, entry: &Entry) -> Result<(), AllocError>
         ensures unchanged { self.new ≡ record self.old { room = self.new.room } }
+        ensures room { KeepsRoom self.old.room self.new.room }
         ensures ok { OnOk result (HasRoomFor self.new.room entry.now) }
         ensures succeeds { HasRoomFor self.old.room entry.now → IsOk result }
     {
@@ -235,6 +237,7 @@ fn raise_marks(rights: &mut Counted, marks: &[Mark])
     ensures sites { rights.new.sites ≡ rights.old.sites }
     ensures me { rights.new.me ≡ rights.old.me }
     ensures no_more_room { rights.new.room ≤ rights.old.room }
+    ensures room { rights.old.room ≤ rights.new.room + length marks.now }
 {
     for mark in marks {
         let mark = *mark;
@@ -248,7 +251,8 @@ fn keep(ledger: &mut Ledger, place: usize, entry: &Entry)
     requires new { IsUnkept ledger.old.entries entry.now }
     requires refund { KeepsRefunds ledger.old.entries entry.now }
     requires room { numbers_in entry.now ≤ ledger.old.room }
-    ensures { ledger.new.entries ≡ ledger.old.entries ++ asked_from place (entry.now ∷ []) }
+    ensures entries { ledger.new.entries ≡ ledger.old.entries ++ asked_from place (entry.now ∷ []) }
+    ensures room { ledger.old.room ≤ ledger.new.room + numbers_in entry.now }
 {
     match entry {
         Entry::Asked {

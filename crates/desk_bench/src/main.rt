@@ -195,6 +195,7 @@ fn sell_all<R: Threads + Wait + Clock + Sync, L: Opens + Send + Sync>(
     requires some { 0 < blank.parts }
     requires threads { blank.parts ≡ load.threads }
     requires opening { L.opening ≡ length book.book.history }
+    requires office { L.office ≡ book.book.office }
 {
     let sale = Request::Sell {
         event: gala,

@@ -102,3 +102,12 @@ dealt_as {V} {X} {S} {E} f hand told cards sites ends same fair = subst (AreDeal
 
 pub same_count : {X S E : Type 0} (told : E → X) (hand : S → X) (sites : List S) (ends : List E) → map told ends ≡ map hand sites → length ends ≡ length sites
 same_count told hand sites ends same = sym (length-map ends told) ∙ (ap length same ∙ length-map sites hand)
+
+-- ---- what is read of books that stay the same
+
+map_then : {A B X : Type 0} (f : A → B) (g : B → X) (xs : List A) → map (λ a. g (f a)) xs ≡ map g (map f xs)
+map_then f g [] = refl
+map_then f g (x ∷ xs) = ap (λ l. g (f x) ∷ l) (map_then f g xs)
+
+pub read_of_same : {A B X : Type 0} (f : A → B) (g : B → X) (xs ys : List A) (bs : List B) → map f xs ≡ map f ys → map f ys ≡ bs → map (λ a. g (f a)) xs ≡ map g bs
+read_of_same f g xs ys bs same first = map_then f g xs ∙ ap (map g) (same ∙ first)

@@ -1,6 +1,6 @@
 -- What is told at the end of a command over records.
 use Rattle.std.proofs.Common.{◌≡◌, ◌≢◌, ℕ, List, [], Option, Some, None, Result, Ok, Err, false, sym, ap, subst, ◌∙◌, append-nil}
-use Rattle.std.specs.Prelude.{IfOk, IfErr, IfSome, MatchOption}
+use Rattle.std.specs.Prelude.{IfOk, IfErr, IfSome, OnOk, MatchOption}
 use Rattle.std.proofs.KnownBytes.{Keeps-refl}
 use Rattle.sqlite.specs.Store.{Ghosts}
 use Rattle.sqlite.specs.State.{HasCleanDisk}
@@ -57,7 +57,17 @@ pub for_write : (r : Result Status StoreFault) (P : StoreFault → Type 0) → I
 for_write (Ok status) P e h = tt
 for_write (Err f) P e h = subst P (sym e) h
 
-pub fails_for : (P : StoreFault → Type 0) (a b : Option (List ℕ)) (came : Result Status StoreFault) (status : Status) → IfErr came P → P fault.Write → IfOk came (λ s. s ≢ Failed)
+-- whatever came
+pub always : (r : Result Status StoreFault) (P : Type 0) → P → OnOk r P
+always (Ok status) P h = h
+always (Err f) P h = tt
+
+-- where it came well
+pub on_ok_map : (r : Result Status StoreFault) (P Q : Type 0) → (P → Q) → OnOk r P → OnOk r Q
+on_ok_map (Ok status) P Q to h = to h
+on_ok_map (Err f) P Q to h = tt
+
+pub fails_for : (P : StoreFault → Type 0) (a b : Option (List ℕ)) (came : Result Status StoreFault) (status : Status) → IfErr came P → OnOk came (P fault.Write) → IfOk came (λ s. s ≢ Failed)
     → IfErr came (λ f. AppendsFront a b (store_fault_line f)) → IfOk came (λ s. status ≢ s → AppendsFront a b (store_fault_line fault.Write)) → FailsFor P a b status
 fails_for P a b (Ok s) status cause write lives line flush = λ failed. (fault.Write, write, flush (λ same. lives (sym same ∙ failed)))
 fails_for P a b (Err f) status cause write lives line flush = λ failed. (f, cause, line)
@@ -65,6 +75,10 @@ fails_for P a b (Err f) status cause write lives line flush = λ failed. (f, cau
 pub weaker : (P Q : StoreFault → Type 0) (r : Result Status StoreFault) → ((f : StoreFault) → P f → Q f) → IfErr r P → IfErr r Q
 weaker P Q (Ok s) to h = tt
 weaker P Q (Err f) to h = to f h
+
+pub both_err : (r : Result Status StoreFault) (P Q R : StoreFault → Type 0) → ((f : StoreFault) → P f → Q f → R f) → IfErr r P → IfErr r Q → IfErr r R
+both_err (Ok s) P Q R to p q = tt
+both_err (Err f) P Q R to p q = to f p q
 
 -- a connection that came back
 pub if_back : {A : Type 0} (o : Option A) (P : Type 0) (Q R : A → Type 0) → MatchOption o P Q → ((a : A) → Q a → R a) → IfSome o R

@@ -1,21 +1,24 @@
 -- What a command over records says of the connection that comes back.
 use Rattle.std.proofs.Common.{◌≡◌, ◌≢◌, ◌⊎◌, inl, inr, ℕ, List, Option, None, Result, subst}
-use Rattle.std.specs.Prelude.{IfOk, IfErr, IfSome, MatchOption}
+use Rattle.std.specs.Prelude.{IfOk, IfErr, IfSome, OnOk, MatchOption}
 use Rattle.std.specs.Io.KnownBytes.{Keeps}
 use Rattle.sqlite.specs.Store.{Ghosts}
 use Rattle.sqlite.specs.State.{State, HasCleanDisk}
 use Rattle.sqlite.specs.Held.{Held, state}
 use Rattle.plain_words.specs.Writing.{AppendsFront}
-use Rattle.sql_records.specs.Held.{Kept, IsTrusted}
+use Rattle.sql_records.specs.Held.{Kept, IsTrusted, history_in}
+use Rattle.sql_records.specs.Lookups.{IsListFault, IsQueryFault, listed_in}
+use Rattle.sql_records.specs.declared.lookup.FindFault.{FindFault}
+use Rattle.sql_records.specs.declared.lookup.FindFault.TheVariants as find
 use Rattle.site_desk.specs.SiteView.{SiteView}
 use Rattle.operator_cli.specs.declared.status.Status.{Status}
 use Rattle.operator_cli.specs.declared.status.Status.TheVariants.{Failed}
 use Rattle.operator_cli.specs.declared.store_fault.StoreFault.{StoreFault}
 use Rattle.operator_cli.specs.declared.store_fault.StoreFault.TheVariants as fault
 use Rattle.operator_cli.specs.Exchanged.{IsBookOf}
-use Rattle.operator_cli.specs.Told.{store_fault_line}
-use Rattle.operator_cli.specs.Opened.{EndsOpened, FailsFor, FailsIfIllegal, IsIllegal, IsLost, IsRefused, ShowedRecords}
-use Rattle.operator_cli.proofs.EndLaws.{fails_for, if_back, weaker}
+use Rattle.operator_cli.specs.Told.{of_find_fault, store_fault_line}
+use Rattle.operator_cli.specs.Opened.{EndsOpened, FailsFor, FailsIfIllegal, IsFindEnd, IsIllegal, IsListEnd, IsLost, IsRefused, ShowedRecords}
+use Rattle.operator_cli.proofs.EndLaws.{fails_for, if_back, on_ok_map, weaker}
 use Rattle.operator_cli.proofs.PrintLaws.{refused_if_none}
 
 -- ---- the records were refused, or their history is not legal
@@ -51,10 +54,24 @@ module _ {S K : Type 0} (g : Ghosts S) (conn last : Held S) (book : SiteView K) 
 
   -- what ended the command is told, or that what it wrote was not
   pub opened_cause : (Ends : State → State → StoreFault → Type 0) (opened : Held S) (old_err new_err : Option (List ℕ)) (came : Result Status StoreFault) (status : Status) → HasCleanDisk (state g last)
-      → (state g opened).now ≡ (state g conn).now → opened.step_limit ≡ conn.step_limit → IfErr came (Ends (state g opened) (state g last)) → Ends (state g opened) (state g last) fault.Write
+      → (state g opened).now ≡ (state g conn).now → opened.step_limit ≡ conn.step_limit → IfErr came (Ends (state g opened) (state g last)) → OnOk came (Ends (state g opened) (state g last) fault.Write)
       → IfOk came (λ s. s ≢ Failed) → IfErr came (λ f. AppendsFront old_err new_err (store_fault_line f)) → IfOk came (λ s. status ≢ s → AppendsFront old_err new_err (store_fault_line fault.Write))
       → FailsFor (λ f. IsIllegal g conn last f ⊎ EndsOpened g conn Ends last f) old_err new_err status
   opened_cause Ends opened old_err new_err came status clean same limit ended write lives line flush =
       let P : StoreFault → Type 0 = λ f. IsIllegal g conn last f ⊎ EndsOpened g conn Ends last f in
       let ends : (f : StoreFault) → Ends (state g opened) (state g last) f → P f = λ f e. inr (record { opened = opened; same = same; limit = limit; ours = (of clean).ours; legal = (of clean).legal; ended = e }) in
-      fails_for P old_err new_err came status (weaker _ P came ends ended) (ends fault.Write write) lives line flush
+      fails_for P old_err new_err came status (weaker _ P came ends ended) (on_ok_map came _ (P fault.Write) (ends fault.Write) write) lives line flush
+
+-- ---- a lookup ended early
+
+pub find_end : (old new : State) (f : FindFault) → IsQueryFault old new f → IsFindEnd old new (of_find_fault f)
+find_end old new find.Shut h = absurd h
+find_end old new (find.Damaged place) h = absurd h
+find_end old new find.Memory h = h
+find_end old new find.Disk h = h
+
+pub list_end : (event : List ℕ) (old new : State) (f : FindFault) → IsListFault old new (listed_in (history_in old.now.trees) event) f → IsListEnd event old new (of_find_fault f)
+list_end event old new find.Shut h = absurd h
+list_end event old new (find.Damaged place) h = absurd h
+list_end event old new find.Memory h = h
+list_end event old new find.Disk h = h

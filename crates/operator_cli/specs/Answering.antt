@@ -1,7 +1,7 @@
 -- What a line is answered in a world, and the world after it.
 use Rattle.std.specs.Prelude.{ℕ, Bool, List, Option, Some, None, Result, Ok, Err, if◌then◌else◌, nat_lt}
 use Rattle.rights_lattice.specs.State.{knows}
-use Rattle.local_rights.specs.Rights.{released_in, sold_in, refunded_in}
+use Rattle.local_rights.specs.Rights.{sums_in}
 use Rattle.book_core.specs.History.{state_of}
 use Rattle.book_core.specs.Decision.{own_left}
 use Rattle.world_steps.specs.World.{World, count, history_at, office_at, after}
@@ -24,11 +24,7 @@ abbrev pub left_at : World → ℕ → List ℕ → ℕ
 left_at w i event = own_left (office_at w i) (history_at w i) event
 
 abbrev pub totals_at : World → ℕ → List ℕ → Totals
-totals_at w i event = record {
-  released = released_in (state_of (history_at w i)).cells event;
-  sold = sold_in (state_of (history_at w i)).cells event;
-  refunded = refunded_in (state_of (history_at w i)).cells event;
-}
+totals_at w i event = sums_in (state_of (history_at w i)).cells event
 
 -- the answer to a look, where the site is there and knows the event
 abbrev pub looked : World → ℕ → List ℕ → ScriptAnswer → ScriptAnswer

@@ -95,6 +95,12 @@ IsTakeEnd closed told fault.Store = (closed ≡ true) ⊎ (told ≡ Joined)
 IsTakeEnd closed told fault.Memory = ⊤
 IsTakeEnd closed told _ = ⊥
 
+-- want of memory and a failure of the input leave it as it was
+abbrev pub LeavesAsItWas : {X : Type 0} → StoreFault → X → X → Type 0
+LeavesAsItWas fault.Memory old new = new ≡ old
+LeavesAsItWas fault.Read old new = new ≡ old
+LeavesAsItWas _ old new = ⊤
+
 -- what ends an import early: the bytes that were read are a delta that was not stored, memory is wanted, the input fails, or what is told is not written
 abbrev pub IsInputEnd : Office → List Entry → Option (List ℕ) → StoreFault → Type 0
 IsInputEnd office h input fault.Store = IfSome input (λ bytes. told_of_bytes office h bytes ≡ Joined)

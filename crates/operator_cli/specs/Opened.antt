@@ -1,11 +1,11 @@
 -- Why the records of a database are not opened, and what is told of it. (Our own.)
-use Rattle.std.specs.Prelude.{◌≡◌, ◌⊎◌, ⊤, ℕ, List, Option, true, false}
+use Rattle.std.specs.Prelude.{◌≡◌, ◌⊎◌, ◌<◌, ⊤, ℕ, List, length, Option, true, false}
 use Rattle.std.specs.Io.KnownBytes.{Keeps}
 use Rattle.plain_words.specs.Writing.{AppendsFront}
 use Rattle.operator_cli.specs.declared.status.Status.{Status}
 use Rattle.operator_cli.specs.declared.status.Status.TheVariants.{Failed}
 use Rattle.sqlite.specs.Store.{Ghosts}
-use Rattle.sqlite.specs.State.{State, HasCleanDisk}
+use Rattle.sqlite.specs.State.{State, HasCleanDisk, IsUnchanged}
 use Rattle.sqlite.specs.Held.{Held, state}
 use Rattle.book_core.specs.declared.plan.ReplayFault.{ReplayFault}
 use Rattle.book_core.specs.Legal.{IsLegal}
@@ -14,14 +14,15 @@ use Rattle.sql_records.specs.declared.fault.OpenFault.{OpenFault}
 use Rattle.sql_records.specs.declared.fault.OpenFault.TheVariants as opening
 use Rattle.sql_records.specs.declared.fault.InitFault.TheVariants as making
 use Rattle.sql_records.specs.declared.meta.Meta.{Meta}
-use Rattle.sql_records.specs.Faults.{HasDiskCause}
+use Rattle.sql_records.specs.Faults.{HasDiskCause, StoreWantsMemory}
 use Rattle.sql_records.specs.Making.{IsInitFault}
 use Rattle.sql_records.specs.Held.{MayLeaveIn, history_in}
 use Rattle.sql_records.specs.Keeping.{LeavesOnly}
 use Rattle.sql_records.specs.Layout.{HasMeta}
+use Rattle.sql_records.specs.Lookups.{listed_in}
 use Rattle.sql_records.specs.Opening.{IsOpenFault}
 use Rattle.site_desk.specs.SiteView.{office_of}
-use Rattle.operator_cli.specs.Exchanged.{IsInputEnd, IsNextEnd, site_in}
+use Rattle.operator_cli.specs.Exchanged.{IsInputEnd, IsNextEnd, LeavesAsItWas, site_in}
 use Rattle.operator_cli.specs.declared.store_fault.StoreFault.{StoreFault}
 use Rattle.operator_cli.specs.declared.store_fault.StoreFault.TheVariants as fault
 use Rattle.operator_cli.specs.Told.{of_open_fault, of_replay_fault, store_fault_line}
@@ -33,19 +34,25 @@ IsMakeEnd g conn meta fault.Disk = IsInitFault g conn meta making.Disk
 IsMakeEnd g conn meta fault.Write = ⊤
 IsMakeEnd g conn meta _ = ⊥
 
--- what ends looking up early: memory is wanted, the disk is at fault, or what is found is not written
-abbrev pub IsLookupEnd : State → State → StoreFault → Type 0
-IsLookupEnd old new fault.Memory = ⊤
-IsLookupEnd old new fault.Disk = HasDiskCause old new
-IsLookupEnd old new fault.Write = ⊤
-IsLookupEnd old new _ = ⊥
+-- what ends looking a number up early: the store wants memory, the disk is at fault, or what is found is not written and the records are as they were
+abbrev pub IsFindEnd : State → State → StoreFault → Type 0
+IsFindEnd old new fault.Memory = StoreWantsMemory old new
+IsFindEnd old new fault.Disk = HasDiskCause old new
+IsFindEnd old new fault.Write = new.now ≡ old.now
+IsFindEnd old new _ = ⊥
+
+-- the same of the requests that name an event, for which memory is wanted too where there are any
+abbrev pub IsListEnd : List ℕ → State → State → StoreFault → Type 0
+IsListEnd event old new fault.Memory = StoreWantsMemory old new ⊎ (IsUnchanged old new × (0 < length (listed_in (history_in old.now.trees) event)))
+IsListEnd event old new cause = IsFindEnd old new cause
 
 -- what ends an export early: memory is wanted for the message that is due, or what is told is not written
 abbrev pub IsExportEnd : ℕ → State → State → StoreFault → Type 0
 IsExportEnd to old new cause = (meta : Meta) → HasMeta meta old.now.trees → IsNextEnd false (office_of meta) (site_in old.now.trees) to cause
 
+-- what ends an import early; the records are as they were where it was not an entry or a line that could not be written
 abbrev pub IsImportEnd : Option (List ℕ) → State → State → StoreFault → Type 0
-IsImportEnd input old new cause = (meta : Meta) → HasMeta meta old.now.trees → IsInputEnd (office_of meta) (history_in old.now.trees) input cause
+IsImportEnd input old new cause = LeavesAsItWas cause old.now new.now × ((meta : Meta) → HasMeta meta old.now.trees → IsInputEnd (office_of meta) (history_in old.now.trees) input cause)
 
 -- a command failed for one of these causes, and told which
 abbrev pub FailsFor : (StoreFault → Type 0) → Option (List ℕ) → Option (List ℕ) → Status → Type 0

@@ -7,7 +7,7 @@ ghost use Rattle.sqlite.specs.Held.{state};
 ghost use Rattle.sql_records.specs.Held.{IsTrusted, kept_in, history_in};
 ghost use Rattle.operator_cli.specs.Told.{of_find_fault, FaultTold};
 ghost use Rattle.operator_cli.specs.Printed.{Printed, IsFoundText, IsFoundIn};
-ghost use Rattle.operator_cli.specs.Opened.{EndsOpened, FailsFor, FailsIfIllegal, IsIllegal, IsLookupEnd, IsLost, ShowedRecords};
+ghost use Rattle.operator_cli.specs.Opened.{EndsOpened, FailsFor, FailsIfIllegal, IsIllegal, IsFindEnd, IsLost, ShowedRecords};
 
 use crate::ending::{ended, write_line};
 use crate::opening::open_book;
@@ -44,7 +44,7 @@ fn write_found<S: Alter, W: Write>(
     ensures same { IsTrusted S.Store records.new → OnOk result
         ((state S.Store records.new.conn).now ≡ (state S.Store records.old.conn).now) }
     ensures fault { records.old.failures ≡ 0 → IsTrusted S.Store records.new
-        → IfErr result (IsLookupEnd (state S.Store records.old.conn) (state S.Store records.new.conn)) }
+        → IfErr result (IsFindEnd (state S.Store records.old.conn) (state S.Store records.new.conn)) }
     ensures ends { IfOk result (λ status. status ≢ Failed) }
     ensures trusted { IsTrusted S.Store records.new → IsTrusted S.Store records.old }
 {
@@ -77,7 +77,7 @@ pub fn find_store<S: Alter + Drop, W: Write, E: Write>(
         → (state S.Store after).now ≡ (state S.Store conn).now) }
     ensures err { FaultTold (E.contents err.old) (E.contents err.new) result.0 }
     ensures cause { IfSome result.1 (λ after. HasCleanDisk (state S.Store after)
-        → FailsFor (λ fault. IsIllegal S.Store conn after fault ⊎ EndsOpened S.Store conn IsLookupEnd after fault)
+        → FailsFor (λ fault. IsIllegal S.Store conn after fault ⊎ EndsOpened S.Store conn IsFindEnd after fault)
         (E.contents err.old) (E.contents err.new) result.0) }
     ensures ours { IfSome result.1 (ShowedRecords S.Store conn) }
     ensures illegal { IfSome result.1 (λ after. FailsIfIllegal S.Store conn after (W.contents out.old) (W.contents out.new) (E.contents err.old) (E.contents err.new) result.0) }

@@ -122,6 +122,7 @@ fn run_sites<
     visits: Vec<Visit<R, V>>,
     rounds: u64,
 ) -> Result<Vec<SiteEnd<K, R, V>>, StoreFault>
+    ensures offices { IfOk result (λ ends. map (λ e. e.book.book.office) ends.items ≡ map (λ b. b.book.office) books.items) }
     ensures count { IfOk result (λ ends. length ends.items ≡ length books.items) }
     ensures ids { IfOk result (λ ends. AreDealt (map (λ v. v.id) visits.items) (map (λ e. map (λ x. x.id) e.sessions.items) ends.items)) }
     ensures readers { IfOk result (λ ends. AreDealt (map (λ v. v.reader) visits.items) (map (λ e. map (λ x. x.reader_began.value) e.sessions.items) ends.items)) }
@@ -180,6 +181,7 @@ pub fn serve_stores<
     out: &mut W,
     err: &mut E,
 ) -> (Status, Option<Vec<SiteEnd<K, R, V>>>)
+    ensures offices { IfSome result.1 (λ ends. map (λ e. e.book.book.office) ends.items ≡ map (λ b. b.book.office) books.items) }
     ensures count { IfSome result.1 (λ ends. length ends.items ≡ length books.items) }
     ensures ids { IfSome result.1 (λ ends. AreDealt (map (λ v. v.id) visits.items) (map (λ e. map (λ x. x.id) e.sessions.items) ends.items)) }
     ensures readers { IfSome result.1 (λ ends. AreDealt (map (λ v. v.reader) visits.items) (map (λ e. map (λ x. x.reader_began.value) e.sessions.items) ends.items)) }

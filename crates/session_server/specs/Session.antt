@@ -2,7 +2,7 @@
 use Rattle.std.specs.Prelude.{◌≡◌, ◌≢◌, ℕ, List, [], ◌∷◌, ◌++◌, length, slice_get, ◌≤◌, Option, Some, None, Result, Ok, Err, IfSome}
 use Rattle.std.specs.List.{flat_map}
 use Rattle.std.specs.Io.KnownBytes.{Appends, Keeps}
-use Rattle.plain_words.specs.Input.{longest_line, lines_of, Between, BeginsTooLong, AtEnd, AtLongLine, AtTooMany, Taken, taken}
+use Rattle.plain_words.specs.Input.{longest_line, lines_of, Between, BeginsTooLong, GivesUp, AtEnd, AtLongLine, AtTooMany, Taken, taken}
 use Rattle.plain_words.specs.Writing.{AppendsFront}
 use Rattle.plain_words.specs.declared.lines.LineFault.{LineFault}
 use Rattle.plain_words.specs.declared.lines.LineFault.TheVariants as line_fault
@@ -71,7 +71,7 @@ NextTalked S input rest old new before after (Ok None) = (r : Replied S input re
 NextTalked S input rest old new before after (Ok (Some ended.Quit)) = (line : List ℕ) × IsRead input rest line × (session_line_of line ≡ Some Quit) × Keeps old new × (after ≡ before)
 NextTalked S input rest old new before after (Ok (Some ended.EndOfInput)) = Between input rest (λ xs ys. (lines_of xs ≡ []) × (lines_of ys ≡ [])) × Keeps old new × (after ≡ before)
 NextTalked S input rest old new before after (Err fault.Read) = Keeps old new × (after ≡ before)
-NextTalked S input rest old new before after (Err fault.LineTooLong) = Between input rest (λ xs ys. BeginsTooLong (lines_of xs)) × Keeps old new × (after ≡ before)
+NextTalked S input rest old new before after (Err fault.LineTooLong) = Between input rest (λ xs ys. BeginsTooLong (lines_of xs)) × Keeps old new × (after ≡ before) × ((line : List ℕ) × GivesUp input rest line)
 NextTalked S input rest old new before after (Err fault.Write) = (r : Replied S input rest before after) × AppendsFront old new (reply_line r.answered)
 NextTalked S input rest old new before after (Err _) = ⊥
 

@@ -52,6 +52,7 @@ pub(crate) fn run_site<
     ensures finished { IfOk result (λ left. IsFinished left.0.book (flat_map (λ e. e.receipts.items) left.1.items) (flat_map (λ e. e.seen.items) left.1.items) left.2.0) }
     ensures whole { IfOk result (λ left. All (λ e. IsSome e.writer) left.1.items → IfErr left.2.0 (λ fault. fault ≢ SeatsOut)) }
     ensures peers { IfOk result (λ left. AllZip Exchanged linked.peers.items left.2.1.items) }
+    ensures office { IfOk result (λ left. left.0.book.office ≡ linked.site.book.book.office) }
 {
     let Linked { site, peers } = linked;
     let Some(parts) = (site.sessions.len() as u64).checked_add(1) else {
@@ -81,12 +82,14 @@ fn at_desk<
     requires parts { blank.parts ≡ L.parts }
     requires enough { vec_len site.sessions < blank.parts }
     requires opening { L.opening ≡ length site.book.book.history }
+    requires office { L.office ≡ site.book.book.office }
     ensures ids { IfOk result (λ left. map (λ e. e.id) left.1.items ≡ map (λ v. v.id) site.sessions.items) }
     ensures readers { IfOk result (λ left. map (λ e. e.reader_began.value) left.1.items ≡ map (λ v. v.reader) site.sessions.items) }
     ensures writers { IfOk result (λ left. map (λ e. e.writer_began.value) left.1.items ≡ map (λ v. v.writer) site.sessions.items) }
     ensures finished { IfOk result (λ left. IsFinished left.0.book (flat_map (λ e. e.receipts.items) left.1.items) (flat_map (λ e. e.seen.items) left.1.items) left.2.0) }
     ensures whole { IfOk result (λ left. All (λ e. IsSome e.writer) left.1.items → IfErr left.2.0 (λ fault. fault ≢ SeatsOut)) }
     ensures peers { IfOk result (λ left. AllZip Exchanged peers.items left.2.1.items) }
+    ensures office { IfOk result (λ left. left.0.book.office ≡ site.book.book.office) }
 {
     let Site { book, sessions } = site;
     let (desk, seat) = Desk::<K, L>::new(book, blank);
@@ -108,6 +111,7 @@ fn finished<K: Keeper + Drop, R: Read + Drop, W: Write + Drop, L: Opens>(
 ) -> Result<(SiteBook<K>, Result<(), FinishFault>), AllocError>
     ensures compared { IfOk result (λ r. IsCompared L.opening (shares_of seats.items + seat.count) r.0.book (flat_map (λ e. e.receipts.items) sessions.now.items) (flat_map (λ e. e.seen.items) sessions.now.items) r.1) }
     ensures whole { parts_of seats.items + seat.parts ≡ L.parts → IfOk result (λ r. IfErr r.1 (λ fault. fault ≢ SeatsOut)) }
+    ensures office { IfOk result (λ r. r.0.book.office ≡ L.office) }
 {
     let (receipts, seen) = told(alloc, sessions)?;
     seats.push(seat)?;
@@ -122,6 +126,7 @@ fn compared<K: Keeper + Drop, L: Opens>(
 ) -> (SiteBook<K>, Result<(), FinishFault>)
     ensures compared { IsCompared L.opening (shares_of seats.items) result.0.book receipts.now looks.now result.1 }
     ensures whole { parts_of seats.items ≡ L.parts → IfErr result.1 (λ fault. fault ≢ SeatsOut) }
+    ensures office { result.0.book.office ≡ L.office }
 {
     match desk.finish(seats, receipts, looks) {
         Ok(book) => (book, Ok(())),

@@ -41,6 +41,7 @@ impl<K: Keeper, L: Opens> Desk<K, L> {
         requires parts { blank.parts ≡ L.parts }
         requires some { 0 < blank.parts }
         requires opening { L.opening ≡ length book.book.history }
+        requires office { L.office ≡ book.book.office }
         ensures { result.1 ≡ held blank.parts 0 }
     {
         let (locked, seat) = Locked::new(book, blank);
@@ -130,6 +131,7 @@ impl<K: Keeper, L: Opens> Desk<K, L> {
         ensures whole { parts_of seats.items ≡ L.parts → IfErr result (λ e. e.1 ≢ FinishFault.SeatsOut) }
 
         // What the book kept, whenever the lock was free.
+        ensures office { (handed_back result).book.office ≡ L.office }
         ensures legal { IsLegal (handed_back result).book.office (handed_back result).book.history }
         ensures has_rights { HasOwnRights (handed_back result).book }
         ensures same { (handed_back result).closed ≡ false → K.is_trusted (handed_back result).keeper → (handed_back result).book.history ≡ K.kept (handed_back result).keeper }

@@ -49,7 +49,7 @@ impl<K: Keeper, L: Opens> Model for Locked<K, L> {
 
     ghost view = { λ d. d.book };
 
-    ghost invariant = { λ d. (d.opening ≡ L.opening) × (d.opening ≤ length d.book.book.history) × (d.total ≡ asked_since L.opening d.book.book.history) × (d.tally.total ≡ d.total) × (d.nothing.parts ≡ 0) };
+    ghost invariant = { λ d. (d.opening ≡ L.opening) × (d.opening ≤ length d.book.book.history) × (d.total ≡ asked_since L.opening d.book.book.history) × (d.tally.total ≡ d.total) × (d.nothing.parts ≡ 0) × (d.book.book.office ≡ L.office) };
 }
 
 impl<K: Keeper, L: Opens> Locked<K, L> {
@@ -59,6 +59,7 @@ impl<K: Keeper, L: Opens> Locked<K, L> {
         requires parts { blank.parts ≡ L.parts }
         requires some { 0 < blank.parts }
         requires opening { L.opening ≡ length book.book.history }
+        requires office { L.office ≡ book.book.office }
         ensures book { result.0 ≡ book }
         ensures seat { result.1 ≡ held blank.parts 0 }
     {
@@ -182,6 +183,7 @@ impl<K: Keeper, L: Opens> Locked<K, L> {
         ensures whole { parts_of seats.items ≡ L.parts → shares_of seats.items ≡ asked_since L.opening self.book.history }
 
         // What the types of the book and its keeper keep.
+        ensures office { self.book.office ≡ L.office }
         ensures legal { IsLegal self.book.office self.book.history }
         ensures has_rights { HasOwnRights self.book }
         ensures same { self.closed ≡ false → K.is_trusted self.keeper → self.book.history ≡ K.kept self.keeper }

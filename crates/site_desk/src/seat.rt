@@ -5,15 +5,22 @@ ghost use Rattle.site_desk.specs.Seats.{held};
 use std::marker::{Brand, Model};
 use std::sync::ledger::{Ledger, Share};
 
-/// Which count it is (std's `sync::ledger`) and, for contracts alone, how long the history was when the count began.
+/// Which count it is (std's `sync::ledger`) and, for contracts alone, of which office the book is and how long its history
+/// was when the count began.
 ///
-/// A desk lives in a function over a type with this bound. A caller passes `Brand`, and picks both.
+/// A desk lives in a function over a type with this bound. A caller passes `Brand`, and picks all three.
 pub trait Opens: Ledger {
+    ghost use Rattle.book_core.specs.Decision.{Office};
+
     ghost opening: { ℕ };
+
+    ghost office: { Office };
 }
 
 impl Opens for Brand {
     ghost opening = { 0 };
+
+    ghost office = { record { me = 0; sites = 0; limit = 0 } };
 }
 
 /// A session's place at the desk of `L`: how many requests were newly entered for it, and its parts of the count.

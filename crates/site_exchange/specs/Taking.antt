@@ -1,10 +1,9 @@
 -- A site after it was asked, took a message, or started anew. (Our own.)
 use Rattle.std.specs.Prelude.{max, Bool, if◌then◌else◌, List, [], ◌∷◌, ◌++◌, set, get_or, Option, Some, None}
 use Rattle.book_core.specs.declared.entry.Entry.{Entry}
-use Rattle.book_core.specs.declared.entry.Entry.TheVariants.{Joined}
 use Rattle.site_exchange.specs.declared.message.Message.{Message}
 use Rattle.site_exchange.specs.declared.message.Message.TheVariants.{Delta, Ack}
-use Rattle.site_exchange.specs.Exchange.{Site, zeros, Verdict, Joins, NothingNew, Acks, Refuses, ack_for}
+use Rattle.site_exchange.specs.Exchange.{Site, zeros, Verdict, Joins, NothingNew, Acks, Refuses, ack_for, entry_if}
 
 -- a history with this entry, if any, at its end
 abbrev pub extended : Option Entry → List Entry → List Entry
@@ -22,8 +21,7 @@ with_ack (Delta by to upto delta) site = site
 
 -- the site after it took a message
 abbrev pub site_after : Verdict → Message → Site → Site
-site_after Joins (Delta by to upto delta) site = record { history = site.history ++ Joined by delta ∷ []; acked = site.acked }
-site_after Joins (Ack by to upto) site = site
+site_after Joins message site = with_entry (entry_if Joins message) site
 site_after NothingNew message site = site
 site_after Acks message site = with_ack message site
 site_after (Refuses fault) message site = site

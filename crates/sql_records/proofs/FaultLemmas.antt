@@ -1,5 +1,5 @@
 -- Why a query over the records fails.
-use Rattle.std.proofs.Common.{◌≡◌, ◌≢◌, ◌⊎◌, inl, inr, ℕ, ◌≤◌, leb, List, [], length, true, false, Option, Ok, Err, Result, refl, sym, ap, subst, subst₂, ◌∙◌, append-nil, IsSome}
+use Rattle.std.proofs.Common.{◌≡◌, ◌≢◌, ◌⊎◌, inl, inr, ℕ, ◌≤◌, leb, List, [], length, true, false, Option, Some, None, Ok, Err, Result, refl, sym, ap, subst, subst₂, ◌∙◌, append-nil, IsSome}
 use Rattle.std.proofs.lemmas.Bool.{leb-true}
 use Rattle.std.specs.List.{Any}
 use Rattle.sqlite_trees.specs.declared.error.StoreError.{StoreError}
@@ -19,9 +19,9 @@ use Rattle.sqlite.specs.declared.error.Error.TheVariants.{SqliteFailure}
 use Rattle.sqlite.specs.declared.error.ErrorCode.TheVariants as code
 use Rattle.sqlite.specs.Effect.{Database, RefusesQuery, RefusesToRead}
 use Rattle.sqlite.specs.Listing.{understood, reads_listing, IsSourceOf}
-use Rattle.sqlite.specs.State.{State, store_error, HasCause, IsUnchanged, IsRolledBack, IsNoStatement, IsNotRun, FailsToQuery}
+use Rattle.sqlite.specs.State.{State, store_error, HasCause, IsUnchanged, IsRolledBack, IsNoStatement, IsNotRun, Fails, FailsToQuery}
 use Rattle.sqlite.proofs.Callers.{IsPlain, command_of}
-use Rattle.sql_records.specs.Faults.{told, HasDiskCause}
+use Rattle.sql_records.specs.Faults.{told, HasDiskCause, StoreWantsMemory}
 
 -- for want of memory, or the disk is at fault
 abbrev pub Caused : State → State → Error → Type 0
@@ -62,6 +62,12 @@ refused limit db program params e typed small (inl untyped) = absurd (let never 
 refused limit db program params e typed small (inr (inl overflow)) = absurd (small overflow.1)
 refused limit db program params e typed small (inr (inr stopped)) = stopped.1
 
+-- a refusal to read is no want of memory
+refuses_not : (limit : Option ℕ) (db : Database) (program : Program) (params : Row) → ¬ RefusesQuery limit db program params (SqliteFailure code.OutOfMemory)
+refuses_not limit db program params (inl untyped) = let is = untyped.0 in cc
+refuses_not limit db program params (inr (inl overflow)) = let is = overflow.0 in cc
+refuses_not limit db program params (inr (inr stopped)) = let is = stopped.0 in cc
+
 module _ (sql : List ℕ) (params : Row) (old new : State) (schema : Schema) (has : old.now.schema ≡ schema) (runs : IsRun schema sql params) (e : Error) where
   known : (r : Result Compiled CompileError) → understood old.now.schema sql ≡ r → understood schema sql ≡ r
   known r is = sym (ap (λ s. understood s sql) has) ∙ is
@@ -94,6 +100,24 @@ module _ (sql : List ℕ) (params : Row) (old new : State) (schema : Schema) (ha
       let typed = subst (λ s. accepts_program s (lets_of runs.program) runs.program.body params ≡ true) (sym has) runs.typed in
       inr (inr (inr (refused old.step_limit old.now runs.program params e typed (runs.small old.now.trees) refuses)))
 
+  not_run_wants : IsNotRun old new sql params e → e ≡ SqliteFailure code.OutOfMemory → StoreWantsMemory old new
+  unfolding IsNotRun
+  not_run_wants (inl h) is = absurd (no_statement h.0)
+  not_run_wants (inr h) is = subst (Fails old new ⊥) is h
+
+  -- an answer that memory is wanted is one of the store
+  pub query_wants : FailsToQuery sql params old new e → e ≡ SqliteFailure code.OutOfMemory → StoreWantsMemory old new
+  unfolding FailsToQuery
+  query_wants (inl h) is = not_run_wants h is
+  query_wants (inr h) is =
+      let known_is = known (Ok h.0) h.1.is in
+      let bare = subst IsPlain known_is runs.plain in
+      let it = rw (bare.0, bare.1, append-nil params) at h.2 in
+      let db : it.0 ≡ old.now = subst (λ b. IsSourceOf b old.now it.0) (ap (λ s. reads_listing s sql) has ∙ runs.unlisted) it.1 in
+      let command : h.0.command ≡ Select runs.program runs.names = ap command_of (sym known_is) ∙ runs.is in
+      let refuses = subst₂ (λ k d. RefusesToRead old.step_limit k d params e) command db it.2 in
+      absurd (refuses_not old.step_limit old.now runs.program params (subst (λ x. RefusesQuery old.step_limit old.now runs.program params x) is refuses))
+
   not_run_undone : IsNotRun old new sql params e → IsUnchanged old new ⊎ IsRolledBack old new
   unfolding IsNotRun
   not_run_undone (inl h) = inl h.1
@@ -108,9 +132,9 @@ module _ (sql : List ℕ) (params : Row) (old new : State) (schema : Schema) (ha
       inl it.3
 
 -- the fault that is told of it
-pub told_fault : {F : Type 0} (Is : F → Type 0) (memory disk : F) (old new : State) (e : Error) → Is memory → (HasDiskCause old new → Is disk) → Caused old new e → Is (told memory disk e)
-told_fault Is memory disk old new e m d (inl is) = subst Is (sym (ap (told memory disk) is)) m
-told_fault Is memory disk old new (SqliteFailure code.OutOfMemory) m d (inr cause) = m
+pub told_fault : {F : Type 0} (Is : F → Type 0) (memory disk : F) (old new : State) (e : Error) → (e ≡ SqliteFailure code.OutOfMemory → Is memory) → (HasDiskCause old new → Is disk) → Caused old new e → Is (told memory disk e)
+told_fault Is memory disk old new e m d (inl is) = subst Is (sym (ap (told memory disk) is)) (m is)
+told_fault Is memory disk old new (SqliteFailure code.OutOfMemory) m d (inr cause) = m refl
 told_fault Is memory disk old new _ m d (inr cause) = d cause
 
 pub never_folded : {X : Type 0} (xs : List X) → Any (λ x. ⊥) xs → ⊥

@@ -6,7 +6,7 @@ use Rattle.std.specs.List.{filter_map}
 use Rattle.std.specs.Cmp.Lexicographic.{texts_ties}
 use Rattle.std.proofs.lemmas.Int.{ints}
 use Rattle.std.proofs.lemmas.Bool.{and_parts}
-use Rattle.std.proofs.lemmas.List.{take_more, map-append}
+use Rattle.std.proofs.lemmas.List.{take_more, map-append, length-map}
 use Rattle.std.proofs.lemmas.Bool.Decides.{nat_tests}
 use Rattle.sqlite.specs.declared.types.Value.{Value}
 use Rattle.sqlite.specs.declared.types.Value.TheVariants.{Null, Int, Real, Text, Blob}
@@ -37,8 +37,10 @@ use Rattle.sql_records.specs.declared.lookup.Found.{Found}
 use Rattle.sql_records.specs.declared.lookup.Listed.{Listed}
 use Rattle.request_ledger.specs.declared.verb.Verb.{Verb}
 use Rattle.request_ledger.specs.declared.verb.Verb.TheVariants as verb
+use Rattle.sqlite.specs.State.{State as Store}
+use Rattle.sql_records.proofs.OpeningLemmas.{has_some}
 use Rattle.sql_records.specs.Rows.{is_null, text_in, number_within, value_in, site_in, event_in, verb_in, event_column, announce_of, release_of, sell_of, refund_of, cede_of, request_of, request_in, reply_in, delta_in, asks_nothing, asked_of, joined_of, entry_with, entry_of, AreWhole}
-use Rattle.sql_records.specs.Lookups.{IsFirstUnread, found_in, listed_in, names_event, listing, has_number, has_event, found_columns, listed_columns, found_of, listed_of, first_found}
+use Rattle.sql_records.specs.Lookups.{IsFirstUnread, IsListFault, IsQueryFault, ReadsSome, found_in, listed_in, names_event, listing, has_number, has_event, found_columns, listed_columns, found_of, listed_of, first_found}
 
 -- ---- what was read from a value
 
@@ -292,9 +294,16 @@ module _ (rows whole : List Row) (h : List Entry) (name : List ℕ) (are : AreWh
   all_listed (Ok all) items e = listed_out (items all) (listed_in h name) (e ∙ all_are)
   all_listed (Err f) items e = tt
 
-  pub all_fault : {X : Type 0} (Is : FindFault → Type 0) (r : Result X FindFault) → Is fault.Memory → IfErr r (λ f. (f ≡ fault.Memory) ⊎ IsFirstUnread rows f) → IfErr r Is
+  -- memory is wanted only where something is listed
+  some_listed : ReadsSome rows → 0 < length (listed_in h name)
+  some_listed some =
+      let low = has_some rows some.at some.values some.here in
+      let long = ap length all_are in
+      omega (arith, low, long, length-map rows listed_of, length-map (listed_in h name) (λ (x : Listed). Some x))
+
+  pub all_fault : {X : Type 0} (Is : FindFault → Type 0) (r : Result X FindFault) → (0 < length (listed_in h name) → Is fault.Memory) → IfErr r (λ f. ((f ≡ fault.Memory) × ReadsSome rows) ⊎ IsFirstUnread rows f) → IfErr r Is
   all_fault Is (Ok all) m e = tt
-  all_fault Is (Err f) m (inl memory) = subst Is (sym memory) m
+  all_fault Is (Err f) m (inl memory) = subst Is (sym memory.0) (m (some_listed memory.1))
   all_fault Is (Err f) m (inr first) = absurd (unread rows first.at first.values first.here first.unread (listed_in h name) (sym all_are))
 
 -- one row more is read
@@ -302,3 +311,10 @@ pub read_more : (rows : List Row) (i : ℕ) (values : Row) (items : List Listed)
     → map Some (items ++ new ∷ []) ≡ map listed_of (take (i + 1) rows)
 read_more rows i values items new low at reads so_far =
     rw (take_more rows i values low, ← at, map-append listed_of (take i rows) (values ∷ []), map-append Some items (new ∷ []), so_far, reads) refl
+
+-- a fault of the query is one of the list
+pub of_query : (old new : Store) (listed : List Listed) (f : FindFault) → IsQueryFault old new f → IsListFault old new listed f
+of_query old new listed fault.Shut h = h
+of_query old new listed (fault.Damaged place) h = h
+of_query old new listed fault.Memory h = inl h
+of_query old new listed fault.Disk h = h

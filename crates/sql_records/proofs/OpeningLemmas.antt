@@ -6,20 +6,24 @@ use Rattle.std.proofs.lemmas.List.Sums.{prefix_len-le-length}
 use Rattle.std.proofs.Math.Seq.{take-length}
 use Rattle.std.proofs.lemmas.Option.{slice_get_read}
 use Rattle.sqlite.specs.Order.{Row, column}
+use Rattle.sqlite.specs.declared.types.Value.{Value}
 use Rattle.sqlite.specs.declared.types.Value.TheVariants.{Int}
+use Rattle.sqlite_trees.specs.declared.error.StoreError.TheVariants as StoreError
+use Rattle.plain_words.proofs.WordLaws.{bind_some}
+use Rattle.rights_lattice.specs.State.{State as Delta}
 use Rattle.sqlite.specs.Tree.{Trees}
 use Rattle.sqlite.specs.Effect.{Database, IsDatabase}
-use Rattle.sqlite.specs.State.{State, IsLive, IsUnchanged}
+use Rattle.sqlite.specs.State.{State, IsLive, IsRolledBack, IsUnchanged}
 use Rattle.book_core.specs.declared.entry.Entry.{Entry}
 use Rattle.sql_records.specs.declared.fault.OpenFault.{OpenFault}
 use Rattle.sql_records.specs.declared.fault.OpenFault.TheVariants.{NotOurs, OtherSchema, Damaged, Memory, Disk}
 use Rattle.sql_records.specs.Keeping.{LeavesOnly, LeavesWithOrWithout, Keeps}
 use Rattle.sql_records.specs.declared.meta.Meta.{Meta}
-use Rattle.sql_records.specs.Layout.{IsOurs, HasMeta, AreNumbers}
-use Rattle.sql_records.specs.Rows.{entry_of, is_below, rows_below, rows_from_0, AreInOrder, AreWhole, IsEntryAt, IsFirstDamaged, IsDamagedAt}
+use Rattle.sql_records.specs.Layout.{IsOurs, HasGoodMeta, HasMeta, AreNumbers}
+use Rattle.sql_records.specs.Rows.{delta_in, delta_named, entry_of, entry_with, text_in, is_below, rows_below, rows_from_0, AreInOrder, AreWhole, IsEntryAt, IsFirstDamaged, IsDamagedAt}
 use Rattle.sql_records.specs.Held.{IsAtRest, IsSiteIn, MayLeaveIn, LeavesSite, history_in, opened_in, rows_in}
-use Rattle.sql_records.specs.Opening.{AreRowsFault, IsStoreFault, IsOurFault}
-use Rattle.sql_records.specs.Faults.{HasDiskCause}
+use Rattle.sql_records.specs.Opening.{AreRowsFault, IsMetaFault, IsOurFault, IsStoreFault, IsWantedAt}
+use Rattle.sql_records.specs.Faults.{HasDiskCause, StoreWantsMemory}
 use Rattle.sql_records.proofs.RowLemmas.{whole_next, entries_next, read_from}
 use Rattle.sql_records.proofs.QueryLemmas.{whole_order}
 
@@ -34,15 +38,28 @@ pub entries_more : (rows : List Row) (i : ℕ) (values : Row) (entry : Entry) �
     → filter_map entry_of (take (i + 1) rows) ≡ filter_map entry_of (take i rows) ++ entry ∷ []
 entries_more rows i values entry low at reads = rw (take_more rows i values low, ← at) (entries_next (take i rows) values entry reads)
 
--- want of memory, or the first row that is not the entry of its place
+-- want of memory for a row, or the first row that is not the entry of its place
 abbrev pub StopsReading : List Row → OpenFault → Type 0
-StopsReading rows fault = (fault ≡ Memory) ⊎ ((place : ℕ) × (fault ≡ Damaged place) × IsFirstDamaged place rows)
+StopsReading rows fault = ((fault ≡ Memory) × ((place : ℕ) × IsWantedAt place rows)) ⊎ ((place : ℕ) × (fault ≡ Damaged place) × IsFirstDamaged place rows)
 
--- the fault of the row at a place, the rows before it being whole
+-- memory is wanted for the row at a place, the rows before it being whole
+pub wanted_at : (rows : List Row) (i : ℕ) (values : Row) → i < length rows → values ≡ get_or rows i values → AreWhole 0 (take i rows) → column values 0 ≡ Int (pos i) → IsSome (text_in (column values 9)) → IsWantedAt i rows
+wanted_at rows i values low at whole placed text = record { before = whole; values = values; here = slice_get_read rows (length rows) i values refl low at; placed = placed; text = text }
+
+-- the fault of that row
 pub fault_at : (rows : List Row) (i : ℕ) (values : Row) (fault : OpenFault) → i < length rows → values ≡ get_or rows i values → AreWhole 0 (take i rows) → (fault ≡ Memory) ⊎ (fault ≡ Damaged i)
-    → (fault ≡ Damaged i → ¬ IsEntryAt i values) → StopsReading rows fault
-fault_at rows i values fault low at whole (inl is) other = inl is
-fault_at rows i values fault low at whole (inr is) other = inr (i, is, (whole, (values, slice_get_read rows (length rows) i values refl low at, other is)))
+    → (fault ≡ Damaged i → ¬ IsEntryAt i values) → (fault ≡ Memory → (column values 0 ≡ Int (pos i)) × IsSome (text_in (column values 9))) → StopsReading rows fault
+fault_at rows i values fault low at whole (inl is) other wanted = let w = wanted is in inl (is, (i, wanted_at rows i values low at whole w.0 w.1))
+fault_at rows i values fault low at whole (inr is) other wanted = inr (i, is, (whole, (values, slice_get_read rows (length rows) i values refl low at, other is)))
+
+text_of_delta : (v : Value) (delta : Delta) → delta_in v ≡ Some delta → IsSome (text_in v)
+unfolding delta_in
+text_of_delta v delta h = let t = bind_some (text_in v) delta_named delta h in subst IsSome (sym t.1) refl
+
+-- a row that reads has a delta's text
+pub has_text : (values : Row) (entry : Entry) → entry_of values ≡ Some entry → IsSome (text_in (column values 9))
+unfolding entry_of
+has_text values entry h = let d = bind_some (delta_in (column values 9)) (λ delta. entry_with values delta) entry h in text_of_delta (column values 9) d.0 d.1
 
 -- ---- rows in front of the place 0
 
@@ -60,7 +77,7 @@ part_from_0 rows n is = ap (λ (k : ℕ). take k (drop n rows)) (sym (length-dro
 
 -- the first damaged row from the place 0 on
 pub damaged_above : (rows : List Row) (fault : OpenFault) → StopsReading (rows_from_0 rows) fault → AreRowsFault rows fault
-damaged_above rows fault (inl is) = subst (AreRowsFault rows) (sym is) tt
+damaged_above rows fault (inl (is, wanted)) = subst (AreRowsFault rows) (sym is) wanted
 damaged_above rows fault (inr (place, is, (whole, (values, at, other)))) =
     let low = has_some (rows_from_0 rows) place values at in
     let long = length-drop (rows_below rows) rows in
@@ -100,6 +117,19 @@ on_ok (Err e) P h = tt
 
 -- ---- what was read, and what is then so
 
+pub unchanged_twice : (first mid last : State) → IsUnchanged first mid → IsUnchanged mid last → IsUnchanged first last
+unchanged_twice first mid last one two = (
+  record {
+    was_open = one.0.was_open;
+    is_open = two.0.is_open;
+    now_is = two.0.now_is ∙ one.0.now_is;
+    committed_is = two.0.committed_is ∙ one.0.committed_is;
+    mode = two.0.mode ∙ one.0.mode;
+  },
+  record { changes = two.1.changes ∙ one.1.changes; last_rowid = two.1.last_rowid ∙ one.1.last_rowid },
+  two.2 ∙ one.2,
+)
+
 module _ (first mid last : State) (rows : List Row) (one : IsUnchanged first mid) (two : IsUnchanged mid last) (order : AreInOrder (mid.now.trees 1) rows) (whole : AreWhole 0 rows) where
   shown_are : rows ≡ rows_in first.now.trees
   shown_are = whole_order (mid.now.trees 1) rows order whole ∙ ap (λ (d : Database). rows_in d.trees) one.0.now_is
@@ -109,19 +139,6 @@ module _ (first mid last : State) (rows : List Row) (one : IsUnchanged first mid
 
   pub read_history : filter_map entry_of rows ≡ history_in first.now.trees
   read_history = ap (filter_map entry_of) shown_are
-
-  pub same_twice : IsUnchanged first last
-  same_twice = (
-    record {
-      was_open = one.0.was_open;
-      is_open = two.0.is_open;
-      now_is = two.0.now_is ∙ one.0.now_is;
-      committed_is = two.0.committed_is ∙ one.0.committed_is;
-      mode = two.0.mode ∙ one.0.mode;
-    },
-    record { changes = two.1.changes ∙ one.1.changes; last_rowid = two.1.last_rowid ∙ one.1.last_rowid },
-    two.2 ∙ one.2,
-  )
 
 -- records that were read are at rest
 pub opened : (first last : State) (count : ℕ) → IsUnchanged first last → first.in_transaction ≡ false → (IsTrue first.is_open → first.now ≡ first.committed) → IsLive first → IsOurs first.now.schema
@@ -170,11 +187,44 @@ cause_before first mid last same low limit (inl more) = inl (omega (arith, more,
 cause_before first mid last same low limit (inr (inl closed)) = absurd (let e = sym same.0.is_open ∙ closed in cc)
 cause_before first mid last same low limit (inr (inr steps)) = inr (inr (subst IsSome limit steps))
 
+undone_before : (first mid last : State) → IsUnchanged first mid → IsRolledBack mid last → IsRolledBack first last
+undone_before first mid last same back = record {
+  was_open = λ on. same.0.was_open;
+  undone = λ on. ((back.undone on).0 ∙ same.0.committed_is, (back.undone on).1 ∙ same.0.committed_is);
+  autocommit = back.autocommit;
+  unmarked = back.unmarked;
+  counts = record { changes = back.counts.changes ∙ same.1.changes; last_rowid = back.counts.last_rowid ∙ same.1.last_rowid };
+}
+
+memory_before : (first mid last : State) → IsUnchanged first mid → StoreWantsMemory mid last → StoreWantsMemory first last
+memory_before first mid last same h = (StoreError.OutOfMemory, refl, tt, undone_before first mid last same h.3, λ kind is yes. absurd cc)
+
+-- a fault of the numbers
+pub numbers_fault : (first last : State) (fault : OpenFault) → IsMetaFault first last fault → IsOurFault first last fault
+numbers_fault first last NotOurs h = h
+numbers_fault first last (OtherSchema version) h = h
+numbers_fault first last (Damaged place) h = absurd h
+numbers_fault first last Memory h = inl h
+numbers_fault first last Disk h = h
+
+-- a fault of the rows, which were shown
+pub entries_fault : (first mid last : State) (rows : List Row) → IsUnchanged first mid → IsUnchanged mid last → HasGoodMeta first.now.trees → AreInOrder (mid.now.trees 1) rows → (fault : OpenFault) → AreRowsFault rows fault → IsOurFault first last fault
+entries_fault first mid last rows one two good order fault h =
+    let now = subst (λ (d : Database). AreInOrder (d.trees 1) rows) one.0.now_is order in
+    by_fault fault now h
+  where
+    by_fault : (f : OpenFault) → AreInOrder (first.now.trees 1) rows → AreRowsFault rows f → IsOurFault first last f
+    by_fault NotOurs now h = absurd h
+    by_fault (OtherSchema version) now h = absurd h
+    by_fault (Damaged place) now h = (good, (rows, now, h))
+    by_fault Memory now h = inr (unchanged_twice first mid last one two, (good, (rows, now, h)))
+    by_fault Disk now h = absurd h
+
 pub rows_fault : (first mid last : State) → IsUnchanged first mid → first.faults ≤ mid.faults → mid.step_limit ≡ first.step_limit → (fault : OpenFault) → IsStoreFault mid last fault → IsOurFault first last fault
 rows_fault first mid last same low limit NotOurs h = absurd h
 rows_fault first mid last same low limit (OtherSchema version) h = absurd h
 rows_fault first mid last same low limit (Damaged place) h = absurd h
-rows_fault first mid last same low limit Memory h = h
+rows_fault first mid last same low limit Memory h = inl (memory_before first mid last same h)
 rows_fault first mid last same low limit Disk h = cause_before first mid last same low limit h
 
 -- at rest the count is that of the entries

@@ -4,12 +4,16 @@ use Rattle.sqlite_disk.specs.Disk.{MoreFaults}
 use Rattle.sqlite.specs.declared.error.Error.{Error}
 use Rattle.sqlite.specs.declared.error.Error.TheVariants.{SqliteFailure}
 use Rattle.sqlite.specs.declared.error.ErrorCode.TheVariants.{OutOfMemory}
-use Rattle.sqlite.specs.State.{State}
+use Rattle.sqlite.specs.State.{State, Fails}
 
 -- the fault for want of memory, and the one for each other error
 abbrev pub told : {F : Type 0} → F → F → Error → F
 told memory disk (SqliteFailure OutOfMemory) = memory
 told memory disk _ = disk
+
+-- the store failed for want of memory, and what was begun is undone
+abbrev pub StoreWantsMemory : State → State → Type 0
+StoreWantsMemory old new = Fails old new ⊥ (SqliteFailure OutOfMemory)
 
 -- the disk has failed or refused since, the connection was shut, or the steps of its statements are limited
 abbrev pub HasDiskCause : State → State → Type 0

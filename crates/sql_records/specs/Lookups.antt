@@ -1,5 +1,5 @@
 -- What the records are asked: what is kept under a number, and which requests name an event. (Our own.)
-use Rattle.std.specs.Prelude.{ℕ, Bool, false, List, [], ◌∷◌, Option, Some, None, pos, map, filter, take, slice_get, unwrap_or, ◌≡◌}
+use Rattle.std.specs.Prelude.{ℕ, Bool, false, List, [], ◌∷◌, Option, Some, None, pos, map, filter, take, slice_get, unwrap_or, ◌≡◌, ◌⊎◌, ◌<◌, length, IsSome}
 use Rattle.std.specs.Option.{option_map}
 use Rattle.sqlite.specs.declared.types.Value.{Value}
 use Rattle.sqlite.specs.declared.types.Value.TheVariants.{Int, Text}
@@ -15,8 +15,8 @@ use Rattle.request_ledger.specs.declared.reply.Kept.{Kept}
 use Rattle.book_core.specs.declared.entry.Entry.{Entry}
 use Rattle.book_core.specs.History.{asked, kept}
 use Rattle.plain_words.specs.Words.{◌>>=◌}
-use Rattle.sqlite.specs.State.{State}
-use Rattle.sql_records.specs.Faults.{HasDiskCause}
+use Rattle.sqlite.specs.State.{State, IsUnchanged}
+use Rattle.sql_records.specs.Faults.{HasDiskCause, StoreWantsMemory}
 use Rattle.sql_records.specs.declared.lookup.FindFault.{FindFault}
 use Rattle.sql_records.specs.declared.lookup.FindFault.TheVariants.{Shut, Damaged, Memory, Disk}
 use Rattle.sql_records.specs.declared.lookup.Found.{Found}
@@ -104,9 +104,22 @@ pub record IsFirstUnread (rows : List Row) (fault : FindFault) : Type 0 where
   pub before : (listed : List Listed) × (map Some listed ≡ map listed_of (take at rows))
   pub named : fault ≡ damage_of values
 
--- want of memory, or the disk is at fault
+-- a row reads, as do those before it
+pub record ReadsSome (rows : List Row) : Type 0 where
+  pub at : ℕ
+  pub values : Row
+  pub here : slice_get rows at ≡ Some values
+  pub reads : IsSome (listed_of values)
+  pub before : (listed : List Listed) × (map Some listed ≡ map listed_of (take at rows))
+
+-- the store wants memory, or the disk is at fault
 abbrev pub IsQueryFault : State → State → FindFault → Type 0
 IsQueryFault old new Shut = ⊥
 IsQueryFault old new (Damaged place) = ⊥
-IsQueryFault old new Memory = Unit {0}
+IsQueryFault old new Memory = StoreWantsMemory old new
 IsQueryFault old new Disk = HasDiskCause old new
+
+-- the same where requests are listed, for which memory is wanted too where there are any
+abbrev pub IsListFault : State → State → List Listed → FindFault → Type 0
+IsListFault old new listed Memory = StoreWantsMemory old new ⊎ (IsUnchanged old new × (0 < length listed))
+IsListFault old new listed fault = IsQueryFault old new fault

@@ -1,10 +1,11 @@
 -- What an open answers of a database that it does not read. (Our own.)
-use Rattle.std.specs.Prelude.{◌≡◌, ◌≢◌, ◌⊎◌, ℤ, pos, nat_lt, if◌then◌else◌, true, false, IsTrue, List, [], ◌∷◌, Option, Some, None}
+use Rattle.std.specs.Prelude.{◌≡◌, ◌≢◌, ◌⊎◌, ℕ, ℤ, pos, take, slice_get, nat_lt, IsSome, if◌then◌else◌, true, false, IsTrue, List, [], ◌∷◌, Option, Some, None}
 use Rattle.sqlite.specs.declared.types.Value.{Value}
 use Rattle.sqlite.specs.declared.types.Value.TheVariants.{Int, Text}
 use Rattle.sqlite.specs.Order.{Row, column}
-use Rattle.sqlite.specs.State.{State, HasCleanDisk, KeepsCommit, Shown, FailsToQuery, IsTooLate}
+use Rattle.sqlite.specs.State.{State, HasCleanDisk, IsUnchanged, KeepsCommit, Shown, FailsToQuery, IsTooLate}
 use Rattle.sqlite.specs.Store.{Ghosts}
+use Rattle.sqlite.specs.Tree.{Trees}
 use Rattle.sqlite.specs.Effect.{IsDatabase}
 use Rattle.sqlite.specs.Held.{Held, IsNew, state}
 use Rattle.sqlite.specs.declared.error.Error.{Error}
@@ -16,9 +17,9 @@ use Rattle.book_core.specs.Limits.{greatest_limit}
 use Rattle.sql_records.specs.declared.meta.Meta.{Meta}
 use Rattle.sql_records.specs.declared.fault.OpenFault.{OpenFault}
 use Rattle.sql_records.specs.declared.fault.OpenFault.TheVariants.{NotOurs, OtherSchema, Damaged, Memory, Disk}
-use Rattle.sql_records.specs.Rows.{number_within, site_in, AreInOrder, IsDamagedAt}
+use Rattle.sql_records.specs.Rows.{number_within, site_in, text_in, rows_from_0, AreInOrder, AreWhole, IsDamagedAt}
 use Rattle.sql_records.specs.Layout.{IsOurs, our_kind, HasOtherSchema, HasGoodMeta, HasNoMeta}
-use Rattle.sql_records.specs.Faults.{HasDiskCause}
+use Rattle.sql_records.specs.Faults.{HasDiskCause, StoreWantsMemory}
 use Rattle.sql_records.specs.Texts.{meta_select_text}
 use Rattle.sql_records.specs.Held.{entries_tree}
 
@@ -55,12 +56,12 @@ IsRowFault values (Damaged place) = ⊥
 IsRowFault values Memory = ⊥
 IsRowFault values Disk = ⊥
 
--- a query failed: for want of memory, or the disk is at fault
+-- a query failed: the store wants memory, or the disk is at fault
 abbrev pub IsStoreFault : State → State → OpenFault → Type 0
 IsStoreFault old new NotOurs = ⊥
 IsStoreFault old new (OtherSchema version) = ⊥
 IsStoreFault old new (Damaged place) = ⊥
-IsStoreFault old new Memory = Unit {0}
+IsStoreFault old new Memory = StoreWantsMemory old new
 IsStoreFault old new Disk = HasDiskCause old new
 
 -- what is at fault in the numbers of a database of ours
@@ -68,15 +69,23 @@ abbrev pub IsMetaFault : State → State → OpenFault → Type 0
 IsMetaFault old new NotOurs = HasNoMeta old.now.trees
 IsMetaFault old new (OtherSchema version) = HasOtherSchema version old.now.trees
 IsMetaFault old new (Damaged place) = ⊥
-IsMetaFault old new Memory = Unit {0}
+IsMetaFault old new Memory = StoreWantsMemory old new
 IsMetaFault old new Disk = HasDiskCause old new
 
--- what is at fault in rows of entries
+-- memory is wanted for the row at this place, which has its place and a delta's text, and those before it are the entries of theirs
+pub record IsWantedAt (place : ℕ) (rows : List Row) : Type 0 where
+  pub before : AreWhole 0 (take place rows)
+  pub values : Row
+  pub here : slice_get rows place ≡ Some values
+  pub placed : column values 0 ≡ Int (pos place)
+  pub text : IsSome (text_in (column values 9))
+
+-- what is at fault in rows of entries, which are in an order of their places
 abbrev pub AreRowsFault : List Row → OpenFault → Type 0
 AreRowsFault rows NotOurs = ⊥
 AreRowsFault rows (OtherSchema version) = ⊥
 AreRowsFault rows (Damaged place) = IsDamagedAt place rows
-AreRowsFault rows Memory = Unit {0}
+AreRowsFault rows Memory = (place : ℕ) × IsWantedAt place (rows_from_0 rows)
 AreRowsFault rows Disk = ⊥
 
 -- the rows are one, of our kind and of this other version
@@ -122,10 +131,14 @@ IsForeignFault (OtherSchema version) = version ≢ pos 1
 IsForeignFault (Damaged place) = ⊥
 IsForeignFault _ = Unit {0}
 
--- what is at fault in a database of ours, in this order: the numbers, and then the rows;
--- the damaged row is the first in an order of the places
+-- what is at fault in the rows of a database, in an order of their places
+abbrev pub IsEntriesFault : Trees → OpenFault → Type 0
+IsEntriesFault db fault = HasGoodMeta db × ((rows : List Row) × AreInOrder (db entries_tree) rows × AreRowsFault rows fault)
+
+-- what is at fault in a database of ours, in this order: the numbers, and then the rows
 abbrev pub IsOurFault : State → State → OpenFault → Type 0
-IsOurFault old new (Damaged place) = HasGoodMeta old.now.trees × ((rows : List Row) × AreInOrder (old.now.trees entries_tree) rows × IsDamagedAt place rows)
+IsOurFault old new (Damaged place) = IsEntriesFault old.now.trees (Damaged place)
+IsOurFault old new Memory = StoreWantsMemory old new ⊎ (IsUnchanged old new × IsEntriesFault old.now.trees Memory)
 IsOurFault old new fault = IsMetaFault old new fault
 
 -- what is at fault in a database

@@ -1,5 +1,5 @@
 //! Reading the records of a database.
-ghost use Rattle.std.specs.Prelude.{◌≡◌, ◌≢◌, ◌↔◌, ◌≤◌, ℕ, ℤ, false, length, IsTrue, IfOk, IfErr, OnOk, IfSome, IfNone, OnErr, [], ◌∷◌, ◌⊎◌, Some, None, pos};
+ghost use Rattle.std.specs.Prelude.{◌≡◌, ◌≢◌, ◌↔◌, ◌≤◌, ℕ, ℤ, true, false, Err, IsSome, length, IsTrue, IfOk, IfErr, OnOk, IfSome, IfNone, OnErr, [], ◌∷◌, ◌⊎◌, Some, None, pos};
 ghost use Rattle.std.specs.List.{filter_map};
 ghost use Rattle.sqlite.specs.declared.types.Value.TheVariants.{Int, Text};
 ghost use Rattle.sqlite.specs.State.{HasCleanDisk, IsLive, IsUnchanged};
@@ -9,9 +9,9 @@ ghost use Rattle.sqlite_value.specs.Value.{owned};
 ghost use Rattle.rights_lattice.specs.Limits.{most_sites};
 ghost use Rattle.book_core.specs.Limits.{greatest_limit};
 ghost use Rattle.sql_records.specs.Layout.{IsOurs, our_kind, HasMeta, AreNumbers};
-ghost use Rattle.sql_records.specs.Rows.{entry_of, is_below, rows_below, number_within, IsEntryAt, AreInOrder, AreWhole, IsFirstDamaged};
+ghost use Rattle.sql_records.specs.Rows.{entry_of, is_below, rows_below, number_within, IsEntryAt, AreInOrder, AreWhole, IsFirstDamaged, text_in};
 ghost use Rattle.sql_records.specs.Held.{entries_tree, rows_in, history_in, LeavesNoMore};
-ghost use Rattle.sql_records.specs.Opening.{int_in, numbers_in, IsRowOf, IsRowFault, IsMetaFault, AreRowsFault, IsStoreFault, IsForeignFault, IsForeignCause, AreOfVersion, AreTold, foreign_told, IsOpenFault, IsLeftOrUndone};
+ghost use Rattle.sql_records.specs.Opening.{int_in, numbers_in, IsRowOf, IsRowFault, IsMetaFault, AreRowsFault, IsStoreFault, IsWantedAt, IsForeignFault, IsForeignCause, AreOfVersion, AreTold, foreign_told, IsOpenFault, IsLeftOrUndone};
 
 use crate::fault::OpenFault;
 use crate::meta::Meta;
@@ -61,6 +61,7 @@ fn read_next(alloc: Global, place: u64, row: &Row) -> Result<Entry, OpenFault>
     ensures reads { IfOk result (λ entry. entry_of row.now ≡ Some entry) }
     ensures named { IfErr result (λ fault. (fault ≡ OpenFault.Memory) ⊎ (fault ≡ OpenFault.Damaged place)) }
     ensures damaged { result ≡ Err (OpenFault.Damaged place) → ¬ IsEntryAt place row.now }
+    ensures memory { result ≡ Err OpenFault.Memory → (column row.now 0 ≡ Int (pos place)) × IsSome (text_in (column row.now 9)) }
 {
     if !is_at(place, value_at(row, 0)) {
         return Err(OpenFault::Damaged { place });
@@ -75,7 +76,7 @@ fn read_next(alloc: Global, place: u64, row: &Row) -> Result<Entry, OpenFault>
 fn read_entries(alloc: Global, rows: &[Row]) -> Result<Vec<Entry>, OpenFault>
     ensures whole { OnOk result (AreWhole 0 rows.now) }
     ensures entries { IfOk result (λ entries. entries.items ≡ filter_map entry_of rows.now) }
-    ensures fault { IfErr result (λ fault. (fault ≡ OpenFault.Memory) ⊎ ((place : ℕ) × (fault ≡ OpenFault.Damaged place) × IsFirstDamaged place rows.now)) }
+    ensures fault { IfErr result (λ fault. ((fault ≡ OpenFault.Memory) × ((place : ℕ) × IsWantedAt place rows.now)) ⊎ ((place : ℕ) × (fault ≡ OpenFault.Damaged place) × IsFirstDamaged place rows.now)) }
 {
     let mut entries = Vec::new(alloc);
     'rows: for (place, row) in rows.iter().enumerate() {
@@ -265,6 +266,7 @@ fn foreign_told(error: Error) -> OpenFault
 fn foreign_fault<S: Alter>(conn: &mut Connection<S>) -> OpenFault
     ensures named { IsForeignFault result }
     ensures undone { HasCleanDisk (state S.Store conn.new) → IsLeftOrUndone (state S.Store conn.old) (state S.Store conn.new) }
+    ensures busy { conn.old.in_transaction ≡ true → result ≡ OpenFault.NotOurs }
     ensures cause { conn.old.in_transaction ≡ false → HasCleanDisk (state S.Store conn.new) → IsForeignCause S.Store conn.old result }
     ensures left { HasCleanDisk (state S.Store conn.new) → LeavesNoMore (state S.Store conn.old) (state S.Store conn.new) }
     ensures limit { conn.new.step_limit ≡ conn.old.step_limit }
@@ -299,6 +301,7 @@ pub fn read_records<S: Alter>(
     ensures same { HasCleanDisk (state S.Store conn.new) → OnOk result (IsUnchanged (state S.Store conn.old) (state S.Store conn.new)) }
     ensures undone { HasCleanDisk (state S.Store conn.new) → OnErr result (IsLeftOrUndone (state S.Store conn.old) (state S.Store conn.new)) }
     ensures fault { HasCleanDisk (state S.Store conn.new) → IfErr result (IsOpenFault (state S.Store conn.old) (state S.Store conn.new)) }
+    ensures busy { ¬ IsOurs conn.old.schema → conn.old.in_transaction ≡ true → result ≡ Err OpenFault.NotOurs }
     ensures foreign { ¬ IsOurs conn.old.schema → conn.old.in_transaction ≡ false → HasCleanDisk (state S.Store conn.new) → IfErr result (IsForeignCause S.Store conn.old) }
     ensures left { HasCleanDisk (state S.Store conn.new) → LeavesNoMore (state S.Store conn.old) (state S.Store conn.new) }
     ensures limit { conn.new.step_limit ≡ conn.old.step_limit }

@@ -1,5 +1,5 @@
 //! The entry that the columns of a row stand for.
-ghost use Rattle.std.specs.Prelude.{◌≡◌, IfOk, IsTrue, true};
+ghost use Rattle.std.specs.Prelude.{◌≡◌, IfOk, OnErr, IsSome, IsTrue, true};
 ghost use Rattle.std.specs.Option.{option_map};
 ghost use Rattle.sqlite.specs.Order.{column};
 ghost use Rattle.sqlite_value.specs.Value.{owned};
@@ -205,7 +205,8 @@ pub fn reply_in(word: ValueRef<'_>, rest: ValueRef<'_>) -> Option<Reply>
 
 #[tactic(auto, unfolding(crate::specs::Rows::delta_in))]
 fn delta_in(alloc: Global, value: ValueRef<'_>) -> Result<Option<Delta>, AllocError>
-    ensures { IfOk result (λ delta. delta ≡ delta_in (owned value.entry)) }
+    ensures delta { IfOk result (λ delta. delta ≡ delta_in (owned value.entry)) }
+    ensures memory { OnErr result (IsSome (text_in (owned value.entry))) }
 {
     let Some(text) = text_in(value) else {
         return Ok(None);
@@ -268,7 +269,8 @@ fn joined_of(row: &Row, delta: Delta) -> Option<Entry>
 /// The entry that the ten columns of a row stand for, if they stand for one.
 #[tactic(auto, unfolding(crate::specs::Rows::entry_of))]
 pub fn read_entry(alloc: Global, row: &Row) -> Result<Option<Entry>, AllocError>
-    ensures { IfOk result (λ entry. entry ≡ entry_of row.now) }
+    ensures entry { IfOk result (λ entry. entry ≡ entry_of row.now) }
+    ensures memory { OnErr result (IsSome (text_in (column row.now 9))) }
 {
     let Some(delta) = delta_in(alloc, value_at(row, 9))? else {
         return Ok(None);

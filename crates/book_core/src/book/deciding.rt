@@ -18,7 +18,7 @@ use std::alloc::{AllocError, Global};
 impl Book {
     /// What a request under its number leads to: the reply that is kept under it, or a new entry.
     ///
-    /// The book shows what it showed in every case, and has all the room that a new entry takes.
+    /// The book shows what it showed in every case, loses no room, and has all the room that a new entry takes.
     /// Under a kept number and on a full history it makes no room.
     pub fn plan(
         &mut self,

@@ -20,7 +20,7 @@ use rights_lattice::{Cell, Event, Mark, Rights, SiteId, Sites, owner};
 impl Book {
     /// What a peer's delta leads to: nothing, where the state has all of it, or a new entry.
     ///
-    /// The book shows what it showed in every case, and has all the room that a new entry takes.
+    /// The book shows what it showed in every case, loses no room, and has all the room that a new entry takes.
     /// It makes no room but for a delta that is joined. A refusal gives the delta back.
     pub fn plan_join(&mut self, peer: SiteId, delta: Delta) -> Result<JoinPlan, (Delta, JoinFault)>
         ensures unchanged { self.new ≡ record self.old { room = self.new.room } }

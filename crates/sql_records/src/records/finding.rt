@@ -8,7 +8,8 @@ ghost use Rattle.sqlite.specs.Order.{Row as Rowed};
 ghost use Rattle.sqlite.specs.Values.{bound};
 ghost use Rattle.sqlite.specs.declared.types.Value.TheVariants.{Int, Text};
 ghost use Rattle.sql_records.specs.Held.{IsAtRest, IsTrusted, LeavesNoMore, history_in, kept_in, rows_in};
-ghost use Rattle.sql_records.specs.Lookups.{IsFirstUnread, IsQueryFault, damage_of, found_columns, found_in, found_of, first_found, has_event, has_number, listed_columns, listed_in, listed_of, place_in};
+ghost use Rattle.sql_records.specs.Opening.{IsLeftOrUndone};
+ghost use Rattle.sql_records.specs.Lookups.{IsFirstUnread, IsListFault, IsQueryFault, ReadsSome, damage_of, found_columns, found_in, found_of, first_found, has_event, has_number, listed_columns, listed_in, listed_of, place_in};
 
 use super::Records;
 use crate::lookup::{FindFault, Found, Listed};
@@ -44,6 +45,7 @@ fn find_rows<S: Alter>(
     requires rest { HasCleanDisk (state S.Store conn.old) → (count : ℕ) × IsAtRest (state S.Store conn.old) count }
     ensures rows { HasCleanDisk (state S.Store conn.new) → IfOk result (λ rows. rows.items ≡ map found_columns (filter (has_number number) (rows_in (state S.Store conn.old).now.trees))) }
     ensures same { HasCleanDisk (state S.Store conn.new) → OnOk result (IsUnchanged (state S.Store conn.old) (state S.Store conn.new)) }
+    ensures undone { HasCleanDisk (state S.Store conn.new) → OnErr result (IsLeftOrUndone (state S.Store conn.old) (state S.Store conn.new)) }
     ensures left { HasCleanDisk (state S.Store conn.new) → LeavesNoMore (state S.Store conn.old) (state S.Store conn.new) }
     ensures limit { conn.new.step_limit ≡ conn.old.step_limit }
     ensures clean { HasCleanDisk (state S.Store conn.new) → HasCleanDisk (state S.Store conn.old) }
@@ -60,6 +62,7 @@ fn list_rows<S: Alter>(conn: &mut Connection<S>, event: &Event) -> Result<Vec<Ro
     requires rest { HasCleanDisk (state S.Store conn.old) → (count : ℕ) × IsAtRest (state S.Store conn.old) count }
     ensures rows { HasCleanDisk (state S.Store conn.new) → IfOk result (λ rows. rows.items ≡ map listed_columns (filter (has_event event.now) (rows_in (state S.Store conn.old).now.trees))) }
     ensures same { HasCleanDisk (state S.Store conn.new) → OnOk result (IsUnchanged (state S.Store conn.old) (state S.Store conn.new)) }
+    ensures undone { HasCleanDisk (state S.Store conn.new) → OnErr result (IsLeftOrUndone (state S.Store conn.old) (state S.Store conn.new)) }
     ensures left { HasCleanDisk (state S.Store conn.new) → LeavesNoMore (state S.Store conn.old) (state S.Store conn.new) }
     ensures limit { conn.new.step_limit ≡ conn.old.step_limit }
     ensures clean { HasCleanDisk (state S.Store conn.new) → HasCleanDisk (state S.Store conn.old) }
@@ -138,7 +141,7 @@ fn first_of(rows: &[Row]) -> Result<Option<Found>, FindFault>
 // What each row says.
 fn all_of(alloc: Global, rows: &[Row]) -> Result<Vec<Listed>, FindFault>
     ensures ok { IfOk result (λ listed. map Some listed.items ≡ map listed_of rows.now) }
-    ensures damaged { IfErr result (λ fault. (fault ≡ FindFault.Memory) ⊎ IsFirstUnread rows.now fault) }
+    ensures damaged { IfErr result (λ fault. ((fault ≡ FindFault.Memory) × ReadsSome rows.now) ⊎ IsFirstUnread rows.now fault) }
     ensures shut { result ≢ Err FindFault.Shut }
 {
     // The prover has to meet the type of what a `Listed` holds.
@@ -161,6 +164,7 @@ impl<S: Alter> Records<S> {
     pub fn find(&mut self, number: RequestNumber) -> Result<Option<Found>, FindFault>
         ensures found { IfOk result (λ found. IsTrusted S.Store self.new → found ≡ found_in (kept_in S.Store self.old) number) }
         ensures same { OnOk result (IsTrusted S.Store self.new → IsUnchanged (state S.Store self.old.conn) (state S.Store self.new.conn)) }
+        ensures undone { OnErr result (IsTrusted S.Store self.new → IsLeftOrUndone (state S.Store self.old.conn) (state S.Store self.new.conn)) }
         ensures failures { OnOk result ((self.old.failures ≡ 0) × (self.new.failures ≡ 0)) }
         ensures fault { self.old.failures ≡ 0 → IfErr result (λ fault. IsTrusted S.Store self.new → IsQueryFault (state S.Store self.old.conn) (state S.Store self.new.conn) fault) }
         ensures shut { self.old.failures ≢ 0 → (result ≡ Err FindFault.Shut) × (self.new ≡ self.old) }
@@ -187,8 +191,9 @@ impl<S: Alter> Records<S> {
     pub fn list(&mut self, event: Event) -> Result<Vec<Listed>, FindFault>
         ensures listed { IfOk result (λ listed. IsTrusted S.Store self.new → listed.items ≡ listed_in (kept_in S.Store self.old) event) }
         ensures same { OnOk result (IsTrusted S.Store self.new → IsUnchanged (state S.Store self.old.conn) (state S.Store self.new.conn)) }
+        ensures undone { OnErr result (IsTrusted S.Store self.new → IsLeftOrUndone (state S.Store self.old.conn) (state S.Store self.new.conn)) }
         ensures failures { OnOk result ((self.old.failures ≡ 0) × (self.new.failures ≡ 0)) }
-        ensures fault { self.old.failures ≡ 0 → IfErr result (λ fault. IsTrusted S.Store self.new → IsQueryFault (state S.Store self.old.conn) (state S.Store self.new.conn) fault) }
+        ensures fault { self.old.failures ≡ 0 → IfErr result (λ fault. IsTrusted S.Store self.new → IsListFault (state S.Store self.old.conn) (state S.Store self.new.conn) (listed_in (kept_in S.Store self.old) event) fault) }
         ensures shut { self.old.failures ≢ 0 → (result ≡ Err FindFault.Shut) × (self.new ≡ self.old) }
         ensures named { self.old.failures ≡ 0 → result ≢ Err FindFault.Shut }
         ensures shuts { self.old.failures ≡ 0 → OnErr result (self.new.failures ≡ 1) }
@@ -216,6 +221,7 @@ fn find_first<S: Alter>(
     ensures found { HasCleanDisk (state S.Store conn.new) → IfOk result (λ found. found ≡ found_in (history_in (state S.Store conn.old).now.trees) number) }
     ensures fault { HasCleanDisk (state S.Store conn.new) → IfErr result (IsQueryFault (state S.Store conn.old) (state S.Store conn.new)) }
     ensures same { HasCleanDisk (state S.Store conn.new) → OnOk result (IsUnchanged (state S.Store conn.old) (state S.Store conn.new)) }
+    ensures undone { HasCleanDisk (state S.Store conn.new) → OnErr result (IsLeftOrUndone (state S.Store conn.old) (state S.Store conn.new)) }
     ensures left { HasCleanDisk (state S.Store conn.new) → LeavesNoMore (state S.Store conn.old) (state S.Store conn.new) }
     ensures limit { conn.new.step_limit ≡ conn.old.step_limit }
     ensures clean { HasCleanDisk (state S.Store conn.new) → HasCleanDisk (state S.Store conn.old) }
@@ -233,8 +239,9 @@ fn list_all<S: Alter>(
 ) -> Result<Vec<Listed>, FindFault>
     requires rest { HasCleanDisk (state S.Store conn.old) → (count : ℕ) × IsAtRest (state S.Store conn.old) count }
     ensures listed { HasCleanDisk (state S.Store conn.new) → IfOk result (λ listed. listed.items ≡ listed_in (history_in (state S.Store conn.old).now.trees) event.now) }
-    ensures fault { HasCleanDisk (state S.Store conn.new) → IfErr result (IsQueryFault (state S.Store conn.old) (state S.Store conn.new)) }
+    ensures fault { HasCleanDisk (state S.Store conn.new) → IfErr result (IsListFault (state S.Store conn.old) (state S.Store conn.new) (listed_in (history_in (state S.Store conn.old).now.trees) event.now)) }
     ensures same { HasCleanDisk (state S.Store conn.new) → OnOk result (IsUnchanged (state S.Store conn.old) (state S.Store conn.new)) }
+    ensures undone { HasCleanDisk (state S.Store conn.new) → OnErr result (IsLeftOrUndone (state S.Store conn.old) (state S.Store conn.new)) }
     ensures left { HasCleanDisk (state S.Store conn.new) → LeavesNoMore (state S.Store conn.old) (state S.Store conn.new) }
     ensures limit { conn.new.step_limit ≡ conn.old.step_limit }
     ensures clean { HasCleanDisk (state S.Store conn.new) → HasCleanDisk (state S.Store conn.old) }

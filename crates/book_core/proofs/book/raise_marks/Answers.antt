@@ -31,5 +31,6 @@ loop-mark-preserved c =
       same_sites = c.raise.ensures.sites ∙ c.loop-mark.invariant.same_sites;
       same_me = c.raise.ensures.me ∙ c.loop-mark.invariant.same_me;
       no_more_room = omega (arith, c.raise.ensures.no_more_room, c.loop-mark.invariant.no_more_room);
+      spent = room_left (value_at c.loop-mark.rights.cells m.event m.cell == 0) _ _ _ _ c.raise.ensures.room c.loop-mark.invariant.spent;
       enough = room_left (value_at c.loop-mark.rights.cells m.event m.cell == 0) _ _ _ _ c.raise.ensures.room c.loop-mark.invariant.enough;
     }

@@ -11,7 +11,7 @@ use Rattle.operator_cli.specs.Exchanged.{IsDueText, site_in}
 use Rattle.operator_cli.specs.Printed.{Printed}
 use Rattle.operator_cli.specs.Printed.{IsSentText}
 use Rattle.operator_cli.specs.Opened.{IsExportEnd}
-use Rattle.operator_cli.proofs.EndLaws.{weaker}
+use Rattle.operator_cli.proofs.EndLaws.{always, weaker}
 use Rattle.operator_cli.proofs.ExchangeLaws.{export_end}
 use Rattle.operator_cli.proofs.OpenedLaws.{book_back, opened_cause, opened_illegal, opened_ours, refused_cause, refused_illegal, refused_lost, refused_ours}
 use Rattle.operator_cli.proofs.PrintLaws.{ends_printed, if_some_is}
@@ -74,5 +74,5 @@ returns-in-Ok-clause-cause g c =
     let site : site_of c.in-Ok.book ≡ site_in (state g.S.Store c.args.conn).now.trees = λ i. record { history = of.history i; acked = of.fresh i } in
     let ended = weaker _ (IsExportEnd c.args.to (state g.S.Store opened) (state g.S.Store c.in-Ok.book.keeper.conn)) c.write_next-came.result
     (λ f e meta has. export_end c.args.to c.in-Ok.book meta (state g.S.Store opened).now.trees f of.unclosed (of.office meta (subst (HasMeta meta) now has)) (site ∙ ap site_in (sym now)) e) c.write_next-came.ensures.fault in
-    opened_cause g.S.Store c.args.conn c.in-Ok.book.keeper.conn c.in-Ok.book (book_back g.S.Store c.args.conn c.in-Ok.book.keeper.conn c.in-Ok.book c.in-Ok.book.keeper c.in-Ok.book.keeper refl (λ h. h) refl c.in-Ok.ensures.book) (IsExportEnd c.args.to) opened (g.E.Write.contents c.args.err.now) (g.E.Write.contents c.close_book.new.err) c.write_next-came.result c.close_book.result.0 clean same c.in-Ok.ensures.limit ended (λ meta has. tt)
+    opened_cause g.S.Store c.args.conn c.in-Ok.book.keeper.conn c.in-Ok.book (book_back g.S.Store c.args.conn c.in-Ok.book.keeper.conn c.in-Ok.book c.in-Ok.book.keeper c.in-Ok.book.keeper refl (λ h. h) refl c.in-Ok.ensures.book) (IsExportEnd c.args.to) opened (g.E.Write.contents c.args.err.now) (g.E.Write.contents c.close_book.new.err) c.write_next-came.result c.close_book.result.0 clean same c.in-Ok.ensures.limit ended (always c.write_next-came.result _ (λ meta has. tt))
     c.write_next-came.ensures.ends c.close_book.ensures.line c.close_book.ensures.flush)

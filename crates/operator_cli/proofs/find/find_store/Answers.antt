@@ -5,7 +5,8 @@ use Rattle.sqlite.specs.Held.{Held, state}
 use Rattle.book_core.specs.declared.entry.Entry.{Entry}
 use Rattle.sql_records.specs.Held.{IsTrusted, Kept, kept_in, history_in}
 use Rattle.operator_cli.specs.Printed.{Printed, IsFoundText, IsFoundIn}
-use Rattle.operator_cli.specs.Opened.{IsLookupEnd}
+use Rattle.operator_cli.specs.Opened.{IsFindEnd}
+use Rattle.operator_cli.proofs.EndLaws.{on_ok_map}
 use Rattle.operator_cli.proofs.OpenedLaws.{book_back, opened_cause, opened_illegal, opened_ours, refused_cause, refused_illegal, refused_lost, refused_ours}
 use Rattle.operator_cli.proofs.PrintLaws.{ends_printed, ok_unless_failed}
 use Rattle.operator_cli.proofs.find.find_store.Goals as goal
@@ -43,7 +44,7 @@ returns-in-Err-clause-illegal g c =
 
 pub returns-in-Err-clause-cause : goal.returns-in-Err-clause-cause
 returns-in-Err-clause-cause g c =
-    refused_cause g.S.Store c.args.conn c.in-Err.fault c.in-Err.conn c.in-Err.ensures.fault IsLookupEnd (g.E.Write.contents c.args.err.now) (g.E.Write.contents c.ended-in-Err.new.err) c.ended-in-Err.result c.ended-in-Err.ensures.line
+    refused_cause g.S.Store c.args.conn c.in-Err.fault c.in-Err.conn c.in-Err.ensures.fault IsFindEnd (g.E.Write.contents c.args.err.now) (g.E.Write.contents c.ended-in-Err.new.err) c.ended-in-Err.result c.ended-in-Err.ensures.line
 
 pub returns-in-Err-clause-ours : goal.returns-in-Err-clause-ours
 returns-in-Err-clause-ours g c =
@@ -65,6 +66,7 @@ returns-in-Ok-clause-cause g c clean =
     let same = ap (λ (k : Kept g.row.S.Denot). (state g.S.Store k.conn).now) c.into_keeper-records.ensures ∙ c.in-Ok.ensures.same before in
     let limit = ap (λ (k : Kept g.row.S.Denot). k.conn.step_limit) c.into_keeper-records.ensures ∙ c.in-Ok.ensures.limit in
     let sound = ap (λ (k : Kept g.row.S.Denot). k.failures) c.into_keeper-records.ensures ∙ c.in-Ok.ensures.open in
-    let fault = subst (λ (conn : Held g.row.S.Denot). IfErr c.write_found-came.result (IsLookupEnd (state g.S.Store opened) (state g.S.Store conn))) (sym c.close.ensures) (c.write_found-came.ensures.fault sound left) in
-    opened_cause g.S.Store c.args.conn c.close.result c.in-Ok.book (book_back g.S.Store c.args.conn c.close.result c.in-Ok.book c.into_keeper-records.result c.write_found-came.new.records c.into_keeper-records.ensures c.write_found-came.ensures.trusted c.close.ensures c.in-Ok.ensures.book) IsLookupEnd opened (g.E.Write.contents c.args.err.now) (g.E.Write.contents c.ended.new.err) c.write_found-came.result c.ended.result clean same limit fault tt
+    let fault = subst (λ (conn : Held g.row.S.Denot). IfErr c.write_found-came.result (IsFindEnd (state g.S.Store opened) (state g.S.Store conn))) (sym c.close.ensures) (c.write_found-came.ensures.fault sound left) in
+    let written = on_ok_map c.write_found-came.result _ _ (λ is. ap (λ (conn : Held g.row.S.Denot). (state g.S.Store conn).now) c.close.ensures ∙ is) (c.write_found-came.ensures.same left) in
+    opened_cause g.S.Store c.args.conn c.close.result c.in-Ok.book (book_back g.S.Store c.args.conn c.close.result c.in-Ok.book c.into_keeper-records.result c.write_found-came.new.records c.into_keeper-records.ensures c.write_found-came.ensures.trusted c.close.ensures c.in-Ok.ensures.book) IsFindEnd opened (g.E.Write.contents c.args.err.now) (g.E.Write.contents c.ended.new.err) c.write_found-came.result c.ended.result clean same limit fault written
     c.write_found-came.ensures.ends c.ended.ensures.line c.ended.ensures.flush

@@ -13,8 +13,8 @@ use Rattle.operator_cli.specs.Exchanged.{HoldsOnly, LeavesOneOf, behind_bytes, t
 use Rattle.operator_cli.specs.Printed.{Printed, IsTellingOf}
 use Rattle.operator_cli.specs.Printed.{IsTakenText}
 use Rattle.operator_cli.specs.Opened.{IsIllegal, IsImportEnd, IsRefused}
-use Rattle.operator_cli.proofs.EndLaws.{holds_behind, if_back, weaker}
-use Rattle.operator_cli.proofs.ExchangeLaws.{import_end, leaves_as_they_were}
+use Rattle.operator_cli.proofs.EndLaws.{always, both_err, holds_behind, if_back, weaker}
+use Rattle.operator_cli.proofs.ExchangeLaws.{import_end, kept_as_it_was, leaves_as_they_were}
 use Rattle.operator_cli.proofs.OpenedLaws.{book_back, opened_cause, opened_illegal, opened_ours, refused_cause, refused_illegal, refused_lost, refused_ours}
 use Rattle.operator_cli.proofs.PrintLaws.{ends_printed, ends_as, if_some_is, if_some_map, ok_unless_failed}
 use Rattle.operator_cli.proofs.import.import_store.Goals as goal
@@ -88,9 +88,16 @@ returns-in-Ok-clause-cause g c =
     let of = (book_back g.S.Store c.args.conn c.write_taken-came.new.book.keeper.conn c.in-Ok.book c.in-Ok.book.keeper c.write_taken-came.new.book.keeper refl c.write_taken-came.ensures.trusted refl c.in-Ok.ensures.book) clean in
     let same = c.in-Ok.ensures.same (c.write_taken-came.ensures.trusted clean) in
     let now = ap (λ (d : Database). d.trees) same in
-    let ended = weaker _ (IsImportEnd (g.R.Read.remaining c.args.input) (state g.S.Store opened) (state g.S.Store c.write_taken-came.new.book.keeper.conn)) c.write_taken-came.result
-    (λ f e meta has. import_end c.in-Ok.book meta (state g.S.Store opened).now.trees (g.R.Read.remaining c.args.input) f (of.office meta (subst (HasMeta meta) now has)) (of.history ∙ ap history_in (sym now)) (e of.unclosed)) c.write_taken-came.ensures.fault in
-    opened_cause g.S.Store c.args.conn c.write_taken-came.new.book.keeper.conn c.in-Ok.book (book_back g.S.Store c.args.conn c.write_taken-came.new.book.keeper.conn c.in-Ok.book c.in-Ok.book.keeper c.write_taken-came.new.book.keeper refl c.write_taken-came.ensures.trusted refl c.in-Ok.ensures.book) (IsImportEnd (g.R.Read.remaining c.args.input)) opened (g.E.Write.contents c.args.err.now) (g.E.Write.contents c.close_book.new.err) c.write_taken-came.result c.close_book.result.0 clean same c.in-Ok.ensures.limit ended (λ meta has. tt)
+    let first = state g.S.Store opened in
+    let last = state g.S.Store c.write_taken-came.new.book.keeper.conn in
+    let input = g.R.Read.remaining c.args.input in
+    let ended = both_err c.write_taken-came.result _ _ (IsImportEnd input first last)
+    (λ f left e. (
+      kept_as_it_was g.S.Store f c.in-Ok.book.keeper c.write_taken-came.new.book.keeper left,
+      λ meta has. import_end c.in-Ok.book meta first.now.trees input f (of.office meta (subst (HasMeta meta) now has)) (of.history ∙ ap history_in (sym now)) (e of.unclosed),
+    ))
+    c.write_taken-came.ensures.untouched c.write_taken-came.ensures.fault in
+    opened_cause g.S.Store c.args.conn c.write_taken-came.new.book.keeper.conn c.in-Ok.book (book_back g.S.Store c.args.conn c.write_taken-came.new.book.keeper.conn c.in-Ok.book c.in-Ok.book.keeper c.write_taken-came.new.book.keeper refl c.write_taken-came.ensures.trusted refl c.in-Ok.ensures.book) (IsImportEnd (g.R.Read.remaining c.args.input)) opened (g.E.Write.contents c.args.err.now) (g.E.Write.contents c.close_book.new.err) c.write_taken-came.result c.close_book.result.0 clean same c.in-Ok.ensures.limit ended (always c.write_taken-came.result _ (tt, λ meta has. tt))
     c.write_taken-came.ensures.ends c.close_book.ensures.line c.close_book.ensures.flush)
 
 pub returns-in-Ok-clause-stopped : goal.returns-in-Ok-clause-stopped

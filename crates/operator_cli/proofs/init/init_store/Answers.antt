@@ -7,7 +7,7 @@ use Rattle.operator_cli.specs.declared.status.Status.TheVariants.{Done, Refused}
 use Rattle.sql_records.specs.Layout.{has_our_table}
 use Rattle.operator_cli.specs.Printed.{IsMadeText}
 use Rattle.operator_cli.specs.Opened.{IsMakeEnd}
-use Rattle.operator_cli.proofs.EndLaws.{fails_for}
+use Rattle.operator_cli.proofs.EndLaws.{always, fails_for}
 use Rattle.operator_cli.proofs.PrintLaws.{ends_printed, ends_as}
 use Rattle.operator_cli.proofs.init.init_store.Goals as goal
 
@@ -27,5 +27,5 @@ returns-clause-kept g c =
 pub returns-clause-cause : goal.returns-clause-cause
 returns-clause-cause g c clean =
     let numbers : Meta = record { me = c.args.me; sites = c.args.sites; limit = c.args.limit } in
-    fails_for (IsMakeEnd g.S.Store c.args.conn.now numbers) (g.E.Write.contents c.args.err.now) (g.E.Write.contents c.ended.new.err) c.write_made-came.result c.ended.result (c.write_made-came.ensures.fault clean) tt
+    fails_for (IsMakeEnd g.S.Store c.args.conn.now numbers) (g.E.Write.contents c.args.err.now) (g.E.Write.contents c.ended.new.err) c.write_made-came.result c.ended.result (c.write_made-came.ensures.fault clean) (always c.write_made-came.result _ tt)
     c.write_made-came.ensures.ends c.ended.ensures.line c.ended.ensures.flush

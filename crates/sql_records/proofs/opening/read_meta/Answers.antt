@@ -1,6 +1,6 @@
 use Rattle.std.proofs.Common.{arith, inl}
 use Rattle.sqlite.specs.Held.{state}
-use Rattle.sql_records.proofs.QueryLemmas.{shown_meta, meta_same, meta_left, meta_select_fails, meta_select_undone}
+use Rattle.sql_records.proofs.QueryLemmas.{shown_meta, meta_same, meta_left, meta_select_fails, meta_select_undone, meta_select_wants}
 use Rattle.sql_records.proofs.FaultLemmas.{told_fault}
 use Rattle.sql_records.specs.Opening.{IsMetaFault}
 use Rattle.sql_records.specs.declared.fault.OpenFault.TheVariants.{Memory, Disk}
@@ -59,7 +59,7 @@ returns-in_err-rows-clause-fault g c clean =
     let old = state g.S.Store c.args.conn.now in
     let new = state g.S.Store c.query_all.new.self in
     let schema = c.requires (omega (arith, c.query_all.ensures.survives.clean)) in
-    if_err c.from_residual.result _ _ c.from_residual.ensures.1 (λ f e. rw e (told_fault (IsMetaFault old new) Memory Disk old new c.in_err-rows.field-0.0 tt (λ h. h) (meta_select_fails old new c.in_err-rows.field-0.0 schema (c.in_err-rows.ensures.err clean))))
+    if_err c.from_residual.result _ _ c.from_residual.ensures.1 (λ f e. rw e (told_fault (IsMetaFault old new) Memory Disk old new c.in_err-rows.field-0.0 (meta_select_wants old new c.in_err-rows.field-0.0 schema (c.in_err-rows.ensures.err clean)) (λ h. h) (meta_select_fails old new c.in_err-rows.field-0.0 schema (c.in_err-rows.ensures.err clean))))
 
 pub returns-in_err-rows-clause-undone : goal.returns-in_err-rows-clause-undone
 returns-in_err-rows-clause-undone g c clean =

@@ -3,7 +3,8 @@ use Rattle.std.specs.List.{filter_map}
 use Rattle.sqlite.specs.Held.{state}
 use Rattle.sql_records.specs.Layout.{IsOurs}
 use Rattle.sql_records.specs.Rows.{entry_of, AreWhole}
-use Rattle.sql_records.proofs.OpeningLemmas.{read_whole, read_history, rows_fault, if_err}
+use Rattle.sql_records.proofs.OpeningLemmas.{read_whole, read_history, rows_fault, numbers_fault, entries_fault, if_err}
+use Rattle.sql_records.specs.Opening.{AreRowsFault}
 use Rattle.sql_records.proofs.UndoneLemmas.{left_or_undone, left_after, on_err}
 use Rattle.sql_records.proofs.opening.read_records.Goals as goal
 
@@ -33,6 +34,28 @@ returns-in_err-rows-clause-fault g c clean =
     let same = c.in_ok-meta.ensures.same (c.read_rows.ensures.clean clean) in
     if_err c.from_residual-in_err-rows.result _ _ c.from_residual-in_err-rows.ensures.1
     (λ f e. rw e (inr (subst IsOurs c.schema.ensures.value ours, rows_fault first mid last same c.read_meta.ensures.counts c.read_meta.ensures.limit _ (c.in_err-rows.ensures.fault clean))))
+
+pub returns-in_err-meta-clause-fault : goal.returns-in_err-meta-clause-fault
+returns-in_err-meta-clause-fault g c clean =
+    let first = state g.S.Store c.args.conn.now in
+    let last = state g.S.Store c.read_meta.new.conn in
+    let ours = c.is_ours.ensures.0 c.if-not-is_ours.false in
+    if_err c.from_residual.result _ _ c.from_residual.ensures.1
+    (λ f e. rw e (inr (subst IsOurs c.schema.ensures.value ours, numbers_fault first last _ (c.in_err-meta.ensures.fault clean))))
+
+pub returns-in_err-entries-clause-fault : goal.returns-in_err-entries-clause-fault
+returns-in_err-entries-clause-fault g c clean =
+    let first = state g.S.Store c.args.conn.now in
+    let mid = state g.S.Store c.read_meta.new.conn in
+    let last = state g.S.Store c.read_rows.new.conn in
+    let ours = c.is_ours.ensures.0 c.if-not-is_ours.false in
+    let before = c.read_rows.ensures.clean clean in
+    let fault = subst (λ rows. AreRowsFault rows c.in_err-entries.field-0.0) c.as_slice.ensures.value c.in_err-entries.ensures.fault in
+    if_err c.from_residual-in_err-entries.result _ _ c.from_residual-in_err-entries.ensures.1
+    (λ f e. rw e (inr (
+      subst IsOurs c.schema.ensures.value ours,
+      entries_fault first mid last _ (c.in_ok-meta.ensures.same before) (c.in_ok-rows.ensures.same clean) (c.in_ok-meta.meta, c.in_ok-meta.ensures.numbers, c.in_ok-meta.ensures.meta before) (c.in_ok-rows.ensures.shown clean) _ fault,
+    )))
 
 pub returns-in_err-rows-clause-foreign : goal.returns-in_err-rows-clause-foreign
 returns-in_err-rows-clause-foreign g c foreign outside clean =

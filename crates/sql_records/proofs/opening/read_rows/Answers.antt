@@ -1,6 +1,6 @@
 use Rattle.std.proofs.Common.{arith}
 use Rattle.sqlite.specs.Held.{state}
-use Rattle.sql_records.proofs.QueryLemmas.{shown_rows, shown_same, entries_left, select_fails, select_undone}
+use Rattle.sql_records.proofs.QueryLemmas.{shown_rows, shown_same, entries_left, select_fails, select_undone, select_wants}
 use Rattle.sql_records.proofs.FaultLemmas.{told_fault}
 use Rattle.sql_records.proofs.OpeningLemmas.{if_err}
 use Rattle.sql_records.specs.Opening.{IsStoreFault}
@@ -29,7 +29,7 @@ returns-in_err-query_all-clause-fault g c clean =
     let old = state g.S.Store c.args.conn.now in
     let new = state g.S.Store c.query_all.new.self in
     let schema = c.requires (omega (arith, c.query_all.ensures.survives.clean)) in
-    if_err c.from_residual.result _ _ c.from_residual.ensures.1 (λ f e. rw e (told_fault (IsStoreFault old new) Memory Disk old new c.in_err-query_all.field-0.0 tt (λ h. h) (select_fails old new c.in_err-query_all.field-0.0 schema (c.in_err-query_all.ensures.err clean))))
+    if_err c.from_residual.result _ _ c.from_residual.ensures.1 (λ f e. rw e (told_fault (IsStoreFault old new) Memory Disk old new c.in_err-query_all.field-0.0 (select_wants old new c.in_err-query_all.field-0.0 schema (c.in_err-query_all.ensures.err clean)) (λ h. h) (select_fails old new c.in_err-query_all.field-0.0 schema (c.in_err-query_all.ensures.err clean))))
 
 pub returns-in_err-query_all-clause-undone : goal.returns-in_err-query_all-clause-undone
 returns-in_err-query_all-clause-undone g c clean =

@@ -1,4 +1,4 @@
-use Rattle.std.proofs.Common.{◌≡◌, ◌<◌, ℕ, subst, sym, ap, ◌∙◌, ◌++◌, ◌∷◌, [], List, length, rules}
+use Rattle.std.proofs.Common.{◌≡◌, ◌<◌, ◌-◌, ℕ, arith, vec_len, vec_capacity, subst, sym, ap, ◌∙◌, ◌++◌, ◌∷◌, [], List, length, rules}
 use Rattle.event_catalogue.specs.Catalogue.{with_new}
 use Rattle.rights_lattice.specs.Cells.{raise_all, marks_of}
 use Rattle.rights_lattice.specs.State.{State, names_in_order}
@@ -7,7 +7,7 @@ use Rattle.book_core.specs.declared.entry.Entry.{Entry}
 use Rattle.book_core.specs.Decision.{Office}
 use Rattle.book_core.specs.History.{asked_from, delta_of, state_of}
 use Rattle.book_core.specs.Legal.{IsNext, IsLegal}
-use Rattle.book_core.specs.BookView.{BookView, MarksAreWithin, IsInOrder}
+use Rattle.book_core.specs.BookView.{BookView, MarksAreWithin, IsInOrder, Room, Spends, numbers_in}
 use Rattle.book_core.proofs.Histories.{legal_push}
 use Rattle.book_core.proofs.Rows.{legal_rights}
 use Rattle.book_core.proofs.OwnRows.{entered_own}
@@ -64,7 +64,7 @@ invariant_of-self c =
     let names : c.join.new.self.names ≡ with_new fields.names.names (names_in_order (delta_of entry).names) =
     c.join.ensures.names ∙ ap (with_new fields.names.names) (c.names.ensures ∙ ap (λ (d : State). names_in_order d.names) c.delta-2.ensures) in
     let kept : c.keep.new.ledger.entries ≡ fields.ledger.entries ++ asked_from (length fields.history.items) (entry ∷ []) =
-    c.keep.ensures ∙ ap (λ (place : ℕ). fields.ledger.entries ++ asked_from place (entry ∷ [])) (search rules) in
+    c.keep.ensures.entries ∙ ap (λ (place : ℕ). fields.ledger.entries ++ asked_from place (entry ∷ [])) (search rules) in
     let after = entered office fields.history.items entry fields.rights.cells c.raise_marks.new.rights.cells fields.names.names c.join.new.self.names fields.ledger.entries c.keep.new.ledger.entries c.self.invariant next cells names kept in
     subst (λ (l : List Entry). IsInOrder (record { me = c.raise_marks.new.rights.me; sites = c.raise_marks.new.rights.sites; limit = fields.limit }) l c.raise_marks.new.rights.cells c.join.new.self.names c.keep.new.ledger.entries) (sym c.push_reserved.ensures.items)
     (subst (λ (n : ℕ). IsInOrder (record { me = c.raise_marks.new.rights.me; sites = n; limit = fields.limit }) (fields.history.items ++ entry ∷ []) c.raise_marks.new.rights.cells c.join.new.self.names c.keep.new.ledger.entries) (sym c.raise_marks.ensures.sites)
@@ -91,3 +91,17 @@ returns-clause-has_rights c =
     let legal : IsLegal office c.push_reserved.new.self.items =
     subst (λ (h : List Entry). IsLegal office h) (sym c.push_reserved.ensures.items) (legal_push office fields.history.items entry c.self.invariant.legal next) in
     λ event. subst (λ (me : ℕ). HasRights (state_of c.push_reserved.new.self.items).cells event me) (sym c.raise_marks.ensures.me) (legal_rights office c.push_reserved.new.self.items legal event)
+
+pub returns-clause-spent : goal.returns-clause-spent
+returns-clause-spent c =
+    let entry = c.args.planned in
+    let marks : c.marks.result.now ≡ marks_of (delta_of entry).cells = c.marks.ensures ∙ ap (λ (d : State). marks_of d.cells) (c.delta.ensures ∙ ap delta_of c.planned.view_is) in
+    let names : c.names.result.now ≡ names_in_order (delta_of entry).names = c.names.ensures ∙ ap (λ (d : State). names_in_order d.names) (c.delta-2.ensures ∙ ap delta_of c.planned.view_is) in
+    let numbers : numbers_in c.planned.inside.entry ≡ numbers_in entry = ap numbers_in c.planned.view_is in
+    let new : Room = record { entries = vec_capacity c.push_reserved.new.self - vec_len c.push_reserved.new.self; cells = c.raise_marks.new.rights.room; names = c.join.new.self.room; numbers = c.keep.new.ledger.room } in
+    subst (λ (r : Room). Spends entry r new) (ap (λ (b : BookView). b.room) c.self.view_is) (record {
+      entries = search rules;
+      cells = omega (arith, c.raise_marks.ensures.room, ap length marks);
+      names = omega (arith, c.join.ensures.room, ap length names);
+      numbers = omega (arith, c.keep.ensures.room, numbers);
+    })

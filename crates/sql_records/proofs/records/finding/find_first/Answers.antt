@@ -1,7 +1,8 @@
-use Rattle.std.proofs.Common.{refl, ◌∙◌}
+use Rattle.std.proofs.Common.{inl, refl, ◌∙◌}
 use Rattle.sqlite.specs.Held.{state}
 use Rattle.sql_records.specs.Held.{rows_in, history_in}
 use Rattle.sql_records.proofs.LookupLemmas.{first_kept, first_fault}
+use Rattle.sql_records.proofs.UndoneLemmas.{left_or_undone, on_err}
 use Rattle.sql_records.proofs.records.finding.find_first.Goals as goal
 
 pub returns-clause-found : goal.returns-clause-found
@@ -18,3 +19,7 @@ returns-clause-fault g c clean =
 
 pub returns-clause-limit : goal.returns-clause-limit
 returns-clause-limit g c = c.find_rows.ensures.limit
+
+pub returns-clause-undone : goal.returns-clause-undone
+returns-clause-undone g c clean =
+    on_err c.first_of.result _ (left_or_undone (state g.S.Store c.args.conn.now) (state g.S.Store c.find_rows.new.conn) (inl (c.in_ok-rows.ensures.same clean)))

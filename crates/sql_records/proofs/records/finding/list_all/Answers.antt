@@ -1,8 +1,10 @@
-use Rattle.std.proofs.Common.{refl, ◌∙◌}
+use Rattle.std.proofs.Common.{inl, inr, refl, arith, ◌∙◌}
 use Rattle.sqlite.specs.Held.{state}
 use Rattle.sql_records.specs.Held.{rows_in, history_in}
-use Rattle.sql_records.proofs.LookupLemmas.{all_listed, all_fault}
-use Rattle.sql_records.specs.Lookups.{IsQueryFault}
+use Rattle.sql_records.proofs.LookupLemmas.{all_listed, all_fault, of_query}
+use Rattle.sql_records.proofs.UndoneLemmas.{left_or_undone, on_err}
+use Rattle.sql_records.proofs.OpeningLemmas.{if_err}
+use Rattle.sql_records.specs.Lookups.{IsListFault, listed_in}
 use Rattle.sql_records.proofs.records.finding.list_all.Goals as goal
 
 pub returns-clause-listed : goal.returns-clause-listed
@@ -17,7 +19,17 @@ returns-clause-fault g c clean =
     let new = state g.S.Store c.list_rows.new.conn in
     let db = old.now.trees in
     let rest = c.requires.rest (c.list_rows.ensures.clean clean) in
-    all_fault c.as_slice.result.now (rows_in db) (history_in db) c.args.event.now rest.1.whole refl (c.as_slice.ensures.value ∙ c.in_ok-rows.ensures.rows clean) (IsQueryFault old new) c.all_of.result tt c.all_of.ensures.damaged
+    all_fault c.as_slice.result.now (rows_in db) (history_in db) c.args.event.now rest.1.whole refl (c.as_slice.ensures.value ∙ c.in_ok-rows.ensures.rows clean) (IsListFault old new (listed_in (history_in db) c.args.event.now)) c.all_of.result (λ some. inr (c.in_ok-rows.ensures.same clean, some)) c.all_of.ensures.damaged
 
 pub returns-clause-limit : goal.returns-clause-limit
 returns-clause-limit g c = c.list_rows.ensures.limit
+
+pub returns-in_err-rows-clause-fault : goal.returns-in_err-rows-clause-fault
+returns-in_err-rows-clause-fault g c clean =
+    let old = state g.S.Store c.args.conn.now in
+    let new = state g.S.Store c.list_rows.new.conn in
+    if_err c.from_residual.result _ _ c.from_residual.ensures.1 (λ f e. rw e (of_query old new (listed_in (history_in old.now.trees) c.args.event.now) c.in_err-rows.field-0.0 (c.in_err-rows.ensures.fault clean)))
+
+pub returns-clause-undone : goal.returns-clause-undone
+returns-clause-undone g c clean =
+    on_err c.all_of.result _ (left_or_undone (state g.S.Store c.args.conn.now) (state g.S.Store c.list_rows.new.conn) (inl (c.in_ok-rows.ensures.same clean)))

@@ -2,9 +2,10 @@ use Rattle.std.proofs.Common.{arith, subst}
 use Rattle.sqlite.specs.Held.{state}
 use Rattle.sqlite.specs.State.{Shown, FailsToQuery}
 use Rattle.sql_records.specs.Texts.{list_text}
-use Rattle.sql_records.proofs.FindLemmas.{list_shows, list_same, list_left, list_fails}
+use Rattle.sql_records.proofs.FindLemmas.{list_shows, list_same, list_left, list_fails, list_undone, list_wants}
 use Rattle.sql_records.proofs.FaultLemmas.{told_fault}
 use Rattle.sql_records.proofs.OpeningLemmas.{if_err}
+use Rattle.sql_records.proofs.UndoneLemmas.{on_err}
 use Rattle.sql_records.specs.Lookups.{IsQueryFault}
 use Rattle.sql_records.specs.declared.lookup.FindFault.TheVariants.{Memory, Disk}
 use Rattle.sql_records.proofs.records.finding.list_rows.Goals as goal
@@ -39,4 +40,12 @@ returns-in_err-query_all-clause-fault g c clean =
     let new = state g.S.Store c.query_all.new.self in
     let rest = c.requires.rest (omega (arith, c.query_all.ensures.survives.clean)) in
     let fails = subst (λ p. FailsToQuery list_text p old new c.in_err-query_all.field-0.0) c.event_param-params.ensures (c.in_err-query_all.ensures.err clean) in
-    if_err c.from_residual.result _ _ c.from_residual.ensures.1 (λ f e. rw e (told_fault (IsQueryFault old new) Memory Disk old new c.in_err-query_all.field-0.0 tt (λ h. h) (list_fails old new c.args.event.now c.in_err-query_all.field-0.0 rest.1.schema fails)))
+    if_err c.from_residual.result _ _ c.from_residual.ensures.1 (λ f e. rw e (told_fault (IsQueryFault old new) Memory Disk old new c.in_err-query_all.field-0.0 (list_wants old new c.args.event.now c.in_err-query_all.field-0.0 rest.1.schema fails) (λ h. h) (list_fails old new c.args.event.now c.in_err-query_all.field-0.0 rest.1.schema fails)))
+
+pub returns-in_err-query_all-clause-undone : goal.returns-in_err-query_all-clause-undone
+returns-in_err-query_all-clause-undone g c clean =
+    let old = state g.S.Store c.args.conn.now in
+    let new = state g.S.Store c.query_all.new.self in
+    let rest = c.requires.rest (omega (arith, c.query_all.ensures.survives.clean)) in
+    let fails = subst (λ p. FailsToQuery list_text p old new c.in_err-query_all.field-0.0) c.event_param-params.ensures (c.in_err-query_all.ensures.err clean) in
+    on_err c.from_residual.result _ (list_undone old new c.args.event.now c.in_err-query_all.field-0.0 rest.1.schema fails)
