@@ -50,7 +50,7 @@ IsListEnd event old new cause = IsFindEnd old new cause
 abbrev pub IsExportEnd : ℕ → State → State → StoreFault → Type 0
 IsExportEnd to old new cause = (meta : Meta) → HasMeta meta old.now.trees → IsNextEnd false (office_of meta) (site_in old.now.trees) to cause
 
--- what ends an import early; the records are as they were where it was not an entry or a line that could not be written
+-- what ends an import early; behind want of memory and a failed read the records are as they were
 abbrev pub IsImportEnd : Option (List ℕ) → State → State → StoreFault → Type 0
 IsImportEnd input old new cause = LeavesAsItWas cause old.now new.now × ((meta : Meta) → HasMeta meta old.now.trees → IsInputEnd (office_of meta) (history_in old.now.trees) input cause)
 

@@ -38,9 +38,9 @@ impl<K: Keeper + Drop, R: Read + Drop, W: Write + Drop> Promise<
 /// others, through which it sends what is due for so many rounds. It ends when each of them is done.
 ///
 /// The links hold as many messages as their capacity. The ends of sites come in the order in which they were handed in,
-/// each with the book of its site and the ends of its sessions. What was found of its book is of all receipts and looks that these were given, and
-/// seats are out only where a session's thread could not be started. An error drops the books; what was entered stays in
-/// their records.
+/// each with a book of its site, of its count of sites and its limit, and the ends of its sessions. What was found of its
+/// book is of all receipts and looks that these were given, and seats are out only where a session's thread could not be
+/// started. An error drops the books; what was entered stays in their records.
 pub fn run_all<
     T: Threads + Wait + Sync,
     K: Keeper + Drop + Send,

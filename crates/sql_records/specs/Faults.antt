@@ -11,7 +11,8 @@ abbrev pub told : {F : Type 0} → F → F → Error → F
 told memory disk (SqliteFailure OutOfMemory) = memory
 told memory disk _ = disk
 
--- the store failed for want of memory, and what was begun is undone
+-- What want of memory in the store leaves: what was begun is undone. The kit says no more of it, and of records at rest
+-- it is that they are as they were.
 abbrev pub StoreWantsMemory : State → State → Type 0
 StoreWantsMemory old new = Fails old new ⊥ (SqliteFailure OutOfMemory)
 

@@ -284,7 +284,8 @@ fn foreign_fault<S: Alter>(conn: &mut Connection<S>) -> OpenFault
     }
 }
 
-/// The entries of a site's records, the oldest first, and its numbers. It writes nothing.
+/// The entries of a site's records, the oldest first, and its numbers. It writes nothing. Where a transaction is open a
+/// database whose tables are not ours is `NotOurs`, and is not looked at.
 ///
 /// What it says holds where the disk has returned what was written. An error commits nothing: a connection that is
 /// still open shows what it showed, or its transaction was undone; a failure of the disk may shut it.

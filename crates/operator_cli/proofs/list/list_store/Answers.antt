@@ -1,12 +1,12 @@
-use Rattle.std.proofs.Common.{ap, sym, subst, ◌∙◌}
+use Rattle.std.proofs.Common.{Some, ap, sym, subst, ◌∙◌}
 use Rattle.std.specs.Prelude.{List, IfOk, IfErr}
 use Rattle.sqlite.specs.State.{HasCleanDisk}
 use Rattle.sqlite.specs.Held.{Held, state}
 use Rattle.book_core.specs.declared.entry.Entry.{Entry}
-use Rattle.sql_records.specs.Held.{IsTrusted, Kept, kept_in, history_in}
+use Rattle.sql_records.specs.Held.{IsTrusted, Kept, MayLeaveIn, kept_in, history_in}
 use Rattle.operator_cli.specs.Printed.{Printed, IsListText, IsListIn}
-use Rattle.operator_cli.specs.Opened.{IsListEnd}
-use Rattle.operator_cli.proofs.EndLaws.{on_ok_map}
+use Rattle.operator_cli.specs.Opened.{IsIllegal, IsRefused, IsListEnd}
+use Rattle.operator_cli.proofs.EndLaws.{if_back, on_ok_map}
 use Rattle.operator_cli.proofs.OpenedLaws.{book_back, opened_cause, opened_illegal, opened_ours, refused_cause, refused_illegal, refused_lost, refused_ours}
 use Rattle.operator_cli.proofs.PrintLaws.{ends_printed, ok_unless_failed}
 use Rattle.operator_cli.proofs.list.list_store.Goals as goal
@@ -70,3 +70,17 @@ returns-in-Ok-clause-cause g c clean =
     let written = on_ok_map c.write_listed-came.result _ _ (λ is. ap (λ (conn : Held g.row.S.Denot). (state g.S.Store conn).now) c.close.ensures ∙ is) (c.write_listed-came.ensures.same left) in
     opened_cause g.S.Store c.args.conn c.close.result c.in-Ok.book (book_back g.S.Store c.args.conn c.close.result c.in-Ok.book c.into_keeper-records.result c.write_listed-came.new.records c.into_keeper-records.ensures c.write_listed-came.ensures.trusted c.close.ensures c.in-Ok.ensures.book) (IsListEnd c.args.event.now) opened (g.E.Write.contents c.args.err.now) (g.E.Write.contents c.ended.new.err) c.write_listed-came.result c.ended.result clean same limit fault written
     c.write_listed-came.ensures.ends c.ended.ensures.line c.ended.ensures.flush
+
+pub returns-in-Ok-clause-stopped : goal.returns-in-Ok-clause-stopped
+returns-in-Ok-clause-stopped g c clean left may =
+    let trusted : IsTrusted g.S.Store c.write_listed-came.new.records = subst (λ (conn : Held g.row.S.Denot). HasCleanDisk (state g.S.Store conn)) c.close.ensures clean in
+    let before = subst (IsTrusted g.S.Store) c.into_keeper-records.ensures (c.write_listed-came.ensures.trusted trusted) in
+    let last : MayLeaveIn (state g.S.Store c.write_listed-came.new.records.conn) left = subst (λ (conn : Held g.row.S.Denot). MayLeaveIn (state g.S.Store conn) left) c.close.ensures may in
+    let first : MayLeaveIn (state g.S.Store c.into_keeper-records.result.conn) left = (last.0, c.write_listed-came.ensures.left trusted last.0 last.1, last.2) in
+    let opened = subst (λ (k : Kept g.row.S.Denot). MayLeaveIn (state g.S.Store k.conn) left) c.into_keeper-records.ensures first in
+    (c.in-Ok.ensures.rests before).alone left opened ∙ ap (λ (h : List Entry). Some h) (c.in-Ok.ensures.kept before)
+
+pub returns-in-Err-clause-stopped : goal.returns-in-Err-clause-stopped
+returns-in-Err-clause-stopped g c =
+    if_back c.in-Err.conn (IsRefused g.S.Store c.args.conn c.in-Err.fault) (λ after. IsIllegal g.S.Store c.args.conn after c.in-Err.fault) _ c.in-Err.ensures.fault
+    (λ after found clean left may. (found.rests clean).alone left may)
