@@ -1,5 +1,5 @@
 //! What a desk of site 1 of two answers, answers again and refuses, with ample memory.
-ghost use Rattle.std.specs.Prelude.{◌≡◌, ◌<◌, length};
+ghost use Rattle.std.specs.Prelude.{◌≡◌, ◌<◌};
 
 use crate::desk::{failing_book, restarted};
 use crate::values::{event, gala, number, seats, site};
@@ -146,7 +146,7 @@ fn filled<R: Wait + Abort, L: Opens>(
     requires name { blank.name ≡ L.name }
     requires parts { blank.parts ≡ L.parts }
     requires some { 0 < blank.parts }
-    requires opening { L.opening ≡ length book.book.history }
+    requires began { L.began ≡ book.book.history }
     requires office { L.office ≡ book.book.office }
 {
     let (desk, mut seat) = Desk::<ListKeeper, L>::new(book, blank);
@@ -193,7 +193,7 @@ fn exchanged<R: Wait + Abort, L: Opens>(
     requires name { blank.name ≡ L.name }
     requires parts { blank.parts ≡ L.parts }
     requires some { 0 < blank.parts }
-    requires opening { L.opening ≡ length book.book.history }
+    requires began { L.began ≡ book.book.history }
     requires office { L.office ≡ book.book.office }
 {
     let (desk, mut seat) = Desk::<ListKeeper, L>::new(book, blank);
@@ -237,7 +237,7 @@ fn closed<R: Wait + Abort, L: Opens>(
     requires name { blank.name ≡ L.name }
     requires parts { blank.parts ≡ L.parts }
     requires some { 0 < blank.parts }
-    requires opening { L.opening ≡ length book.book.history }
+    requires began { L.began ≡ book.book.history }
     requires office { L.office ≡ book.book.office }
 {
     let (desk, mut seat) = Desk::<ListKeeper, L>::new(book, blank);

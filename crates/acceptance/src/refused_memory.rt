@@ -1,7 +1,7 @@
 //! A session at a desk that may be refused memory anywhere: what is answered `memory` was not asked.
 //!
 //! `rt try --test --fail-alloc N` refuses the Nth allocation of each test; with memory, all lines are answered.
-ghost use Rattle.std.specs.Prelude.{◌≡◌, ◌<◌, length};
+ghost use Rattle.std.specs.Prelude.{◌≡◌, ◌<◌};
 
 use crate::values::{gala, number, seats};
 use book_core::Limit;
@@ -57,7 +57,7 @@ fn session<R: Wait + Abort, L: Opens>(
     requires name { blank.name ≡ L.name }
     requires parts { blank.parts ≡ L.parts }
     requires some { 0 < blank.parts }
-    requires opening { L.opening ≡ length book.book.history }
+    requires began { L.began ≡ book.book.history }
     requires office { L.office ≡ book.book.office }
 {
     let mut handed_in = Vec::with_capacity(alloc, 1).ok()?;

@@ -1,7 +1,7 @@
 //! Sessions in threads at one desk over a keeper in memory, worked out by hand, with ample memory.
 //!
 //! Each test ends by itself, and finds the same whatever the schedule.
-ghost use Rattle.std.specs.Prelude.{◌≡◌, length};
+ghost use Rattle.std.specs.Prelude.{◌≡◌};
 
 use crate::sessions::{seen_of, selling_book};
 use crate::values::{gala, number, seats};
@@ -129,7 +129,7 @@ fn serve_two<R: Threads + Wait + Abort + Sync, L: Opens + Send + Sync, G: Gate +
     requires name { blank.name ≡ L.name }
     requires parts { blank.parts ≡ L.parts }
     requires two { blank.parts ≡ 2 }
-    requires opening { L.opening ≡ length book.book.history }
+    requires began { L.began ≡ book.book.history }
     requires office { L.office ≡ book.book.office }
 {
     let (desk, seat) = Desk::<ListKeeper, L>::new(book, blank);

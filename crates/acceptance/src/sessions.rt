@@ -1,7 +1,7 @@
 //! Sessions that share a site's book at a desk, over a keeper in memory, worked out by hand, with ample memory.
 //!
 //! Each test ends by itself, and finds the same whatever the schedule.
-ghost use Rattle.std.specs.Prelude.{◌≡◌, ◌<◌, length};
+ghost use Rattle.std.specs.Prelude.{◌≡◌, ◌<◌};
 
 use crate::desk::header;
 use crate::values::{gala, number, seats, site};
@@ -96,7 +96,7 @@ fn two_sessions<R: Threads + Wait + Abort + Sync, L: Opens + Send + Sync>(
     requires name { blank.name ≡ L.name }
     requires parts { blank.parts ≡ L.parts }
     requires two { blank.parts ≡ 2 }
-    requires opening { L.opening ≡ length book.book.history }
+    requires began { L.began ≡ book.book.history }
     requires office { L.office ≡ book.book.office }
 {
     let (desk, seat) = Desk::<ListKeeper, L>::new(book, blank);
@@ -243,7 +243,7 @@ fn two_sessions_meet<R: Threads + Wait + Abort + Sync, L: Opens + Send + Sync>(
     requires name { blank.name ≡ L.name }
     requires parts { blank.parts ≡ L.parts }
     requires two { blank.parts ≡ 2 }
-    requires opening { L.opening ≡ length book.book.history }
+    requires began { L.began ≡ book.book.history }
     requires office { L.office ≡ book.book.office }
 {
     let (desk, seat) = Desk::<ListKeeper, L>::new(book, blank);
@@ -290,7 +290,7 @@ fn finished_with<R: Wait + Abort, L: Opens>(
     requires name { blank.name ≡ L.name }
     requires parts { blank.parts ≡ L.parts }
     requires some { 0 < blank.parts }
-    requires opening { L.opening ≡ length book.book.history }
+    requires began { L.began ≡ book.book.history }
     requires office { L.office ≡ book.book.office }
 {
     let (desk, mut seat) = Desk::<ListKeeper, L>::new(book, blank);
@@ -382,7 +382,7 @@ fn messages_pass<R: Wait + Abort, L: Opens>(
     requires name { blank.name ≡ L.name }
     requires parts { blank.parts ≡ L.parts }
     requires some { 0 < blank.parts }
-    requires opening { L.opening ≡ length book.book.history }
+    requires began { L.began ≡ book.book.history }
     requires office { L.office ≡ book.book.office }
 {
     let (desk, seat) = Desk::<ListKeeper, L>::new(book, blank);

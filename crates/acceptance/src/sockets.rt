@@ -1,5 +1,5 @@
 //! Sessions over loopback, worked out by hand, with ample memory.
-ghost use Rattle.std.specs.Prelude.{◌≡◌, length};
+ghost use Rattle.std.specs.Prelude.{◌≡◌};
 
 use crate::sessions::selling_book;
 use session_server::{Ended, Session, listen, serve_all};
@@ -59,7 +59,7 @@ fn serve_calls<
     requires name { blank.name ≡ L.name }
     requires parts { blank.parts ≡ L.parts }
     requires two { blank.parts ≡ 2 }
-    requires opening { L.opening ≡ length book.book.history }
+    requires began { L.began ≡ book.book.history }
     requires office { L.office ≡ book.book.office }
 {
     let (desk, seat) = Desk::<ListKeeper, L>::new(book, blank);

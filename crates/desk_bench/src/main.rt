@@ -5,7 +5,7 @@
 //! tells on standard error how many microseconds it took from the making of the desk to its end.
 #![tactic(auto)]
 
-ghost use Rattle.std.specs.Prelude.{◌≡◌, ◌<◌, ◌≤◌, IfSome, length};
+ghost use Rattle.std.specs.Prelude.{◌≡◌, ◌<◌, ◌≤◌, IfSome};
 
 use book_core::Limit;
 use plain_words::read_number;
@@ -194,7 +194,7 @@ fn sell_all<R: Threads + Wait + Clock + Sync, L: Opens + Send + Sync>(
     requires parts { blank.parts ≡ L.parts }
     requires some { 0 < blank.parts }
     requires threads { blank.parts ≡ load.threads }
-    requires opening { L.opening ≡ length book.book.history }
+    requires began { L.began ≡ book.book.history }
     requires office { L.office ≡ book.book.office }
 {
     let sale = Request::Sell {

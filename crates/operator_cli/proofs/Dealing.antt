@@ -1,6 +1,6 @@
 -- Cards that are dealt one by one.
 use Rattle.std.proofs.Common.{◌≡◌, ◌≢◌, ℕ, zero, suc, ◌+◌, ◌<◌, ◌%◌, Bool, true, false, List, [], ◌∷◌, ◌++◌, length, get_or, set, map, if◌then◌else◌, ◌⊎◌, inl, inr, refl, sym, ap, ◌∙◌, subst, rules}
-use Rattle.std.specs.List.{filter, enumerate_from}
+use Rattle.std.specs.List.{AllZip, filter, enumerate_from}
 use Rattle.std.proofs.lemmas.List.{get_or-map, get_or-set_same, get_or-set_other, length-map, length-set, map-set}
 use Rattle.std.proofs.lemmas.List.Elements.{filter-append}
 use Rattle.std.proofs.lemmas.Bool.Decides.{eqb_tells}
@@ -105,9 +105,11 @@ same_count told hand sites ends same = sym (length-map ends told) ∙ (ap length
 
 -- ---- what is read of books that stay the same
 
-map_then : {A B X : Type 0} (f : A → B) (g : B → X) (xs : List A) → map (λ a. g (f a)) xs ≡ map g (map f xs)
-map_then f g [] = refl
-map_then f g (x ∷ xs) = ap (λ l. g (f x) ∷ l) (map_then f g xs)
-
-pub read_of_same : {A B X : Type 0} (f : A → B) (g : B → X) (xs ys : List A) (bs : List B) → map f xs ≡ map f ys → map f ys ≡ bs → map (λ a. g (f a)) xs ≡ map g bs
-read_of_same f g xs ys bs same first = map_then f g xs ∙ ap (map g) (same ∙ first)
+pub pairs_of : {A B D : Type 0} (f : A → B) (xs ys : List A) (bs : List B) (ds : List D) (Q : B → D → Type 0) → map f xs ≡ map f ys → map f ys ≡ bs → AllZip (λ a d. Q (f a) d) xs ds → AllZip Q bs ds
+pairs_of f xs ys bs ds Q same first h = subst (λ l. AllZip Q l ds) (same ∙ first) (zip_map f Q xs ds h)
+  where
+    zip_map : {A B D : Type 0} (f : A → B) (Q : B → D → Type 0) (xs : List A) (ds : List D) → AllZip (λ a d. Q (f a) d) xs ds → AllZip Q (map f xs) ds
+    zip_map f Q [] [] h = tt
+    zip_map f Q [] (d ∷ ds) h = absurd h
+    zip_map f Q (x ∷ xs) [] h = absurd h
+    zip_map f Q (x ∷ xs) (d ∷ ds) h = (h.0, zip_map f Q xs ds h.1)

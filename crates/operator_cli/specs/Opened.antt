@@ -14,7 +14,7 @@ use Rattle.sql_records.specs.declared.fault.OpenFault.{OpenFault}
 use Rattle.sql_records.specs.declared.fault.OpenFault.TheVariants as opening
 use Rattle.sql_records.specs.declared.fault.InitFault.TheVariants as making
 use Rattle.sql_records.specs.declared.meta.Meta.{Meta}
-use Rattle.sql_records.specs.Faults.{HasDiskCause, StoreWantsMemory}
+use Rattle.sql_records.specs.Faults.{HasDiskCause, IsUndoneForMemory}
 use Rattle.sql_records.specs.Making.{IsInitFault}
 use Rattle.sql_records.specs.Held.{MayLeaveIn, history_in}
 use Rattle.sql_records.specs.Keeping.{LeavesOnly}
@@ -36,14 +36,14 @@ IsMakeEnd g conn meta _ = ⊥
 
 -- what ends looking a number up early: the store wants memory, the disk is at fault, or what is found is not written and the records are as they were
 abbrev pub IsFindEnd : State → State → StoreFault → Type 0
-IsFindEnd old new fault.Memory = StoreWantsMemory old new
+IsFindEnd old new fault.Memory = IsUndoneForMemory old new
 IsFindEnd old new fault.Disk = HasDiskCause old new
 IsFindEnd old new fault.Write = new.now ≡ old.now
 IsFindEnd old new _ = ⊥
 
 -- the same of the requests that name an event, for which memory is wanted too where there are any
 abbrev pub IsListEnd : List ℕ → State → State → StoreFault → Type 0
-IsListEnd event old new fault.Memory = StoreWantsMemory old new ⊎ (IsUnchanged old new × (0 < length (listed_in (history_in old.now.trees) event)))
+IsListEnd event old new fault.Memory = IsUndoneForMemory old new ⊎ (IsUnchanged old new × (0 < length (listed_in (history_in old.now.trees) event)))
 IsListEnd event old new cause = IsFindEnd old new cause
 
 -- what ends an export early: memory is wanted for the message that is due, or what is told is not written
@@ -75,6 +75,7 @@ module _ {S : Type 0} (g : Ghosts S) (conn : Held S) where
     pub cause : ReplayFault
     pub told : fault ≡ of_replay_fault cause
     pub same : HasCleanDisk (state g after) → (state g after).now ≡ (state g conn).now
+    pub settled : HasCleanDisk (state g after) → (state g after).in_transaction ≡ (state g conn).in_transaction
     pub rests : HasCleanDisk (state g after) → LeavesOnly (history_in (state g conn).now.trees) (MayLeaveIn (state g after))
     pub ours : HasCleanDisk (state g after) → (meta : Meta) × HasMeta meta (state g conn).now.trees
     pub found : HasCleanDisk (state g after) → (meta : Meta) → HasMeta meta (state g conn).now.trees → IsReplayFault (office_of meta) (history_in (state g conn).now.trees) cause

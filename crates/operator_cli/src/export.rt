@@ -1,8 +1,10 @@
 //! The command `export`: the message to a peer.
 
-ghost use Rattle.std.specs.Prelude.{◌≡◌, ◌≢◌, ◌⊎◌, None, Some, IfOk, IfErr, IfSome};
+ghost use Rattle.std.specs.Prelude.{◌≡◌, ◌≢◌, ◌⊎◌, List, Option, None, Some, IfOk, IfErr, IfSome};
 ghost use Rattle.sqlite.specs.State.{HasCleanDisk};
 ghost use Rattle.sqlite.specs.Held.{state};
+ghost use Rattle.book_core.specs.declared.entry.Entry.{Entry};
+ghost use Rattle.sql_records.specs.Held.{MayLeaveIn, history_in};
 ghost use Rattle.sql_records.specs.Layout.{HasMeta};
 ghost use Rattle.sql_records.specs.declared.meta.Meta.{Meta as Numbers};
 ghost use Rattle.site_desk.specs.SiteView.{office_of, site_of};
@@ -67,7 +69,10 @@ pub fn export_store<S: Alter + Drop, W: Write, E: Write>(
         → Printed (IsDueText (office_of meta) (site_in (state S.Store conn).now.trees) to)
         (W.contents out.old) (W.contents out.new) result.0) }
     ensures same { IfSome result.1 (λ after. HasCleanDisk (state S.Store after)
-        → (state S.Store after).now ≡ (state S.Store conn).now) }
+        → ((state S.Store after).now ≡ (state S.Store conn).now) × ((state S.Store after).in_transaction ≡ (state S.Store conn).in_transaction)) }
+    ensures stopped { IfSome result.1 (λ after. HasCleanDisk (state S.Store after)
+        → (left : Option (List Entry)) → MayLeaveIn (state S.Store after) left
+        → left ≡ Some (history_in (state S.Store conn).now.trees)) }
     ensures err { FaultTold (E.contents err.old) (E.contents err.new) result.0 }
     ensures cause { IfSome result.1 (λ after. HasCleanDisk (state S.Store after)
         → FailsFor (λ fault. IsIllegal S.Store conn after fault ⊎ EndsOpened S.Store conn (IsExportEnd to) after fault)

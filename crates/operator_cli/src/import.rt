@@ -1,6 +1,6 @@
 //! The command `import`: a message from a peer.
 
-ghost use Rattle.std.specs.Prelude.{◌≡◌, ◌≢◌, ◌≤◌, ◌⊎◌, false, None, Some, IfOk, IfErr, IfSome, OnOk, vec_len};
+ghost use Rattle.std.specs.Prelude.{◌≡◌, ◌≢◌, ◌≤◌, ◌⊎◌, false, None, Some, Err, IfOk, IfErr, IfSome, OnOk, vec_len};
 ghost use Rattle.sqlite.specs.State.{HasCleanDisk};
 ghost use Rattle.sqlite.specs.Held.{state};
 ghost use Rattle.sql_records.specs.Layout.{HasMeta};
@@ -12,7 +12,7 @@ ghost use Rattle.delta_wire.specs.Wire.{message_of};
 ghost use Rattle.sql_records.specs.Held.{MayLeaveIn, history_in};
 ghost use Rattle.operator_cli.specs.Told.{FaultTold, told_status};
 ghost use Rattle.operator_cli.specs.declared.status.Status.TheVariants.{Refused, Failed};
-ghost use Rattle.operator_cli.specs.declared.store_fault.StoreFault.TheVariants.{Memory as WantsMemory, Read as ReadFailed};
+ghost use Rattle.operator_cli.specs.declared.store_fault.StoreFault.TheVariants.{Memory as WantsMemory, Read as ReadFailed, Store as NotStored};
 ghost use Rattle.std.specs.Option.{option_map};
 ghost use Rattle.operator_cli.specs.Printed.{Printed, IsTakenText, IsOfTaking, IsTellingOf};
 ghost use Rattle.operator_cli.specs.Opened.{EndsOpened, FailsFor, FailsIfIllegal, IsIllegal, IsImportEnd, IsLost, ShowedRecords};
@@ -66,6 +66,7 @@ fn take_bytes<K: Keeper>(
         → LeavesOneOf book.old.book.history (behind_read book.old.book.office book.old.book.history (message_of bytes.now)) (K.may_leave book.new.keeper) }
     ensures fault { IfErr result (IsTakeEnd book.old.closed (told_of_read book.old.book.office book.old.book.history (message_of bytes.now))) }
     ensures untouched { IfErr result (λ fault. LeavesAsItWas fault book.old.keeper book.new.keeper) }
+    ensures failed { result ≡ Err NotStored → book.old.closed ≡ false → (K.failed book.old.keeper ≡ 0) × (K.failed book.new.keeper ≡ 1) }
     ensures trusted { K.is_trusted book.new.keeper → K.is_trusted book.old.keeper }
 {
     let message = match read_message(alloc, bytes) {
@@ -97,6 +98,7 @@ fn take_input<K: Keeper, R: Read + Drop>(
         → LeavesOneOf book.old.book.history (behind_bytes book.old.book.office book.old.book.history bytes) (K.may_leave book.new.keeper)) }
     ensures fault { IfErr result (λ fault. book.old.closed ≡ false → IsInputEnd book.old.book.office book.old.book.history (R.remaining input) fault) }
     ensures untouched { IfErr result (λ fault. LeavesAsItWas fault book.old.keeper book.new.keeper) }
+    ensures failed { result ≡ Err NotStored → book.old.closed ≡ false → (K.failed book.old.keeper ≡ 0) × (K.failed book.new.keeper ≡ 1) }
     ensures trusted { K.is_trusted book.new.keeper → K.is_trusted book.old.keeper }
 {
     match read_input(alloc, input) {
@@ -125,6 +127,7 @@ fn write_taken<K: Keeper, R: Read + Drop, W: Write>(
         → LeavesOneOf book.old.book.history (behind_bytes book.old.book.office book.old.book.history bytes) (K.may_leave book.new.keeper)) }
     ensures fault { IfErr result (λ fault. book.old.closed ≡ false → IsInputEnd book.old.book.office book.old.book.history (R.remaining input) fault) }
     ensures untouched { IfErr result (λ fault. LeavesAsItWas fault book.old.keeper book.new.keeper) }
+    ensures failed { result ≡ Err NotStored → book.old.closed ≡ false → (K.failed book.old.keeper ≡ 0) × (K.failed book.new.keeper ≡ 1) }
     ensures ends { IfOk result (λ status. status ≢ Failed) }
     ensures trusted { K.is_trusted book.new.keeper → K.is_trusted book.old.keeper }
 {

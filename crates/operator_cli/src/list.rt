@@ -5,7 +5,7 @@ ghost use Rattle.operator_cli.specs.declared.status.Status.TheVariants.{Failed};
 ghost use Rattle.operator_cli.specs.declared.store_fault.StoreFault.TheVariants.{Write as WriteFailed};
 ghost use Rattle.sqlite.specs.State.{HasCleanDisk};
 ghost use Rattle.sqlite.specs.Held.{state};
-ghost use Rattle.sql_records.specs.Held.{IsTrusted, LeavesNoMore, MayLeaveIn, kept_in, history_in};
+ghost use Rattle.sql_records.specs.Held.{IsTrusted, IsUndisturbed, LeavesNoMore, MayLeaveIn, kept_in, history_in};
 ghost use Rattle.book_core.specs.declared.entry.Entry.{Entry};
 ghost use Rattle.operator_cli.specs.Told.{of_find_fault, FaultTold};
 ghost use Rattle.operator_cli.specs.Printed.{Printed, IsListText, AreListed, IsListIn};
@@ -51,6 +51,8 @@ fn write_listed<S: Alter, W: Write>(
         ((state S.Store records.new.conn).now ≡ (state S.Store records.old.conn).now) }
     ensures fault { records.old.failures ≡ 0 → IsTrusted S.Store records.new
         → IfErr result (IsListEnd event.now (state S.Store records.old.conn) (state S.Store records.new.conn)) }
+    ensures still { IsTrusted S.Store records.new
+        → IsUndisturbed (state S.Store records.old.conn) (state S.Store records.new.conn) }
     ensures left { IsTrusted S.Store records.new
         → LeavesNoMore (state S.Store records.old.conn) (state S.Store records.new.conn) }
     ensures ends { IfOk result (λ status. status ≢ Failed) }
@@ -82,6 +84,8 @@ pub fn list_store<S: Alter + Drop, W: Write, E: Write>(
         → Printed (IsListIn (history_in (state S.Store conn).now.trees) event.now) (W.contents out.old) (W.contents out.new) result.0) }
     ensures same { IfSome result.1 (λ after. HasCleanDisk (state S.Store after) → result.0 ≢ Failed
         → (state S.Store after).now ≡ (state S.Store conn).now) }
+    ensures still { IfSome result.1 (λ after. HasCleanDisk (state S.Store after)
+        → IsUndisturbed (state S.Store conn) (state S.Store after)) }
     ensures err { FaultTold (E.contents err.old) (E.contents err.new) result.0 }
     ensures stopped { IfSome result.1 (λ after. HasCleanDisk (state S.Store after)
         → (left : Option (List Entry)) → MayLeaveIn (state S.Store after) left

@@ -64,6 +64,9 @@ pub(crate) fn open_book<S: Alter + Drop>(
     ensures same { IfOk result (λ book. IsTrusted S.Store book.keeper
         → (state S.Store book.keeper.conn).now ≡ (state S.Store conn).now) }
     ensures limit { IfOk result (λ book. book.keeper.conn.step_limit ≡ conn.step_limit) }
+    ensures settled { OnOk result (conn.in_transaction ≡ false) }
+    ensures autocommit { IfOk result (λ book. IsTrusted S.Store book.keeper
+        → (state S.Store book.keeper.conn).in_transaction ≡ false) }
     ensures clean { IfOk result (λ book. IsTrusted S.Store book.keeper → HasCleanDisk (state S.Store conn)) }
     ensures fault { IfErr result (λ e. MatchOption e.1
         (IsRefused S.Store conn e.0) (λ after. IsIllegal S.Store conn after e.0)) }

@@ -1,11 +1,10 @@
 //! The command `serve`: the sites of several files at once, with sessions over connections.
 
 ghost use Rattle.std.specs.Prelude.{◌≡◌, ◌≢◌, ◌⊎◌, All, IfOk, IfErr, IfSome, IsSome, None, OnOk, length, map, []};
-ghost use Rattle.std.specs.List.{flat_map};
+ghost use Rattle.std.specs.List.{AllZip, flat_map};
 ghost use Rattle.std.specs.Io.KnownBytes.{Keeps};
 ghost use Rattle.plain_words.specs.Writing.{AppendsFront};
-ghost use Rattle.session_server.specs.Finished.{IsFinished};
-ghost use Rattle.site_desk.specs.declared.finish.FinishFault.TheVariants.{SeatsOut};
+ghost use Rattle.session_server.specs.Finished.{IsLeftOf};
 ghost use Rattle.world_steps.specs.Audit.{AreNotOversold, books_of};
 ghost use Rattle.operator_cli.specs.declared.status.Status.TheVariants.{Done, Failed};
 ghost use Rattle.operator_cli.specs.declared.store_fault.StoreFault.{StoreFault};
@@ -122,13 +121,11 @@ fn run_sites<
     visits: Vec<Visit<R, V>>,
     rounds: u64,
 ) -> Result<Vec<SiteEnd<K, R, V>>, StoreFault>
-    ensures offices { IfOk result (λ ends. map (λ e. e.book.book.office) ends.items ≡ map (λ b. b.book.office) books.items) }
     ensures count { IfOk result (λ ends. length ends.items ≡ length books.items) }
     ensures ids { IfOk result (λ ends. AreDealt (map (λ v. v.id) visits.items) (map (λ e. map (λ x. x.id) e.sessions.items) ends.items)) }
     ensures readers { IfOk result (λ ends. AreDealt (map (λ v. v.reader) visits.items) (map (λ e. map (λ x. x.reader_began.value) e.sessions.items) ends.items)) }
     ensures writers { IfOk result (λ ends. AreDealt (map (λ v. v.writer) visits.items) (map (λ e. map (λ x. x.writer_began.value) e.sessions.items) ends.items)) }
-    ensures finished { IfOk result (λ ends. All (λ e. IsFinished e.book.book (flat_map (λ x. x.receipts.items) e.sessions.items) (flat_map (λ x. x.seen.items) e.sessions.items) e.finished) ends.items) }
-    ensures whole { IfOk result (λ ends. All (λ e. All (λ x. IsSome x.writer) e.sessions.items → IfErr e.finished (λ fault. fault ≢ SeatsOut)) ends.items) }
+    ensures left { IfOk result (λ ends. AllZip (λ book end. IsLeftOf book.book end.book.book (All (λ x. IsSome x.writer) end.sessions.items) (flat_map (λ x. x.receipts.items) end.sessions.items) (flat_map (λ x. x.seen.items) end.sessions.items) end.finished) books.items ends.items) }
     ensures fault { IfErr result (λ fault. (fault ≡ NoMemory) ⊎ (fault ≡ NotStarted)) }
 {
     let mut sites = unvisited(alloc, books)?;
@@ -163,8 +160,8 @@ fn summed_up<K: Keeper + Drop, R: Read + Drop, V: Write + Drop, W: Write>(
 /// first of them whose sessions were not given what its history holds, or whose book is closed, is told on `err`, with
 /// status 3, and nothing is printed: `seats-out`, `stranger K`, `stranger-seen K` or `closed S`. So are want of memory, a
 /// thread of a site or of its exchange that could not be started, and a writer that fails. The ends of all sites come back,
-/// in the order of the books, each with the visits that came to it; none do where the sites could not be run: what was
-/// entered stays in their records.
+/// in the order of the books, each with the visits that came to it and a book whose history goes on from the one that was
+/// handed in; none do where the sites could not be run: what was entered stays in their records.
 pub fn serve_stores<
     T: Threads + Wait + Sync,
     K: Keeper + Drop + Send,
@@ -181,13 +178,11 @@ pub fn serve_stores<
     out: &mut W,
     err: &mut E,
 ) -> (Status, Option<Vec<SiteEnd<K, R, V>>>)
-    ensures offices { IfSome result.1 (λ ends. map (λ e. e.book.book.office) ends.items ≡ map (λ b. b.book.office) books.items) }
     ensures count { IfSome result.1 (λ ends. length ends.items ≡ length books.items) }
     ensures ids { IfSome result.1 (λ ends. AreDealt (map (λ v. v.id) visits.items) (map (λ e. map (λ x. x.id) e.sessions.items) ends.items)) }
     ensures readers { IfSome result.1 (λ ends. AreDealt (map (λ v. v.reader) visits.items) (map (λ e. map (λ x. x.reader_began.value) e.sessions.items) ends.items)) }
     ensures writers { IfSome result.1 (λ ends. AreDealt (map (λ v. v.writer) visits.items) (map (λ e. map (λ x. x.writer_began.value) e.sessions.items) ends.items)) }
-    ensures finished { IfSome result.1 (λ ends. All (λ e. IsFinished e.book.book (flat_map (λ x. x.receipts.items) e.sessions.items) (flat_map (λ x. x.seen.items) e.sessions.items) e.finished) ends.items) }
-    ensures whole { IfSome result.1 (λ ends. All (λ e. All (λ x. IsSome x.writer) e.sessions.items → IfErr e.finished (λ fault. fault ≢ SeatsOut)) ends.items) }
+    ensures left { IfSome result.1 (λ ends. AllZip (λ book end. IsLeftOf book.book end.book.book (All (λ x. IsSome x.writer) end.sessions.items) (flat_map (λ x. x.receipts.items) end.sessions.items) (flat_map (λ x. x.seen.items) end.sessions.items) end.finished) books.items ends.items) }
     ensures ran { IfSome result.1 (λ ends. EndsServed (map (λ e. e.book.book) ends.items) (first_of_all (map (λ e. end_fault e.finished e.book) ends.items)) (W.contents out.old) (W.contents out.new) (E.contents err.old) (E.contents err.new) result.0) }
     ensures not_oversold { result.0 ≡ Done → IfSome result.1 (λ ends. AreNotOversold (map (λ e. e.book.book) ends.items)) }
     ensures lost { result.1 ≡ None → (result.0 ≡ Failed) × Keeps (W.contents out.old) (W.contents out.new) × FailsFor (λ fault. (fault ≡ NoMemory) ⊎ (fault ≡ NotStarted)) (E.contents err.old) (E.contents err.new) result.0 }

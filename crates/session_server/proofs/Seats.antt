@@ -1,21 +1,25 @@
 -- What a session leaves of a seat.
-use Rattle.std.proofs.Common.{◌≡◌, inl, inr, ℕ, ◌+◌, ◌≤◌, Bool, true, false, List, [], ◌∷◌, ◌++◌, map, arith, Option, Some, None, Result, refl, sym, ap, ◌∙◌, subst}
+use Rattle.std.proofs.Common.{◌≡◌, ◌⊎◌, inl, inr, ℕ, ◌+◌, ◌≤◌, Bool, true, false, List, [], ◌∷◌, ◌++◌, cond, map, nat_le, arith, Option, Some, None, Result, refl, sym, ap, ◌∙◌, subst}
 use Rattle.std.specs.Prelude.{All, if◌then◌else◌}
-use Rattle.std.proofs.lemmas.List.{map-append}
+use Rattle.std.specs.List.{flat_map}
+use Rattle.std.proofs.lemmas.Bool.{le-leb}
+use Rattle.std.proofs.lemmas.List.{append-nil, map-append}
+use Rattle.std.proofs.lemmas.Grind.{flat_map-append}
 use Rattle.std.proofs.lemmas.List.Elements.{All-pop}
-use Rattle.std.proofs.lemmas.List.Sums.{sum_by_push}
+use Rattle.std.proofs.lemmas.List.Sums.{sum_by-append, sum_by_push}
 use Rattle.request_ledger.specs.declared.request.Request.{Request}
 use Rattle.site_desk.specs.declared.answer.Answer.{Answer}
 use Rattle.site_desk.specs.declared.answer.Seen.{Seen}
 use Rattle.site_desk.specs.declared.receipt.Receipt.{Receipt}
-use Rattle.site_desk.specs.Seats.{Held, held, parts_of}
+use Rattle.site_desk.specs.Seats.{Held, held, parts_of, shares_of}
 use Rattle.desk_lines.specs.declared.line.Line.{Line}
 use Rattle.desk_lines.specs.declared.line.Line.TheVariants.{Ask, Left, Totals, Quit}
 use Rattle.desk_lines.specs.declared.answered.Answered.{Answered}
 use Rattle.desk_lines.specs.declared.answered.Answered.TheVariants.{Kept, LeftIs, TotalsAre, NotKnown, Refused, Unread}
 use Rattle.session_server.specs.declared.fault.Ended.{Ended}
 use Rattle.session_server.specs.declared.fault.TalkFault.{TalkFault}
-use Rattle.session_server.specs.SeatStep.{Seated, SeatStep, IsRaisedAt, seated, with_receipt}
+use Rattle.session_server.specs.SeatStep.{Seated, SeatStep, IsLookAt, IsRaisedAt, seated, with_receipt}
+use Rattle.session_server.specs.Finished.{given_since}
 use Rattle.session_server.specs.Served.{Served}
 use Rattle.session_server.specs.Session.{Answers, Talked}
 use Rattle.session_server.proofs.Sessions.{chain_keeps}
@@ -38,53 +42,107 @@ served_by opening a b c a_now b_now before after seat receipts looks result talk
     let with_none = subst (λ (s : Seated). Talked (SeatStep opening) a b c s after result) is talked in
     subst (λ (y : (Option (List ℕ) × Option (List ℕ)) × (List Receipt × List Seen)). Served y.0.0 y.0.1 c result y.1.0 y.1.1) (λ i. ((sym is_a i, sym is_b i), (sym is_receipts i, sym is_looks i))) (opening, seat, after.seat, with_none)
 
-raised_parts : (opening place : ℕ) (old new : Held) → IsRaisedAt opening place old new → new.parts ≡ old.parts
-raised_parts opening place old new (inl is) = ap (λ (h : Held). h.parts) is
-raised_parts opening place old new (inr is) = ap (λ (h : Held). h.parts) is.0
+-- the seat is as it was, and what it was given too
+abbrev IsStill : Seated → Seated → Type 0
+IsStill old new = (new.seat ≡ old.seat) × (new.receipts ≡ old.receipts)
 
-abbrev parts_of_seat : Seated → ℕ
-parts_of_seat s = s.seat.parts
+-- it was given a receipt
+abbrev IsGiven : ℕ → Seated → Seated → Type 0
+IsGiven opening old new = (place : ℕ) × (seat : Held) × (receipt : Receipt) × (new ≡ with_receipt old seat receipt) × (receipt.place ≡ place) × IsRaisedAt opening place old.seat seat
 
-step_parts : (opening : ℕ) (old : Seated) (line : Line) (answered : Answered) (new : Seated) → SeatStep opening old line answered new → parts_of_seat new ≡ parts_of_seat old
-step_parts opening old (Ask number request) (Kept reply) new h = ap parts_of_seat h.2 ∙ raised_parts opening h.0 old.seat h.1 h.3
-step_parts opening old (Ask number request) (LeftIs left) new h = absurd h
-step_parts opening old (Ask number request) (TotalsAre totals) new h = absurd h
-step_parts opening old (Ask number request) NotKnown new h = absurd h
-step_parts opening old (Ask number request) (Refused fault) new h = ap parts_of_seat h
-step_parts opening old (Ask number request) Unread new h = absurd h
-step_parts opening old (Left event) (Kept reply) new h = absurd h
-step_parts opening old (Left event) (LeftIs left) new h = ap parts_of_seat h.1.0
-step_parts opening old (Left event) (TotalsAre totals) new h = absurd h
-step_parts opening old (Left event) NotKnown new h = ap parts_of_seat h
-step_parts opening old (Left event) (Refused fault) new h = ap parts_of_seat h.1
-step_parts opening old (Left event) Unread new h = absurd h
-step_parts opening old (Totals event) (Kept reply) new h = absurd h
-step_parts opening old (Totals event) (LeftIs left) new h = absurd h
-step_parts opening old (Totals event) (TotalsAre totals) new h = ap parts_of_seat h.1.0
-step_parts opening old (Totals event) NotKnown new h = ap parts_of_seat h
-step_parts opening old (Totals event) (Refused fault) new h = ap parts_of_seat h.1
-step_parts opening old (Totals event) Unread new h = absurd h
-step_parts opening old Quit (Kept reply) new h = absurd h
-step_parts opening old Quit (LeftIs left) new h = absurd h
-step_parts opening old Quit (TotalsAre totals) new h = absurd h
-step_parts opening old Quit NotKnown new h = ap parts_of_seat h
-step_parts opening old Quit (Refused fault) new h = absurd h
-step_parts opening old Quit Unread new h = absurd h
+still : (old new : Seated) → new ≡ old → IsStill old new
+still old new is = (ap (λ (s : Seated). s.seat) is, ap (λ (s : Seated). s.receipts) is)
 
-answer_parts : (opening parts : ℕ) (old : Seated) (o : Option Line) (answered : Answered) (new : Seated) → Answers (SeatStep opening) old o answered new → parts_of_seat old ≡ parts → parts_of_seat new ≡ parts
-answer_parts opening parts old (Some (Ask number request)) answered new h is = step_parts opening old (Ask number request) answered new h ∙ is
-answer_parts opening parts old (Some (Left event)) answered new h is = step_parts opening old (Left event) answered new h ∙ is
-answer_parts opening parts old (Some (Totals event)) answered new h is = step_parts opening old (Totals event) answered new h ∙ is
-answer_parts opening parts old (Some Quit) answered new h is = absurd h
-answer_parts opening parts old None answered new h is = ap parts_of_seat h.1 ∙ is
+looked : (opening : ℕ) (event : List ℕ) (old : Seated) (seen : Seen) (new : Seated) → IsLookAt opening event old seen new → IsStill old new
+looked opening event old seen new h = (ap (λ (s : Seated). s.seat) h.0, ap (λ (s : Seated). s.receipts) h.0)
+
+stepped : (opening : ℕ) (old : Seated) (line : Line) (answered : Answered) (new : Seated) → SeatStep opening old line answered new → IsStill old new ⊎ IsGiven opening old new
+stepped opening old (Ask number request) (Kept reply) new h = inr (h.0, h.1, record { number = number; request = request; reply = reply; place = h.0 }, h.2, refl, h.3)
+stepped opening old (Ask number request) (LeftIs left) new h = absurd h
+stepped opening old (Ask number request) (TotalsAre totals) new h = absurd h
+stepped opening old (Ask number request) NotKnown new h = absurd h
+stepped opening old (Ask number request) (Refused fault) new h = inl (still old new h)
+stepped opening old (Ask number request) Unread new h = absurd h
+stepped opening old (Left event) (Kept reply) new h = absurd h
+stepped opening old (Left event) (LeftIs left) new h = inl (looked opening event old h.0 new h.1)
+stepped opening old (Left event) (TotalsAre totals) new h = absurd h
+stepped opening old (Left event) NotKnown new h = inl (still old new h)
+stepped opening old (Left event) (Refused fault) new h = inl (still old new h.1)
+stepped opening old (Left event) Unread new h = absurd h
+stepped opening old (Totals event) (Kept reply) new h = absurd h
+stepped opening old (Totals event) (LeftIs left) new h = absurd h
+stepped opening old (Totals event) (TotalsAre totals) new h = inl (looked opening event old h.0 new h.1)
+stepped opening old (Totals event) NotKnown new h = inl (still old new h)
+stepped opening old (Totals event) (Refused fault) new h = inl (still old new h.1)
+stepped opening old (Totals event) Unread new h = absurd h
+stepped opening old Quit (Kept reply) new h = absurd h
+stepped opening old Quit (LeftIs left) new h = absurd h
+stepped opening old Quit (TotalsAre totals) new h = absurd h
+stepped opening old Quit NotKnown new h = inl (still old new h)
+stepped opening old Quit (Refused fault) new h = absurd h
+stepped opening old Quit Unread new h = absurd h
+
+answered : (opening : ℕ) (old : Seated) (o : Option Line) (given : Answered) (new : Seated) → Answers (SeatStep opening) old o given new → IsStill old new ⊎ IsGiven opening old new
+answered opening old (Some (Ask number request)) given new h = stepped opening old (Ask number request) given new h
+answered opening old (Some (Left event)) given new h = stepped opening old (Left event) given new h
+answered opening old (Some (Totals event)) given new h = stepped opening old (Totals event) given new h
+answered opening old (Some Quit) given new h = absurd h
+answered opening old None given new h = inl (still old new h.1)
+
+-- ---- what a session leaves of the seat's parts and its share
+
+raised_share : (opening place : ℕ) (old new : Held) → IsRaisedAt opening place old new → (new.parts ≡ old.parts) × (new.count ≤ old.count + cond (nat_le opening place) 1 0)
+raised_share opening place old new (inl is) = let n = ap (λ (h : Held). h.count) is in (ap (λ (h : Held). h.parts) is, omega (arith, n))
+raised_share opening place old new (inr is) =
+    let n = ap (λ (h : Held). h.count) is.0 in
+    let low : opening ≤ place = omega (arith, is.1) in
+    (ap (λ (h : Held). h.parts) is.0, rw (le-leb opening place low) (omega (arith, n)))
+
+given_push : (opening : ℕ) (receipts : List Receipt) (r : Receipt) → given_since opening (receipts ++ r ∷ []) ≡ given_since opening receipts + cond (nat_le opening r.place) 1 0
+given_push opening receipts r = sum_by_push (λ x. cond (nat_le opening x.place) 1 0) receipts r
+
+-- it has its parts, and no more was entered for it than it was given receipts of entries from the first place on
+record Holds (opening : ℕ) (first now : Seated) : Type 0 where
+  parts : now.seat.parts ≡ first.seat.parts
+  share : now.seat.count + given_since opening first.receipts ≤ first.seat.count + given_since opening now.receipts
+
+holds_still : (opening : ℕ) (first old new : Seated) → IsStill old new → Holds opening first old → Holds opening first new
+holds_still opening first old new is h =
+    let seat = ap (λ (s : Held). s.count) is.0 in
+    let given = ap (given_since opening) is.1 in
+    record { parts = ap (λ (s : Held). s.parts) is.0 ∙ h.parts; share = omega (arith, h.share, seat, given) }
+
+holds_given : (opening : ℕ) (first old new : Seated) → IsGiven opening old new → Holds opening first old → Holds opening first new
+holds_given opening first old new is h =
+    let raised = raised_share opening is.0 old.seat is.1 is.5 in
+    let seat = ap (λ (s : Seated). s.seat.count) is.3 in
+    let at = ap {B = ℕ} (λ p. cond (nat_le opening p) 1 0) is.4 in
+    let given = ap (λ (s : Seated). given_since opening s.receipts) is.3 ∙ given_push opening old.receipts is.2 in
+    record { parts = ap (λ (s : Seated). s.seat.parts) is.3 ∙ raised.0 ∙ h.parts; share = omega (arith, h.share, raised.1, seat, given, at) }
+
+holds_on : (opening : ℕ) (first old : Seated) (o : Option Line) (given : Answered) (new : Seated) → Answers (SeatStep opening) old o given new → Holds opening first old → Holds opening first new
+holds_on opening first old o given new step h = elim (answered opening old o given new step) [ inl is ↦ holds_still opening first old new is h | inr is ↦ holds_given opening first old new is h ]
+
+talked_holds : (opening : ℕ) (input old new : Option (List ℕ)) (before after : Seated) (result : Result Ended TalkFault) → Talked (SeatStep opening) input old new before after result → Holds opening before after
+talked_holds opening input old new before after result t =
+    chain_keeps (SeatStep opening) (Holds opening before) (holds_on opening before) before t.lines t.answers after t.chain (record { parts = refl; share = omega arith })
 
 -- a seat that answered a session has the parts that it had
 pub talked_parts : (opening : ℕ) (input old new : Option (List ℕ)) (before after : Seated) (result : Result Ended TalkFault) (first last : Held) → Talked (SeatStep opening) input old new before after result
     → before ≡ seated first [] [] → last ≡ after.seat → last.parts ≡ first.parts
 talked_parts opening input old new before after result first last t is is_last =
-    ap (λ (h : Held). h.parts) is_last
-    ∙ chain_keeps (SeatStep opening) (λ s. parts_of_seat s ≡ parts_of_seat before) (answer_parts opening (parts_of_seat before)) before t.lines t.answers after t.chain refl
-    ∙ ap parts_of_seat is
+    ap (λ (h : Held). h.parts) is_last ∙ (talked_holds opening input old new before after result t).parts ∙ ap (λ (s : Seated). s.seat.parts) is
+
+-- and no more was entered for it than it was given receipts
+pub talked_share : (opening : ℕ) (input old new : Option (List ℕ)) (before after : Seated) (result : Result Ended TalkFault) (first last : Held) (receipts : List Receipt) → Talked (SeatStep opening) input old new before after result
+    → before ≡ seated first [] [] → last ≡ after.seat → receipts ≡ after.receipts → last.count ≤ first.count + given_since opening receipts
+talked_share opening input old new before after result first last receipts t is is_last is_receipts =
+    let share = (talked_holds opening input old new before after result t).share in
+    let seat = ap (λ (s : Seated). s.seat.count) is in
+    let none = ap (λ (s : Seated). given_since opening s.receipts) is in
+    let left = ap (λ (h : Held). h.count) is_last in
+    let given = ap (given_since opening) is_receipts in
+    omega (arith, share, seat, none, left, given)
 
 -- where one seat more came back, with the parts of the one that was handed in
 pub parts_more : {E S : Type 0} (P : E → Type 0) (f : S → Held) (ends earlier : List E) (end : E) (seats before old : List Held) (seat : Held) (sessions rest : List S) (s : S)
@@ -99,3 +157,32 @@ parts_more P f ends earlier end seats before old seat sessions rest s is_ends is
 -- not all came back
 pub one_lacks : {E X : Type 0} (P : E → Type 0) (ends earlier : List E) (end : E) → ends ≡ earlier ++ end ∷ [] → (P end → ⊥) → All P ends → X
 one_lacks P ends earlier end is_ends none all = absurd (none (All-pop P ends earlier (Some end) is_ends all).1)
+
+-- ---- shares and receipts of several
+
+flat_push : {E : Type 0} (f : E → List Receipt) (earlier : List E) (end : E) → flat_map f (earlier ++ end ∷ []) ≡ flat_map f earlier ++ f end
+flat_push f earlier end = flat_map-append f earlier (end ∷ []) ∙ ap (λ l. flat_map f earlier ++ l) (append-nil (f end))
+
+receipts_push : {E : Type 0} (opening : ℕ) (f : E → List Receipt) (ends earlier : List E) (end : E) → ends ≡ earlier ++ end ∷ []
+    → given_since opening (flat_map f ends) ≡ given_since opening (flat_map f earlier) + given_since opening (f end)
+receipts_push opening f ends earlier end is =
+    ap (λ l. given_since opening (flat_map f l)) is ∙ ap (given_since opening) (flat_push f earlier end) ∙ sum_by-append (λ r. cond (nat_le opening r.place) 1 0) (flat_map f earlier) (f end)
+
+-- where one seat more came back, with no more entered for it than its session was given receipts
+pub shares_more : {E S : Type 0} (opening : ℕ) (f : E → List Receipt) (g : S → Held) (ends earlier old_ends : List E) (end : E) (seats before old : List Held) (seat : Held) (sessions rest : List S) (s : S)
+    → ends ≡ earlier ++ end ∷ [] → seats ≡ before ++ seat ∷ [] → sessions ≡ rest ++ s ∷ []
+    → shares_of before + given_since opening (flat_map f old_ends) ≤ shares_of old + shares_of (map g rest) + given_since opening (flat_map f earlier) → seat.count ≤ (g s).count + given_since opening (f end)
+    → shares_of seats + given_since opening (flat_map f old_ends) ≤ shares_of old + shares_of (map g sessions) + given_since opening (flat_map f ends)
+shares_more opening f g ends earlier old_ends end seats before old seat sessions rest s is_ends is_seats is_sessions so share =
+    let behind = ap shares_of is_seats ∙ sum_by_push (λ (h : Held). h.count) before seat in
+    let handed = ap (λ l. shares_of (map g l)) is_sessions ∙ ap shares_of (map-append g rest (s ∷ [])) ∙ sum_by_push (λ (h : Held). h.count) (map g rest) (g s) in
+    omega (arith, so, share, behind, handed, receipts_push opening f ends earlier end is_ends)
+
+-- where it did not
+pub shares_lack : {E S : Type 0} (opening : ℕ) (f : E → List Receipt) (g : S → Held) (ends earlier old_ends : List E) (end : E) (seats old : List Held) (sessions rest : List S) (s : S)
+    → ends ≡ earlier ++ end ∷ [] → sessions ≡ rest ++ s ∷ []
+    → shares_of seats + given_since opening (flat_map f old_ends) ≤ shares_of old + shares_of (map g rest) + given_since opening (flat_map f earlier)
+    → shares_of seats + given_since opening (flat_map f old_ends) ≤ shares_of old + shares_of (map g sessions) + given_since opening (flat_map f ends)
+shares_lack opening f g ends earlier old_ends end seats old sessions rest s is_ends is_sessions so =
+    let handed = ap (λ l. shares_of (map g l)) is_sessions ∙ ap shares_of (map-append g rest (s ∷ [])) ∙ sum_by_push (λ (h : Held). h.count) (map g rest) (g s) in
+    omega (arith, so, handed, receipts_push opening f ends earlier end is_ends)

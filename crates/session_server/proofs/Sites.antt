@@ -1,6 +1,6 @@
 -- What is left of each site, told of what was handed in.
-use Rattle.std.proofs.Common.{◌≡◌, ℕ, List, [], ◌∷◌, Result, Ok, Err, refl, subst, sym, ap, ◌∙◌}
-use Rattle.std.specs.Prelude.{All, IfOk, map}
+use Rattle.std.proofs.Common.{◌≡◌, ◌≢◌, ◌≤◌, ℕ, List, [], ◌∷◌, Result, Ok, Err, refl, subst, sym, ap, ◌∙◌}
+use Rattle.std.specs.Prelude.{All, IfErr, IfOk, map}
 use Rattle.std.specs.List.{AllZip}
 use Rattle.std.proofs.lemmas.List.Elements.{All-cons, All-nil}
 use Rattle.book_core.specs.BookView.{BookView}
@@ -8,6 +8,7 @@ use Rattle.site_desk.specs.declared.answer.Seen.{Seen}
 use Rattle.site_desk.specs.declared.finish.FinishFault.{FinishFault}
 use Rattle.site_desk.specs.declared.finish.FinishFault.TheVariants.{SeatsOut, Stranger, StrangerSeen}
 use Rattle.site_desk.specs.declared.receipt.Receipt.{Receipt}
+use Rattle.site_desk.specs.Count.{asked_since}
 use Rattle.session_server.specs.Finished.{IsCompared, IsFinished}
 
 -- the same without the count
@@ -16,6 +17,18 @@ finished_by opening share book receipts looks (Ok done) h = (h.1, h.2)
 finished_by opening share book receipts looks (Err SeatsOut) h = tt
 finished_by opening share book receipts looks (Err (Stranger k)) h = h.1
 finished_by opening share book receipts looks (Err (StrangerSeen k)) h = (h.1, h.2)
+
+-- no more was entered than was given, where the shares are no more
+pub entered_by : (opening share given : ℕ) (book : BookView) (receipts : List Receipt) (looks : List Seen) (result : Result (Unit {0}) FinishFault) → IsCompared opening share book receipts looks result → share ≤ given
+    → result ≢ Err SeatsOut → asked_since opening book.history ≤ given
+entered_by opening share given book receipts looks (Ok done) h few in_seats = subst (λ n. n ≤ given) h.0 few
+entered_by opening share given book receipts looks (Err SeatsOut) h few in_seats = absurd (in_seats refl)
+entered_by opening share given book receipts looks (Err (Stranger k)) h few in_seats = subst (λ n. n ≤ given) h.0 few
+entered_by opening share given book receipts looks (Err (StrangerSeen k)) h few in_seats = subst (λ n. n ≤ given) h.0 few
+
+pub seats_in : (result : Result (Unit {0}) FinishFault) → IfErr result (λ fault. fault ≢ SeatsOut) → result ≢ Err SeatsOut
+seats_in (Ok done) h is = absurd (let same = is in cc)
+seats_in (Err fault) h is = h (let same = is in cc)
 
 -- what pairs agree on is the same list by both
 pub same_by : {A B X : Type 0} (R : A → B → Type 0) (f : A → X) (g : B → X) (xs : List A) (ys : List B) → ((x : A) (y : B) → R x y → g y ≡ f x) → AllZip R xs ys → map g ys ≡ map f xs
@@ -55,9 +68,16 @@ same_through R S T xs ys zs ws vs had f g so r s t is =
     ∙ sym (map_after had f xs)
     ∙ ap (map f) is
 
-pub each_through : {A B C D : Type 0} (R : A → B → Type 0) (S : B → C → Type 0) (T : C → D → Type 0) (Q : D → Type 0) (xs : List A) (ys : List B) (zs : List C) (ws : List D)
-    → ((a : A) (b : B) (c : C) (d : D) → R a b → S b c → T c d → Q d) → AllZip R xs ys → AllZip S ys zs → AllZip T zs ws → All Q ws
-each_through R S T Q xs ys zs ws so r s t = each_second (λ a d. Q d) Q xs ws (λ a d q. q) (through R S T (λ a d. Q d) xs ys zs ws so r s t)
+zip_map : {A V D : Type 0} (f : A → V) (Q : V → D → Type 0) (xs : List A) (ws : List D) → AllZip (λ a d. Q (f a) d) xs ws → AllZip Q (map f xs) ws
+zip_map f Q [] [] h = tt
+zip_map f Q [] (w ∷ ws) h = absurd h
+zip_map f Q (x ∷ xs) [] h = absurd h
+zip_map f Q (x ∷ xs) (w ∷ ws) h = (h.0, zip_map f Q xs ws h.1)
+
+-- what is left behind the steps, paired with what the first had
+pub pairs_through : {A B C D V : Type 0} (R : A → B → Type 0) (S : B → C → Type 0) (T : C → D → Type 0) (xs : List A) (ys : List B) (zs : List C) (ws : List D) (vs : List V) (had : A → V) (Q : V → D → Type 0)
+    → ((a : A) (b : B) (c : C) (d : D) → R a b → S b c → T c d → Q (had a) d) → AllZip R xs ys → AllZip S ys zs → AllZip T zs ws → map had xs ≡ vs → AllZip Q vs ws
+pairs_through R S T xs ys zs ws vs had Q so r s t is = subst (λ l. AllZip Q l ws) is (zip_map had Q xs ws (through R S T (λ a d. Q (had a) d) xs ys zs ws so r s t))
 
 -- what the first of a pair has, which the second is paired with
 pub with_first : {A B : Type 0} (R : A → B → Type 0) (xs : List A) (ys : List B) → AllZip R xs ys → All (λ y. (x : A) × R x y) ys
@@ -70,3 +90,7 @@ renamed {A} {B} {C} a a' b b' c c' P p q r h = subst (λ (t : A × (B × C)). P 
 pub if_ok_then : {A E : Type 0} (P Q : A → Type 0) (r : Result A E) → ((a : A) → P a → Q a) → IfOk r P → IfOk r Q
 if_ok_then P Q (Ok a) so h = so a h
 if_ok_then P Q (Err e) so h = tt
+
+pub if_ok_all : {A E : Type 0} (P Q R S T : A → Type 0) (r : Result A E) → IfOk r P → IfOk r Q → IfOk r R → IfOk r S → IfOk r T → IfOk r (λ a. P a × Q a × R a × S a × T a)
+if_ok_all P Q R S T (Ok a) p q r s t = (p, q, r, s, t)
+if_ok_all P Q R S T (Err e) p q r s t = tt

@@ -1,11 +1,12 @@
 //! One site, in the thread that it was given.
 
-ghost use Rattle.std.specs.Prelude.{◌≡◌, ◌≢◌, ◌<◌, ◌+◌, All, IfErr, IfOk, IsSome, map, vec_len, length};
+ghost use Rattle.std.specs.Prelude.{◌≡◌, ◌≢◌, ◌<◌, ◌≤◌, ◌+◌, All, IfErr, IfOk, IsSome, map, vec_len, length};
 ghost use Rattle.std.specs.List.{AllZip, flat_map};
 ghost use Rattle.site_desk.specs.declared.finish.FinishFault.TheVariants.{SeatsOut};
+ghost use Rattle.site_desk.specs.Count.{GoesOnFrom};
 ghost use Rattle.site_desk.specs.Seats.{parts_of, shares_of};
 ghost use Rattle.session_server.specs.Exchanged.{Exchanged};
-ghost use Rattle.session_server.specs.Finished.{IsCompared, IsFinished};
+ghost use Rattle.session_server.specs.Finished.{IsCompared, IsLeftOf, given_since};
 
 use crate::exchange::{ExchangeFault, exchange_all};
 use crate::links::Linked;
@@ -49,10 +50,8 @@ pub(crate) fn run_site<
     ensures ids { IfOk result (λ left. map (λ e. e.id) left.1.items ≡ map (λ v. v.id) linked.site.sessions.items) }
     ensures readers { IfOk result (λ left. map (λ e. e.reader_began.value) left.1.items ≡ map (λ v. v.reader) linked.site.sessions.items) }
     ensures writers { IfOk result (λ left. map (λ e. e.writer_began.value) left.1.items ≡ map (λ v. v.writer) linked.site.sessions.items) }
-    ensures finished { IfOk result (λ left. IsFinished left.0.book (flat_map (λ e. e.receipts.items) left.1.items) (flat_map (λ e. e.seen.items) left.1.items) left.2.0) }
-    ensures whole { IfOk result (λ left. All (λ e. IsSome e.writer) left.1.items → IfErr left.2.0 (λ fault. fault ≢ SeatsOut)) }
+    ensures left { IfOk result (λ left. IsLeftOf linked.site.book.book left.0.book (All (λ e. IsSome e.writer) left.1.items) (flat_map (λ e. e.receipts.items) left.1.items) (flat_map (λ e. e.seen.items) left.1.items) left.2.0) }
     ensures peers { IfOk result (λ left. AllZip Exchanged linked.peers.items left.2.1.items) }
-    ensures office { IfOk result (λ left. left.0.book.office ≡ linked.site.book.book.office) }
 {
     let Linked { site, peers } = linked;
     let Some(parts) = (site.sessions.len() as u64).checked_add(1) else {
@@ -81,15 +80,13 @@ fn at_desk<
     requires name { blank.name ≡ L.name }
     requires parts { blank.parts ≡ L.parts }
     requires enough { vec_len site.sessions < blank.parts }
-    requires opening { L.opening ≡ length site.book.book.history }
+    requires began { L.began ≡ site.book.book.history }
     requires office { L.office ≡ site.book.book.office }
     ensures ids { IfOk result (λ left. map (λ e. e.id) left.1.items ≡ map (λ v. v.id) site.sessions.items) }
     ensures readers { IfOk result (λ left. map (λ e. e.reader_began.value) left.1.items ≡ map (λ v. v.reader) site.sessions.items) }
     ensures writers { IfOk result (λ left. map (λ e. e.writer_began.value) left.1.items ≡ map (λ v. v.writer) site.sessions.items) }
-    ensures finished { IfOk result (λ left. IsFinished left.0.book (flat_map (λ e. e.receipts.items) left.1.items) (flat_map (λ e. e.seen.items) left.1.items) left.2.0) }
-    ensures whole { IfOk result (λ left. All (λ e. IsSome e.writer) left.1.items → IfErr left.2.0 (λ fault. fault ≢ SeatsOut)) }
+    ensures left { IfOk result (λ left. IsLeftOf site.book.book left.0.book (All (λ e. IsSome e.writer) left.1.items) (flat_map (λ e. e.receipts.items) left.1.items) (flat_map (λ e. e.seen.items) left.1.items) left.2.0) }
     ensures peers { IfOk result (λ left. AllZip Exchanged peers.items left.2.1.items) }
-    ensures office { IfOk result (λ left. left.0.book.office ≡ site.book.book.office) }
 {
     let Site { book, sessions } = site;
     let (desk, seat) = Desk::<K, L>::new(book, blank);
@@ -109,9 +106,10 @@ fn finished<K: Keeper + Drop, R: Read + Drop, W: Write + Drop, L: Opens>(
     seat: Seat<L>,
     sessions: &Vec<SessionEnd<R, W>>,
 ) -> Result<(SiteBook<K>, Result<(), FinishFault>), AllocError>
-    ensures compared { IfOk result (λ r. IsCompared L.opening (shares_of seats.items + seat.count) r.0.book (flat_map (λ e. e.receipts.items) sessions.now.items) (flat_map (λ e. e.seen.items) sessions.now.items) r.1) }
+    ensures compared { IfOk result (λ r. IsCompared (length L.began) (shares_of seats.items + seat.count) r.0.book (flat_map (λ e. e.receipts.items) sessions.now.items) (flat_map (λ e. e.seen.items) sessions.now.items) r.1) }
     ensures whole { parts_of seats.items + seat.parts ≡ L.parts → IfOk result (λ r. IfErr r.1 (λ fault. fault ≢ SeatsOut)) }
     ensures office { IfOk result (λ r. r.0.book.office ≡ L.office) }
+    ensures goes_on { IfOk result (λ r. GoesOnFrom L.began r.0.book.history) }
 {
     let (receipts, seen) = told(alloc, sessions)?;
     seats.push(seat)?;
@@ -124,9 +122,10 @@ fn compared<K: Keeper + Drop, L: Opens>(
     receipts: &[Receipt],
     looks: &[Seen],
 ) -> (SiteBook<K>, Result<(), FinishFault>)
-    ensures compared { IsCompared L.opening (shares_of seats.items) result.0.book receipts.now looks.now result.1 }
+    ensures compared { IsCompared (length L.began) (shares_of seats.items) result.0.book receipts.now looks.now result.1 }
     ensures whole { parts_of seats.items ≡ L.parts → IfErr result.1 (λ fault. fault ≢ SeatsOut) }
     ensures office { result.0.book.office ≡ L.office }
+    ensures goes_on { GoesOnFrom L.began result.0.book.history }
 {
     match desk.finish(seats, receipts, looks) {
         Ok(book) => (book, Ok(())),
@@ -143,7 +142,7 @@ struct Begun<R: Read + Drop, W: Write + Drop, L: Opens> {
 impl<R: Read + Drop, W: Write + Drop, L: Opens> Promise<
     Result<(Vec<SessionEnd<R, W>>, Vec<Seat<L>>), AllocError>,
 > for Begun<R, W, L> {
-    ghost kept_by = { λ p r. IfOk r (λ s. (map (λ e. e.id) s.0.items ≡ map (λ s. s.id) p.sessions.value.items) × (map (λ e. e.reader_began.value) s.0.items ≡ map (λ s. s.reader) p.sessions.value.items) × (map (λ e. e.writer_began.value) s.0.items ≡ map (λ s. s.writer) p.sessions.value.items) × (All (λ e. IsSome e.writer) s.0.items → parts_of s.1.items ≡ parts_of (map (λ s. s.seat) p.sessions.value.items))) };
+    ghost kept_by = { λ p r. IfOk r (λ s. (map (λ e. e.id) s.0.items ≡ map (λ s. s.id) p.sessions.value.items) × (map (λ e. e.reader_began.value) s.0.items ≡ map (λ s. s.reader) p.sessions.value.items) × (map (λ e. e.writer_began.value) s.0.items ≡ map (λ s. s.writer) p.sessions.value.items) × (All (λ e. IsSome e.writer) s.0.items → parts_of s.1.items ≡ parts_of (map (λ s. s.seat) p.sessions.value.items)) × (shares_of s.1.items ≤ shares_of (map (λ s. s.seat) p.sessions.value.items) + given_since (length L.began) (flat_map (λ e. e.receipts.items) s.0.items))) };
 }
 
 // The sessions in a thread beside the exchange.
@@ -173,6 +172,7 @@ fn at_once<
     ensures readers { IfOk result (λ r. IfOk r.0 (λ s. map (λ e. e.reader_began.value) s.0.items ≡ map (λ s. s.reader) sessions.items)) }
     ensures writers { IfOk result (λ r. IfOk r.0 (λ s. map (λ e. e.writer_began.value) s.0.items ≡ map (λ s. s.writer) sessions.items)) }
     ensures parts { IfOk result (λ r. IfOk r.0 (λ s. All (λ e. IsSome e.writer) s.0.items → parts_of s.1.items ≡ parts_of (map (λ s. s.seat) sessions.items))) }
+    ensures shares { IfOk result (λ r. IfOk r.0 (λ s. shares_of s.1.items ≤ shares_of (map (λ s. s.seat) sessions.items) + given_since (length L.began) (flat_map (λ e. e.receipts.items) s.0.items))) }
     ensures peers { IfOk result (λ r. IfOk r.1 (λ ends. AllZip Exchanged peers.items ends.items)) }
 {
     let begun = Begun {

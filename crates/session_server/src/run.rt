@@ -2,9 +2,8 @@
 
 ghost use Rattle.std.specs.Prelude.{◌≡◌, ◌≢◌, ◌<◌, ◌≤◌, [], All, IfErr, IfOk, IsSome, map, vec_len, vec_capacity};
 ghost use Rattle.std.specs.List.{AllZip, flat_map};
-ghost use Rattle.site_desk.specs.declared.finish.FinishFault.TheVariants.{SeatsOut};
 ghost use Rattle.session_server.specs.Exchanged.{Exchanged};
-ghost use Rattle.session_server.specs.Finished.{IsFinished};
+ghost use Rattle.session_server.specs.Finished.{IsLeftOf};
 ghost use Rattle.session_server.specs.LinkNames.{link_names, name_of};
 
 use crate::exchange::ExchangeFault;
@@ -31,16 +30,17 @@ struct SiteOf<K: Keeper + Drop, R: Read + Drop, W: Write + Drop> {
 impl<K: Keeper + Drop, R: Read + Drop, W: Write + Drop> Promise<
     Result<Left<K, R, W>, ExchangeFault>,
 > for SiteOf<K, R, W> {
-    ghost kept_by = { λ p r. IfOk r (λ left. (map (λ e. e.id) left.1.items ≡ map (λ v. v.id) p.linked.value.site.sessions.items) × (map (λ e. e.reader_began.value) left.1.items ≡ map (λ v. v.reader) p.linked.value.site.sessions.items) × (map (λ e. e.writer_began.value) left.1.items ≡ map (λ v. v.writer) p.linked.value.site.sessions.items) × IsFinished left.0.book (flat_map (λ e. e.receipts.items) left.1.items) (flat_map (λ e. e.seen.items) left.1.items) left.2.0 × (All (λ e. IsSome e.writer) left.1.items → IfErr left.2.0 (λ fault. fault ≢ SeatsOut)) × AllZip Exchanged p.linked.value.peers.items left.2.1.items × (left.0.book.office ≡ p.linked.value.site.book.book.office)) };
+    ghost kept_by = { λ p r. IfOk r (λ left. (map (λ e. e.id) left.1.items ≡ map (λ v. v.id) p.linked.value.site.sessions.items) × (map (λ e. e.reader_began.value) left.1.items ≡ map (λ v. v.reader) p.linked.value.site.sessions.items) × (map (λ e. e.writer_began.value) left.1.items ≡ map (λ v. v.writer) p.linked.value.site.sessions.items) × IsLeftOf p.linked.value.site.book.book left.0.book (All (λ e. IsSome e.writer) left.1.items) (flat_map (λ e. e.receipts.items) left.1.items) (flat_map (λ e. e.seen.items) left.1.items) left.2.0 × AllZip Exchanged p.linked.value.peers.items left.2.1.items) };
 }
 
 /// Runs all sites at once, each in a thread of its own, with a thread for each of its sessions and with links to all
 /// others, through which it sends what is due for so many rounds. It ends when each of them is done.
 ///
 /// The links hold as many messages as their capacity. The ends of sites come in the order in which they were handed in,
-/// each with a book of its site, of its count of sites and its limit, and the ends of its sessions. What was found of its
-/// book is of all receipts and looks that these were given, and seats are out only where a session's thread could not be
-/// started. An error drops the books; what was entered stays in their records.
+/// each with the ends of its sessions and a book of its site, of its count of sites and its limit, whose history goes on
+/// from the one that was handed in. What was found of its book is of all receipts and looks that its sessions were given.
+/// Seats are out only where a session's thread could not be started; unless they are, no more requests were newly entered
+/// than receipts were given of entries behind the history that was handed in. An error drops the books; what was entered stays in their records.
 pub fn run_all<
     T: Threads + Wait + Sync,
     K: Keeper + Drop + Send,
@@ -59,9 +59,7 @@ pub fn run_all<
     ensures ids { IfOk result (λ r. map (λ e. map (λ x. x.id) e.sessions.items) r.0.items ≡ map (λ s. map (λ v. v.id) s.sessions.items) sites.items) }
     ensures readers { IfOk result (λ r. map (λ e. map (λ x. x.reader_began.value) e.sessions.items) r.0.items ≡ map (λ s. map (λ v. v.reader) s.sessions.items) sites.items) }
     ensures writers { IfOk result (λ r. map (λ e. map (λ x. x.writer_began.value) e.sessions.items) r.0.items ≡ map (λ s. map (λ v. v.writer) s.sessions.items) sites.items) }
-    ensures finished { IfOk result (λ r. All (λ e. IsFinished e.book.book (flat_map (λ x. x.receipts.items) e.sessions.items) (flat_map (λ x. x.seen.items) e.sessions.items) e.finished) r.0.items) }
-    ensures whole { IfOk result (λ r. All (λ e. All (λ x. IsSome x.writer) e.sessions.items → IfErr e.finished (λ fault. fault ≢ SeatsOut)) r.0.items) }
-    ensures offices { IfOk result (λ r. map (λ e. e.book.book.office) r.0.items ≡ map (λ s. s.book.book.office) sites.items) }
+    ensures left { IfOk result (λ r. AllZip (λ site end. IsLeftOf site.book.book end.book.book (All (λ x. IsSome x.writer) end.sessions.items) (flat_map (λ x. x.receipts.items) end.sessions.items) (flat_map (λ x. x.seen.items) end.sessions.items) end.finished) sites.items r.0.items) }
     ensures links { IfOk result (λ r. map name_of r.1.items ≡ link_names (map (λ s. s.book.book.office.me) sites.items)) }
 {
     let ids = numbers(alloc, &sites)?;
@@ -69,7 +67,7 @@ pub fn run_all<
     let mut jobs = Vec::with_capacity(alloc, linked.len())?;
     begun(linked, &mut jobs);
     let run = |one: Linked<K, R, W>| -> Result<Left<K, R, W>, ExchangeFault>
-        ensures { IfOk result (λ left. (map (λ e. e.id) left.1.items ≡ map (λ v. v.id) one.site.sessions.items) × (map (λ e. e.reader_began.value) left.1.items ≡ map (λ v. v.reader) one.site.sessions.items) × (map (λ e. e.writer_began.value) left.1.items ≡ map (λ v. v.writer) one.site.sessions.items) × IsFinished left.0.book (flat_map (λ e. e.receipts.items) left.1.items) (flat_map (λ e. e.seen.items) left.1.items) left.2.0 × (All (λ e. IsSome e.writer) left.1.items → IfErr left.2.0 (λ fault. fault ≢ SeatsOut)) × AllZip Exchanged one.peers.items left.2.1.items × (left.0.book.office ≡ one.site.book.book.office)) }
+        ensures { IfOk result (λ left. (map (λ e. e.id) left.1.items ≡ map (λ v. v.id) one.site.sessions.items) × (map (λ e. e.reader_began.value) left.1.items ≡ map (λ v. v.reader) one.site.sessions.items) × (map (λ e. e.writer_began.value) left.1.items ≡ map (λ v. v.writer) one.site.sessions.items) × IsLeftOf one.site.book.book left.0.book (All (λ e. IsSome e.writer) left.1.items) (flat_map (λ e. e.receipts.items) left.1.items) (flat_map (λ e. e.seen.items) left.1.items) left.2.0 × AllZip Exchanged one.peers.items left.2.1.items) }
     { run_site(rt, alloc, one, rounds, gate) };
     let done = work_all(rt, alloc, jobs, &run)?;
     let mut ends = Vec::with_capacity(alloc, done.len())?;

@@ -1,7 +1,9 @@
 //! Sessions in threads.
 
-ghost use Rattle.std.specs.Prelude.{◌≡◌, [], ◌≤◌, ◌+◌, ◌++◌, All, IsSome, None, map, vec_len, vec_capacity, IfOk};
-ghost use Rattle.site_desk.specs.Seats.{parts_of};
+ghost use Rattle.std.specs.Prelude.{◌≡◌, [], ◌≤◌, ◌+◌, ◌++◌, All, IsSome, None, length, map, vec_len, vec_capacity, IfOk};
+ghost use Rattle.std.specs.List.{flat_map};
+ghost use Rattle.site_desk.specs.Seats.{parts_of, shares_of};
+ghost use Rattle.session_server.specs.Finished.{given_since};
 
 use crate::at_desk::AtDesk;
 use crate::fault::TalkFault;
@@ -27,6 +29,7 @@ fn serve<T: Wait, R: Read + Drop, W: Write + Drop, K: Keeper, L: Opens, G: Gate>
     ensures id { result.0.id ≡ session.id }
     ensures began { (result.0.reader_began.value ≡ session.reader) × (result.0.writer_began.value ≡ session.writer) }
     ensures parts { result.1.parts ≡ session.seat.parts }
+    ensures share { result.1.count ≤ session.seat.count + given_since (length L.began) result.0.receipts.items }
 {
     let Session {
         id,
@@ -61,7 +64,7 @@ struct Begun<R: Read + Drop, W: Write + Drop, L: Opens> {
 
 impl<R: Read + Drop, W: Write + Drop, L: Opens> Promise<(SessionEnd<R, W>, Seat<L>)>
     for Begun<R, W, L> {
-    ghost kept_by = { λ p r. (r.0.id ≡ p.session.value.id) × (r.0.reader_began.value ≡ p.session.value.reader) × (r.0.writer_began.value ≡ p.session.value.writer) × (r.1.parts ≡ p.session.value.seat.parts) };
+    ghost kept_by = { λ p r. (r.0.id ≡ p.session.value.id) × (r.0.reader_began.value ≡ p.session.value.reader) × (r.0.writer_began.value ≡ p.session.value.writer) × (r.1.parts ≡ p.session.value.seat.parts) × (r.1.count ≤ p.session.value.seat.count + given_since (length L.began) r.0.receipts.items) };
 }
 
 // Starts the last session, then the others, and then waits for it.
@@ -90,6 +93,7 @@ fn serve_from<
     ensures readers { map (λ e. e.reader_began.value) ends.new.items ≡ map (λ e. e.reader_began.value) ends.old.items ++ map (λ s. s.reader) sessions.items }
     ensures writers { map (λ e. e.writer_began.value) ends.new.items ≡ map (λ e. e.writer_began.value) ends.old.items ++ map (λ s. s.writer) sessions.items }
     ensures parts { All (λ e. IsSome e.writer) ends.new.items → parts_of seats.new.items ≡ parts_of seats.old.items + parts_of (map (λ s. s.seat) sessions.items) }
+    ensures shares { shares_of seats.new.items + given_since (length L.began) (flat_map (λ e. e.receipts.items) ends.old.items) ≤ shares_of seats.old.items + shares_of (map (λ s. s.seat) sessions.items) + given_since (length L.began) (flat_map (λ e. e.receipts.items) ends.new.items) }
     ensures room { (vec_len ends.new ≡ vec_len ends.old + vec_len sessions) × (vec_capacity ends.new ≡ vec_capacity ends.old) × (vec_len seats.new ≤ vec_len seats.old + vec_len sessions) × (vec_capacity seats.new ≡ vec_capacity seats.old) }
 {
     let Some(session) = sessions.pop() else {
@@ -138,7 +142,8 @@ fn not_started<R: Read + Drop, W: Write + Drop>(
 }
 
 /// Serves each session at the desk in a thread of its own, and waits for all of them. Their ends come in the order in
-/// which they were handed in, with the seats of those whose thread could be started, which have the parts that they had.
+/// which they were handed in, with the seats of those whose thread could be started, which have the parts that they had;
+/// no more was newly entered for them than they were given receipts of entries behind the history with which the desk began.
 ///
 /// An error is want of memory, before any thread is started: nothing was asked, and sessions and seats are dropped.
 pub fn serve_all<
@@ -159,6 +164,7 @@ pub fn serve_all<
     ensures readers { IfOk result (λ r. map (λ e. e.reader_began.value) r.0.items ≡ map (λ s. s.reader) sessions.items) }
     ensures writers { IfOk result (λ r. map (λ e. e.writer_began.value) r.0.items ≡ map (λ s. s.writer) sessions.items) }
     ensures parts { IfOk result (λ r. All (λ e. IsSome e.writer) r.0.items → parts_of r.1.items ≡ parts_of (map (λ s. s.seat) sessions.items)) }
+    ensures shares { IfOk result (λ r. shares_of r.1.items ≤ shares_of (map (λ s. s.seat) sessions.items) + given_since (length L.began) (flat_map (λ e. e.receipts.items) r.0.items)) }
 {
     let mut ends = Vec::with_capacity(alloc, sessions.len())?;
     let mut seats = Vec::with_capacity(alloc, sessions.len())?;
@@ -167,7 +173,7 @@ pub fn serve_all<
         rt,
         move |scope| -> (Vec<SessionEnd<R, W>>, Vec<Seat<L>>)
             requires { (vec_len ends + vec_len sessions ≤ vec_capacity ends) × (vec_len seats + vec_len sessions ≤ vec_capacity seats) × (ends.items ≡ []) × (seats.items ≡ []) }
-            ensures { (map (λ e. e.id) result.0.items ≡ map (λ s. s.id) sessions.items) × (map (λ e. e.reader_began.value) result.0.items ≡ map (λ s. s.reader) sessions.items) × (map (λ e. e.writer_began.value) result.0.items ≡ map (λ s. s.writer) sessions.items) × (All (λ e. IsSome e.writer) result.0.items → parts_of result.1.items ≡ parts_of (map (λ s. s.seat) sessions.items)) }
+            ensures { (map (λ e. e.id) result.0.items ≡ map (λ s. s.id) sessions.items) × (map (λ e. e.reader_began.value) result.0.items ≡ map (λ s. s.reader) sessions.items) × (map (λ e. e.writer_began.value) result.0.items ≡ map (λ s. s.writer) sessions.items) × (All (λ e. IsSome e.writer) result.0.items → parts_of result.1.items ≡ parts_of (map (λ s. s.seat) sessions.items)) × (shares_of result.1.items ≤ shares_of (map (λ s. s.seat) sessions.items) + given_since (length L.began) (flat_map (λ e. e.receipts.items) result.0.items)) }
         {
             serve_from(
                 scope, rt, alloc, desk, gate, sessions, &mut ends, &mut seats,

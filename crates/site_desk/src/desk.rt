@@ -5,7 +5,7 @@ ghost use Rattle.book_core.specs.OwnRow.{HasOwnRights};
 ghost use Rattle.site_exchange.specs.Exchange.{ack_for, receiver};
 ghost use Rattle.sql_records.specs.Keeping.{LeavesOnly};
 ghost use Rattle.site_desk.specs.Answers.{ack_of};
-ghost use Rattle.site_desk.specs.Count.{asked_since};
+ghost use Rattle.site_desk.specs.Count.{asked_since, GoesOnFrom};
 ghost use Rattle.site_desk.specs.Finish.{FindsFirst, StandsIn, WasSeen, handed_back};
 ghost use Rattle.site_desk.specs.Seats.{held, parts_of, shares_of};
 
@@ -40,7 +40,7 @@ impl<K: Keeper, L: Opens> Desk<K, L> {
         requires name { blank.name ≡ L.name }
         requires parts { blank.parts ≡ L.parts }
         requires some { 0 < blank.parts }
-        requires opening { L.opening ≡ length book.book.history }
+        requires began { L.began ≡ book.book.history }
         requires office { L.office ≡ book.book.office }
         ensures { result.1 ≡ held blank.parts 0 }
     {
@@ -65,7 +65,7 @@ impl<K: Keeper, L: Opens> Desk<K, L> {
         ensures receipt { IfOk result (λ r. r.1 ≡ record { number = number; request = request.now; reply = r.0.reply; place = r.0.place }) }
         ensures share { IfOk result (λ r. seat.new ≡ held seat.old.parts (if r.0.fresh then seat.old.count + 1 else seat.old.count)) }
         ensures kept { OnErr result (seat.new ≡ seat.old) }
-        ensures place { IfOk result (λ r. r.0.fresh ≡ true → L.opening + seat.old.count ≤ r.0.place) }
+        ensures place { IfOk result (λ r. r.0.fresh ≡ true → length L.began + seat.old.count ≤ r.0.place) }
     {
         let mut locked = self.lock.lock(rt);
         let site = locked.site();
@@ -79,7 +79,7 @@ impl<K: Keeper, L: Opens> Desk<K, L> {
     /// Errors are those of `SiteBook::look`.
     pub fn look<R: Wait>(&self, rt: &R, seat: &Seat<L>, event: Event) -> Result<Seen, LookFault>
         ensures event { IfOk result (λ seen. seen.event ≡ event) }
-        ensures at { IfOk result (λ seen. L.opening + seat.now.count ≤ seen.at) }
+        ensures at { IfOk result (λ seen. length L.began + seat.now.count ≤ seen.at) }
     {
         for _ in rt.forever() {
             let locked = self.lock.lock(rt);
@@ -116,22 +116,24 @@ impl<K: Keeper, L: Opens> Desk<K, L> {
     /// memory.
     ///
     /// The first of these is the fault: the seats do not have all that was newly entered; a receipt is not the entry that
-    /// it names; a look does not show what the entries that it names say. The book comes back with a fault too. Each
-    /// look costs a walk over the entries that it names.
+    /// it names; a look does not show what the entries that it names say. The book comes back with a fault too: it is of the
+    /// site that the desk was made for, and its history goes on from the one that it had then. Each look costs a walk over
+    /// the entries that it names.
     pub fn finish(
         self,
         seats: Vec<Seat<L>>,
         receipts: &[Receipt],
         looks: &[Seen],
     ) -> Result<SiteBook<K>, (SiteBook<K>, FinishFault)>
-        ensures counted { IfOk result (λ book. shares_of seats.items ≡ asked_since L.opening book.book.history) }
+        ensures counted { IfOk result (λ book. shares_of seats.items ≡ asked_since (length L.began) book.book.history) }
         ensures receipts { IfOk result (λ book. All (StandsIn book.book.history) receipts.now) }
         ensures looks { IfOk result (λ book. All (WasSeen book.book.office book.book.history) looks.now) }
-        ensures fault { IfErr result (λ e. FindsFirst e.0.book.office e.0.book.history (asked_since L.opening e.0.book.history) (shares_of seats.items) receipts.now looks.now e.1) }
+        ensures fault { IfErr result (λ e. FindsFirst e.0.book.office e.0.book.history (asked_since (length L.began) e.0.book.history) (shares_of seats.items) receipts.now looks.now e.1) }
         ensures whole { parts_of seats.items ≡ L.parts → IfErr result (λ e. e.1 ≢ FinishFault.SeatsOut) }
 
         // What the book kept, whenever the lock was free.
         ensures office { (handed_back result).book.office ≡ L.office }
+        ensures goes_on { GoesOnFrom L.began (handed_back result).book.history }
         ensures legal { IsLegal (handed_back result).book.office (handed_back result).book.history }
         ensures has_rights { HasOwnRights (handed_back result).book }
         ensures same { (handed_back result).closed ≡ false → K.is_trusted (handed_back result).keeper → (handed_back result).book.history ≡ K.kept (handed_back result).keeper }

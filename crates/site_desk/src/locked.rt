@@ -9,7 +9,7 @@ ghost use Rattle.site_exchange.specs.Taking.{site_after, with_entry};
 ghost use Rattle.sql_records.specs.Keeping.{LeavesOnly};
 ghost use Rattle.site_desk.specs.Answers.{IsAnswer, IsAskFault, IsSeenAt, IsTakeFault, IsTaken, is_peer};
 ghost use Rattle.site_desk.specs.SiteView.{decision_in, entry_in, site_of, verdict_in};
-ghost use Rattle.site_desk.specs.Count.{asked_since};
+ghost use Rattle.site_desk.specs.Count.{asked_since, GoesOnFrom};
 ghost use Rattle.site_desk.specs.Finish.{FindsFirst, StandsIn, WasSeen, handed_back};
 ghost use Rattle.site_desk.specs.Seats.{held, parts_of, shares_of};
 
@@ -32,7 +32,6 @@ use std::sync::ledger::{Blank, Book as Tally, Share};
 #[derive(Drop)]
 pub struct Locked<K: Keeper, L: Opens> {
     book: SiteBook<K>,
-    opening: usize,
     total: u64,
     tally: Tally<L>,
     nothing: Share<L>,
@@ -41,7 +40,7 @@ pub struct Locked<K: Keeper, L: Opens> {
 impl<K: Keeper, L: Opens> Model for Locked<K, L> {
     ghost use Rattle.std.specs.Prelude.{◌≡◌, ◌≤◌, length};
     ghost use Rattle.site_desk.specs.SiteView.{SiteView, coded_view};
-    ghost use Rattle.site_desk.specs.Count.{asked_since};
+    ghost use Rattle.site_desk.specs.Count.{asked_since, GoesOnFrom};
 
     ghost Value = { SiteView K };
 
@@ -49,7 +48,7 @@ impl<K: Keeper, L: Opens> Model for Locked<K, L> {
 
     ghost view = { λ d. d.book };
 
-    ghost invariant = { λ d. (d.opening ≡ L.opening) × (d.opening ≤ length d.book.book.history) × (d.total ≡ asked_since L.opening d.book.book.history) × (d.tally.total ≡ d.total) × (d.nothing.parts ≡ 0) × (d.book.book.office ≡ L.office) };
+    ghost invariant = { λ d. (length L.began ≤ length d.book.book.history) × (d.total ≡ asked_since (length L.began) d.book.book.history) × (d.tally.total ≡ d.total) × (d.nothing.parts ≡ 0) × (d.book.book.office ≡ L.office) × GoesOnFrom L.began d.book.book.history };
 }
 
 impl<K: Keeper, L: Opens> Locked<K, L> {
@@ -58,18 +57,18 @@ impl<K: Keeper, L: Opens> Locked<K, L> {
         requires name { blank.name ≡ L.name }
         requires parts { blank.parts ≡ L.parts }
         requires some { 0 < blank.parts }
-        requires opening { L.opening ≡ length book.book.history }
+        requires began { L.began ≡ book.book.history }
         requires office { L.office ≡ book.book.office }
         ensures book { result.0 ≡ book }
         ensures seat { result.1 ≡ held blank.parts 0 }
     {
-        let opening = book.book().len();
+        // What the book says of its length.
+        let _len = book.book().len();
         let (tally, mut share) = blank.open::<L>();
         let nothing = share.empty();
         (
             Locked {
                 book,
-                opening,
                 total: 0,
                 tally,
                 nothing,
@@ -98,7 +97,7 @@ impl<K: Keeper, L: Opens> Locked<K, L> {
         ensures receipt { IfOk result (λ r. r.1 ≡ record { number = number; request = request.now; reply = r.0.reply; place = r.0.place }) }
         ensures share { IfOk result (λ r. seat.new ≡ held seat.old.parts (if r.0.fresh then seat.old.count + 1 else seat.old.count)) }
         ensures kept { OnErr result (seat.new ≡ seat.old) }
-        ensures place { IfOk result (λ r. r.0.fresh ≡ true → L.opening + seat.old.count ≤ r.0.place) }
+        ensures place { IfOk result (λ r. r.0.fresh ≡ true → length L.began + seat.old.count ≤ r.0.place) }
     {
         self.tally.audit(&mut seat.share);
         let answer = self.book.ask(alloc, number, request)?;
@@ -128,8 +127,8 @@ impl<K: Keeper, L: Opens> Locked<K, L> {
     /// Whether the history has so many requests that were newly entered.
     #[tactic(auto, using(crate::proofs::Growth::asked_since_below))]
     pub fn shows(&self, count: u64) -> bool
-        ensures counted { IsTrue result ↔ (count ≤ asked_since L.opening self.now.book.history) }
-        ensures within { IsTrue result → L.opening + count ≤ length self.now.book.history }
+        ensures counted { IsTrue result ↔ (count ≤ asked_since (length L.began) self.now.book.history) }
+        ensures within { IsTrue result → length L.began + count ≤ length self.now.book.history }
     {
         count <= self.total
     }
@@ -176,14 +175,15 @@ impl<K: Keeper, L: Opens> Locked<K, L> {
         looks: &[Seen],
     ) -> Result<SiteBook<K>, (SiteBook<K>, FinishFault)>
         ensures book { handed_back result ≡ self }
-        ensures counted { OnOk result (shares_of seats.items ≡ asked_since L.opening self.book.history) }
+        ensures counted { OnOk result (shares_of seats.items ≡ asked_since (length L.began) self.book.history) }
         ensures receipts { OnOk result (All (StandsIn self.book.history) receipts.now) }
         ensures looks { OnOk result (All (WasSeen self.book.office self.book.history) looks.now) }
-        ensures fault { IfErr result (λ e. FindsFirst self.book.office self.book.history (asked_since L.opening self.book.history) (shares_of seats.items) receipts.now looks.now e.1) }
-        ensures whole { parts_of seats.items ≡ L.parts → shares_of seats.items ≡ asked_since L.opening self.book.history }
+        ensures fault { IfErr result (λ e. FindsFirst self.book.office self.book.history (asked_since (length L.began) self.book.history) (shares_of seats.items) receipts.now looks.now e.1) }
+        ensures whole { parts_of seats.items ≡ L.parts → shares_of seats.items ≡ asked_since (length L.began) self.book.history }
 
         // What the types of the book and its keeper keep.
         ensures office { self.book.office ≡ L.office }
+        ensures goes_on { GoesOnFrom L.began self.book.history }
         ensures legal { IsLegal self.book.office self.book.history }
         ensures has_rights { HasOwnRights self.book }
         ensures same { self.closed ≡ false → K.is_trusted self.keeper → self.book.history ≡ K.kept self.keeper }

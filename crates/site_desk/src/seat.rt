@@ -1,24 +1,25 @@
 //! A session's share of the count of requests that were newly entered at a desk.
-ghost use Rattle.std.specs.Prelude.{◌≡◌, ℕ, ◌-◌, ◌<◌};
+ghost use Rattle.std.specs.Prelude.{◌≡◌, List, [], ◌-◌, ◌<◌};
 ghost use Rattle.site_desk.specs.Seats.{held};
 
 use std::marker::{Brand, Model};
 use std::sync::ledger::{Ledger, Share};
 
-/// Which count it is (std's `sync::ledger`) and, for contracts alone, of which office the book is and how long its history
-/// was when the count began.
+/// Which count it is (std's `sync::ledger`) and, for contracts alone, of which office the book is and what its history was
+/// when the count began.
 ///
 /// A desk lives in a function over a type with this bound. A caller passes `Brand`, and picks all three.
 pub trait Opens: Ledger {
+    ghost use Rattle.book_core.specs.declared.entry.Entry.{Entry as Entered};
     ghost use Rattle.book_core.specs.Decision.{Office};
 
-    ghost opening: { ℕ };
+    ghost began: { List Entered };
 
     ghost office: { Office };
 }
 
 impl Opens for Brand {
-    ghost opening = { 0 };
+    ghost began = { [] };
 
     ghost office = { record { me = 0; sites = 0; limit = 0 } };
 }

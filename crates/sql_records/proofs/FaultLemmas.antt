@@ -21,7 +21,7 @@ use Rattle.sqlite.specs.Effect.{Database, RefusesQuery, RefusesToRead}
 use Rattle.sqlite.specs.Listing.{understood, reads_listing, IsSourceOf}
 use Rattle.sqlite.specs.State.{State, store_error, HasCause, IsUnchanged, IsRolledBack, IsNoStatement, IsNotRun, Fails, FailsToQuery}
 use Rattle.sqlite.proofs.Callers.{IsPlain, command_of}
-use Rattle.sql_records.specs.Faults.{told, HasDiskCause, StoreWantsMemory}
+use Rattle.sql_records.specs.Faults.{told, HasDiskCause, IsUndoneForMemory}
 
 -- for want of memory, or the disk is at fault
 abbrev pub Caused : State → State → Error → Type 0
@@ -100,13 +100,13 @@ module _ (sql : List ℕ) (params : Row) (old new : State) (schema : Schema) (ha
       let typed = subst (λ s. accepts_program s (lets_of runs.program) runs.program.body params ≡ true) (sym has) runs.typed in
       inr (inr (inr (refused old.step_limit old.now runs.program params e typed (runs.small old.now.trees) refuses)))
 
-  not_run_wants : IsNotRun old new sql params e → e ≡ SqliteFailure code.OutOfMemory → StoreWantsMemory old new
+  not_run_wants : IsNotRun old new sql params e → e ≡ SqliteFailure code.OutOfMemory → IsUndoneForMemory old new
   unfolding IsNotRun
   not_run_wants (inl h) is = absurd (no_statement h.0)
   not_run_wants (inr h) is = subst (Fails old new ⊥) is h
 
   -- an answer that memory is wanted is one of the store
-  pub query_wants : FailsToQuery sql params old new e → e ≡ SqliteFailure code.OutOfMemory → StoreWantsMemory old new
+  pub query_wants : FailsToQuery sql params old new e → e ≡ SqliteFailure code.OutOfMemory → IsUndoneForMemory old new
   unfolding FailsToQuery
   query_wants (inl h) is = not_run_wants h is
   query_wants (inr h) is =

@@ -34,7 +34,7 @@ use Rattle.sqlite.specs.declared.error.Error.{Error}
 use Rattle.sql_records.proofs.FaultLemmas.{Caused, IsRun, never_folded, query_cause, query_undone, query_wants}
 use Rattle.sqlite.specs.declared.error.Error.TheVariants.{SqliteFailure}
 use Rattle.sqlite.specs.declared.error.ErrorCode.TheVariants as code
-use Rattle.sql_records.specs.Faults.{StoreWantsMemory}
+use Rattle.sql_records.specs.Faults.{IsUndoneForMemory}
 use Rattle.sql_records.specs.Opening.{IsLeftOrUndone}
 use Rattle.sql_records.proofs.UndoneLemmas.{left_or_undone}
 use Rattle.sql_records.proofs.RowLemmas.{lower_id, by_place_total}
@@ -198,13 +198,13 @@ list_runs more indexes views name = record { program = record { lets = []; body 
 pub list_fails : (old new : State) (name : List ℕ) (e : Error) → IsOurs old.now.schema → FailsToQuery list_text (event_params name) old new e → Caused old new e
 list_fails old new name e ours h = query_cause list_text (event_params name) old new (ours_and ours.tables ours.indexes ours.views) ours.is (list_runs ours.tables ours.indexes ours.views name) e h
 
-pub find_wants : (old new : State) (n : ℕ) (e : Error) → IsOurs old.now.schema → FailsToQuery find_text (number_params n) old new e → e ≡ SqliteFailure code.OutOfMemory → StoreWantsMemory old new
+pub find_wants : (old new : State) (n : ℕ) (e : Error) → IsOurs old.now.schema → FailsToQuery find_text (number_params n) old new e → e ≡ SqliteFailure code.OutOfMemory → IsUndoneForMemory old new
 find_wants old new n e ours h = query_wants find_text (number_params n) old new (ours_and ours.tables ours.indexes ours.views) ours.is (find_runs ours.tables ours.indexes ours.views n) e h
 
 pub find_undone : (old new : State) (n : ℕ) (e : Error) → IsOurs old.now.schema → FailsToQuery find_text (number_params n) old new e → IsLeftOrUndone old new
 find_undone old new n e ours h = left_or_undone old new (query_undone find_text (number_params n) old new (ours_and ours.tables ours.indexes ours.views) ours.is (find_runs ours.tables ours.indexes ours.views n) e h)
 
-pub list_wants : (old new : State) (name : List ℕ) (e : Error) → IsOurs old.now.schema → FailsToQuery list_text (event_params name) old new e → e ≡ SqliteFailure code.OutOfMemory → StoreWantsMemory old new
+pub list_wants : (old new : State) (name : List ℕ) (e : Error) → IsOurs old.now.schema → FailsToQuery list_text (event_params name) old new e → e ≡ SqliteFailure code.OutOfMemory → IsUndoneForMemory old new
 list_wants old new name e ours h = query_wants list_text (event_params name) old new (ours_and ours.tables ours.indexes ours.views) ours.is (list_runs ours.tables ours.indexes ours.views name) e h
 
 pub list_undone : (old new : State) (name : List ℕ) (e : Error) → IsOurs old.now.schema → FailsToQuery list_text (event_params name) old new e → IsLeftOrUndone old new

@@ -20,10 +20,10 @@ use Rattle.sql_records.specs.declared.fault.OpenFault.TheVariants.{NotOurs, Othe
 use Rattle.sql_records.specs.Keeping.{LeavesOnly, LeavesWithOrWithout, Keeps}
 use Rattle.sql_records.specs.declared.meta.Meta.{Meta}
 use Rattle.sql_records.specs.Layout.{IsOurs, HasGoodMeta, HasMeta, AreNumbers}
-use Rattle.sql_records.specs.Rows.{delta_in, delta_named, entry_of, entry_with, text_in, is_below, rows_below, rows_from_0, AreInOrder, AreWhole, IsEntryAt, IsFirstDamaged, IsDamagedAt}
+use Rattle.sql_records.specs.Rows.{delta_in, delta_named, entry_of, entry_with, text_in, is_below, rows_below, rows_from_0, AreInOrder, AreWhole, IsEntryAt, IsFirstDamaged, IsDamagedAt, WantsForDelta}
 use Rattle.sql_records.specs.Held.{IsAtRest, IsSiteIn, MayLeaveIn, LeavesSite, history_in, opened_in, rows_in}
 use Rattle.sql_records.specs.Opening.{AreRowsFault, IsMetaFault, IsOurFault, IsStoreFault, IsWantedAt}
-use Rattle.sql_records.specs.Faults.{HasDiskCause, StoreWantsMemory}
+use Rattle.sql_records.specs.Faults.{HasDiskCause, IsUndoneForMemory}
 use Rattle.sql_records.proofs.RowLemmas.{whole_next, entries_next, read_from}
 use Rattle.sql_records.proofs.QueryLemmas.{whole_order}
 
@@ -43,23 +43,14 @@ abbrev pub StopsReading : List Row → OpenFault → Type 0
 StopsReading rows fault = ((fault ≡ Memory) × ((place : ℕ) × IsWantedAt place rows)) ⊎ ((place : ℕ) × (fault ≡ Damaged place) × IsFirstDamaged place rows)
 
 -- memory is wanted for the row at a place, the rows before it being whole
-pub wanted_at : (rows : List Row) (i : ℕ) (values : Row) → i < length rows → values ≡ get_or rows i values → AreWhole 0 (take i rows) → column values 0 ≡ Int (pos i) → IsSome (text_in (column values 9)) → IsWantedAt i rows
-wanted_at rows i values low at whole placed text = record { before = whole; values = values; here = slice_get_read rows (length rows) i values refl low at; placed = placed; text = text }
+pub wanted_at : (rows : List Row) (i : ℕ) (values : Row) → i < length rows → values ≡ get_or rows i values → AreWhole 0 (take i rows) → column values 0 ≡ Int (pos i) → IsSome (entry_of values) ⊎ WantsForDelta (column values 9) → IsWantedAt i rows
+wanted_at rows i values low at whole placed wants = record { before = whole; values = values; here = slice_get_read rows (length rows) i values refl low at; placed = placed; wants = wants }
 
 -- the fault of that row
 pub fault_at : (rows : List Row) (i : ℕ) (values : Row) (fault : OpenFault) → i < length rows → values ≡ get_or rows i values → AreWhole 0 (take i rows) → (fault ≡ Memory) ⊎ (fault ≡ Damaged i)
-    → (fault ≡ Damaged i → ¬ IsEntryAt i values) → (fault ≡ Memory → (column values 0 ≡ Int (pos i)) × IsSome (text_in (column values 9))) → StopsReading rows fault
-fault_at rows i values fault low at whole (inl is) other wanted = let w = wanted is in inl (is, (i, wanted_at rows i values low at whole w.0 w.1))
+    → (fault ≡ Damaged i → ¬ IsEntryAt i values) → (fault ≡ Memory → (column values 0 ≡ Int (pos i)) × WantsForDelta (column values 9)) → StopsReading rows fault
+fault_at rows i values fault low at whole (inl is) other wanted = let w = wanted is in inl (is, (i, wanted_at rows i values low at whole w.0 (inr w.1)))
 fault_at rows i values fault low at whole (inr is) other wanted = inr (i, is, (whole, (values, slice_get_read rows (length rows) i values refl low at, other is)))
-
-text_of_delta : (v : Value) (delta : Delta) → delta_in v ≡ Some delta → IsSome (text_in v)
-unfolding delta_in
-text_of_delta v delta h = let t = bind_some (text_in v) delta_named delta h in subst IsSome (sym t.1) refl
-
--- a row that reads has a delta's text
-pub has_text : (values : Row) (entry : Entry) → entry_of values ≡ Some entry → IsSome (text_in (column values 9))
-unfolding entry_of
-has_text values entry h = let d = bind_some (delta_in (column values 9)) (λ delta. entry_with values delta) entry h in text_of_delta (column values 9) d.0 d.1
 
 -- ---- rows in front of the place 0
 
@@ -196,7 +187,7 @@ undone_before first mid last same back = record {
   counts = record { changes = back.counts.changes ∙ same.1.changes; last_rowid = back.counts.last_rowid ∙ same.1.last_rowid };
 }
 
-memory_before : (first mid last : State) → IsUnchanged first mid → StoreWantsMemory mid last → StoreWantsMemory first last
+memory_before : (first mid last : State) → IsUnchanged first mid → IsUndoneForMemory mid last → IsUndoneForMemory first last
 memory_before first mid last same h = (StoreError.OutOfMemory, refl, tt, undone_before first mid last same h.3, λ kind is yes. absurd cc)
 
 -- a fault of the numbers

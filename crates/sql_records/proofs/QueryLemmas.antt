@@ -32,7 +32,7 @@ use Rattle.sql_records.specs.Held.{LeavesNoMore}
 use Rattle.sqlite.specs.declared.error.Error.{Error}
 use Rattle.sqlite.specs.declared.error.Error.TheVariants.{SqliteFailure}
 use Rattle.sqlite.specs.declared.error.ErrorCode.TheVariants as code
-use Rattle.sql_records.specs.Faults.{StoreWantsMemory}
+use Rattle.sql_records.specs.Faults.{IsUndoneForMemory}
 use Rattle.sql_records.proofs.FaultLemmas.{Caused, IsRun, never_folded, query_cause, query_undone, query_wants}
 use Rattle.sql_records.specs.Opening.{IsLeftOrUndone}
 use Rattle.sql_records.proofs.UndoneLemmas.{left_or_undone}
@@ -266,10 +266,10 @@ select_fails old new e ours h = query_cause select_text [] old new (ours_and our
 pub meta_select_fails : (old new : State) (e : Error) → IsOurs old.now.schema → FailsToQuery meta_select_text [] old new e → Caused old new e
 meta_select_fails old new e ours h = query_cause meta_select_text [] old new (ours_and ours.tables ours.indexes ours.views) ours.is (meta_runs ours.tables ours.indexes ours.views) e h
 
-pub select_wants : (old new : State) (e : Error) → IsOurs old.now.schema → FailsToQuery select_text [] old new e → e ≡ SqliteFailure code.OutOfMemory → StoreWantsMemory old new
+pub select_wants : (old new : State) (e : Error) → IsOurs old.now.schema → FailsToQuery select_text [] old new e → e ≡ SqliteFailure code.OutOfMemory → IsUndoneForMemory old new
 select_wants old new e ours h = query_wants select_text [] old new (ours_and ours.tables ours.indexes ours.views) ours.is (select_runs ours.tables ours.indexes ours.views) e h
 
-pub meta_select_wants : (old new : State) (e : Error) → IsOurs old.now.schema → FailsToQuery meta_select_text [] old new e → e ≡ SqliteFailure code.OutOfMemory → StoreWantsMemory old new
+pub meta_select_wants : (old new : State) (e : Error) → IsOurs old.now.schema → FailsToQuery meta_select_text [] old new e → e ≡ SqliteFailure code.OutOfMemory → IsUndoneForMemory old new
 meta_select_wants old new e ours h = query_wants meta_select_text [] old new (ours_and ours.tables ours.indexes ours.views) ours.is (meta_runs ours.tables ours.indexes ours.views) e h
 
 -- ---- what a query that fails leaves

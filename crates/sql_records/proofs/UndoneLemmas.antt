@@ -1,11 +1,12 @@
 -- What a query that does not answer leaves.
-use Rattle.std.proofs.Common.{◌≡◌, ◌⊎◌, inl, inr, true, List, Option, Some, None, Result, Ok, Err, OnErr, IsTrue, refl, ◌∙◌, if◌then◌else◌, Bool, ℕ}
+use Rattle.std.proofs.Common.{◌≡◌, ◌⊎◌, inl, inr, true, List, Option, Some, None, Result, Ok, Err, OnErr, IsTrue, refl, sym, ◌∙◌, if◌then◌else◌, Bool, ℕ}
 use Rattle.sqlite_schema.specs.declared.command.Returning.{Returning}
 use Rattle.sqlite_resolve.specs.declared.compiled.Compiled.{Compiled}
 use Rattle.sqlite.specs.Order.{Row}
 use Rattle.sqlite.specs.declared.error.Error.{Error}
 use Rattle.sqlite.specs.Effect.{Database}
 use Rattle.sqlite.specs.State.{State, IsUnchanged, IsRolledBack, KeepsCommit, ShowsRows, Shown, FailsToShow, FailsToQuery, IsNotRun, IsTooLate}
+use Rattle.sql_records.specs.Held.{IsAtRest, IsUndisturbed}
 use Rattle.sql_records.specs.Opening.{IsLeftOrUndone}
 
 pub left_or_undone : (old new : State) → IsUnchanged old new ⊎ IsRolledBack old new → IsLeftOrUndone old new
@@ -14,6 +15,10 @@ left_or_undone old new (inr h) = record { kept = record { was_open = h.was_open;
 
 pub as_it_was : (s : State) → IsLeftOrUndone s s
 as_it_was s = record { kept = record { was_open = λ on. on; committed = λ _. refl }; shows = λ _. inl (refl, refl, refl) }
+
+-- at rest, what was undone is what was shown
+pub undisturbed : (old new : State) (count : ℕ) → IsAtRest old count → IsLeftOrUndone old new → IsUndisturbed old new
+undisturbed old new count rest h on = elim (h.shows on) [ inl s ↦ (s.0, s.1) | inr u ↦ (u.0 ∙ rest.settled, u.1 ∙ sym rest.autocommit) ]
 
 pub left_after : (first mid last : State) → IsUnchanged first mid → IsLeftOrUndone mid last → IsLeftOrUndone first last
 left_after first mid last same h = record {

@@ -13,8 +13,8 @@ told memory disk _ = disk
 
 -- What want of memory in the store leaves: what was begun is undone. The kit says no more of it, and of records at rest
 -- it is that they are as they were.
-abbrev pub StoreWantsMemory : State → State → Type 0
-StoreWantsMemory old new = Fails old new ⊥ (SqliteFailure OutOfMemory)
+abbrev pub IsUndoneForMemory : State → State → Type 0
+IsUndoneForMemory old new = Fails old new ⊥ (SqliteFailure OutOfMemory)
 
 -- the disk has failed or refused since, the connection was shut, or the steps of its statements are limited
 abbrev pub HasDiskCause : State → State → Type 0

@@ -46,6 +46,10 @@ pub record IsAtRest (s : State) (count : ℕ) : Type 0 where
   pub whole : AreWhole 0 (rows_in s.now.trees)
   pub counted : length (rows_in s.now.trees) ≡ count
 
+-- a connection that is open still shows what it showed, in a transaction only if it was in one
+abbrev pub IsUndisturbed : State → State → Type 0
+IsUndisturbed old new = IsTrue new.is_open → (new.now ≡ old.now) × (new.in_transaction ≡ old.in_transaction)
+
 -- the trees are those of our schema alone, of a site with these numbers and no entry
 pub record IsNewIn (meta : Meta) (db : Trees) : Type 0 where
   pub sound : IsSound our_schema db

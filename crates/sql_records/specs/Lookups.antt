@@ -16,7 +16,7 @@ use Rattle.book_core.specs.declared.entry.Entry.{Entry}
 use Rattle.book_core.specs.History.{asked, kept}
 use Rattle.plain_words.specs.Words.{◌>>=◌}
 use Rattle.sqlite.specs.State.{State, IsUnchanged}
-use Rattle.sql_records.specs.Faults.{HasDiskCause, StoreWantsMemory}
+use Rattle.sql_records.specs.Faults.{HasDiskCause, IsUndoneForMemory}
 use Rattle.sql_records.specs.declared.lookup.FindFault.{FindFault}
 use Rattle.sql_records.specs.declared.lookup.FindFault.TheVariants.{Shut, Damaged, Memory, Disk}
 use Rattle.sql_records.specs.declared.lookup.Found.{Found}
@@ -116,10 +116,10 @@ pub record ReadsSome (rows : List Row) : Type 0 where
 abbrev pub IsQueryFault : State → State → FindFault → Type 0
 IsQueryFault old new Shut = ⊥
 IsQueryFault old new (Damaged place) = ⊥
-IsQueryFault old new Memory = StoreWantsMemory old new
+IsQueryFault old new Memory = IsUndoneForMemory old new
 IsQueryFault old new Disk = HasDiskCause old new
 
 -- the same where requests are listed, for which memory is wanted too where there are any
 abbrev pub IsListFault : State → State → List Listed → FindFault → Type 0
-IsListFault old new listed Memory = StoreWantsMemory old new ⊎ (IsUnchanged old new × (0 < length listed))
+IsListFault old new listed Memory = IsUndoneForMemory old new ⊎ (IsUnchanged old new × (0 < length listed))
 IsListFault old new listed fault = IsQueryFault old new fault

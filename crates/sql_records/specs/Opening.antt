@@ -17,9 +17,9 @@ use Rattle.book_core.specs.Limits.{greatest_limit}
 use Rattle.sql_records.specs.declared.meta.Meta.{Meta}
 use Rattle.sql_records.specs.declared.fault.OpenFault.{OpenFault}
 use Rattle.sql_records.specs.declared.fault.OpenFault.TheVariants.{NotOurs, OtherSchema, Damaged, Memory, Disk}
-use Rattle.sql_records.specs.Rows.{number_within, site_in, text_in, rows_from_0, AreInOrder, AreWhole, IsDamagedAt}
+use Rattle.sql_records.specs.Rows.{number_within, site_in, entry_of, rows_from_0, AreInOrder, AreWhole, IsDamagedAt, WantsForDelta}
 use Rattle.sql_records.specs.Layout.{IsOurs, our_kind, HasOtherSchema, HasGoodMeta, HasNoMeta}
-use Rattle.sql_records.specs.Faults.{HasDiskCause, StoreWantsMemory}
+use Rattle.sql_records.specs.Faults.{HasDiskCause, IsUndoneForMemory}
 use Rattle.sql_records.specs.Texts.{meta_select_text}
 use Rattle.sql_records.specs.Held.{entries_tree}
 
@@ -61,7 +61,7 @@ abbrev pub IsStoreFault : State → State → OpenFault → Type 0
 IsStoreFault old new NotOurs = ⊥
 IsStoreFault old new (OtherSchema version) = ⊥
 IsStoreFault old new (Damaged place) = ⊥
-IsStoreFault old new Memory = StoreWantsMemory old new
+IsStoreFault old new Memory = IsUndoneForMemory old new
 IsStoreFault old new Disk = HasDiskCause old new
 
 -- what is at fault in the numbers of a database of ours
@@ -69,16 +69,16 @@ abbrev pub IsMetaFault : State → State → OpenFault → Type 0
 IsMetaFault old new NotOurs = HasNoMeta old.now.trees
 IsMetaFault old new (OtherSchema version) = HasOtherSchema version old.now.trees
 IsMetaFault old new (Damaged place) = ⊥
-IsMetaFault old new Memory = StoreWantsMemory old new
+IsMetaFault old new Memory = IsUndoneForMemory old new
 IsMetaFault old new Disk = HasDiskCause old new
 
--- memory is wanted for the row at this place, which has its place and a delta's text, and those before it are the entries of theirs
+-- memory may be wanted for the row at this place: it has its place, and is an entry or tells a delta for which memory may be wanted; those before it are the entries of theirs
 pub record IsWantedAt (place : ℕ) (rows : List Row) : Type 0 where
   pub before : AreWhole 0 (take place rows)
   pub values : Row
   pub here : slice_get rows place ≡ Some values
   pub placed : column values 0 ≡ Int (pos place)
-  pub text : IsSome (text_in (column values 9))
+  pub wants : IsSome (entry_of values) ⊎ WantsForDelta (column values 9)
 
 -- what is at fault in rows of entries, which are in an order of their places
 abbrev pub AreRowsFault : List Row → OpenFault → Type 0
@@ -138,7 +138,7 @@ IsEntriesFault db fault = HasGoodMeta db × ((rows : List Row) × AreInOrder (db
 -- what is at fault in a database of ours, in this order: the numbers, and then the rows
 abbrev pub IsOurFault : State → State → OpenFault → Type 0
 IsOurFault old new (Damaged place) = IsEntriesFault old.now.trees (Damaged place)
-IsOurFault old new Memory = StoreWantsMemory old new ⊎ (IsUnchanged old new × IsEntriesFault old.now.trees Memory)
+IsOurFault old new Memory = IsUndoneForMemory old new ⊎ (IsUnchanged old new × IsEntriesFault old.now.trees Memory)
 IsOurFault old new fault = IsMetaFault old new fault
 
 -- what is at fault in a database

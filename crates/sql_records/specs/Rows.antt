@@ -1,6 +1,6 @@
 -- The rows of the entries: the ten columns of each, and the entry that a row stands for. (Our own.)
 use Rattle.std.specs.Prelude.{ℕ, ◌+◌, ◌≤◌, ◌<◌, ◌^◌, ◌≡◌, nat_le, ◌&&◌, ◌==◌, if◌then◌else◌, Bool, true, false, List, [], ◌∷◌, ◌++◌, Option, Some, None, pos, negsuc, map, length, take, drop, slice_get, IsSome, IfSome, IsSorted, IsPermutation}
-use Rattle.std.specs.List.{filter_map, prefix_len}
+use Rattle.std.specs.List.{filter_map, prefix_len, slice_split}
 use Rattle.std.specs.Option.{option_map}
 use Rattle.std.specs.Result.{result_ok}
 use Rattle.std.specs.declared.cmp.Ordering.{Ordering}
@@ -21,9 +21,10 @@ use Rattle.request_ledger.specs.Ranges.{IsRequest}
 use Rattle.request_ledger.specs.Words.{verb_word, verb_of, request_verb, reply_word, reply_number, reply_of}
 use Rattle.book_core.specs.declared.entry.Entry.{Entry}
 use Rattle.book_core.specs.declared.entry.Entry.TheVariants.{Asked, Joined}
+use Rattle.plain_words.specs.Input.{is_line_break}
 use Rattle.plain_words.specs.Words.{◌>>=◌}
 use Rattle.delta_wire.specs.Grammar.{most_bytes, IsDelta, delta_text}
-use Rattle.delta_wire.specs.Wire.{delta_of}
+use Rattle.delta_wire.specs.Wire.{delta_of, BeginsWithItem}
 
 -- ---- the columns of an entry
 
@@ -196,6 +197,13 @@ asked_of values delta = do
   request ← request_in (column values 3) (column values 4) (column values 5) (column values 6)
   reply ← reply_in (column values 7) (column values 8)
   Some (Asked number request reply delta)
+
+-- memory may be wanted for the delta that is told here: its text is not too long, and begins with an item
+pub record WantsForDelta (v : Value) : Type 0 where
+  pub text : List ℕ
+  pub told : text_in v ≡ Some text
+  pub short : length text ≤ most_bytes
+  pub item : BeginsWithItem (slice_split is_line_break text)
 
 -- the columns of a request and its reply are null
 abbrev pub asks_nothing : Row → Bool

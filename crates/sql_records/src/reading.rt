@@ -1,9 +1,9 @@
 //! The entry that the columns of a row stand for.
-ghost use Rattle.std.specs.Prelude.{◌≡◌, IfOk, OnErr, IsSome, IsTrue, true};
+ghost use Rattle.std.specs.Prelude.{◌≡◌, IfOk, OnErr, IsTrue, true};
 ghost use Rattle.std.specs.Option.{option_map};
 ghost use Rattle.sqlite.specs.Order.{column};
 ghost use Rattle.sqlite_value.specs.Value.{owned};
-ghost use Rattle.sql_records.specs.Rows.{is_null, text_in, number_within, value_in, site_in, event_in, verb_in, announce_of, release_of, sell_of, refund_of, cede_of, request_of, request_in, rest_in, reply_in, delta_in, asks_nothing, asked_of, joined_of, entry_with, entry_of};
+ghost use Rattle.sql_records.specs.Rows.{is_null, text_in, number_within, value_in, site_in, event_in, verb_in, announce_of, release_of, sell_of, refund_of, cede_of, request_of, request_in, rest_in, reply_in, delta_in, asks_nothing, asked_of, joined_of, entry_with, entry_of, WantsForDelta};
 
 use book_core::Entry;
 use delta_mutators::Delta;
@@ -206,7 +206,7 @@ pub fn reply_in(word: ValueRef<'_>, rest: ValueRef<'_>) -> Option<Reply>
 #[tactic(auto, unfolding(crate::specs::Rows::delta_in))]
 fn delta_in(alloc: Global, value: ValueRef<'_>) -> Result<Option<Delta>, AllocError>
     ensures delta { IfOk result (λ delta. delta ≡ delta_in (owned value.entry)) }
-    ensures memory { OnErr result (IsSome (text_in (owned value.entry))) }
+    ensures memory { OnErr result (WantsForDelta (owned value.entry)) }
 {
     let Some(text) = text_in(value) else {
         return Ok(None);
@@ -270,7 +270,7 @@ fn joined_of(row: &Row, delta: Delta) -> Option<Entry>
 #[tactic(auto, unfolding(crate::specs::Rows::entry_of))]
 pub fn read_entry(alloc: Global, row: &Row) -> Result<Option<Entry>, AllocError>
     ensures entry { IfOk result (λ entry. entry ≡ entry_of row.now) }
-    ensures memory { OnErr result (IsSome (text_in (column row.now 9))) }
+    ensures memory { OnErr result (WantsForDelta (column row.now 9)) }
 {
     let Some(delta) = delta_in(alloc, value_at(row, 9))? else {
         return Ok(None);

@@ -139,7 +139,7 @@ impl<S: Alter> Keeper for Records<S> {
 }
 
 impl<S: Alter + Drop> Records<S> {
-    ghost use Rattle.std.specs.Prelude.{◌≡◌, ◌≢◌, true, false, Some, IfOk, IfErr, IsErr};
+    ghost use Rattle.std.specs.Prelude.{◌≡◌, ◌≢◌, true, false, Some, IfOk, IfErr, IsErr, OnOk};
     ghost use Rattle.sqlite.specs.State.{HasCleanDisk};
     ghost use Rattle.sqlite.specs.Held.{Held, state};
     ghost use Rattle.sql_records.specs.Opening.{IsForeignCause, IsOpenFault};
@@ -170,6 +170,8 @@ impl<S: Alter + Drop> Records<S> {
         ensures leaves { IfOk result (λ it. IsTrusted S.Store it.0 → LeavesOnly (kept_in S.Store it.0) (MayLeave S.Store it.0)) }
         ensures open { IfOk result (λ it. it.0.failures ≡ 0) }
         ensures limit { IfOk result (λ it. it.0.conn.step_limit ≡ conn.step_limit) }
+        ensures settled { OnOk result (conn.in_transaction ≡ false) }
+        ensures autocommit { IfOk result (λ it. IsTrusted S.Store it.0 → (state S.Store it.0.conn).in_transaction ≡ false) }
         ensures clean { IfOk result (λ it. IsTrusted S.Store it.0 → HasCleanDisk (state S.Store conn)) }
     {
         let is_settled = conn.is_autocommit();

@@ -7,7 +7,7 @@ ghost use Rattle.sqlite.specs.Held.{state};
 ghost use Rattle.sqlite.specs.Order.{Row as Rowed};
 ghost use Rattle.sqlite.specs.Values.{bound};
 ghost use Rattle.sqlite.specs.declared.types.Value.TheVariants.{Int, Text};
-ghost use Rattle.sql_records.specs.Held.{IsAtRest, IsTrusted, LeavesNoMore, history_in, kept_in, rows_in};
+ghost use Rattle.sql_records.specs.Held.{IsAtRest, IsTrusted, IsUndisturbed, LeavesNoMore, history_in, kept_in, rows_in};
 ghost use Rattle.sql_records.specs.Opening.{IsLeftOrUndone};
 ghost use Rattle.sql_records.specs.Lookups.{IsFirstUnread, IsListFault, IsQueryFault, ReadsSome, damage_of, found_columns, found_in, found_of, first_found, has_event, has_number, listed_columns, listed_in, listed_of, place_in};
 
@@ -165,6 +165,7 @@ impl<S: Alter> Records<S> {
         ensures found { IfOk result (λ found. IsTrusted S.Store self.new → found ≡ found_in (kept_in S.Store self.old) number) }
         ensures same { OnOk result (IsTrusted S.Store self.new → IsUnchanged (state S.Store self.old.conn) (state S.Store self.new.conn)) }
         ensures undone { OnErr result (IsTrusted S.Store self.new → IsLeftOrUndone (state S.Store self.old.conn) (state S.Store self.new.conn)) }
+        ensures still { OnErr result (IsTrusted S.Store self.new → IsUndisturbed (state S.Store self.old.conn) (state S.Store self.new.conn)) }
         ensures failures { OnOk result ((self.old.failures ≡ 0) × (self.new.failures ≡ 0)) }
         ensures fault { self.old.failures ≡ 0 → IfErr result (λ fault. IsTrusted S.Store self.new → IsQueryFault (state S.Store self.old.conn) (state S.Store self.new.conn) fault) }
         ensures shut { self.old.failures ≢ 0 → (result ≡ Err FindFault.Shut) × (self.new ≡ self.old) }
@@ -192,6 +193,7 @@ impl<S: Alter> Records<S> {
         ensures listed { IfOk result (λ listed. IsTrusted S.Store self.new → listed.items ≡ listed_in (kept_in S.Store self.old) event) }
         ensures same { OnOk result (IsTrusted S.Store self.new → IsUnchanged (state S.Store self.old.conn) (state S.Store self.new.conn)) }
         ensures undone { OnErr result (IsTrusted S.Store self.new → IsLeftOrUndone (state S.Store self.old.conn) (state S.Store self.new.conn)) }
+        ensures still { OnErr result (IsTrusted S.Store self.new → IsUndisturbed (state S.Store self.old.conn) (state S.Store self.new.conn)) }
         ensures failures { OnOk result ((self.old.failures ≡ 0) × (self.new.failures ≡ 0)) }
         ensures fault { self.old.failures ≡ 0 → IfErr result (λ fault. IsTrusted S.Store self.new → IsListFault (state S.Store self.old.conn) (state S.Store self.new.conn) (listed_in (kept_in S.Store self.old) event) fault) }
         ensures shut { self.old.failures ≢ 0 → (result ≡ Err FindFault.Shut) × (self.new ≡ self.old) }
@@ -222,6 +224,7 @@ fn find_first<S: Alter>(
     ensures fault { HasCleanDisk (state S.Store conn.new) → IfErr result (IsQueryFault (state S.Store conn.old) (state S.Store conn.new)) }
     ensures same { HasCleanDisk (state S.Store conn.new) → OnOk result (IsUnchanged (state S.Store conn.old) (state S.Store conn.new)) }
     ensures undone { HasCleanDisk (state S.Store conn.new) → OnErr result (IsLeftOrUndone (state S.Store conn.old) (state S.Store conn.new)) }
+    ensures still { HasCleanDisk (state S.Store conn.new) → OnErr result (IsUndisturbed (state S.Store conn.old) (state S.Store conn.new)) }
     ensures left { HasCleanDisk (state S.Store conn.new) → LeavesNoMore (state S.Store conn.old) (state S.Store conn.new) }
     ensures limit { conn.new.step_limit ≡ conn.old.step_limit }
     ensures clean { HasCleanDisk (state S.Store conn.new) → HasCleanDisk (state S.Store conn.old) }
@@ -242,6 +245,7 @@ fn list_all<S: Alter>(
     ensures fault { HasCleanDisk (state S.Store conn.new) → IfErr result (IsListFault (state S.Store conn.old) (state S.Store conn.new) (listed_in (history_in (state S.Store conn.old).now.trees) event.now)) }
     ensures same { HasCleanDisk (state S.Store conn.new) → OnOk result (IsUnchanged (state S.Store conn.old) (state S.Store conn.new)) }
     ensures undone { HasCleanDisk (state S.Store conn.new) → OnErr result (IsLeftOrUndone (state S.Store conn.old) (state S.Store conn.new)) }
+    ensures still { HasCleanDisk (state S.Store conn.new) → OnErr result (IsUndisturbed (state S.Store conn.old) (state S.Store conn.new)) }
     ensures left { HasCleanDisk (state S.Store conn.new) → LeavesNoMore (state S.Store conn.old) (state S.Store conn.new) }
     ensures limit { conn.new.step_limit ≡ conn.old.step_limit }
     ensures clean { HasCleanDisk (state S.Store conn.new) → HasCleanDisk (state S.Store conn.old) }

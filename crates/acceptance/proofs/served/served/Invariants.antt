@@ -1,8 +1,7 @@
-use Rattle.std.specs.Prelude.{length}
 use Rattle.acceptance.proofs.served.served.Given as goal
 
 abbrev pub ghosts-serve_two-L-Opens : goal.ghosts-serve_two-L-Opens
-ghosts-serve_two-L-Opens g a = record { opening = length a.book.book.history; office = a.book.book.office }
+ghosts-serve_two-L-Opens g a = record { began = a.book.book.history; office = a.book.book.office }
 
 abbrev pub ghosts-serve_two-L-Ledger : goal.ghosts-serve_two-L-Ledger
 ghosts-serve_two-L-Ledger g a = record { name = a.blank.name; parts = a.blank.parts }

@@ -1,7 +1,8 @@
-use Rattle.std.proofs.Common.{◌≡◌, refl, ap, sym, subst, ◌∙◌}
-use Rattle.std.specs.Prelude.{IfOk}
+use Rattle.std.proofs.Common.{◌≡◌, Some, refl, ap, sym, subst, ◌∙◌}
+use Rattle.std.specs.Prelude.{IfOk, List}
 use Rattle.sqlite.specs.Effect.{Database}
 use Rattle.sqlite.specs.Held.{state}
+use Rattle.book_core.specs.declared.entry.Entry.{Entry}
 use Rattle.book_core.specs.Decision.{Office}
 use Rattle.site_exchange.specs.Exchange.{Site}
 use Rattle.sql_records.specs.Held.{IsTrusted}
@@ -10,8 +11,8 @@ use Rattle.site_desk.specs.SiteView.{office_of, site_of}
 use Rattle.operator_cli.specs.Exchanged.{IsDueText, site_in}
 use Rattle.operator_cli.specs.Printed.{Printed}
 use Rattle.operator_cli.specs.Printed.{IsSentText}
-use Rattle.operator_cli.specs.Opened.{IsExportEnd}
-use Rattle.operator_cli.proofs.EndLaws.{always, weaker}
+use Rattle.operator_cli.specs.Opened.{IsExportEnd, IsIllegal, IsRefused}
+use Rattle.operator_cli.proofs.EndLaws.{always, if_back, weaker}
 use Rattle.operator_cli.proofs.ExchangeLaws.{export_end}
 use Rattle.operator_cli.proofs.OpenedLaws.{book_back, opened_cause, opened_illegal, opened_ours, refused_cause, refused_illegal, refused_lost, refused_ours}
 use Rattle.operator_cli.proofs.PrintLaws.{ends_printed, if_some_is}
@@ -38,7 +39,12 @@ pub returns-in-Ok-clause-same : goal.returns-in-Ok-clause-same
 returns-in-Ok-clause-same g c =
     if_some_is _ _ _ c.close_book.ensures.back (λ clean.
     let trusted : IsTrusted g.S.Store c.in-Ok.book.keeper = clean in
-    c.in-Ok.ensures.same trusted)
+    (c.in-Ok.ensures.same trusted, c.in-Ok.ensures.autocommit trusted ∙ sym c.in-Ok.ensures.settled))
+
+pub returns-in-Err-clause-same : goal.returns-in-Err-clause-same
+returns-in-Err-clause-same g c =
+    if_back c.in-Err.conn (IsRefused g.S.Store c.args.conn c.in-Err.fault) (λ after. IsIllegal g.S.Store c.args.conn after c.in-Err.fault) _ c.in-Err.ensures.fault
+    (λ after found clean. (found.same clean, found.settled clean))
 
 pub returns-in-Err-clause-lost : goal.returns-in-Err-clause-lost
 returns-in-Err-clause-lost g c =
@@ -76,3 +82,14 @@ returns-in-Ok-clause-cause g c =
     (λ f e meta has. export_end c.args.to c.in-Ok.book meta (state g.S.Store opened).now.trees f of.unclosed (of.office meta (subst (HasMeta meta) now has)) (site ∙ ap site_in (sym now)) e) c.write_next-came.ensures.fault in
     opened_cause g.S.Store c.args.conn c.in-Ok.book.keeper.conn c.in-Ok.book (book_back g.S.Store c.args.conn c.in-Ok.book.keeper.conn c.in-Ok.book c.in-Ok.book.keeper c.in-Ok.book.keeper refl (λ h. h) refl c.in-Ok.ensures.book) (IsExportEnd c.args.to) opened (g.E.Write.contents c.args.err.now) (g.E.Write.contents c.close_book.new.err) c.write_next-came.result c.close_book.result.0 clean same c.in-Ok.ensures.limit ended (always c.write_next-came.result _ (λ meta has. tt))
     c.write_next-came.ensures.ends c.close_book.ensures.line c.close_book.ensures.flush)
+
+pub returns-in-Ok-clause-stopped : goal.returns-in-Ok-clause-stopped
+returns-in-Ok-clause-stopped g c =
+    if_some_is _ _ _ c.close_book.ensures.back (λ clean left may.
+    let trusted : IsTrusted g.S.Store c.in-Ok.book.keeper = clean in
+    (c.in-Ok.ensures.rests trusted).alone left may ∙ ap (λ (h : List Entry). Some h) (c.in-Ok.ensures.kept trusted))
+
+pub returns-in-Err-clause-stopped : goal.returns-in-Err-clause-stopped
+returns-in-Err-clause-stopped g c =
+    if_back c.in-Err.conn (IsRefused g.S.Store c.args.conn c.in-Err.fault) (λ after. IsIllegal g.S.Store c.args.conn after c.in-Err.fault) _ c.in-Err.ensures.fault
+    (λ after found clean left may. (found.rests clean).alone left may)

@@ -1,5 +1,5 @@
 use Rattle.std.proofs.Common.{Some, ap, sym, subst, ◌∙◌}
-use Rattle.std.specs.Prelude.{List, IfOk, IfErr}
+use Rattle.std.specs.Prelude.{List, IfOk, IfErr, IsTrue}
 use Rattle.sqlite.specs.State.{HasCleanDisk}
 use Rattle.sqlite.specs.Held.{Held, state}
 use Rattle.book_core.specs.declared.entry.Entry.{Entry}
@@ -84,3 +84,19 @@ pub returns-in-Err-clause-stopped : goal.returns-in-Err-clause-stopped
 returns-in-Err-clause-stopped g c =
     if_back c.in-Err.conn (IsRefused g.S.Store c.args.conn c.in-Err.fault) (λ after. IsIllegal g.S.Store c.args.conn after c.in-Err.fault) _ c.in-Err.ensures.fault
     (λ after found clean left may. (found.rests clean).alone left may)
+
+pub returns-in-Ok-clause-still : goal.returns-in-Ok-clause-still
+returns-in-Ok-clause-still g c clean on =
+    let trusted : IsTrusted g.S.Store c.write_listed-came.new.records = subst (λ (conn : Held g.row.S.Denot). HasCleanDisk (state g.S.Store conn)) c.close.ensures clean in
+    let before = subst (IsTrusted g.S.Store) c.into_keeper-records.ensures (c.write_listed-came.ensures.trusted trusted) in
+    let still = c.write_listed-came.ensures.still trusted (subst (λ (conn : Held g.row.S.Denot). IsTrue (state g.S.Store conn).is_open) c.close.ensures on) in (
+      ap (λ (conn : Held g.row.S.Denot). (state g.S.Store conn).now) c.close.ensures ∙ still.0
+          ∙ ap (λ (k : Kept g.row.S.Denot). (state g.S.Store k.conn).now) c.into_keeper-records.ensures ∙ c.in-Ok.ensures.same before,
+      ap (λ (conn : Held g.row.S.Denot). (state g.S.Store conn).in_transaction) c.close.ensures ∙ still.1
+          ∙ ap (λ (k : Kept g.row.S.Denot). (state g.S.Store k.conn).in_transaction) c.into_keeper-records.ensures ∙ c.in-Ok.ensures.autocommit before ∙ sym c.in-Ok.ensures.settled,
+    )
+
+pub returns-in-Err-clause-still : goal.returns-in-Err-clause-still
+returns-in-Err-clause-still g c =
+    if_back c.in-Err.conn (IsRefused g.S.Store c.args.conn c.in-Err.fault) (λ after. IsIllegal g.S.Store c.args.conn after c.in-Err.fault) _ c.in-Err.ensures.fault
+    (λ after found clean on. (found.same clean, found.settled clean))

@@ -52,6 +52,8 @@ returns-in-Err-start-clause-fault g c =
       told = c.of_replay_fault.ensures;
       same = λ clean. ap (λ (h : Held g.row.S.Denot). (state g.S.Store h).now) back
           ∙ c.in-Ok.ensures.same (subst (λ (h : Held g.row.S.Denot). HasCleanDisk (state g.S.Store h)) back clean);
+      settled = λ clean. ap (λ (h : Held g.row.S.Denot). (state g.S.Store h).in_transaction) back
+          ∙ c.in-Ok.ensures.autocommit (subst (λ (h : Held g.row.S.Denot). HasCleanDisk (state g.S.Store h)) back clean) ∙ sym c.in-Ok.ensures.settled;
       rests = λ clean.
           let trusted = subst (λ (h : Held g.row.S.Denot). HasCleanDisk (state g.S.Store h)) back clean in
           subst₂ (λ (list : List Entry) (h : Held g.row.S.Denot). LeavesOnly list (MayLeaveIn (state g.S.Store h)))

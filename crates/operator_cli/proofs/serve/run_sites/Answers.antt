@@ -1,5 +1,5 @@
 use Rattle.std.proofs.Common.{◌∙◌, map}
-use Rattle.operator_cli.proofs.Dealing.{dealt_as, read_of_same, same_count}
+use Rattle.operator_cli.proofs.Dealing.{dealt_as, pairs_of, same_count}
 use Rattle.operator_cli.proofs.serve.run_sites.Goals as goal
 
 pub returns-clause-count : goal.returns-clause-count
@@ -7,10 +7,9 @@ returns-clause-count g c =
     same_count (λ e. map (λ x. x.id) e.sessions.items) (λ s. map (λ v. v.id) s.sessions.items) c.deal.new.sites.items c.in_ok-ends.ends.items c.in_ok-ends.ensures.ids
     ∙ (c.in_ok-deal.ensures.count ∙ c.in_ok-sites.ensures.count)
 
-pub returns-clause-offices : goal.returns-clause-offices
-returns-clause-offices g c =
-    c.in_ok-ends.ensures.offices
-    ∙ read_of_same (λ s. s.book) (λ b. b.book.office) c.deal.new.sites.items c.in_ok-sites.sites.items c.args.books.items c.in_ok-deal.ensures.books c.in_ok-sites.ensures.books
+pub returns-clause-left : goal.returns-clause-left
+returns-clause-left g c =
+    pairs_of (λ s. s.book) c.deal.new.sites.items c.in_ok-sites.sites.items c.args.books.items c.in_ok-ends.ends.items _ c.in_ok-deal.ensures.books c.in_ok-sites.ensures.books c.in_ok-ends.ensures.left
 
 pub returns-clause-ids : goal.returns-clause-ids
 returns-clause-ids g c =

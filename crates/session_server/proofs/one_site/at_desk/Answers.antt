@@ -1,16 +1,32 @@
-use Rattle.std.proofs.Common.{◌≡◌, ◌+◌, ap, arith, map, rules}
+use Rattle.std.proofs.Common.{◌≡◌, ◌≤◌, ◌+◌, ◌∙◌, Err, List, ap, arith, length, map, rules, subst, sym}
+use Rattle.std.specs.Prelude.{◌≢◌}
 use Rattle.std.specs.List.{flat_map}
+use Rattle.book_core.specs.declared.entry.Entry.{Entry}
+use Rattle.site_desk.specs.declared.finish.FinishFault.TheVariants.{SeatsOut}
+use Rattle.site_desk.specs.Count.{GoesOnFrom, asked_since}
 use Rattle.site_desk.specs.Seats.{Held, parts_of, shares_of}
-use Rattle.session_server.proofs.Sites.{finished_by}
+use Rattle.session_server.specs.Finished.{given_since}
+use Rattle.session_server.proofs.Sites.{entered_by, finished_by, seats_in}
 use Rattle.session_server.proofs.one_site.at_desk.Goals as goal
 
-pub returns-clause-finished : goal.returns-clause-finished
-returns-clause-finished g c =
+pub returns-clause-left : goal.returns-clause-left
+returns-clause-left g c =
     let ends = c.in_ok-sessions-2.sessions.items in
-    finished_by g.L.Opens.opening (shares_of c.in_ok-sessions-2.seats.items + c.in_ok-sessions.seat.count) c.in_ok-book.book.book (flat_map (λ e. e.receipts.items) ends) (flat_map (λ e. e.seen.items) ends) c.in_ok-book.finished c.in_ok-book.ensures.compared
-
--- where all seats came back, they have all parts
-pub returns-clause-whole : goal.returns-clause-whole
-returns-clause-whole g c = λ all.
-    let back : parts_of c.in_ok-sessions-2.seats.items ≡ parts_of (map (λ s. s.seat) c.in_ok-sessions.sessions.items) = search rules in
-    c.in_ok-book.ensures.whole (omega (arith, back, c.in_ok-sessions.ensures.parts, ap (λ (h : Held). h.parts) c.new-desk.ensures, c.requires.parts))
+    let receipts = flat_map (λ e. e.receipts.items) ends in
+    let looks = flat_map (λ e. e.seen.items) ends in
+    let book = c.in_ok-book.book.book in
+    let share = shares_of c.in_ok-sessions-2.seats.items + c.in_ok-sessions.seat.count in
+    let given = given_since (length g.L.Opens.began) receipts in
+    let few : shares_of c.in_ok-sessions-2.seats.items ≤ shares_of (map (λ s. s.seat) c.in_ok-sessions.sessions.items) + given = search rules in
+    let none = ap (λ (h : Held). h.count) c.new-desk.ensures in
+    let within : share ≤ given = omega (arith, few, c.in_ok-sessions.ensures.shares, none) in
+    record {
+      finished = finished_by (length g.L.Opens.began) share book receipts looks c.in_ok-book.finished c.in_ok-book.ensures.compared;
+      whole = λ all.
+          let back : parts_of c.in_ok-sessions-2.seats.items ≡ parts_of (map (λ s. s.seat) c.in_ok-sessions.sessions.items) = search rules in
+          seats_in c.in_ok-book.finished (c.in_ok-book.ensures.whole (omega (arith, back, c.in_ok-sessions.ensures.parts, ap (λ (h : Held). h.parts) c.new-desk.ensures, c.requires.parts)));
+      office = c.in_ok-book.ensures.office ∙ c.requires.office;
+      goes_on = subst (λ (h : List Entry). GoesOnFrom h book.history) c.requires.began c.in_ok-book.ensures.goes_on;
+      entered = subst (λ (h : List Entry). c.in_ok-book.finished ≢ Err SeatsOut → asked_since (length h) book.history ≤ given_since (length h) receipts) c.requires.began
+          (entered_by (length g.L.Opens.began) share given book receipts looks c.in_ok-book.finished c.in_ok-book.ensures.compared within);
+    }

@@ -1,6 +1,6 @@
-use Rattle.std.proofs.Common.{rules, subst}
+use Rattle.std.proofs.Common.{length, rules, subst}
 use Rattle.std.specs.Prelude.{IsSome}
-use Rattle.session_server.proofs.Seats.{one_lacks, parts_more}
+use Rattle.session_server.proofs.Seats.{one_lacks, parts_more, shares_lack, shares_more}
 use Rattle.session_server.proofs.serve.+serve_from.Goals as goal
 
 pub returns-in-Ok-clause-parts : goal.returns-in-Ok-clause-parts
@@ -10,3 +10,11 @@ returns-in-Ok-clause-parts g t c =
 pub returns-in-Err-clause-parts : goal.returns-in-Err-clause-parts
 returns-in-Err-clause-parts g t c =
     one_lacks (λ e. IsSome e.writer) _ _ _ c.push_reserved-in-Err.ensures.items (λ some. let bad = subst (λ w. IsSome w) c.not_started.ensures.writer some in cc)
+
+pub returns-in-Ok-clause-shares : goal.returns-in-Ok-clause-shares
+returns-in-Ok-clause-shares g t c =
+    shares_more (length g.L.Opens.began) (λ e. e.receipts.items) (λ s. s.seat) _ _ c.args.ends.now.items _ _ _ c.args.seats.now.items c.join-end.result.1 _ _ c.in-Some.session c.push_reserved.ensures.items c.push_reserved-in-Ok.ensures.items c.in-Some.ensures.items c.serve_from.ensures.shares (search rules)
+
+pub returns-in-Err-clause-shares : goal.returns-in-Err-clause-shares
+returns-in-Err-clause-shares g t c =
+    shares_lack (length g.L.Opens.began) (λ e. e.receipts.items) (λ s. s.seat) _ _ c.args.ends.now.items _ c.serve_from-in-Err.new.seats.items c.args.seats.now.items _ _ c.in-Some.session c.push_reserved-in-Err.ensures.items c.in-Some.ensures.items c.serve_from-in-Err.ensures.shares

@@ -1,5 +1,5 @@
-use Rattle.std.proofs.Common.{◌<◌, inl, length, arith, ap, sym, ◌∙◌, ◌++◌, [], ◌∷◌, Err}
-use Rattle.sql_records.proofs.OpeningLemmas.{StopsReading, whole_more, entries_more, fault_at, has_text, if_err, wanted_at}
+use Rattle.std.proofs.Common.{◌<◌, inl, length, arith, ap, sym, subst, refl, IsSome, ◌∙◌, ◌++◌, [], ◌∷◌, Err}
+use Rattle.sql_records.proofs.OpeningLemmas.{StopsReading, whole_more, entries_more, fault_at, if_err, wanted_at}
 use Rattle.sql_records.proofs.opening.read_entries.Goals as goal
 
 pub returns-in_err-entry-clause-fault : goal.returns-in_err-entry-clause-fault
@@ -13,7 +13,7 @@ returns-in_err-push-clause-fault c =
     let low : c.rows.place < length c.args.rows.now = omega arith in
     let is = c.in_ok-entry.ensures in
     if_err c.from_residual-in_err-push.result (StopsReading c.args.rows.now) _ c.from_residual-in_err-push.ensures.1
-    (λ f e. inl (e, (c.rows.place, wanted_at c.args.rows.now c.rows.place _ low c.index-rows-place.is c.rows.invariant.whole is.placed (has_text _ c.in_ok-entry.entry is.reads))))
+    (λ f e. inl (e, (c.rows.place, wanted_at c.args.rows.now c.rows.place _ low c.index-rows-place.is c.rows.invariant.whole is.placed (inl (subst IsSome (sym is.reads) refl)))))
 
 pub rows-preserved : goal.rows-preserved
 rows-preserved c =

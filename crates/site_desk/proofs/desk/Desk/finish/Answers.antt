@@ -1,4 +1,4 @@
-use Rattle.std.proofs.Common.{All, ◌≡◌, ◌≢◌, ℕ, List, Result, Ok, Err, subst, sym}
+use Rattle.std.proofs.Common.{All, length, ◌≡◌, ◌≢◌, ℕ, List, Result, Ok, Err, subst, sym}
 use Rattle.std.specs.Prelude.{IfOk, IfErr, OnOk}
 use Rattle.site_desk.specs.declared.finish.FinishFault.{FinishFault}
 use Rattle.site_desk.specs.declared.finish.FinishFault.TheVariants.{SeatsOut}
@@ -23,12 +23,12 @@ not_out (Ok given) P holds none = tt
 not_out (Err refused) P holds none = λ is. none (subst P is holds)
 
 pub returns-clause-fault : goal.returns-clause-fault
-returns-clause-fault g c = of_fault c.finish.result c.into_inner.result (λ s fault. FindsFirst s.book.office s.book.history (asked_since g.L.Opens.opening s.book.history) (shares_of c.args.seats.items) c.args.receipts.now c.args.looks.now fault) c.finish.ensures.book c.finish.ensures.fault
+returns-clause-fault g c = of_fault c.finish.result c.into_inner.result (λ s fault. FindsFirst s.book.office s.book.history (asked_since (length g.L.Opens.began) s.book.history) (shares_of c.args.seats.items) c.args.receipts.now c.args.looks.now fault) c.finish.ensures.book c.finish.ensures.fault
 
 pub returns-clause-whole : goal.returns-clause-whole
 returns-clause-whole g c = λ all.
     let s = c.into_inner.result in
-    not_out c.finish.result (λ fault. FindsFirst s.book.office s.book.history (asked_since g.L.Opens.opening s.book.history) (shares_of c.args.seats.items) c.args.receipts.now c.args.looks.now fault) c.finish.ensures.fault (λ out. out (c.finish.ensures.whole all))
+    not_out c.finish.result (λ fault. FindsFirst s.book.office s.book.history (asked_since (length g.L.Opens.began) s.book.history) (shares_of c.args.seats.items) c.args.receipts.now c.args.looks.now fault) c.finish.ensures.fault (λ out. out (c.finish.ensures.whole all))
 
 pub returns-clause-receipts : goal.returns-clause-receipts
 returns-clause-receipts g c = of_result c.finish.result c.into_inner.result (λ s. All (StandsIn s.book.history) c.args.receipts.now) c.finish.ensures.book c.finish.ensures.receipts

@@ -2,7 +2,7 @@ use Rattle.std.proofs.Common.{inl, inr, refl, arith, ◌∙◌}
 use Rattle.sqlite.specs.Held.{state}
 use Rattle.sql_records.specs.Held.{rows_in, history_in}
 use Rattle.sql_records.proofs.LookupLemmas.{all_listed, all_fault, of_query}
-use Rattle.sql_records.proofs.UndoneLemmas.{left_or_undone, on_err}
+use Rattle.sql_records.proofs.UndoneLemmas.{left_or_undone, on_err, undisturbed}
 use Rattle.sql_records.proofs.OpeningLemmas.{if_err}
 use Rattle.sql_records.specs.Lookups.{IsListFault, listed_in}
 use Rattle.sql_records.proofs.records.finding.list_all.Goals as goal
@@ -33,3 +33,11 @@ returns-in_err-rows-clause-fault g c clean =
 pub returns-clause-undone : goal.returns-clause-undone
 returns-clause-undone g c clean =
     on_err c.all_of.result _ (left_or_undone (state g.S.Store c.args.conn.now) (state g.S.Store c.list_rows.new.conn) (inl (c.in_ok-rows.ensures.same clean)))
+
+pub returns-clause-still : goal.returns-clause-still
+returns-clause-still g c clean = on_err c.all_of.result _ (λ on. let same = c.in_ok-rows.ensures.same clean in (same.0.now_is, same.0.mode))
+
+pub returns-in_err-rows-clause-still : goal.returns-in_err-rows-clause-still
+returns-in_err-rows-clause-still g c clean =
+    let rest = c.requires.rest (c.list_rows.ensures.clean clean) in
+    on_err c.from_residual.result _ (undisturbed (state g.S.Store c.args.conn.now) (state g.S.Store c.list_rows.new.conn) rest.0 rest.1 (c.in_err-rows.ensures.undone clean))
