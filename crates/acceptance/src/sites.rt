@@ -2,18 +2,24 @@
 //!
 //! Each test ends by itself, and finds the same whatever the schedule.
 
+ghost use Rattle.std.specs.Prelude.{◌≡◌, ◌<◌};
+
 use crate::values::{event, gala, number, seats, site};
 use book_core::Limit;
+use link_queue::link;
 use local_rights::Totals;
 use request_ledger::{Reply, Request};
 use rights_lattice::{Event, Sites};
-use session_server::{LinkEnd, Site, SiteEnd, Visit, run_all};
-use site_desk::{Gate, NoGate, Place, SiteBook};
+use session_server::{LinkEnd, Peer, Site, SiteEnd, Visit, exchange_all, run_all};
+use site_desk::{Desk, Gate, NoGate, Opens, Place, SiteBook};
+use site_exchange::{Message, Upto};
 use sql_records::{ListKeeper, Meta};
 use std::alloc::Global;
+use std::marker::Brand;
 use std::process::Abort;
 use std::sync::Wait;
 use std::sync::atomic::{AtomicU64, Ordering};
+use std::sync::ledger::Blank;
 use std::thread::{Threads, yield_now};
 use world_steps::audit;
 
@@ -158,6 +164,55 @@ fn a_full_site_refuses_a_delta(rt: HostRuntime) {
     assert_eq!(rt; links.len(), 4);
     assert_eq!(rt; links[0], link_end(&rt, 0, 1, false, 1, 1));
     assert_eq!(rt; links[3], link_end(&rt, 1, 0, true, 0, 0));
+}
+
+// Site 0 of two exchanges with a peer whose one message acknowledges nine entries: how many acknowledgements and deltas were
+// refused.
+fn met_by_a_stray<R: Threads + Wait + Abort + Sync, L: Opens + Send + Sync>(
+    rt: &R,
+    alloc: Global,
+    book: SiteBook<ListKeeper>,
+    blank: Blank,
+) -> (u64, u64)
+    requires name { blank.name ≡ L.name }
+    requires parts { blank.parts ≡ L.parts }
+    requires some { 0 < blank.parts }
+    requires began { L.began ≡ book.book.history }
+    requires office { L.office ≡ book.book.office }
+{
+    let (desk, _seat) = Desk::<ListKeeper, L>::new(book, blank);
+    let (delta_tx, _deltas) = link(alloc, 1).expect(rt, "memory");
+    let (ack_tx, _acks) = link(alloc, 1).expect(rt, "memory");
+    let (no_deltas, delta_rx) = link(alloc, 1).expect(rt, "memory");
+    let (mut stray_tx, ack_rx) = link(alloc, 1).expect(rt, "memory");
+    let stray = Message::Ack {
+        by: site(rt, 1),
+        to: site(rt, 0),
+        upto: Upto::of(9).expect(rt, "a length"),
+    };
+    assert!(rt; stray_tx.send(rt, stray).is_ok());
+    let _ = stray_tx.end(rt);
+    let _ = no_deltas.end(rt);
+    let mut peers = Vec::new(alloc);
+    let peer = Peer {
+        to: site(rt, 1),
+        delta_tx,
+        ack_tx,
+        delta_rx,
+        ack_rx,
+    };
+    peers.push(peer).expect(rt, "memory");
+    let mut ends = exchange_all(rt, alloc, &desk, peers, 0).expect(rt, "threads");
+    let end = ends.pop().expect(rt, "the peer");
+    (end.acks_refused, end.deltas_refused)
+}
+
+#[test]
+fn a_stray_acknowledgement_is_counted(rt: HostRuntime) {
+    let alloc = rt.alloc();
+    let book = empty_book(&rt, alloc, 0, 2, 10);
+    let refused = met_by_a_stray::<_, Brand>(&rt, alloc, book, Blank::new(1));
+    assert_eq!(rt; refused, (1, 0));
 }
 
 // A site with no session.
