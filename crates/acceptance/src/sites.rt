@@ -184,7 +184,8 @@ fn met_by_a_stray<R: Threads + Wait + Abort + Sync, L: Opens + Send + Sync>(
     let (delta_tx, _deltas) = link(alloc, 1).expect(rt, "memory");
     let (ack_tx, _acks) = link(alloc, 1).expect(rt, "memory");
     let (no_deltas, delta_rx) = link(alloc, 1).expect(rt, "memory");
-    let (mut stray_tx, ack_rx) = link(alloc, 1).expect(rt, "memory");
+    // The end of a link takes room too.
+    let (mut stray_tx, ack_rx) = link(alloc, 2).expect(rt, "memory");
     let stray = Message::Ack {
         by: site(rt, 1),
         to: site(rt, 0),
