@@ -36,43 +36,70 @@ fn new_book(alloc: Global) -> Option<SiteBook<ListKeeper>> {
     SiteBook::start(alloc, ListKeeper::new(alloc), Vec::new(alloc), meta).ok()
 }
 
-// The word for a text that is no message.
-fn unread(alloc: Global, fault: WireFault) -> Result<String, AllocError> {
-    match fault {
-        WireFault::Truncated => format!(in alloc; "truncated\n"),
-        WireFault::BadLine { line } => format!(in alloc; "bad-line {line}\n"),
-        WireFault::OutOfOrder { line } => format!(in alloc; "out-of-order {line}\n"),
-        WireFault::Trailing => format!(in alloc; "trailing\n"),
-        WireFault::Memory => format!(in alloc; "memory\n"),
+// What is told of a message: a word, and a number behind it if there is one.
+#[derive(Clone, Copy)]
+struct Told {
+    word: &'static str,
+    number: Option<u64>,
+}
+
+fn plain(word: &'static str) -> Told {
+    Told { word, number: None }
+}
+
+fn with(word: &'static str, number: u64) -> Told {
+    Told {
+        word,
+        number: Some(number),
     }
 }
 
-// The word for a message that is not taken.
-fn refused(alloc: Global, fault: TakeFault) -> Result<String, AllocError> {
+// Of a text that is no message.
+fn unread(fault: WireFault) -> Told {
     match fault {
-        TakeFault::NotForMe => format!(in alloc; "not-for-me\n"),
-        TakeFault::UnknownSite => format!(in alloc; "unknown-site\n"),
-        TakeFault::StrayAck { len } => format!(in alloc; "stray-ack {len}\n"),
-        TakeFault::ForeignRow { .. } => format!(in alloc; "foreign-row\n"),
-        TakeFault::Full => format!(in alloc; "history-full\n"),
-        TakeFault::Memory => format!(in alloc; "memory\n"),
-        TakeFault::Closed => format!(in alloc; "closed\n"),
-        TakeFault::Store => format!(in alloc; "store\n"),
+        WireFault::Truncated => plain("truncated"),
+        WireFault::BadLine { line } => with("bad-line", line),
+        WireFault::OutOfOrder { line } => with("out-of-order", line),
+        WireFault::Trailing => plain("trailing"),
+        WireFault::Memory => plain("memory"),
     }
 }
 
-// Takes the message of this text, and tells what came of it.
-fn take(alloc: Global, book: &mut SiteBook<ListKeeper>, text: &[u8]) -> Result<String, AllocError> {
+// Of a message that is not taken.
+fn refused(fault: TakeFault) -> Told {
+    match fault {
+        TakeFault::NotForMe => plain("not-for-me"),
+        TakeFault::UnknownSite => plain("unknown-site"),
+        TakeFault::StrayAck { len } => with("stray-ack", len as u64),
+        TakeFault::ForeignRow { .. } => plain("foreign-row"),
+        TakeFault::Full => plain("history-full"),
+        TakeFault::Memory => plain("memory"),
+        TakeFault::Closed => plain("closed"),
+        TakeFault::Store => plain("store"),
+    }
+}
+
+// Takes the message of this text.
+fn take(alloc: Global, book: &mut SiteBook<ListKeeper>, text: &[u8]) -> Told {
     let message = match read_message(alloc, text) {
         Ok(message) => message,
-        Err(fault) => return unread(alloc, fault),
+        Err(fault) => return unread(fault),
     };
     match book.take(message) {
-        Ok(Taken::Joined { .. }) => format!(in alloc; "joined\n"),
-        Ok(Taken::NothingNew { .. }) => format!(in alloc; "nothing-new\n"),
-        Ok(Taken::Acked) => format!(in alloc; "acked\n"),
-        Err(fault) => refused(alloc, fault),
+        Ok(Taken::Joined { .. }) => plain("joined"),
+        Ok(Taken::NothingNew { .. }) => plain("nothing-new"),
+        Ok(Taken::Acked) => plain("acked"),
+        Err(fault) => refused(fault),
     }
+}
+
+fn write_told(alloc: Global, told: Told, out: &mut Vec<u8>) -> Result<(), AllocError> {
+    out.extend_from_slice(told.word.as_bytes())?;
+    if let Some(number) = told.number {
+        let text = format!(in alloc; " {number}")?;
+        out.extend_from_slice(text.as_bytes())?;
+    }
+    out.extend_from_slice(b"\n".as_slice())
 }
 
 // Answers the lines of a session, and gives the book back where it ended well.
@@ -90,19 +117,36 @@ fn answered(
     }
 }
 
-// What the pieces come to, unless memory is wanting or a piece is none.
-fn told(rt: &impl Wait, alloc: Global, pieces: &[u8]) -> Option<Vec<u8>> {
+// The book behind a piece, unless memory is wanting or the piece is none.
+fn behind(
+    rt: &impl Wait,
+    alloc: Global,
+    mut book: SiteBook<ListKeeper>,
+    piece: &[u8],
+    out: &mut Vec<u8>,
+) -> Option<SiteBook<ListKeeper>> {
+    match piece.split_first() {
+        Some((b'?', lines)) => answered(rt, alloc, book, lines, out),
+        Some((b'<', text)) => {
+            let told = take(alloc, &mut book, text);
+            match write_told(alloc, told, out) {
+                Ok(()) => Some(book),
+                Err(_) => None,
+            }
+        }
+        Some((b'!', _)) => new_book(alloc),
+        _ => None,
+    }
+}
+
+// What the pieces come to.
+fn answers(rt: &impl Wait, alloc: Global, pieces: &[u8]) -> Option<Vec<u8>> {
     let mut out = Vec::new(alloc);
     let mut book = new_book(alloc)?;
     for piece in pieces.split(|byte| *byte == 0) {
-        match piece.split_first() {
-            Some((b'?', lines)) => book = answered(rt, alloc, book, lines, &mut out)?,
-            Some((b'<', text)) => {
-                let word = take(alloc, &mut book, text).ok()?;
-                out.extend_from_slice(word.as_bytes()).ok()?;
-            }
-            Some((b'!', _)) => book = new_book(alloc)?,
-            _ => return None,
+        match behind(rt, alloc, book, piece, &mut out) {
+            Some(after) => book = after,
+            None => return None,
         }
     }
     Some(out)
@@ -110,7 +154,7 @@ fn told(rt: &impl Wait, alloc: Global, pieces: &[u8]) -> Option<Vec<u8>> {
 
 fn main(rt: HostRuntime) -> io::Result<ExitCode> {
     let pieces = read_all(&rt)?;
-    let Some(out) = told(&rt, rt.alloc(), pieces.as_slice()) else {
+    let Some(out) = answers(&rt, rt.alloc(), pieces.as_slice()) else {
         return Ok(ExitCode::FAILURE);
     };
     rt.stdout().write_all(out.as_slice())?;
