@@ -20,7 +20,7 @@ use Rattle.sql_records.specs.declared.fault.OpenFault.TheVariants.{NotOurs, Othe
 use Rattle.sql_records.specs.Keeping.{LeavesOnly, LeavesWithOrWithout, Keeps}
 use Rattle.sql_records.specs.declared.meta.Meta.{Meta}
 use Rattle.sql_records.specs.Layout.{IsOurs, HasGoodMeta, HasMeta, AreNumbers}
-use Rattle.sql_records.specs.Rows.{delta_in, delta_named, entry_of, entry_with, text_in, is_below, rows_below, rows_from_0, AreInOrder, AreWhole, IsEntryAt, IsFirstDamaged, IsDamagedAt, WantsForDelta}
+use Rattle.sql_records.specs.Rows.{delta_in, delta_named, entry_of, entry_with, text_in, is_below, rows_below, rows_from_0, AreInOrder, AreWhole, IsEntryAt, IsFirstDamaged, IsDamagedAt, WantsForEntry}
 use Rattle.sql_records.specs.Held.{IsAtRest, IsSiteIn, MayLeaveIn, LeavesSite, history_in, opened_in, rows_in}
 use Rattle.sql_records.specs.Opening.{AreRowsFault, IsMetaFault, IsOurFault, IsStoreFault, IsWantedAt}
 use Rattle.sql_records.specs.Faults.{HasDiskCause, IsUndoneForMemory}
@@ -43,12 +43,12 @@ abbrev pub StopsReading : List Row → OpenFault → Type 0
 StopsReading rows fault = ((fault ≡ Memory) × ((place : ℕ) × IsWantedAt place rows)) ⊎ ((place : ℕ) × (fault ≡ Damaged place) × IsFirstDamaged place rows)
 
 -- memory is wanted for the row at a place, the rows before it being whole
-pub wanted_at : (rows : List Row) (i : ℕ) (values : Row) → i < length rows → values ≡ get_or rows i values → AreWhole 0 (take i rows) → column values 0 ≡ Int (pos i) → IsSome (entry_of values) ⊎ WantsForDelta (column values 9) → IsWantedAt i rows
+pub wanted_at : (rows : List Row) (i : ℕ) (values : Row) → i < length rows → values ≡ get_or rows i values → AreWhole 0 (take i rows) → column values 0 ≡ Int (pos i) → IsSome (entry_of values) ⊎ WantsForEntry values → IsWantedAt i rows
 wanted_at rows i values low at whole placed wants = record { before = whole; values = values; here = slice_get_read rows (length rows) i values refl low at; placed = placed; wants = wants }
 
 -- the fault of that row
 pub fault_at : (rows : List Row) (i : ℕ) (values : Row) (fault : OpenFault) → i < length rows → values ≡ get_or rows i values → AreWhole 0 (take i rows) → (fault ≡ Memory) ⊎ (fault ≡ Damaged i)
-    → (fault ≡ Damaged i → ¬ IsEntryAt i values) → (fault ≡ Memory → (column values 0 ≡ Int (pos i)) × WantsForDelta (column values 9)) → StopsReading rows fault
+    → (fault ≡ Damaged i → ¬ IsEntryAt i values) → (fault ≡ Memory → (column values 0 ≡ Int (pos i)) × WantsForEntry values) → StopsReading rows fault
 fault_at rows i values fault low at whole (inl is) other wanted = let w = wanted is in inl (is, (i, wanted_at rows i values low at whole w.0 (inr w.1)))
 fault_at rows i values fault low at whole (inr is) other wanted = inr (i, is, (whole, (values, slice_get_read rows (length rows) i values refl low at, other is)))
 

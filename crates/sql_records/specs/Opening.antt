@@ -17,7 +17,7 @@ use Rattle.book_core.specs.Limits.{greatest_limit}
 use Rattle.sql_records.specs.declared.meta.Meta.{Meta}
 use Rattle.sql_records.specs.declared.fault.OpenFault.{OpenFault}
 use Rattle.sql_records.specs.declared.fault.OpenFault.TheVariants.{NotOurs, OtherSchema, Damaged, Memory, Disk}
-use Rattle.sql_records.specs.Rows.{number_within, site_in, entry_of, rows_from_0, AreInOrder, AreWhole, IsDamagedAt, WantsForDelta}
+use Rattle.sql_records.specs.Rows.{number_within, site_in, entry_of, rows_from_0, AreInOrder, AreWhole, IsDamagedAt, WantsForEntry}
 use Rattle.sql_records.specs.Layout.{IsOurs, our_kind, HasOtherSchema, HasGoodMeta, HasNoMeta}
 use Rattle.sql_records.specs.Faults.{HasDiskCause, IsUndoneForMemory}
 use Rattle.sql_records.specs.Texts.{meta_select_text}
@@ -72,13 +72,13 @@ IsMetaFault old new (Damaged place) = ⊥
 IsMetaFault old new Memory = IsUndoneForMemory old new
 IsMetaFault old new Disk = HasDiskCause old new
 
--- memory may be wanted for the row at this place: it has its place, and is an entry or tells a delta for which memory may be wanted; those before it are the entries of theirs
+-- memory may be wanted for the row at this place: it has its place, and is an entry or may want memory for its delta; those before it are the entries of theirs
 pub record IsWantedAt (place : ℕ) (rows : List Row) : Type 0 where
   pub before : AreWhole 0 (take place rows)
   pub values : Row
   pub here : slice_get rows place ≡ Some values
   pub placed : column values 0 ≡ Int (pos place)
-  pub wants : IsSome (entry_of values) ⊎ WantsForDelta (column values 9)
+  pub wants : IsSome (entry_of values) ⊎ WantsForEntry values
 
 -- what is at fault in rows of entries, which are in an order of their places
 abbrev pub AreRowsFault : List Row → OpenFault → Type 0

@@ -21,6 +21,8 @@ use Rattle.request_ledger.specs.Ranges.{IsRequest}
 use Rattle.request_ledger.specs.Words.{verb_word, verb_of, request_verb, reply_word, reply_number, reply_of}
 use Rattle.book_core.specs.declared.entry.Entry.{Entry}
 use Rattle.book_core.specs.declared.entry.Entry.TheVariants.{Asked, Joined}
+use Rattle.sql_records.specs.declared.reading.EntryHead.{EntryHead}
+use Rattle.sql_records.specs.declared.reading.EntryHead.TheVariants as head
 use Rattle.plain_words.specs.Input.{is_line_break}
 use Rattle.plain_words.specs.Words.{◌>>=◌}
 use Rattle.delta_wire.specs.Grammar.{most_bytes, IsDelta, delta_text}
@@ -218,6 +220,16 @@ joined_of values delta = do
 
 abbrev pub entry_with : Row → State → Option Entry
 entry_with values delta = if is_null (column values 1) then asked_of values delta else joined_of values delta
+
+-- the entry with this delta
+abbrev pub with_delta : EntryHead → State → Entry
+with_delta (head.Asked number request reply) delta = Asked number request reply delta
+with_delta (head.Joined peer) delta = Joined peer delta
+
+-- memory may be wanted for the entry that ten columns stand for: for its delta, the other columns being those of an entry
+pub record WantsForEntry (values : Row) : Type 0 where
+  pub delta : WantsForDelta (column values 9)
+  pub others : (delta : State) → IsSome (entry_with values delta)
 
 -- the entry that ten columns stand for, if they stand for one
 unfoldable pub entry_of : Row → Option Entry

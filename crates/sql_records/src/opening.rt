@@ -9,7 +9,7 @@ ghost use Rattle.sqlite_value.specs.Value.{owned};
 ghost use Rattle.rights_lattice.specs.Limits.{most_sites};
 ghost use Rattle.book_core.specs.Limits.{greatest_limit};
 ghost use Rattle.sql_records.specs.Layout.{IsOurs, our_kind, HasMeta, AreNumbers};
-ghost use Rattle.sql_records.specs.Rows.{entry_of, is_below, rows_below, number_within, IsEntryAt, AreInOrder, AreWhole, IsFirstDamaged, WantsForDelta};
+ghost use Rattle.sql_records.specs.Rows.{entry_of, is_below, rows_below, number_within, IsEntryAt, AreInOrder, AreWhole, IsFirstDamaged, WantsForEntry};
 ghost use Rattle.sql_records.specs.Held.{entries_tree, rows_in, history_in, LeavesNoMore};
 ghost use Rattle.sql_records.specs.Opening.{int_in, numbers_in, IsRowOf, IsRowFault, IsMetaFault, AreRowsFault, IsStoreFault, IsWantedAt, IsForeignFault, IsForeignCause, AreOfVersion, AreTold, foreign_told, IsOpenFault, IsLeftOrUndone};
 
@@ -61,7 +61,7 @@ fn read_next(alloc: Global, place: u64, row: &Row) -> Result<Entry, OpenFault>
     ensures reads { IfOk result (λ entry. entry_of row.now ≡ Some entry) }
     ensures named { IfErr result (λ fault. (fault ≡ OpenFault.Memory) ⊎ (fault ≡ OpenFault.Damaged place)) }
     ensures damaged { result ≡ Err (OpenFault.Damaged place) → ¬ IsEntryAt place row.now }
-    ensures memory { result ≡ Err OpenFault.Memory → (column row.now 0 ≡ Int (pos place)) × WantsForDelta (column row.now 9) }
+    ensures memory { result ≡ Err OpenFault.Memory → (column row.now 0 ≡ Int (pos place)) × WantsForEntry row.now }
 {
     if !is_at(place, value_at(row, 0)) {
         return Err(OpenFault::Damaged { place });

@@ -3,7 +3,8 @@ ghost use Rattle.std.specs.Prelude.{◌≡◌, IfOk, OnErr, IsTrue, true};
 ghost use Rattle.std.specs.Option.{option_map};
 ghost use Rattle.sqlite.specs.Order.{column};
 ghost use Rattle.sqlite_value.specs.Value.{owned};
-ghost use Rattle.sql_records.specs.Rows.{is_null, text_in, number_within, value_in, site_in, event_in, verb_in, announce_of, release_of, sell_of, refund_of, cede_of, request_of, request_in, rest_in, reply_in, delta_in, asks_nothing, asked_of, joined_of, entry_with, entry_of, WantsForDelta};
+ghost use Rattle.rights_lattice.specs.State.{State};
+ghost use Rattle.sql_records.specs.Rows.{is_null, text_in, number_within, value_in, site_in, event_in, verb_in, announce_of, release_of, sell_of, refund_of, cede_of, request_of, request_in, rest_in, reply_in, delta_in, asks_nothing, asked_of, joined_of, entry_with, entry_of, with_delta, WantsForDelta, WantsForEntry};
 
 use book_core::Entry;
 use delta_mutators::Delta;
@@ -234,9 +235,43 @@ fn asks_nothing(row: &Row) -> bool
         && is_null(value_at(row, 8))
 }
 
+// An entry without its delta.
+#[derive(Drop)]
+enum EntryHead {
+    Asked {
+        number: RequestNumber,
+        request: Request,
+        reply: Reply,
+    },
+    Joined {
+        peer: SiteId,
+    },
+}
+
+impl EntryHead {
+    // The entry with this delta.
+    fn with(self, delta: Delta) -> Entry
+        ensures { result ≡ with_delta self delta }
+    {
+        match self {
+            EntryHead::Asked {
+                number,
+                request,
+                reply,
+            } => Entry::Asked {
+                number,
+                request,
+                reply,
+                delta,
+            },
+            EntryHead::Joined { peer } => Entry::Joined { peer, delta },
+        }
+    }
+}
+
 #[tactic(auto, unfolding(crate::specs::Rows::asked_of))]
-fn asked_of(row: &Row, delta: Delta) -> Option<Entry>
-    ensures { result ≡ asked_of row.now delta }
+fn asked_head(row: &Row) -> Option<EntryHead>
+    ensures { (delta : State) → option_map (λ head. with_delta head delta) result ≡ asked_of row.now delta }
 {
     let number = request_number_in(value_at(row, 2))?;
     let request = request_in(
@@ -246,38 +281,48 @@ fn asked_of(row: &Row, delta: Delta) -> Option<Entry>
         value_at(row, 6),
     )?;
     let reply = reply_in(value_at(row, 7), value_at(row, 8))?;
-    Some(Entry::Asked {
+    Some(EntryHead::Asked {
         number,
         request,
         reply,
-        delta,
     })
 }
 
 #[tactic(auto, unfolding(crate::specs::Rows::joined_of))]
-fn joined_of(row: &Row, delta: Delta) -> Option<Entry>
-    ensures { result ≡ joined_of row.now delta }
+fn joined_head(row: &Row) -> Option<EntryHead>
+    ensures { (delta : State) → option_map (λ head. with_delta head delta) result ≡ joined_of row.now delta }
 {
     let peer = site_in(value_at(row, 1))?;
     if asks_nothing(row) {
-        Some(Entry::Joined { peer, delta })
+        Some(EntryHead::Joined { peer })
     } else {
         None
     }
 }
 
-/// The entry that the ten columns of a row stand for, if they stand for one.
+// What the columns beside the delta stand for, if they are those of an entry.
+fn head_of(row: &Row) -> Option<EntryHead>
+    ensures { (delta : State) → option_map (λ head. with_delta head delta) result ≡ entry_with row.now delta }
+{
+    if is_null(value_at(row, 1)) {
+        asked_head(row)
+    } else {
+        joined_head(row)
+    }
+}
+
+/// The entry that the ten columns of a row stand for, if they stand for one. The delta is read last, so that memory is
+/// wanted for no row whose other columns are not those of an entry.
 #[tactic(auto, unfolding(crate::specs::Rows::entry_of))]
 pub fn read_entry(alloc: Global, row: &Row) -> Result<Option<Entry>, AllocError>
     ensures entry { IfOk result (λ entry. entry ≡ entry_of row.now) }
-    ensures memory { OnErr result (WantsForDelta (column row.now 9)) }
+    ensures memory { OnErr result (WantsForEntry row.now) }
 {
-    let Some(delta) = delta_in(alloc, value_at(row, 9))? else {
+    let Some(head) = head_of(row) else {
         return Ok(None);
     };
-    if is_null(value_at(row, 1)) {
-        Ok(asked_of(row, delta))
-    } else {
-        Ok(joined_of(row, delta))
+    match delta_in(alloc, value_at(row, 9))? {
+        Some(delta) => Ok(Some(head.with(delta))),
+        None => Ok(None),
     }
 }
