@@ -1,6 +1,6 @@
 -- Rights that are kept by event.
-use Rattle.std.proofs.Common.{◌≡◌, ℕ, zero, suc, ◌+◌, ◌-◌, ◌≤◌, ◌<◌, inl, inr, ◌&&◌, Bool, true, false, cond, List, [], Option, Some, None, refl, sym, ap, ◌∙◌, subst, arith}
-use Rattle.std.specs.Prelude.{◌==◌, IsSome, if◌then◌else◌}
+use Rattle.std.proofs.Common.{◌≡◌, ℕ, zero, suc, ◌+◌, ◌-◌, ◌*◌, ◌≤◌, ◌<◌, inl, inr, ◌&&◌, Bool, true, false, cond, List, [], Option, Some, None, refl, sym, ap, ◌∙◌, subst, arith}
+use Rattle.std.specs.Prelude.{◌==◌, IsSome}
 use Rattle.std.specs.Map.{lookup}
 use Rattle.std.specs.Option.{unwrap_or}
 use Rattle.std.proofs.lemmas.Bool.{cases_lt}
@@ -8,12 +8,19 @@ use Rattle.std.proofs.lemmas.Bool.Decides.{nat_tests}
 use Rattle.rights_lattice.specs.declared.cell.Cell.{Cell}
 use Rattle.rights_lattice.specs.declared.cell.Cell.TheVariants.{Gave, Used, Back}
 use Rattle.rights_lattice.specs.Cell.{same_cell, same_event}
-use Rattle.rights_lattice.specs.Cells.{Cells, Valued, value_at, all_zero, raise, value_in}
+use Rattle.rights_lattice.specs.Cells.{Cells, Valued, max_value, value_at, all_zero, raise, is_of, value_in}
+use Rattle.rights_lattice.specs.Limits.{most_sites}
 use Rattle.rights_lattice.specs.Sums.{max_sites, sum_below}
-use Rattle.rights_lattice.proofs.CellLaws.{value_at-raise, value_at-all_zero, of_same}
+use Rattle.rights_lattice.proofs.CellLaws.{value_at-raise, value_at-all_zero}
 use Rattle.rights_lattice.proofs.SpotLaws.{same_event_is, same_event_self, value_in-tests}
 use Rattle.local_rights.specs.Rights.{ceded, gained, spent, HasRights}
 use Rattle.local_rights.specs.Counted.{left_in, AreKept}
+use Rattle.local_rights.specs.declared.effect.Effect.{Effect}
+use Rattle.local_rights.specs.declared.effect.Effect.TheVariants.{Takes, Leaves}
+use Rattle.local_rights.specs.Effects.{effect_of, left_after}
+use Rattle.rights_lattice.specs.RightsView.{IsCellOf}
+use Rattle.local_rights.proofs.EffectLaws.{Moves, moves, raised, split_after, taken_is_left}
+use Rattle.local_rights.proofs.Within.{few_sites}
 use Rattle.local_rights.proofs.Sums.{sum_below_same, sum_below-zero}
 
 -- equal cells of an event have equal sums
@@ -31,11 +38,13 @@ none_ceded : (b : Bool) (v : ℕ) → v ≡ 0 → cond b 0 v ≡ 0
 none_ceded true v h = refl
 none_ceded false v h = h
 
-pub kept_new : (kept : List (List ℕ × ℕ)) (n m me : ℕ) (X : Cells) → kept ≡ [] → m ≡ n → X ≡ all_zero → me < n → AreKept kept m me X
-kept_new kept n m me X empty same all lt =
+pub kept_new : (kept : List (List ℕ × ℕ)) (n m me : ℕ) (X : Cells) → kept ≡ [] → m ≡ n → X ≡ all_zero → me < n → n ≤ most_sites → AreKept kept m me X
+kept_new kept n m me X empty same all lt few =
     let at : (e : List ℕ) (c : Cell) → value_at X e c ≡ 0 = λ e c. ap (λ (Y : Cells). value_at Y e c) all ∙ value_at-all_zero e c in
     record {
       me_is_site = subst (λ (k : ℕ). me < k) (sym same) lt;
+      are_few = subst (λ (k : ℕ). k ≤ most_sites) (sym same) few;
+      are_values = λ e c. omega (arith, at e c);
       are_left = λ e.
           let left : left_in kept e ≡ 0 = ap (λ (l : List (List ℕ × ℕ)). left_in l e) empty in
           let got : sum_below max_sites (λ j. ceded X e j me) ≡ 0 = sum_below_same max_sites (λ j. ceded X e j me) (λ _. 0) (λ j l. none_ceded (j == me) _ (at e (Gave j me))) ∙ sum_below-zero max_sites in
@@ -58,10 +67,22 @@ elsewhere X m e c apart =
     by_test true t = let clash : true ≡ false = sym (ap (λ (x : List ℕ). same_event x e) (sym (same_event_is e m.event t)) ∙ same_event_self e) ∙ apart in cc
     by_test false f = value_in-tests m e c ∙ ap (λ b. cond (b && same_cell c m.cell) m.value 0) f
 
-pub kept_raise : (kept now : List (List ℕ × ℕ)) (n k me left : ℕ) (X Y : Cells) (m : Valued) → AreKept kept n me X → k ≡ n → Y ≡ raise X m → left + spent Y m.event me ≡ gained Y m.event me
+-- a raise leaves no cell above the greatest value
+raised_value : (X : Cells) (m : Valued) (e : List ℕ) (c : Cell) → m.value ≤ max_value → value_at X e c ≤ max_value → value_at (raise X m) e c ≤ max_value
+raised_value X m e c most old =
+    let said : value_in m e c ≤ m.value = by_test (is_of m e c) in
+    omega (arith, value_at-raise X m e c, said, most, old)
+  where
+    by_test : (b : Bool) → cond b m.value 0 ≤ m.value
+    by_test true = omega arith
+    by_test false = omega arith
+
+pub kept_raise : (kept now : List (List ℕ × ℕ)) (n k me left : ℕ) (X Y : Cells) (m : Valued) → AreKept kept n me X → k ≡ n → Y ≡ raise X m → m.value ≤ max_value → left + spent Y m.event me ≡ gained Y m.event me
     → ((e : List ℕ) → lookup (same_event e) now ≡ cond (same_event m.event e) (Some left) (lookup (same_event e) kept)) → AreKept now k me Y
-kept_raise kept now n k me left X Y m h k_is Y_is split found = record {
+kept_raise kept now n k me left X Y m h k_is Y_is most split found = record {
   me_is_site = subst (λ (j : ℕ). me < j) (sym k_is) h.me_is_site;
+  are_few = subst (λ (j : ℕ). j ≤ most_sites) (sym k_is) h.are_few;
+  are_values = λ e c. subst (λ (Z : Cells). value_at Z e c ≤ max_value) (sym Y_is) (raised_value X m e c most (h.are_values e c));
   are_left = λ e. left_at e (same_event m.event e) refl;
   are_all = λ e c some. all_at e c (same_event m.event e) refl some;
 }
@@ -96,3 +117,61 @@ room_taken false room old new p q = omega arith
 pub room_kept : (value room old new : ℕ) → 1 ≤ value → room ≤ old → old ≤ new + cond (value == 0) 1 0 → room ≤ new
 room_kept zero room old new some p q = absurd (omega arith)
 room_kept (suc value) room old new some p q = grind (arith, nat_tests)
+
+-- what is kept of an event is at most what its cells can make
+pub kept_fits : (kept : List (List ℕ × ℕ)) (n me : ℕ) (X : Cells) (e : List ℕ) → AreKept kept n me X → left_in kept e ≤ (max_sites + 2) * max_value
+kept_fits kept n me X e h =
+    let got : sum_below max_sites (λ j. ceded X e j me) ≤ max_sites * max_value = sum_most max_sites (λ j. ceded X e j me) (λ j. one (j == me) _ (h.are_values e (Gave j me))) in
+    omega (arith, h.are_left e, got, h.are_values e (Gave me me), h.are_values e (Back me))
+  where
+    one : (b : Bool) (v : ℕ) → v ≤ max_value → cond b 0 v ≤ max_value
+    one true v l = omega arith
+    one false v l = l
+
+    sum_most : (n : ℕ) (f : ℕ → ℕ) → ((j : ℕ) → f j ≤ max_value) → sum_below n f ≤ n * max_value
+    sum_most zero f l = omega arith
+    sum_most (suc n) f l = omega (arith, sum_most n f l, l n)
+
+-- what a raised mark is to what is kept of its event
+kept_moves : (kept : List (List ℕ × ℕ)) (n me : ℕ) (X : Cells) (m : Valued) → AreKept kept n me X → IsCellOf n m.cell → Moves X (raise X m) m.event me (effect_of m.cell me) (m.value - value_at X m.event m.cell)
+kept_moves kept n me X m h of = moves X (raise X m) m.event m.cell n me (m.value - value_at X m.event m.cell) (raised X m) of (few_sites n h.are_few)
+
+pub kept_takes : (kept : List (List ℕ × ℕ)) (n me : ℕ) (X : Cells) (m : Valued) → AreKept kept n me X → IsCellOf n m.cell → HasRights (raise X m) m.event me → effect_of m.cell me ≡ Takes
+    → m.value - value_at X m.event m.cell ≤ left_in kept m.event
+kept_takes kept n me X m h of has is =
+    taken_is_left X (raise X m) m.event me (effect_of m.cell me) (m.value - value_at X m.event m.cell) (left_in kept m.event) (kept_moves kept n me X m h of) (h.are_left m.event) has is
+
+pub kept_split : (kept : List (List ℕ × ℕ)) (n me : ℕ) (X : Cells) (m : Valued) → AreKept kept n me X → IsCellOf n m.cell → HasRights (raise X m) m.event me
+    → left_after (effect_of m.cell me) (left_in kept m.event) (m.value - value_at X m.event m.cell) + spent (raise X m) m.event me ≡ gained (raise X m) m.event me
+kept_split kept n me X m h of has =
+    split_after X (raise X m) m.event me (effect_of m.cell me) (m.value - value_at X m.event m.cell) (left_in kept m.event) (kept_moves kept n me X m h of) (h.are_left m.event) has
+
+-- what is kept once a mark was raised, where it is what is left after that
+pub kept_after : (kept now : List (List ℕ × ℕ)) (n k me : ℕ) (X Y : Cells) (m : Valued) (event : List ℕ) (effect : Effect) (more : ℕ) → AreKept kept n me X → k ≡ n → Y ≡ raise X m → m.value ≤ max_value → IsCellOf n m.cell
+    → HasRights (raise X m) m.event me → event ≡ m.event → effect ≡ effect_of m.cell me → more ≡ m.value - value_at X m.event m.cell
+    → ((e : List ℕ) → lookup (same_event e) now ≡ cond (same_event event e) (Some (left_after effect (left_in kept event) more)) (lookup (same_event e) kept)) → AreKept now k me Y
+kept_after kept now n k me X Y m event effect more h k_is Y_is most of has event_is effect_is more_is found =
+    let left : ℕ = left_after effect (left_in kept event) more in
+    let same : left ≡ left_after (effect_of m.cell me) (left_in kept m.event) (m.value - value_at X m.event m.cell) =
+    ap (λ x. left_after x (left_in kept event) more) effect_is ∙ ap (λ x. left_after (effect_of m.cell me) (left_in kept x) more) event_is
+    ∙ ap (λ x. left_after (effect_of m.cell me) (left_in kept m.event) x) more_is in
+    let split : left + spent (raise X m) m.event me ≡ gained (raise X m) m.event me = ap (λ v. v + spent (raise X m) m.event me) same ∙ kept_split kept n me X m h of has in
+    kept_raise kept now n k me left X Y m h k_is Y_is most (subst (λ (Z : Cells). left + spent Z m.event me ≡ gained Z m.event me) (sym Y_is) split)
+    (λ e. found e ∙ ap (λ x. cond (same_event x e) (Some left) (lookup (same_event e) kept)) event_is)
+
+some_is : (o : Option ℕ) → IsSome o → o ≡ Some (unwrap_or o 0)
+some_is None h = cc
+some_is (Some v) h = refl
+
+-- a cell of other sites that was not 0 leaves what is kept as it is
+pub kept_alone : (kept : List (List ℕ × ℕ)) (n k me : ℕ) (X Y : Cells) (m : Valued) → AreKept kept n me X → k ≡ n → Y ≡ raise X m → m.value ≤ max_value → IsCellOf n m.cell
+    → HasRights (raise X m) m.event me → Leaves ≡ effect_of m.cell me → 1 ≤ value_at X m.event m.cell → AreKept kept k me Y
+kept_alone kept n k me X Y m h k_is Y_is most of has effect some =
+    kept_after kept kept n k me X Y m m.event Leaves (m.value - value_at X m.event m.cell) h k_is Y_is most of has refl effect refl (λ e. by_test e (same_event m.event e) refl)
+  where
+    by_test : (e : List ℕ) (b : Bool) → same_event m.event e ≡ b → lookup (same_event e) kept ≡ cond (same_event m.event e) (Some (left_in kept m.event)) (lookup (same_event e) kept)
+    by_test e true t =
+        let here : lookup (same_event m.event) kept ≡ Some (left_in kept m.event) = some_is (lookup (same_event m.event) kept) (h.are_all m.event m.cell some) in
+        let there : lookup (same_event e) kept ≡ Some (left_in kept m.event) = subst (λ (x : List ℕ). lookup (same_event x) kept ≡ Some (left_in kept m.event)) (same_event_is m.event e t) here in
+        there ∙ sym (ap (λ b. cond b (Some (left_in kept m.event)) (lookup (same_event e) kept)) t)
+    by_test e false f = sym (ap (λ b. cond b (Some (left_in kept m.event)) (lookup (same_event e) kept)) f)

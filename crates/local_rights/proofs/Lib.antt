@@ -1,4 +1,5 @@
 pub mod CounterLaws
+pub mod EffectLaws
 pub mod KeptLaws
 pub mod Sums
 pub mod Within

@@ -1,3 +1,4 @@
 pub mod BoundedCounter
 pub mod Counted
+pub mod Effects
 pub mod Rights

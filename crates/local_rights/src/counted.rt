@@ -1,13 +1,16 @@
 //! A state of rights, with the rights that one site has left kept beside it.
-ghost use Rattle.std.specs.Prelude.{◌≡◌, ℕ, ◌+◌, ◌<◌, ◌≤◌, List, OnOk, IsOk, Some, None, pos, ◌==◌, if◌then◌else◌, IsSome};
+ghost use Rattle.std.specs.Prelude.{◌≡◌, ℕ, ◌+◌, ◌^◌, ◌<◌, ◌≤◌, List, OnOk, IsOk, Some, None, pos, ◌==◌, if◌then◌else◌, IsSome};
 ghost use Rattle.std.specs.Map.{lookup};
 ghost use Rattle.indexmap.specs.IndexMap.{spare};
 ghost use Rattle.rights_lattice.specs.Cell.{same_event};
 ghost use Rattle.rights_lattice.specs.Cells.{max_value, value_at, all_zero, raise};
 ghost use Rattle.rights_lattice.specs.RightsView.{IsCellOf};
+ghost use Rattle.local_rights.specs.declared.effect.Effect.TheVariants.{Takes};
+ghost use Rattle.local_rights.specs.Counted.{left_in};
+ghost use Rattle.local_rights.specs.Effects.{left_after};
 ghost use Rattle.local_rights.specs.Rights.{HasRights, left_of, rights_of};
 
-use crate::rights::left;
+use crate::effect::Effect;
 use indexmap::IndexMap;
 use rights_lattice::{Cell, Event, Mark, Rights, SiteId, Sites};
 use std::alloc::{AllocError, Global};
@@ -117,27 +120,33 @@ impl Counted {
             + (if value_at self.old.cells mark.event mark.cell == 0 then 1 else 0) }
         ensures no_more_room { self.new.room ≤ self.old.room }
     {
-        let is_new = self.rights.get(mark.event, mark.cell) == 0;
+        let old = self.rights.get(mark.event, mark.cell);
+        let more = mark.value.saturating_sub(old);
         self.rights.raise(mark);
-        let left = left(&self.rights, self.me, mark.event);
-        keep(&mut self.left, mark.event, left);
-        if is_new {
+        let effect = Effect::of(mark.cell, self.me);
+        if old > 0 && effect == Effect::Leaves {
+            return;
+        }
+        keep(&mut self.left, mark.event, effect, more);
+        if old == 0 {
             self.room -= 1;
         }
     }
 }
 
-// Keeps what is left of an event.
-fn keep(kept: &mut IndexMap<Event, u64>, event: Event, left: u64)
+// Keeps what is left of an event of which a cell of this effect has risen.
+fn keep(kept: &mut IndexMap<Event, u64>, event: Event, effect: Effect, more: u64)
     requires room { lookup (same_event event) kept.old.entries ≡ None → 0 < spare kept.old }
+    requires fits { left_in kept.old.entries event + more < 2 ^ 64 }
+    requires takes { effect ≡ Takes → more ≤ left_in kept.old.entries event }
     ensures left { (name : List ℕ) → lookup (same_event name) kept.new.entries
-        ≡ (if same_event event name then Some left else lookup (same_event name) kept.old.entries) }
+        ≡ (if same_event event name then Some (left_after effect (left_in kept.old.entries event) more) else lookup (same_event name) kept.old.entries) }
     ensures room { spare kept.old ≤ spare kept.new + 1 }
     ensures known { IsSome (lookup (same_event event) kept.old.entries) → spare kept.old ≤ spare kept.new }
 {
     match kept.get_mut(&event) {
-        Some(known) => *known = left,
-        None => match kept.insert(event, left) {
+        Some(left) => *left = effect.apply(*left, more),
+        None => match kept.insert(event, effect.apply(0, more)) {
             Ok(_) => {}
             Err(_) => unreachable!(),
         },

@@ -5,6 +5,7 @@
 #![tactic(auto)]
 
 pub mod counted;
+mod effect;
 pub mod laws;
 pub mod report;
 pub mod rights;
