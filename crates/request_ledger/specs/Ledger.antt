@@ -28,13 +28,18 @@ part_asked sale seats _ = 0
 abbrev pub part_counted : ℕ → ℕ → ℕ × Kept → ℕ
 part_counted sale seats e = if is_done e.1.reply then part_asked sale seats e.1.request else 0
 
--- the seats of a sale that refunds which were done gave back: the sum of their parts, and all seats once one asked for the rest
+-- the seats of a sale that refunds which were done gave back: the sum of their parts, and all seats once one asked for the rest;
+-- never more than the sale has
 abbrev pub given_back : Keeping → ℕ → ℕ → ℕ
 given_back es sale seats = min seats (sum_by (part_counted sale seats) es)
 
 -- the seats of a sale that are not given back
 abbrev pub rest_of : SaleState → ℕ
 rest_of sale = sale.seats - sale.given_back
+
+-- the seats that a refund of the sale gives back: the part that it names, or the rest
+abbrev pub amount_back : Option ℕ → SaleState → ℕ
+amount_back part sale = unwrap_or part (rest_of sale)
 
 -- the sale under a number, where the request is a sale that was done
 abbrev pub sale_in : Keeping → ℕ → Request → Reply → Option SaleState
@@ -50,7 +55,7 @@ sale_under es number = sale_if_kept es number (kept_under es number)
 
 -- a refund that was done is of a sale that is kept, and gives back no more than is left of it
 abbrev pub IsRefundable : Keeping → Request → Reply → Type 0
-IsRefundable es (Refund sale part) Done = IsSomeAnd (sale_under es sale) (λ state. unwrap_or part (rest_of state) ≤ rest_of state)
+IsRefundable es (Refund sale part) Done = IsSomeAnd (sale_under es sale) (λ state. amount_back part state ≤ rest_of state)
 IsRefundable es _ _ = Unit {0}
 
 -- what contracts see of a ledger: what is kept, and room for more
