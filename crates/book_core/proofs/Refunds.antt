@@ -169,14 +169,14 @@ balanced_push me h number request reply delta event before step =
     )
 
 -- a sale of the ledger was kept
-sale_is : (h : List Entry) (number : ℕ) (request : Request) (reply : Reply) (sale : SaleState) → sale_in (asked h) number request reply ≡ Some sale
+pub sale_is : (h : List Entry) (number : ℕ) (request : Request) (reply : Reply) (sale : SaleState) → sale_in (asked h) number request reply ≡ Some sale
     → (request ≡ Sell sale.event sale.seats) × (reply ≡ Done) × (sale.given_back ≡ given h number sale.seats)
 sale_is h number (Sell event seats) Done sale e =
     let same : record { event = event; seats = seats; given_back = given h number seats } ≡ sale = cc in
     (ap (λ (s : SaleState). Sell s.event s.seats) same, refl, subst (λ (s : SaleState). s.given_back ≡ given h number s.seats) same refl)
 sale_is h number _ _ sale e = cc
 
-sale_kept : (h : List Entry) (number : ℕ) (o : Option Kept) (sale : SaleState) → sale_if_kept (asked h) number o ≡ Some sale
+pub sale_kept : (h : List Entry) (number : ℕ) (o : Option Kept) (sale : SaleState) → sale_if_kept (asked h) number o ≡ Some sale
     → (k : Kept) × (o ≡ Some k) × (sale_in (asked h) number k.request k.reply ≡ Some sale)
 sale_kept h number None sale e = cc
 sale_kept h number (Some k) sale e = (k, refl, e)
