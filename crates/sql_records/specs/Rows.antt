@@ -34,14 +34,20 @@ abbrev pub event_column : Request → Value
 event_column (Announce event) = Text event
 event_column (Release event amount) = Text event
 event_column (Sell event amount) = Text event
-event_column (Refund sale) = Null
+event_column (Refund sale part) = Null
 event_column (Cede event amount to) = Text event
 
+-- a number, where there is one
+abbrev pub number_column : Option ℕ → Value
+number_column None = Null
+number_column (Some n) = Int (pos n)
+
+-- the amount, or the part of a sale that is asked back
 abbrev pub amount_column : Request → Value
 amount_column (Announce event) = Null
 amount_column (Release event amount) = Int (pos amount)
 amount_column (Sell event amount) = Int (pos amount)
-amount_column (Refund sale) = Null
+amount_column (Refund sale part) = number_column part
 amount_column (Cede event amount to) = Int (pos amount)
 
 -- the site that is ceded to, or the sale that is given back
@@ -49,14 +55,10 @@ abbrev pub target_column : Request → Value
 target_column (Announce event) = Null
 target_column (Release event amount) = Null
 target_column (Sell event amount) = Null
-target_column (Refund sale) = Int (pos sale)
+target_column (Refund sale part) = Int (pos sale)
 target_column (Cede event amount to) = Int (pos to)
 
 -- the number of a reply, where it has one
-abbrev pub number_column : Option ℕ → Value
-number_column None = Null
-number_column (Some n) = Int (pos n)
-
 abbrev pub rest_column : Reply → Value
 rest_column reply = number_column (reply_number reply)
 
@@ -148,10 +150,15 @@ sell_of event amount target = do
   n ← value_in amount
   if is_null target then Some (Sell e n) else None
 
+-- the part of a sale, or none where the column is null
+unfoldable pub part_in : Value → Option (Option ℕ)
+part_in amount = if is_null amount then Some None else option_map (λ n. Some n) (value_in amount)
+
 unfoldable pub refund_of : Value → Value → Value → Option Request
 refund_of event amount target = do
   sale ← value_in target
-  if is_null event && is_null amount then Some (Refund sale) else None
+  part ← part_in amount
+  if is_null event then Some (Refund sale part) else None
 
 unfoldable pub cede_of : Value → Value → Value → Option Request
 cede_of event amount target = do

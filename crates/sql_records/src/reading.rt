@@ -4,7 +4,7 @@ ghost use Rattle.std.specs.Option.{option_map};
 ghost use Rattle.sqlite.specs.Order.{column};
 ghost use Rattle.sqlite_value.specs.Value.{owned};
 ghost use Rattle.rights_lattice.specs.State.{State};
-ghost use Rattle.sql_records.specs.Rows.{is_null, text_in, number_within, value_in, site_in, event_in, verb_in, announce_of, release_of, sell_of, refund_of, cede_of, request_of, request_in, rest_in, reply_in, delta_in, asks_nothing, asked_of, joined_of, entry_with, entry_of, with_delta, WantsForDelta, WantsForEntry};
+ghost use Rattle.sql_records.specs.Rows.{is_null, text_in, number_within, value_in, site_in, event_in, verb_in, announce_of, release_of, sell_of, part_in, refund_of, cede_of, request_of, request_in, rest_in, reply_in, delta_in, asks_nothing, asked_of, joined_of, entry_with, entry_of, with_delta, WantsForDelta, WantsForEntry};
 
 use book_core::Entry;
 use delta_mutators::Delta;
@@ -130,13 +130,26 @@ fn sell_of(event: ValueRef<'_>, amount: ValueRef<'_>, target: ValueRef<'_>) -> O
     }
 }
 
+// The part of a sale that is asked back, or none where the column is null.
+#[tactic(auto, unfolding(crate::specs::Rows::part_in))]
+fn part_in(amount: ValueRef<'_>) -> Option<Option<Amount>>
+    ensures { result ≡ part_in (owned amount.entry) }
+{
+    if is_null(amount) {
+        return Some(None);
+    }
+    let amount = amount_in(amount)?;
+    Some(Some(amount))
+}
+
 #[tactic(auto, unfolding(crate::specs::Rows::refund_of))]
 fn refund_of(event: ValueRef<'_>, amount: ValueRef<'_>, target: ValueRef<'_>) -> Option<Request>
     ensures { result ≡ refund_of (owned event.entry) (owned amount.entry) (owned target.entry) }
 {
     let sale = request_number_in(target)?;
-    if is_null(event) && is_null(amount) {
-        Some(Request::Refund { sale })
+    let part = part_in(amount)?;
+    if is_null(event) {
+        Some(Request::Refund { sale, part })
     } else {
         None
     }
