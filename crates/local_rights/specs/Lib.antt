@@ -1,4 +1,5 @@
 pub mod BoundedCounter
 pub mod Counted
 pub mod Effects
+pub mod OpenSeats
 pub mod Rights

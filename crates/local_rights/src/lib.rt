@@ -7,9 +7,11 @@
 pub mod counted;
 mod effect;
 pub mod laws;
+pub mod position;
 pub mod report;
 pub mod rights;
 
 pub use counted::Counted;
-pub use report::Totals;
+pub use position::{open_seats, view};
+pub use report::{Totals, ViewTotals};
 pub use rights::{left, paper_value, totals};

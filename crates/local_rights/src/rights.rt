@@ -2,7 +2,7 @@
 ghost use Rattle.std.specs.Prelude.{◌≡◌, ◌*◌, ◌≤◌, pos};
 ghost use Rattle.rights_lattice.specs.Cells.{max_value};
 ghost use Rattle.rights_lattice.specs.Limits.{site_numbers};
-ghost use Rattle.local_rights.specs.Rights.{HasRights, left_of, rights_of, released_in, sold_in, refunded_in, paper_value};
+ghost use Rattle.local_rights.specs.Rights.{HasRights, gained, spent, left_of, rights_of, released_in, sold_in, refunded_in, paper_value};
 
 use crate::report::Totals;
 use rights_lattice::{Cell, Event, Rights, SiteId};
@@ -13,6 +13,15 @@ pub fn left(rights: &Rights, me: SiteId, event: Event) -> u64
     requires { HasRights rights.now.cells event me }
     ensures left { result ≡ left_of rights.now.cells event me }
     ensures rights { pos result ≡ rights_of rights.now.cells event me }
+{
+    let (gained, spent) = gained_and_spent(rights, me, event);
+    gained - spent
+}
+
+// What the site released, got from other sites and took back, and what it gave to them and sold.
+pub(crate) fn gained_and_spent(rights: &Rights, me: SiteId, event: Event) -> (u64, u64)
+    ensures gained { result.0 ≡ gained rights.now.cells event me }
+    ensures spent { result.1 ≡ spent rights.now.cells event me }
 {
     let mut gained = rights.get(event, Cell::Gave { by: me, to: me });
     gained += rights.get(event, Cell::Back { by: me });
@@ -25,7 +34,7 @@ pub fn left(rights: &Rights, me: SiteId, event: Event) -> u64
             spent += rights.get(event, Cell::Gave { by: me, to: other });
         }
     }
-    gained - spent
+    (gained, spent)
 }
 
 /// The seats of the event that all sites released, sold and took back.

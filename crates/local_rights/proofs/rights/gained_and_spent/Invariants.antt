@@ -3,7 +3,7 @@ use Rattle.rights_lattice.specs.Cells.{max_value, value_at}
 use Rattle.rights_lattice.specs.declared.cell.Cell.TheVariants.{Gave, Used, Back}
 use Rattle.rights_lattice.specs.Sums.{sum_below}
 use Rattle.local_rights.specs.Rights.{ceded}
-use Rattle.local_rights.proofs.rights.left.Given as goal
+use Rattle.local_rights.proofs.rights.gained_and_spent.Given as goal
 
 abbrev pub invariant-loop-other : goal.invariant-loop-other
 invariant-loop-other l = record {

@@ -1,0 +1,50 @@
+//! The seats that are open by a view.
+ghost use Rattle.std.specs.Prelude.{◌≡◌, ◌≤◌, ◌↔◌, ℕ, IsSome, IfSome, IsTrue, pos};
+ghost use Rattle.local_rights.specs.OpenSeats.{open_seats_in, view_in};
+ghost use Rattle.local_rights.specs.Rights.{HasRights, IsPosition, paper_value};
+
+use crate::report::{Totals, ViewTotals};
+use crate::rights::{gained_and_spent, totals};
+use rights_lattice::{Event, Rights, SiteId};
+
+/// The seats of the event that are open by this view: what all sites released and took back, less what they sold. None
+/// where the view is no position, as after a forged delta: by it some site spent more than it gained.
+pub fn open_seats(rights: &Rights, event: Event) -> Option<u64>
+    ensures open { result ≡ open_seats_in rights.now.cells event }
+    ensures position { IsSome result ↔ IsPosition rights.now.cells event }
+    ensures value { IfSome result (λ seats. pos seats ≡ paper_value rights.now.cells event) }
+{
+    let sites = rights.sites();
+    for number in 0..sites.count() {
+        if !has_rights(rights, sites.site(number), event) {
+            return None;
+        }
+    }
+    let totals = totals(rights, event);
+    Some(totals.released + totals.refunded - totals.sold)
+}
+
+// Whether the site spent no more than it gained.
+fn has_rights(rights: &Rights, site: SiteId, event: Event) -> bool
+    ensures { IsTrue result ↔ HasRights rights.now.cells event site }
+{
+    let (gained, spent) = gained_and_spent(rights, site, event);
+    spent <= gained
+}
+
+/// What the view shows of an event: the seats that all sites released, sold and took back, and those that are open.
+pub fn view(rights: &Rights, event: Event) -> ViewTotals
+    ensures { result ≡ view_in rights.now.cells event }
+{
+    let Totals {
+        released,
+        sold,
+        refunded,
+    } = totals(rights, event);
+    ViewTotals {
+        released,
+        sold,
+        refunded,
+        open_seats: open_seats(rights, event),
+    }
+}
