@@ -85,6 +85,7 @@ fn refused(rt: &impl Abort, alloc: Global) -> Entry {
 fn refunded(rt: &impl Abort, alloc: Global) -> Entry {
     let request = Request::Refund {
         sale: number(rt, 3),
+        part: None,
     };
     asked(rt, alloc, 5, request, Reply::Done, b"back gala 0 3\n")
 }

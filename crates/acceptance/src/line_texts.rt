@@ -59,6 +59,7 @@ fn texts_of_replies(rt: HostRuntime) {
         (Reply::CellFull, b"full-cell"),
         (Reply::NoSale, b"no-sale"),
         (Reply::Refunded, b"refunded"),
+        (Reply::TooMany { rest: 3 }, b"too-many 3"),
         (Reply::ToSelf, b"to-self"),
         (Reply::NoSite, b"no-site"),
     ];
@@ -103,7 +104,14 @@ fn texts_of_requests(rt: HostRuntime) {
         (Request::Announce { event }, b"announce 9 gala".as_slice()),
         (Request::Release { event, amount }, b"release 9 gala 40"),
         (Request::Sell { event, amount }, b"sell 9 gala 40"),
-        (Request::Refund { sale }, b"refund 9 3"),
+        (Request::Refund { sale, part: None }, b"refund 9 3"),
+        (
+            Request::Refund {
+                sale,
+                part: Some(amount),
+            },
+            b"refund 9 3 40",
+        ),
         (Request::Cede { event, amount, to }, b"cede 9 gala 40 1"),
     ];
     for (request, wanted) in cases {

@@ -32,11 +32,18 @@ fn lines_of_a_session(rt: HostRuntime) -> Result<(), Fail> {
         amount: amount(40)?,
         to: site(1)?,
     };
+    let three = number(3)?;
     let asked = Line::Ask {
-        number: number(3)?,
+        number: three,
         request: cession,
     };
     assert!(rt; read_line(b"cede 3 gala 40 1") == Ok(asked));
+    let refund = |part| Line::Ask {
+        number: three,
+        request: Request::Refund { sale: three, part },
+    };
+    assert!(rt; read_line(b"refund 3 3") == Ok(refund(None)));
+    assert!(rt; read_line(b"refund 3 3 40") == Ok(refund(Some(amount(40)?))));
     assert!(rt; read_line(b"left gala") == Ok(Line::Left { event }));
     assert!(rt; read_line(b"totals gala") == Ok(Line::Totals { event }));
     assert!(rt; read_line(b"quit") == Ok(Line::Quit));
@@ -48,6 +55,9 @@ fn lines_of_a_session(rt: HostRuntime) -> Result<(), Fail> {
         b"cede 03 gala 40 1",
         b"cede 3 gala 40 64",
         b"cede 3 gala 0 1",
+        b"refund 3",
+        b"refund 3 3 0",
+        b"refund 3 3 40 1",
         b"0 left gala",
         b"send 0 1",
         b"sell 3 gala 3\r",
@@ -88,6 +98,19 @@ fn lines_of_a_script(rt: HostRuntime) -> Result<(), Fail> {
         stored: true,
     };
     assert!(rt; read_step(b"stop 0 kept sell 3 gala 4") == Ok(ScriptLine::Make(stops)));
+    let part = Request::Refund {
+        sale: number,
+        part: Some(amount(4)?),
+    };
+    let stops = Step::Stop {
+        site: first,
+        input: Input::Request {
+            number,
+            request: part,
+        },
+        stored: true,
+    };
+    assert!(rt; read_step(b"stop 0 kept refund 3 3 4") == Ok(ScriptLine::Make(stops)));
     for line in [b"quit".as_slice(), b"0 quit", b"limit 3", b"sell 3 gala 4"] {
         assert!(rt; read_step(line).is_err());
     }
@@ -109,6 +132,10 @@ fn reply_lines(rt: HostRuntime) -> Result<(), Fail> {
         (Answered::Kept(Reply::CellFull), b"full-cell\n"),
         (Answered::Kept(Reply::NoSale), b"no-sale\n"),
         (Answered::Kept(Reply::Refunded), b"refunded\n"),
+        (
+            Answered::Kept(Reply::TooMany { rest: 3 }),
+            b"too-many 3\n",
+        ),
         (Answered::Kept(Reply::ToSelf), b"to-self\n"),
         (Answered::Kept(Reply::NoSite), b"no-site\n"),
         (Answered::LeftIs(96), b"left 96\n"),
@@ -151,7 +178,14 @@ fn request_lines(rt: HostRuntime) -> Result<(), Fail> {
             Request::Sell { event, amount },
             b"sell 7 gala 1000000000000",
         ),
-        (Request::Refund { sale }, b"refund 7 9"),
+        (Request::Refund { sale, part: None }, b"refund 7 9"),
+        (
+            Request::Refund {
+                sale,
+                part: Some(amount),
+            },
+            b"refund 7 9 1000000000000",
+        ),
         (
             Request::Cede { event, amount, to },
             b"cede 7 gala 1000000000000 63",

@@ -129,3 +129,55 @@ fn small_limit(rt: HostRuntime) {
         Status::Done,
     );
 }
+
+#[test]
+fn refund_in_parts(rt: HostRuntime) {
+    prints(
+        &rt,
+        b"sites 1\n\
+          0 announce 1 gala\n\
+          0 release 2 gala 5\n\
+          0 sell 9 gala 5\n\
+          0 refund 10 9 2\n\
+          0 refund 11 9 4\n\
+          0 refund 12 9\n\
+          0 refund 13 9\n",
+        b"done\n\
+          done\n\
+          done\n\
+          done\n\
+          too-many 3\n\
+          done\n\
+          refunded\n\
+          gala released 5 sold 5 refunded 5 outstanding 0\n",
+        Status::Done,
+    );
+}
+
+#[test]
+fn parts_again(rt: HostRuntime) {
+    prints(
+        &rt,
+        b"sites 1\n\
+          0 announce 1 gala\n\
+          0 release 2 gala 5\n\
+          0 sell 9 gala 5\n\
+          0 refund 10 9 2\n\
+          0 refund 11 9 4\n\
+          0 refund 12 9\n\
+          0 refund 13 9\n\
+          0 refund 10 9\n\
+          0 refund 14 9 5\n",
+        b"done\n\
+          done\n\
+          done\n\
+          done\n\
+          too-many 3\n\
+          done\n\
+          refunded\n\
+          reused\n\
+          refunded\n\
+          gala released 5 sold 5 refunded 5 outstanding 0\n",
+        Status::Done,
+    );
+}

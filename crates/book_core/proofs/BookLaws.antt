@@ -1,35 +1,32 @@
 -- What opening and entering keep.
-use Rattle.std.proofs.Common.{◌≡◌, ℕ, ◌+◌, ◌-◌, ◌≤◌, ◌<◌, Bool, true, false, cond, not, ◌&&◌, List, [], ◌∷◌, ◌++◌, Option, Some, None, refl, sym, ap, ◌∙◌, subst, arith, ltb-true, leb-false, length}
-use Rattle.std.specs.Prelude.{nat_lt, nat_le, ◌==◌, IsSomeAnd}
-use Rattle.std.proofs.lemmas.Bool.{and_parts}
-use Rattle.rights_lattice.specs.declared.cell.Cell.{Cell}
-use Rattle.rights_lattice.specs.declared.cell.Cell.TheVariants.{Gave, Used, Back}
+use Rattle.std.proofs.Common.{◌≡◌, ℕ, ◌+◌, ◌≤◌, ◌<◌, Bool, true, false, cond, not, List, [], ◌∷◌, ◌++◌, Option, Some, None, refl, sym, ap, ◌∙◌, subst, arith, leb-false, length}
+use Rattle.std.specs.Prelude.{nat_le, ◌==◌, IsSomeAnd}
+use Rattle.rights_lattice.specs.declared.cell.Cell.TheVariants.{Used, Back}
 use Rattle.rights_lattice.specs.Cells.{Key, Cells, Valued, max_value, value_at, all_zero, raise, raise_all, marks_of, greatest, value_in, is_of}
 use Rattle.rights_lattice.specs.Cells as cells
 use Rattle.rights_lattice.specs.State.{State, bottom, knows, names_in_order}
-use Rattle.rights_lattice.specs.RightsView.{IsCellOf, IsWithin, is_cell_of, are_within}
-use Rattle.rights_lattice.proofs.CellLaws.{greatest-marks_of, of_same}
+use Rattle.rights_lattice.specs.RightsView.{IsCellOf, IsWithin}
+use Rattle.rights_lattice.proofs.CellLaws.{greatest-marks_of}
 use Rattle.rights_lattice.proofs.RightsLaws.{within_zero, within_raise, join-marks}
 use Rattle.delta_mutators.specs.Marks.{mark_plus}
 use Rattle.request_ledger.specs.declared.request.Request.{Request}
 use Rattle.request_ledger.specs.declared.request.Request.TheVariants.{Announce, Release, Sell, Refund, Cede}
 use Rattle.request_ledger.specs.declared.reply.Reply.{Reply}
-use Rattle.request_ledger.specs.declared.reply.Reply.TheVariants.{Done, Unknown, ToSelf, NoSite, Refunded}
+use Rattle.request_ledger.specs.declared.reply.Reply.TheVariants.{Done, Unknown, ToSelf, NoSite}
 use Rattle.request_ledger.specs.declared.reply.SaleState.{SaleState}
 use Rattle.request_ledger.specs.Requests.{is_done}
-use Rattle.request_ledger.specs.Ledger.{Keeping, kept_under, IsRefundable}
+use Rattle.request_ledger.specs.Ledger.{Keeping, kept_under, rest_of, amount_back, IsRefundable}
 use Rattle.event_catalogue.specs.Catalogue.{with_new}
 use Rattle.book_core.specs.declared.entry.Entry.{Entry}
 use Rattle.book_core.specs.declared.entry.Entry.TheVariants.{Asked, Joined}
 use Rattle.book_core.specs.History.{delta_of, state_of, asked, asked_from, sale_of}
 use Rattle.book_core.specs.Decision.{Office, Change, cell_of, change_of, refund_of, marked, addition_of, delta_for, refund_reply, reply_to}
-use Rattle.book_core.specs.Joining.{is_of_sites}
 use Rattle.book_core.specs.Legal.{IsNext, IsLegal}
 use Rattle.book_core.specs.BookView.{MarksAreWithin, IsInOrder, IsUnkept, KeepsRefunds}
 use Rattle.book_core.proofs.Histories.{state_of-push, legal_push}
 use Rattle.book_core.proofs.NameLaws.{names_of-push}
 use Rattle.book_core.proofs.Kept.{asked-push}
-use Rattle.book_core.proofs.Refunds.{refund_fits, whole_given}
+use Rattle.book_core.proofs.Refunds.{refund_fits, done_within}
 
 -- one more cell takes at most one place of the room
 pub room_left : (b : Bool) (old new len i : ℕ) → old ≤ new + cond b 1 0 → len ≤ old + i → len ≤ new + (i + 1)
@@ -51,9 +48,9 @@ done_of_sites : (office : Office) (h : List Entry) (request : Request) → offic
 done_of_sites office h (Announce event) me e = tt
 done_of_sites office h (Release event n) me e = (me, me)
 done_of_sites office h (Sell event n) me e = me
-done_of_sites office h (Refund sale) me e = of_sale (sale_of h sale)
+done_of_sites office h (Refund sale part) me e = of_sale (sale_of h sale)
   where
-    of_sale : (o : Option SaleState) → IsOfSites office (refund_of o)
+    of_sale : (o : Option SaleState) → IsOfSites office (refund_of o part)
     of_sale None = tt
     of_sale (Some sale) = me
 done_of_sites office h (Cede event n to) me e =
@@ -67,7 +64,7 @@ addition_within : (office : Office) (h : List Entry) (request : Request) → IsO
 addition_within office h (Announce event) of = within_zero office.sites
 addition_within office h (Release event n) of = marked_within office (state_of h).cells (change_of h (Release event n)) of
 addition_within office h (Sell event n) of = marked_within office (state_of h).cells (change_of h (Sell event n)) of
-addition_within office h (Refund sale) of = marked_within office (state_of h).cells (refund_of (sale_of h sale)) of
+addition_within office h (Refund sale part) of = marked_within office (state_of h).cells (refund_of (sale_of h sale) part) of
 addition_within office h (Cede event n to) of = marked_within office (state_of h).cells (change_of h (Cede event n to)) of
 
 delta_within : (office : Office) (h : List Entry) (request : Request) (reply : Reply) → office.me < office.sites → reply ≡ reply_to office h request → IsWithin office.sites (delta_for office h request reply).cells
@@ -119,18 +116,14 @@ unkept office h (Asked number request reply delta) es is next = ap (λ (xs : Kee
 unkept office h (Joined peer delta) es is next = tt
 
 refundable : (h : List Entry) (request : Request) (reply : Reply) → (office : Office) → reply ≡ reply_to office h request → IsRefundable (asked h) request reply
-refundable h (Refund sale) Done office answer = of_sale (sale_of h sale) refl answer
+refundable h (Refund sale part) Done office answer = of_sale (sale_of h sale) answer
   where
-    rest : (state : SaleState) (b : Bool) → nat_le state.seats state.given_back ≡ b → Done ≡ cond b Refunded Done → sale_of h sale ≡ Some state → state.given_back ≡ 0
-    rest state true q d found = cc
-    rest state false q d found = whole_given h sale state found (leb-false state.seats state.given_back q)
-
-    of_sale : (o : Option SaleState) → sale_of h sale ≡ o → Done ≡ refund_reply o → IsSomeAnd o (λ state. state.given_back ≡ 0)
-    of_sale None found d = cc
-    of_sale (Some state) found d = rest state (nat_le state.seats state.given_back) refl d found
+    of_sale : (o : Option SaleState) → Done ≡ refund_reply o part → IsSomeAnd o (λ state. amount_back part state ≤ rest_of state)
+    of_sale None d = cc
+    of_sale (Some state) d = done_within part state d
 refundable h _ _ office answer = tt
 
--- a refund that is next and done is of a sale that is kept and not given back
+-- a refund that is next and done is of a sale that is kept and gives back no more than is left of it
 pub keeps_refunds : (office : Office) (h : List Entry) (entry : Entry) (es : Keeping) → es ≡ asked h → IsNext office h entry → KeepsRefunds es entry
 keeps_refunds office h (Asked number request reply delta) es is next =
     subst (λ (xs : Keeping). IsRefundable xs request reply) (sym is) (refundable h request reply office next.answer)
@@ -138,6 +131,6 @@ keeps_refunds office h (Joined peer delta) es is next = tt
 
 -- a refund's mark is not above the greatest value
 pub refund_room : (office : Office) (h : List Entry) (number : ℕ) (sale : SaleState) (X : Cells) → IsLegal office h → sale_of h number ≡ Some sale → X ≡ (state_of h).cells
-    → value_at X sale.event (Used office.me) ≤ max_value → value_at X sale.event (Back office.me) + (sale.seats - sale.given_back) ≤ max_value
+    → value_at X sale.event (Used office.me) ≤ max_value → value_at X sale.event (Back office.me) + rest_of sale ≤ max_value
 refund_room office h number sale X legal found is most =
     omega (arith, most, refund_fits office h number sale legal found, ap (λ Y. value_at Y sale.event (Used office.me)) is, ap (λ Y. value_at Y sale.event (Back office.me)) is)

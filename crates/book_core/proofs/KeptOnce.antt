@@ -1,6 +1,6 @@
 -- Each asked entry of a legal history is what is kept under its number.
-use Rattle.std.proofs.Common.{◌≡◌, ◌⊎◌, inl, inr, ℕ, true, cond, List, [], ◌∷◌, ◌++◌, Option, Some, None, length, refl, sym, ap, subst, ◌∙◌, append-nil, eq-eqb}
-use Rattle.std.specs.Prelude.{◌==◌, nat_eq, slice_get}
+use Rattle.std.proofs.Common.{◌≡◌, inl, inr, ℕ, cond, List, [], ◌∷◌, ◌++◌, Option, Some, None, length, refl, sym, ap, subst, ◌∙◌, append-nil, eq-eqb}
+use Rattle.std.specs.Prelude.{nat_eq, slice_get}
 use Rattle.rights_lattice.specs.State.{State}
 use Rattle.request_ledger.specs.declared.request.Request.{Request}
 use Rattle.request_ledger.specs.declared.reply.Reply.{Reply}
@@ -9,10 +9,9 @@ use Rattle.request_ledger.specs.Ledger.{Keeping, kept_under}
 use Rattle.request_ledger.proofs.KeptLaws.{or_else, kept_under-push}
 use Rattle.book_core.specs.declared.entry.Entry.{Entry}
 use Rattle.book_core.specs.declared.entry.Entry.TheVariants.{Asked, Joined}
-use Rattle.book_core.specs.Decision.{Office}
-use Rattle.book_core.specs.History.{asked, asked_from, kept}
+use Rattle.book_core.specs.History.{asked, kept}
 use Rattle.book_core.specs.Laws.{EachReplyIsKept, NumbersAreKeptOnce}
-use Rattle.book_core.specs.Legal.{IsNext, IsLegal}
+use Rattle.book_core.specs.Legal.{IsNext}
 use Rattle.book_core.proofs.Histories.{get_push, legal_along}
 use Rattle.book_core.proofs.Kept.{asked-push}
 

@@ -1,7 +1,5 @@
 -- What an entry that is next leaves as it was: the own row, where it is a delta of a peer, and rights that are not negative.
 use Rattle.std.proofs.Common.{◌≡◌, List, [], ◌∷◌, ◌++◌, ap, ◌∙◌, subst, sym}
-use Rattle.rights_lattice.specs.declared.cell.Cell.{Cell}
-use Rattle.rights_lattice.specs.Cell.{owner_of}
 use Rattle.rights_lattice.specs.Cells.{value_at}
 use Rattle.book_core.specs.declared.entry.Entry.{Entry}
 use Rattle.book_core.specs.declared.entry.Entry.TheVariants.{Asked, Joined}

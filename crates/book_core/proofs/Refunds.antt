@@ -1,9 +1,8 @@
 -- No site gives back more than it sold.
-use Rattle.std.proofs.Common.{◌≡◌, ℕ, ◌+◌, ◌-◌, ◌≤◌, ◌<◌, ◌⊎◌, inl, inr, length, Bool, true, false, cond, ◌&&◌, List, [], ◌∷◌, ◌++◌, Option, Some, None, refl, sym, ap, ◌∙◌, subst, arith, eqb-true, eq-eqb, append-nil}
-use Rattle.std.specs.Prelude.{◌==◌}
-use Rattle.std.specs.List.{sum_by, fold}
-use Rattle.std.proofs.lemmas.Bool.{and_from}
-use Rattle.std.proofs.lemmas.List.Sums.{sum_by-cons, sum_by_push, fold-append}
+use Rattle.std.proofs.Common.{◌≡◌, ℕ, ◌+◌, ◌-◌, ◌≤◌, min, length, Bool, true, false, cond, ◌&&◌, List, [], ◌∷◌, ◌++◌, Option, Some, None, refl, sym, ap, ◌∙◌, subst, arith, eqb-true, eq-eqb, ltb-false, append-nil}
+use Rattle.std.specs.Prelude.{◌==◌, nat_lt, unwrap_or}
+use Rattle.std.specs.List.{sum_by}
+use Rattle.std.proofs.lemmas.List.Sums.{sum_by-cons, sum_by_push, sum_by-append}
 use Rattle.rights_lattice.specs.Cell.{same_event}
 use Rattle.rights_lattice.specs.Cells.{value_at}
 use Rattle.rights_lattice.specs.declared.cell.Cell.TheVariants.{Used, Back}
@@ -12,16 +11,16 @@ use Rattle.rights_lattice.proofs.SpotLaws.{same_event_self}
 use Rattle.request_ledger.specs.declared.request.Request.{Request}
 use Rattle.request_ledger.specs.declared.request.Request.TheVariants.{Announce, Release, Sell, Refund, Cede}
 use Rattle.request_ledger.specs.declared.reply.Reply.{Reply}
-use Rattle.request_ledger.specs.declared.reply.Reply.TheVariants.{Done}
+use Rattle.request_ledger.specs.declared.reply.Reply.TheVariants.{Done, Refunded, TooMany}
 use Rattle.request_ledger.specs.declared.reply.Kept.{Kept}
 use Rattle.request_ledger.specs.declared.reply.SaleState.{SaleState}
 use Rattle.request_ledger.specs.Requests.{is_done}
 use Rattle.book_core.specs.declared.entry.Entry.{Entry}
 use Rattle.book_core.specs.declared.entry.Entry.TheVariants.{Asked, Joined}
-use Rattle.request_ledger.specs.Ledger.{Keeping, kept_under, sale_in, sale_if_kept, given_after, given_back, is_refund_of}
+use Rattle.request_ledger.specs.Ledger.{Keeping, kept_under, sale_in, sale_if_kept, part_counted, given_back, rest_of, amount_back}
 use Rattle.book_core.specs.History.{state_of, asked, asked_from, kept, sale_of}
 use Rattle.book_core.proofs.Kept.{asked-push}
-use Rattle.book_core.specs.Decision.{Office, Releasing, Selling, Refunding, Ceding, refund_of}
+use Rattle.book_core.specs.Decision.{Office, Releasing, Selling, Refunding, Ceding, refund_of, refund_reply}
 use Rattle.book_core.specs.Legal.{IsNext, IsLegal}
 use Rattle.book_core.specs.Operations.{operations, total}
 use Rattle.book_core.proofs.Histories.{operations_push, legal_along}
@@ -90,29 +89,20 @@ sales_found r q event le sale seats amount of less place (Asked m request reply 
 abbrev given : List Entry → ℕ → ℕ → ℕ
 given h sale seats = given_back (asked h) sale seats
 
+abbrev parts : Keeping → ℕ → ℕ → ℕ
+parts es sale seats = sum_by (part_counted sale seats) es
+
 abbrev kept_seats : List Entry → ℕ → ℕ → ℕ
 kept_seats h number seats = seats - given h number seats
 
-given_push : (h : List Entry) (entry : Entry) (sale seats : ℕ)
-    → given (h ++ entry ∷ []) sale seats ≡ fold (given_after sale seats) (given h sale seats) (asked_from (length h) (entry ∷ []))
-given_push h entry sale seats = ap (fold (given_after sale seats) 0) (asked-push h entry) ∙ fold-append (given_after sale seats) 0 (asked h) (asked_from (length h) (entry ∷ []))
+parts_push : (h : List Entry) (entry : Entry) (sale seats : ℕ)
+    → parts (asked (h ++ entry ∷ [])) sale seats ≡ parts (asked h) sale seats + parts (asked_from (length h) (entry ∷ [])) sale seats
+parts_push h entry sale seats =
+    ap (λ (es : Keeping). parts es sale seats) (asked-push h entry) ∙ sum_by-append (part_counted sale seats) (asked h) (asked_from (length h) (entry ∷ []))
 
--- what is given back grows, up to the seats of the sale
-given_more : (es : Keeping) (before sale seats : ℕ) → before ≤ seats → (before ≤ fold (given_after sale seats) before es) × (fold (given_after sale seats) before es ≤ seats)
-given_more [] before sale seats le = (omega arith, le)
-given_more (e ∷ es) before sale seats le =
-    let step = by_test (is_refund_of sale e.1.request && is_done e.1.reply) in
-    let rest = given_more es (given_after sale seats before e) sale seats step.1 in
-    (omega (arith, step.0, rest.0), rest.1)
-  where
-    by_test : (b : Bool) → (before ≤ cond b seats before) × (cond b seats before ≤ seats)
-    by_test true = (le, omega arith)
-    by_test false = (omega arith, le)
-
+-- what is given back grows
 kept_less : (h : List Entry) (entry : Entry) (sale seats : ℕ) → kept_seats (h ++ entry ∷ []) sale seats ≤ kept_seats h sale seats
-kept_less h entry sale seats =
-    let so_far = given_more (asked h) 0 sale seats (omega arith) in
-    omega (arith, given_push h entry sale seats, (given_more (asked_from (length h) (entry ∷ [])) (given h sale seats) sale seats so_far.1).0)
+kept_less h entry sale seats = omega (arith, parts_push h entry sale seats)
 
 whole_share : (b : Bool) (m : ℕ) → cond (b && true) m 0 ≡ cond b m 0
 whole_share true m = refl
@@ -123,14 +113,41 @@ no_share : (b : Bool) (n : ℕ) → cond (b && false) n 0 ≡ 0
 no_share true n = refl
 no_share false n = refl
 
--- a sale is given back whole or not at all
-given_whole : (es : Keeping) (before sale seats : ℕ) → (before ≡ 0) ⊎ (before ≡ seats) → (fold (given_after sale seats) before es ≡ 0) ⊎ (fold (given_after sale seats) before es ≡ seats)
-given_whole [] before sale seats whole = whole
-given_whole (e ∷ es) before sale seats whole = given_whole es (given_after sale seats before e) sale seats (by_test (is_refund_of sale e.1.request && is_done e.1.reply))
+-- a refund that is done gives back no more than the rest
+pub done_within : (part : Option ℕ) (sale : SaleState) → Done ≡ refund_reply (Some sale) part → amount_back part sale ≤ rest_of sale
+done_within part sale d = by_rest (rest_of sale == 0) d
   where
-    by_test : (b : Bool) → (cond b seats before ≡ 0) ⊎ (cond b seats before ≡ seats)
-    by_test true = inr refl
-    by_test false = whole
+    by_amount : (b : Bool) → nat_lt (rest_of sale) (amount_back part sale) ≡ b → Done ≡ cond b (TooMany (rest_of sale)) Done → amount_back part sale ≤ rest_of sale
+    by_amount true q e = cc
+    by_amount false q e = ltb-false (rest_of sale) (amount_back part sale) q
+
+    by_rest : (b : Bool) → Done ≡ cond b Refunded (cond (nat_lt (rest_of sale) (amount_back part sale)) (TooMany (rest_of sale)) Done) → amount_back part sale ≤ rest_of sale
+    by_rest true e = cc
+    by_rest false e = by_amount (nat_lt (rest_of sale) (amount_back part sale)) refl e
+
+-- what the amount of a refund that fits adds
+fitting : (part : Option ℕ) (seats sum : ℕ) → unwrap_or part (seats - min seats sum) ≤ seats - min seats sum
+    → (seats - min seats (sum + unwrap_or part seats)) + unwrap_or part (seats - min seats sum) ≤ seats - min seats sum
+fitting None seats sum fits = omega arith
+fitting (Some n) seats sum fits = omega arith
+
+pub done_is : (r : Reply) → is_done r ≡ true → r ≡ Done
+done_is Done d = refl
+done_is r d = cc
+
+-- the rest of a sale falls by the amount of a refund that is done
+gives_back : (h : List Entry) (number sale : ℕ) (part : Option ℕ) (reply : Reply) (delta : State) (s : SaleState) → is_done reply ≡ true → s.given_back ≡ given h sale s.seats
+    → amount_back part s ≤ rest_of s → kept_seats (h ++ Asked number (Refund sale part) reply delta ∷ []) sale s.seats + amount_back part s ≤ kept_seats h sale s.seats
+gives_back h number sale part reply delta s d is within =
+    let asked_for : parts (asked_from (length h) (Asked number (Refund sale part) reply delta ∷ [])) sale s.seats ≡ unwrap_or part s.seats =
+    omega (arith, ap (λ b. cond b (cond (sale == sale) (unwrap_or part s.seats) 0) 0) d, ap (λ b. cond b (unwrap_or part s.seats) 0) (eq-eqb sale sale refl)) in
+    omega (
+      arith,
+      fitting part s.seats (parts (asked h) sale s.seats) (subst (λ g. unwrap_or part (s.seats - g) ≤ s.seats - g) is within),
+      parts_push h (Asked number (Refund sale part) reply delta) sale s.seats,
+      asked_for,
+      ap (λ g. unwrap_or part (s.seats - g)) is,
+    )
 
 -- what is given back, and what may still be, is no more than what was sold
 abbrev Balanced : ℕ → List Entry → List ℕ → Type 0
@@ -152,24 +169,17 @@ balanced_push me h number request reply delta event before step =
     )
 
 -- a sale of the ledger was kept
-sale_is : (h : List Entry) (number : ℕ) (request : Request) (reply : Reply) (sale : SaleState) → sale_in (asked h) number request reply ≡ Some sale
+pub sale_is : (h : List Entry) (number : ℕ) (request : Request) (reply : Reply) (sale : SaleState) → sale_in (asked h) number request reply ≡ Some sale
     → (request ≡ Sell sale.event sale.seats) × (reply ≡ Done) × (sale.given_back ≡ given h number sale.seats)
 sale_is h number (Sell event seats) Done sale e =
     let same : record { event = event; seats = seats; given_back = given h number seats } ≡ sale = cc in
     (ap (λ (s : SaleState). Sell s.event s.seats) same, refl, subst (λ (s : SaleState). s.given_back ≡ given h number s.seats) same refl)
 sale_is h number _ _ sale e = cc
 
-sale_kept : (h : List Entry) (number : ℕ) (o : Option Kept) (sale : SaleState) → sale_if_kept (asked h) number o ≡ Some sale
+pub sale_kept : (h : List Entry) (number : ℕ) (o : Option Kept) (sale : SaleState) → sale_if_kept (asked h) number o ≡ Some sale
     → (k : Kept) × (o ≡ Some k) × (sale_in (asked h) number k.request k.reply ≡ Some sale)
 sale_kept h number None sale e = cc
 sale_kept h number (Some k) sale e = (k, refl, e)
-
--- a sale with seats that are left is not given back at all
-pub whole_given : (h : List Entry) (number : ℕ) (sale : SaleState) → sale_of h number ≡ Some sale → sale.given_back < sale.seats → sale.given_back ≡ 0
-whole_given h number sale found less =
-    let kept_is = sale_kept h number (kept h number) sale found in
-    let is = sale_is h number kept_is.0.request kept_is.0.reply sale kept_is.2 in
-    elim (given_whole (asked h) 0 number sale.seats (inl refl)) [ inl none ↦ omega (arith, is.2, none) | inr all ↦ omega (arith, is.2, all, less) ]
 
 balanced_after : (office : Office) (h : List Entry) (entry : Entry) → ((event : List ℕ) → Balanced office.me h event) → IsNext office h entry → (event : List ℕ) → Balanced office.me (h ++ entry ∷ []) event
 balanced_after office h (Joined peer delta) before next event =
@@ -210,31 +220,29 @@ balanced_after office h (Asked number (Sell of seats) reply delta) before next e
         ≤ share Selling event (cond d (Some (record { kind = Selling; event = of; amount = seats })) None)
     by_test true = omega (arith, no_share (same_event event of) seats, cond_le (same_event event of && true) (kept_seats (h ++ Asked number (Sell of seats) reply delta ∷ []) number seats) seats (omega arith))
     by_test false = omega (arith, no_share (same_event event of) (kept_seats (h ++ Asked number (Sell of seats) reply delta ∷ []) number seats))
-balanced_after office h (Asked number (Refund sale) reply delta) before next event =
-    balanced_push office.me h number (Refund sale) reply delta event (before event) (by_test (is_done reply) refl)
+balanced_after office h (Asked number (Refund sale part) reply delta) before next event =
+    balanced_push office.me h number (Refund sale part) reply delta event (before event) (by_test (is_done reply) refl)
   where
     of_sale : (o : Option SaleState) → sale_of h sale ≡ o → is_done reply ≡ true
-        → sales (kept_seats (h ++ Asked number (Refund sale) reply delta ∷ [])) event h + 0 + share Refunding event (refund_of o) ≤ sales (kept_seats h) event h + share Selling event (refund_of o)
-    of_sale None e d = omega (arith, sales_le (kept_seats (h ++ Asked number (Refund sale) reply delta ∷ [])) (kept_seats h) event (kept_less h (Asked number (Refund sale) reply delta)) h)
+        → sales (kept_seats (h ++ Asked number (Refund sale part) reply delta ∷ [])) event h + 0 + share Refunding event (refund_of o part) ≤ sales (kept_seats h) event h + share Selling event (refund_of o part)
+    of_sale None e d = omega (arith, sales_le (kept_seats (h ++ Asked number (Refund sale part) reply delta ∷ [])) (kept_seats h) event (kept_less h (Asked number (Refund sale part) reply delta)) h)
     of_sale (Some s) e d =
         let found = sale_kept h sale (kept h sale) s e in
         let is = sale_is h sale found.0.request found.0.reply s found.2 in
-        let all : fold (given_after sale s.seats) (given h sale s.seats) (asked_from (length h) (Asked number (Refund sale) reply delta ∷ [])) ≡ s.seats =
-        ap (λ b. cond b s.seats (given h sale s.seats)) (and_from (sale == sale) (is_done reply) (eq-eqb sale sale refl) d) in
-        let less : kept_seats (h ++ Asked number (Refund sale) reply delta ∷ []) sale s.seats + (s.seats - s.given_back) ≤ kept_seats h sale s.seats =
-        omega (arith, given_push h (Asked number (Refund sale) reply delta) sale s.seats, all, is.2) in
+        let less : kept_seats (h ++ Asked number (Refund sale part) reply delta ∷ []) sale s.seats + amount_back part s ≤ kept_seats h sale s.seats =
+        gives_back h number sale part reply delta s d is.2 (done_within part s (sym (done_is reply d) ∙ next.answer ∙ ap (λ (x : Option SaleState). refund_reply x part) e)) in
         omega (
           arith,
-          sales_found (kept_seats (h ++ Asked number (Refund sale) reply delta ∷ [])) (kept_seats h) event (kept_less h (Asked number (Refund sale) reply delta)) sale s.seats (s.seats - s.given_back) s.event less 0 h found.0 found.1 is.0 is.1,
-          whole_share (same_event event s.event) (s.seats - s.given_back),
-          no_share (same_event event s.event) (s.seats - s.given_back),
+          sales_found (kept_seats (h ++ Asked number (Refund sale part) reply delta ∷ [])) (kept_seats h) event (kept_less h (Asked number (Refund sale part) reply delta)) sale s.seats (amount_back part s) s.event less 0 h found.0 found.1 is.0 is.1,
+          whole_share (same_event event s.event) (amount_back part s),
+          no_share (same_event event s.event) (amount_back part s),
         )
 
     by_test : (d : Bool) → is_done reply ≡ d
-        → sales (kept_seats (h ++ Asked number (Refund sale) reply delta ∷ [])) event h + 0 + share Refunding event (cond d (refund_of (sale_of h sale)) None)
-        ≤ sales (kept_seats h) event h + share Selling event (cond d (refund_of (sale_of h sale)) None)
+        → sales (kept_seats (h ++ Asked number (Refund sale part) reply delta ∷ [])) event h + 0 + share Refunding event (cond d (refund_of (sale_of h sale) part) None)
+        ≤ sales (kept_seats h) event h + share Selling event (cond d (refund_of (sale_of h sale) part) None)
     by_test true d = of_sale (sale_of h sale) refl d
-    by_test false d = omega (arith, sales_le (kept_seats (h ++ Asked number (Refund sale) reply delta ∷ [])) (kept_seats h) event (kept_less h (Asked number (Refund sale) reply delta)) h)
+    by_test false d = omega (arith, sales_le (kept_seats (h ++ Asked number (Refund sale part) reply delta ∷ [])) (kept_seats h) event (kept_less h (Asked number (Refund sale part) reply delta)) h)
 
 -- no site gives back more than it sold
 pub legal_refunds : (office : Office) (h : List Entry) → IsLegal office h → (event : List ℕ) → total Refunding event (operations office.me h) ≤ total Selling event (operations office.me h)
@@ -244,16 +252,16 @@ legal_refunds office h legal event =
 
 -- what is left of a sale fits beside what is given back: no more than what was sold
 pub refund_fits : (office : Office) (h : List Entry) (number : ℕ) (sale : SaleState) → IsLegal office h → sale_of h number ≡ Some sale
-    → value_at (state_of h).cells sale.event (Back office.me) + (sale.seats - sale.given_back) ≤ value_at (state_of h).cells sale.event (Used office.me)
+    → value_at (state_of h).cells sale.event (Back office.me) + rest_of sale ≤ value_at (state_of h).cells sale.event (Used office.me)
 refund_fits office h number sale legal found =
     let all : Balanced office.me h sale.event = legal_along office (λ g. (event : List ℕ) → Balanced office.me g event) (λ e. omega arith) (balanced_after office) h legal sale.event in
     let kept_is = sale_kept h number (kept h number) sale found in
     let is = sale_is h number kept_is.0.request kept_is.0.reply sale kept_is.2 in
-    let one = sales_found (λ _ _. 0) (kept_seats h) sale.event (λ m a. omega arith) number sale.seats (sale.seats - sale.given_back) sale.event (omega (arith, is.2)) 0 h kept_is.0 kept_is.1 is.0 is.1 in
+    let one = sales_found (λ _ _. 0) (kept_seats h) sale.event (λ m a. omega arith) number sale.seats (rest_of sale) sale.event (omega (arith, is.2)) 0 h kept_is.0 kept_is.1 is.0 is.1 in
     omega (
       arith,
       all,
-      ap (λ b. cond b (sale.seats - sale.given_back) 0) (same_event_self sale.event),
+      ap (λ b. cond b (rest_of sale) 0) (same_event_self sale.event),
       one,
       legal_cells office h legal Selling tt sale.event,
       legal_cells office h legal Refunding tt sale.event,

@@ -1,11 +1,10 @@
 -- The own rights are not negative after any of the marks of an entry that is next.
-use Rattle.std.proofs.Common.{◌≡◌, ℕ, zero, suc, ◌+◌, ◌≤◌, Bool, true, false, cond, List, [], ◌∷◌, ◌++◌, length, take, Option, Some, None, refl, sym, ap, ◌∙◌, subst, arith}
+use Rattle.std.proofs.Common.{◌≡◌, ℕ, zero, suc, ◌≤◌, Bool, true, false, cond, List, [], ◌∷◌, ◌++◌, length, take, Option, Some, None, refl, sym, ap, ◌∙◌, subst, arith}
 use Rattle.std.specs.Prelude.{max}
 use Rattle.std.proofs.lemmas.List.{take_all}
 use Rattle.rights_lattice.specs.declared.cell.Cell.{Cell}
-use Rattle.rights_lattice.specs.declared.cell.Cell.TheVariants.{Gave, Used, Back}
-use Rattle.rights_lattice.specs.Cells.{Cells, Valued, value_at, all_zero, raise, raise_all, marks_of, greatest, value_in}
-use Rattle.rights_lattice.specs.Cells as cells
+use Rattle.rights_lattice.specs.declared.cell.Cell.TheVariants.{Gave, Used}
+use Rattle.rights_lattice.specs.Cells.{Cells, Valued, value_at, all_zero, raise_all, marks_of, greatest}
 use Rattle.rights_lattice.specs.State.{State, bottom}
 use Rattle.rights_lattice.proofs.CellLaws.{value_at-raise_all, greatest-marks_of}
 use Rattle.rights_lattice.proofs.MissingLaws.{length-marks_of-all_zero, length-marks_of-raise}
@@ -37,7 +36,7 @@ addition_few : (office : Office) (h : List Entry) (request : Request) → length
 addition_few office h (Announce event) = none_at_most
 addition_few office h (Release event n) = marked_few office.me (state_of h).cells (change_of h (Release event n))
 addition_few office h (Sell event n) = marked_few office.me (state_of h).cells (change_of h (Sell event n))
-addition_few office h (Refund sale) = marked_few office.me (state_of h).cells (refund_of (sale_of h sale))
+addition_few office h (Refund sale part) = marked_few office.me (state_of h).cells (refund_of (sale_of h sale) part)
 addition_few office h (Cede event n to) = marked_few office.me (state_of h).cells (change_of h (Cede event n to))
 
 delta_few : (office : Office) (h : List Entry) (request : Request) (reply : Reply) → length (marks_of (delta_for office h request reply).cells) ≤ 1

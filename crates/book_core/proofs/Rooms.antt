@@ -1,5 +1,5 @@
 -- What room a refusal takes.
-use Rattle.std.proofs.Common.{◌≡◌, ℕ, ◌≤◌, Bool, false, cond, List, None, length, ap, ◌∙◌, subst, arith}
+use Rattle.std.proofs.Common.{◌≡◌, ℕ, ◌≤◌, false, cond, List, None, length, ap, ◌∙◌, subst, arith}
 use Rattle.std.specs.Prelude.{nat_le}
 use Rattle.rights_lattice.specs.State.{State, bottom}
 use Rattle.request_ledger.specs.declared.request.Request.{Request}

@@ -1,15 +1,15 @@
 -- Along a legal history local rights stay not negative, and the own cells are the sums of the operations.
 use Rattle.std.proofs.Common.{◌≡◌, ◌≢◌, ℕ, ◌+◌, ◌≤◌, max, Bool, true, false, cond, ◌&&◌, List, [], ◌∷◌, ◌++◌, Option, Some, None, refl, sym, ap, ◌∙◌, subst, arith, length, eq-eqb, ne_eqb, ltb-false, append-nil}
-use Rattle.std.specs.Prelude.{◌==◌, nat_lt}
+use Rattle.std.specs.Prelude.{◌==◌}
 use Rattle.std.proofs.lemmas.Bool.{eqb-false, and_right, and_parts, and_from}
 use Rattle.std.proofs.lemmas.List.Sums.{sum_by-append}
 use Rattle.rights_lattice.specs.declared.cell.Cell.{Cell}
 use Rattle.rights_lattice.specs.declared.cell.Cell.TheVariants.{Gave, Used, Back}
 use Rattle.rights_lattice.specs.Cell.{owner_of, same_cell, same_event}
-use Rattle.rights_lattice.specs.Cells.{Cells, Valued, value_at, all_zero, marks_of, greatest}
+use Rattle.rights_lattice.specs.Cells.{Cells, value_at, all_zero}
 use Rattle.rights_lattice.specs.State.{State, bottom, At}
 use Rattle.rights_lattice.specs.Sums.{max_sites, sum_below}
-use Rattle.rights_lattice.proofs.CellLaws.{value_at-raise, value_at-all_zero, greatest-marks_of}
+use Rattle.rights_lattice.proofs.CellLaws.{value_at-raise, value_at-all_zero}
 use Rattle.rights_lattice.proofs.SpotLaws.{same_event_is, same_cell_is, value_in-tests}
 use Rattle.delta_mutators.specs.Marks.{mark_plus}
 use Rattle.local_rights.specs.Rights.{ceded, gained, spent, left_of}
@@ -57,7 +57,7 @@ pub addition_at : (office : Office) (h : List Entry) (request : Request) (event 
 addition_at office h (Announce name) event cell = omega (arith, value_at-all_zero event cell)
 addition_at office h (Release of n) event cell = marked_at office.me (state_of h).cells (change_of h (Release of n)) event cell
 addition_at office h (Sell of n) event cell = marked_at office.me (state_of h).cells (change_of h (Sell of n)) event cell
-addition_at office h (Refund sale) event cell = marked_at office.me (state_of h).cells (refund_of (sale_of h sale)) event cell
+addition_at office h (Refund sale part) event cell = marked_at office.me (state_of h).cells (refund_of (sale_of h sale) part) event cell
 addition_at office h (Cede of n to) event cell = marked_at office.me (state_of h).cells (change_of h (Cede of n to)) event cell
 
 -- the change of an asked entry, where it was accepted
@@ -115,9 +115,9 @@ past false refusal reply refused h = (refl, h)
 pub done_allowed : (office : Office) (h : List Entry) (request : Request) → is_done (reply_to office h request) ≡ true → Allowed office.me (state_of h).cells (change_of h request)
 done_allowed office h (Announce event) e = tt
 done_allowed office h (Release event seats) e = tt
-done_allowed office h (Refund sale) e = of_sale (sale_of h sale)
+done_allowed office h (Refund sale part) e = of_sale (sale_of h sale)
   where
-    of_sale : (o : Option SaleState) → Allowed office.me (state_of h).cells (refund_of o)
+    of_sale : (o : Option SaleState) → Allowed office.me (state_of h).cells (refund_of o part)
     of_sale None = tt
     of_sale (Some sale) = tt
 done_allowed office h (Sell event seats) e =

@@ -63,7 +63,7 @@ abbrev pub IsUnkept : Keeping → Entry → Type 0
 IsUnkept es (Asked number request reply delta) = kept_under es number ≡ None
 IsUnkept es (Joined peer delta) = Unit {0}
 
--- the entry, if it is a refund that was done, is of a sale that is kept and not given back
+-- the entry, if it is a refund that was done, is of a sale that is kept and gives back no more than is left of it
 abbrev pub KeepsRefunds : Keeping → Entry → Type 0
 KeepsRefunds es (Asked number request reply delta) = IsRefundable es request reply
 KeepsRefunds es (Joined peer delta) = Unit {0}

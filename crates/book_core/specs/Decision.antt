@@ -1,5 +1,5 @@
 -- The decision on a request, and the delta of an accepted one. (The delta: JPDC 2018; the decision: our own.)
-use Rattle.std.specs.Prelude.{ℕ, ◌+◌, ◌-◌, Bool, Option, Some, None, if◌then◌else◌, not, ◌==◌, nat_lt, nat_le, List, length}
+use Rattle.std.specs.Prelude.{ℕ, ◌+◌, Bool, Option, Some, None, if◌then◌else◌, not, ◌==◌, nat_lt, nat_le, List, length}
 use Rattle.rights_lattice.specs.declared.cell.Cell.{Cell}
 use Rattle.rights_lattice.specs.declared.cell.Cell.TheVariants.{Gave, Used, Back}
 use Rattle.rights_lattice.specs.Cells.{Cells, value_at, max_value}
@@ -12,10 +12,11 @@ use Rattle.local_rights.specs.Rights.{left_of}
 use Rattle.request_ledger.specs.declared.request.Request.{Request}
 use Rattle.request_ledger.specs.declared.request.Request.TheVariants.{Announce, Release, Sell, Refund, Cede}
 use Rattle.request_ledger.specs.declared.reply.Reply.{Reply}
-use Rattle.request_ledger.specs.declared.reply.Reply.TheVariants.{Done, Known, Unknown, Short, CellFull, NoSale, Refunded, ToSelf, NoSite}
+use Rattle.request_ledger.specs.declared.reply.Reply.TheVariants.{Done, Known, Unknown, Short, CellFull, NoSale, Refunded, TooMany, ToSelf, NoSite}
 use Rattle.request_ledger.specs.declared.reply.Kept.{Kept}
 use Rattle.request_ledger.specs.declared.reply.SaleState.{SaleState}
 use Rattle.request_ledger.specs.Requests.{is_done, same_request}
+use Rattle.request_ledger.specs.Ledger.{rest_of, amount_back}
 use Rattle.book_core.specs.declared.entry.Entry.{Entry}
 use Rattle.book_core.specs.declared.entry.Entry.TheVariants.{Asked}
 use Rattle.book_core.specs.History.{state_of, kept, sale_of}
@@ -44,16 +45,16 @@ cell_of me Selling = Used me
 cell_of me Refunding = Back me
 cell_of me (Ceding to) = Gave me to
 
--- the amount of a refund is what is left of its sale
-abbrev pub refund_of : Option SaleState → Option Change
-refund_of None = None
-refund_of (Some sale) = Some (record { kind = Refunding; event = sale.event; amount = sale.seats - sale.given_back })
+-- the amount of a refund is the part that it names, or what is left of its sale
+abbrev pub refund_of : Option SaleState → Option ℕ → Option Change
+refund_of None part = None
+refund_of (Some sale) part = Some (record { kind = Refunding; event = sale.event; amount = amount_back part sale })
 
 abbrev pub change_of : List Entry → Request → Option Change
 change_of h (Announce event) = None
 change_of h (Release event n) = Some (record { kind = Releasing; event = event; amount = n })
 change_of h (Sell event n) = Some (record { kind = Selling; event = event; amount = n })
-change_of h (Refund sale) = refund_of (sale_of h sale)
+change_of h (Refund sale part) = refund_of (sale_of h sale) part
 change_of h (Cede event n to) = Some (record { kind = Ceding to; event = event; amount = n })
 
 -- the cell of a change at its old value plus the amount
@@ -79,9 +80,12 @@ delta_for office h request reply = if is_done reply then addition_of office h re
 abbrev pub is_full : Cells → List ℕ → Cell → ℕ → Bool
 is_full X event cell n = nat_lt max_value (value_at X event cell + n)
 
-abbrev pub refund_reply : Option SaleState → Reply
-refund_reply None = NoSale
-refund_reply (Some sale) = if nat_le sale.seats sale.given_back then Refunded else Done
+abbrev pub refund_reply : Option SaleState → Option ℕ → Reply
+refund_reply None part = NoSale
+refund_reply (Some sale) part =
+    if rest_of sale == 0 then Refunded
+    else if nat_lt (rest_of sale) (amount_back part sale) then TooMany (rest_of sale)
+    else Done
 
 -- the rights that the site has left
 abbrev pub own_left : Office → List Entry → List ℕ → ℕ
@@ -99,7 +103,7 @@ reply_to office h (Sell event n) =
     else if nat_lt (own_left office h event) n then Short (own_left office h event)
     else if is_full (state_of h).cells event (Used office.me) n then CellFull
     else Done
-reply_to office h (Refund sale) = refund_reply (sale_of h sale)
+reply_to office h (Refund sale part) = refund_reply (sale_of h sale) part
 reply_to office h (Cede event n to) =
     if not (knows (state_of h).names event) then Unknown
     else if to == office.me then ToSelf

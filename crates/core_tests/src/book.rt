@@ -15,6 +15,7 @@ enum Said {
     Release(Event, u64),
     Sell(Event, u64),
     Refund(u64),
+    RefundPart(u64, u64),
     Cede(Event, u64, u64),
 }
 
@@ -34,6 +35,11 @@ fn request(rt: &impl Abort, said: Said) -> Request {
         },
         Said::Refund(sale) => Request::Refund {
             sale: number(rt, sale),
+            part: None,
+        },
+        Said::RefundPart(sale, part) => Request::Refund {
+            sale: number(rt, sale),
+            part: Some(seats(rt, part)),
         },
         Said::Cede(event, amount, to) => Request::Cede {
             event,
@@ -182,6 +188,7 @@ fn sales_and_replies_that_are_kept(rt: HostRuntime) {
         place: 4,
         request: Request::Refund {
             sale: number(&rt, 9),
+            part: None,
         },
         reply: Reply::Done,
     };
@@ -234,6 +241,66 @@ fn greatest_cell_value(rt: HostRuntime) {
     ];
     let left = left_behind(&rt, rt.alloc(), gala, &rows);
     assert!(rt; left == 1_000_000_000_000);
+}
+
+// The length of the history, the totals, and the sale, once these rows were asked of the only site.
+fn refunds_counted(
+    rt: &impl Abort,
+    alloc: Global,
+    gala: Event,
+    rows: &[Row],
+) -> (usize, Totals, Option<SaleState>) {
+    let mut book = book_of(rt, alloc, 0, 1, 1_000_000);
+    ask_each(rt, alloc, &mut book, rows);
+    (book.len(), book.totals(gala), book.sale(number(rt, 9)))
+}
+
+#[test]
+fn refund_in_parts(rt: HostRuntime) {
+    let gala = event(&rt, b"gala");
+    let rows = [
+        (1, Said::Announce(gala), Ok(Reply::Done)),
+        (2, Said::Release(gala, 5), Ok(Reply::Done)),
+        (9, Said::Sell(gala, 5), Ok(Reply::Done)),
+        (10, Said::RefundPart(9, 2), Ok(Reply::Done)),
+        (11, Said::RefundPart(9, 4), Ok(Reply::TooMany { rest: 3 })),
+        (12, Said::Refund(9), Ok(Reply::Done)),
+        (13, Said::Refund(9), Ok(Reply::Refunded)),
+        (10, Said::Refund(9), Err(PlanFault::Reused { place: 3 })),
+        (14, Said::RefundPart(9, 5), Ok(Reply::Refunded)),
+        (15, Said::RefundPart(2, 1), Ok(Reply::NoSale)),
+    ];
+    let totals = Totals {
+        released: 5,
+        sold: 5,
+        refunded: 5,
+    };
+    let sold = SaleState {
+        event: gala,
+        seats: seats(&rt, 5),
+        given_back: 5,
+    };
+    let counted = refunds_counted(&rt, rt.alloc(), gala, &rows);
+    assert!(rt; counted == (9, totals, Some(sold)));
+}
+
+#[test]
+fn part_of_all_seats_is_another_request(rt: HostRuntime) {
+    let gala = event(&rt, b"gala");
+    let rows = [
+        (1, Said::Announce(gala), Ok(Reply::Done)),
+        (2, Said::Release(gala, 5), Ok(Reply::Done)),
+        (9, Said::Sell(gala, 5), Ok(Reply::Done)),
+        (10, Said::Refund(9), Ok(Reply::Done)),
+        (
+            10,
+            Said::RefundPart(9, 5),
+            Err(PlanFault::Reused { place: 3 }),
+        ),
+        (10, Said::Refund(9), Ok(Reply::Done)),
+    ];
+    let left = left_behind(&rt, rt.alloc(), gala, &rows);
+    assert!(rt; left == 5);
 }
 
 // The length of a history of at most three entries once these rows were asked and a peer's news met it full.

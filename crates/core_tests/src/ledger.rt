@@ -1,5 +1,6 @@
 use request_ledger::{Kept, Ledger, Reply, Request, RequestNumber, SaleState};
 use rights_lattice::{Amount, Event};
+use std::process::Abort;
 
 // The number as an amount, and as a request's.
 fn as_both(number: u64) -> (Option<u64>, Option<u64>) {
@@ -46,7 +47,7 @@ fn refund_once_at_the_seller(rt: HostRuntime) {
 
     ledger.reserve().expect(&rt, "memory");
     assert!(rt; ledger.kept(refund) == None);
-    ledger.keep(refund, 1, Request::Refund { sale }, Reply::Done);
+    ledger.keep(refund, 1, Request::Refund { sale, part: None }, Reply::Done);
     let given_back = SaleState {
         event,
         seats,
@@ -56,9 +57,81 @@ fn refund_once_at_the_seller(rt: HostRuntime) {
     assert!(rt; ledger.sale(refund) == None);
     let kept = Kept {
         place: 1,
-        request: Request::Refund { sale },
+        request: Request::Refund { sale, part: None },
         reply: Reply::Done,
     };
     assert!(rt; ledger.kept(refund) == Some(kept));
     assert!(rt; ledger.len() == 2);
+}
+
+// Keeps a reply that is not done.
+fn keep_refusal(
+    rt: &impl Abort,
+    ledger: &mut Ledger,
+    number: RequestNumber,
+    request: Request,
+    reply: Reply,
+) {
+    assert!(rt; reply != Reply::Done);
+    ledger.reserve().expect(rt, "memory");
+    assert!(rt; ledger.kept(number) == None);
+    ledger.keep(number, 0, request, reply);
+}
+
+#[test]
+fn refund_in_parts(rt: HostRuntime) {
+    let event = Event::read(b"gala").expect(&rt, "a name");
+    let seats = Amount::of(5).expect(&rt, "an amount");
+    let two = Amount::of(2).expect(&rt, "an amount");
+    let four = Amount::of(4).expect(&rt, "an amount");
+    let sale = RequestNumber::of(9).expect(&rt, "a number");
+    let part = RequestNumber::of(10).expect(&rt, "a number");
+    let rest = RequestNumber::of(12).expect(&rt, "a number");
+    let mut ledger = Ledger::new(rt.alloc());
+    ledger.reserve().expect(&rt, "memory");
+    assert!(rt; ledger.kept(sale) == None);
+    let sell = Request::Sell {
+        event,
+        amount: seats,
+    };
+    ledger.keep(sale, 0, sell, Reply::Done);
+    let sold = SaleState {
+        event,
+        seats,
+        given_back: 0,
+    };
+    assert!(rt; ledger.sale(sale) == Some(sold));
+
+    ledger.reserve().expect(&rt, "memory");
+    assert!(rt; ledger.kept(part) == None);
+    let request = Request::Refund {
+        sale,
+        part: Some(two),
+    };
+    ledger.keep(part, 1, request, Reply::Done);
+    let less = SaleState {
+        event,
+        seats,
+        given_back: 2,
+    };
+    assert!(rt; ledger.sale(sale) == Some(less));
+
+    let number = RequestNumber::of(11).expect(&rt, "a number");
+    let request = Request::Refund {
+        sale,
+        part: Some(four),
+    };
+    keep_refusal(&rt, &mut ledger, number, request, Reply::TooMany { rest: 3 });
+    assert!(rt; ledger.sale(sale) == Some(less));
+
+    ledger.reserve().expect(&rt, "memory");
+    assert!(rt; ledger.kept(rest) == None);
+    let request = Request::Refund { sale, part: None };
+    ledger.keep(rest, 3, request, Reply::Done);
+    let given_back = SaleState {
+        event,
+        seats,
+        given_back: 5,
+    };
+    assert!(rt; ledger.sale(sale) == Some(given_back));
 }

@@ -29,7 +29,19 @@ fn verbs(rt: HostRuntime) {
             b"release",
         ),
         (Request::Sell { event, amount }, Verb::Sell, b"sell"),
-        (Request::Refund { sale }, Verb::Refund, b"refund"),
+        (
+            Request::Refund { sale, part: None },
+            Verb::Refund,
+            b"refund",
+        ),
+        (
+            Request::Refund {
+                sale,
+                part: Some(amount),
+            },
+            Verb::Refund,
+            b"refund",
+        ),
         (Request::Cede { event, amount, to }, Verb::Cede, b"cede"),
     ];
     for (request, verb, word) in cases {
@@ -57,6 +69,7 @@ fn replies(rt: HostRuntime) {
         (Reply::CellFull, b"full-cell", None),
         (Reply::NoSale, b"no-sale", None),
         (Reply::Refunded, b"refunded", None),
+        (Reply::TooMany { rest: 3 }, b"too-many", Some(3)),
         (Reply::ToSelf, b"to-self", None),
         (Reply::NoSite, b"no-site", None),
     ];
@@ -64,6 +77,7 @@ fn replies(rt: HostRuntime) {
         is_reply(&rt, reply, word, number);
     }
     assert!(rt; Reply::read(b"short", None) == None);
+    assert!(rt; Reply::read(b"too-many", None) == None);
     assert!(rt; Reply::read(b"done", Some(0)) == None);
     assert!(rt; Reply::read(b"bad-line", None) == None);
 }

@@ -1,5 +1,5 @@
 -- The laws of a request: what is read is spelled so, and what is spelled so is read.
-use Rattle.std.proofs.Common.{◌≡◌, ℕ, true, List, [], ◌∷◌, Some, refl, ap, subst, ◌∙◌, codes}
+use Rattle.std.proofs.Common.{◌≡◌, ℕ, true, List, [], ◌∷◌, Option, Some, None, refl, ap, subst, ◌∙◌, codes}
 use Rattle.std.specs.Fmt.{decimal}
 use Rattle.std.specs.List.{AllByRecursion}
 use Rattle.rights_lattice.specs.EventName.{IsEventName}
@@ -16,9 +16,9 @@ use Rattle.rights_lattice.specs.Cells.{IsValue}
 use Rattle.rights_lattice.specs.Limits.{IsSite}
 use Rattle.delta_wire.proofs.FieldLaws.{event_at_found, event_again, site_at_found, site_again, site_lacks_space, value_at_found, value_again, value_lacks_space}
 use Rattle.delta_wire.proofs.Names.{name_lacks_space}
-use Rattle.request_ledger.specs.Ranges.{IsRequest}
-use Rattle.desk_lines.specs.Grammar.{request_words, operands}
-use Rattle.desk_lines.specs.Requests.{sized_at, announce_at, release_at, sell_at, refund_at, cede_at, request_at, numbered_at, request_from}
+use Rattle.request_ledger.specs.Ranges.{IsPart, IsRequest}
+use Rattle.desk_lines.specs.Grammar.{request_words, part_words, operands}
+use Rattle.desk_lines.specs.Requests.{sized_at, announce_at, release_at, sell_at, last_amount_at, part_at, refund_at, cede_at, request_at, numbered_at, request_from}
 
 -- ---- a word, and the words after it
 
@@ -65,13 +65,32 @@ sell_found words q e =
     let z = ended_found (Sell a.0.0.0 a.0.0.1) q a.0.1 a.2 in
     subst (Spells verb.Sell words) z.1 (λ n. sized_whole verb.Sell words a.0 n p.0 z.0, (p.1, p.2))
 
+-- a part of a sale, or none
+abbrev SpellsPart : List (List ℕ) → Option ℕ → Type 0
+SpellsPart words part = (words ≡ part_words part) × IsPart part
+
+last_amount_found : (words : List (List ℕ)) (part : Option ℕ) → last_amount_at words ≡ Some part → SpellsPart words part
+unfolding last_amount_at
+last_amount_found words part e =
+    let a = bind_some (value_at words) (λ n. ended (Some n.0) n.1) part e in
+    let p = value_at_found words a.0 a.1 in
+    let z = ended_found (Some a.0.0) part a.0.1 a.2 in
+    subst (SpellsPart words) z.1 (p.0 ∙ ap (λ (t : List (List ℕ)). decimal a.0.0 ∷ t) z.0, p.1)
+
+part_found : (words : List (List ℕ)) (part : Option ℕ) → part_at words ≡ Some part → SpellsPart words part
+unfolding part_at
+part_found [] part e = subst (SpellsPart []) (some_is None part e) (refl, tt)
+part_found (w ∷ ws) part e = last_amount_found (w ∷ ws) part e
+
 refund_found : (words : List (List ℕ)) (q : Request) → refund_at words ≡ Some q → Spells verb.Refund words q
 unfolding refund_at
 refund_found words q e =
-    let a = bind_some (value_at words) (λ m. ended (Refund m.0) m.1) q e in
+    let a = bind_some (value_at words) (λ m. part_at m.1 >>= λ part. Some (Refund m.0 part)) q e in
+    let b = bind_some (part_at a.0.1) (λ part. Some (Refund a.0.0 part)) q a.2 in
     let p = value_at_found words a.0 a.1 in
-    let z = ended_found (Refund a.0.0) q a.0.1 a.2 in
-    subst (Spells verb.Refund words) z.1 (λ n. ap (λ (t : List (List ℕ)). codes "refund" ∷ decimal n ∷ t) (p.0 ∙ ap (λ (t : List (List ℕ)). decimal a.0.0 ∷ t) z.0), p.1)
+    let r = part_found a.0.1 b.0 b.1 in
+    subst (Spells verb.Refund words) (some_is (Refund a.0.0 b.0) q b.2)
+    (λ n. ap (λ (t : List (List ℕ)). codes "refund" ∷ decimal n ∷ t) (p.0 ∙ ap (λ (t : List (List ℕ)). decimal a.0.0 ∷ t) r.0), (p.1, r.1))
 
 cede_found : (words : List (List ℕ)) (q : Request) → cede_at words ≡ Some q → Spells verb.Cede words q
 unfolding cede_at
@@ -115,12 +134,17 @@ sized_again : (e : List ℕ) (a : ℕ) (ws : List (List ℕ)) → IsEventName e 
 unfolding sized_at
 sized_again e a ws h g = rw (event_again e (decimal a ∷ ws) h, value_again a ws g) refl
 
+part_again : (part : Option ℕ) → IsPart part → part_at (part_words part) ≡ Some part
+unfolding part_at last_amount_at
+part_again None h = refl
+part_again (Some a) h = rw (value_again a [] h) refl
+
 request_again : (q : Request) → IsRequest q → request_at (request_verb q) (operands q) ≡ Some q
 unfolding announce_at release_at sell_at refund_at cede_at
 request_again (Announce e) h = rw (event_again e [] h) refl
 request_again (Release e a) h = rw (sized_again e a [] h.0 h.1) refl
 request_again (Sell e a) h = rw (sized_again e a [] h.0 h.1) refl
-request_again (Refund s) h = rw (value_again s [] h) refl
+request_again (Refund s part) h = rw (value_again s (part_words part) h.0, part_again part h.1) refl
 request_again (Cede e a to) h = rw (sized_again e a (decimal to ∷ []) h.0 h.1, site_again to [] h.2) refl
 
 numbered_again : (n : ℕ) (q : Request) → IsValue n → IsRequest q → numbered_at (request_verb q) (decimal n ∷ operands q) ≡ Some (n, q)
@@ -139,5 +163,6 @@ pub request_lacks : (n : ℕ) (q : Request) → IsValue n → IsRequest q → La
 request_lacks n (Announce e) h g = (refl, (value_lacks_space n h, (name_lacks_space e g, tt)))
 request_lacks n (Release e a) h g = (refl, (value_lacks_space n h, (name_lacks_space e g.0, (value_lacks_space a g.1, tt))))
 request_lacks n (Sell e a) h g = (refl, (value_lacks_space n h, (name_lacks_space e g.0, (value_lacks_space a g.1, tt))))
-request_lacks n (Refund s) h g = (refl, (value_lacks_space n h, (value_lacks_space s g, tt)))
+request_lacks n (Refund s None) h g = (refl, (value_lacks_space n h, (value_lacks_space s g.0, tt)))
+request_lacks n (Refund s (Some a)) h g = (refl, (value_lacks_space n h, (value_lacks_space s g.0, (value_lacks_space a g.1, tt))))
 request_lacks n (Cede e a to) h g = (refl, (value_lacks_space n h, (name_lacks_space e g.0, (value_lacks_space a g.1, (site_lacks_space to g.2, tt)))))

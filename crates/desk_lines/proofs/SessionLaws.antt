@@ -117,7 +117,7 @@ no_request_quits : (n : ℕ) (q : Request) → bytes_eq (join_with_byte 32 (requ
 no_request_quits n (Announce e) = refl
 no_request_quits n (Release e a) = refl
 no_request_quits n (Sell e a) = refl
-no_request_quits n (Refund s) = refl
+no_request_quits n (Refund s part) = refl
 no_request_quits n (Cede e a to) = refl
 
 -- what is spelled so is read

@@ -1,5 +1,5 @@
 -- The text of each line of a session and of a script.
-use Rattle.std.specs.Prelude.{ℕ, ◌≤◌, Bool, true, false, ⊤, List, [], ◌∷◌, codes}
+use Rattle.std.specs.Prelude.{ℕ, ◌≤◌, Bool, true, false, ⊤, List, [], ◌∷◌, Option, Some, None, codes}
 use Rattle.std.specs.List.{join_with_byte}
 use Rattle.std.specs.Fmt.{decimal}
 use Rattle.rights_lattice.specs.Cells.{IsValue}
@@ -19,12 +19,17 @@ use Rattle.desk_lines.specs.declared.line.Line.TheVariants as line
 use Rattle.desk_lines.specs.declared.script_line.ScriptLine.{ScriptLine}
 use Rattle.desk_lines.specs.declared.script_line.ScriptLine.TheVariants.{Make, Left, Totals}
 
+-- the part of a sale, where one is given
+abbrev pub part_words : Option ℕ → List (List ℕ)
+part_words None = []
+part_words (Some a) = decimal a ∷ []
+
 -- what stands behind the number of a request
 abbrev pub operands : Request → List (List ℕ)
 operands (Announce e) = e ∷ []
 operands (Release e a) = e ∷ decimal a ∷ []
 operands (Sell e a) = e ∷ decimal a ∷ []
-operands (Refund s) = decimal s ∷ []
+operands (Refund s part) = decimal s ∷ part_words part
 operands (Cede e a to) = e ∷ decimal a ∷ decimal to ∷ []
 
 -- the words of a request under its number

@@ -1,11 +1,11 @@
 -- Reading a request from left to right.
-use Rattle.std.specs.Prelude.{ℕ, List, Option, Some}
+use Rattle.std.specs.Prelude.{ℕ, List, Option, Some, None, if◌then◌else◌}
 use Rattle.request_ledger.specs.declared.request.Request.{Request}
 use Rattle.request_ledger.specs.declared.request.Request.TheVariants.{Announce, Release, Sell, Refund, Cede}
 use Rattle.request_ledger.specs.declared.verb.Verb.{Verb}
 use Rattle.request_ledger.specs.declared.verb.Verb.TheVariants as verb
 use Rattle.request_ledger.specs.Words.{verb_of}
-use Rattle.plain_words.specs.Words.{ended, ◌>>=◌}
+use Rattle.plain_words.specs.Words.{ended, is_nil, ◌>>=◌}
 use Rattle.delta_wire.specs.Fields.{event_at, site_at, value_at}
 
 -- an event and an amount
@@ -31,10 +31,21 @@ sell_at words = do
   x ← sized_at words
   ended (Sell x.0.0 x.0.1) x.1
 
+-- an amount, and no word behind it
+unfoldable pub last_amount_at : List (List ℕ) → Option (Option ℕ)
+last_amount_at words = do
+  a ← value_at words
+  ended (Some a.0) a.1
+
+-- the part of a sale: none where no word is left
+unfoldable pub part_at : List (List ℕ) → Option (Option ℕ)
+part_at words = if is_nil words then Some None else last_amount_at words
+
 unfoldable pub refund_at : List (List ℕ) → Option Request
 refund_at words = do
   s ← value_at words
-  ended (Refund s.0) s.1
+  part ← part_at s.1
+  Some (Refund s.0 part)
 
 unfoldable pub cede_at : List (List ℕ) → Option Request
 cede_at words = do

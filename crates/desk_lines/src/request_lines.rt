@@ -8,7 +8,8 @@ ghost use Rattle.plain_words.specs.Writing.{Writes};
 ghost use Rattle.desk_lines.specs.declared.line.Line.TheVariants.{Ask};
 ghost use Rattle.request_ledger.specs.Words.{verb_word};
 ghost use Rattle.rights_lattice.specs.Cells.{IsValue};
-ghost use Rattle.request_ledger.specs.Ranges.{IsRequest};
+ghost use Rattle.request_ledger.specs.Ranges.{IsPart, IsRequest};
+ghost use Rattle.request_ledger.specs.declared.request.Request.TheVariants.{Refund};
 ghost use Rattle.desk_lines.specs.Grammar.{request_words, request_line};
 ghost use Rattle.rights_lattice.specs.EventName.{IsEventName};
 ghost use Rattle.desk_lines.specs.Reading.{session_line_of};
@@ -54,6 +55,22 @@ fn verb_sized(verb: Verb, number: RequestNumber, event: Event, amount: Amount) -
     text
 }
 
+// A refund of a sale, or of a part of it.
+fn refund_words(number: RequestNumber, sale: RequestNumber, part: Option<Amount>) -> Text
+    ensures value { result.items ≡ join_with_byte 32 (request_words number (Refund sale part)) }
+    ensures fits { IsValue number × IsValue sale × IsPart part }
+    ensures len { array_vec_len result ≤ 71 }
+{
+    let mut text = verb_numbered(Verb::Refund, number);
+    put(&mut text, b" ");
+    put_number(&mut text, sale.get());
+    if let Some(part) = part {
+        put(&mut text, b" ");
+        put_number(&mut text, part.seats());
+    }
+    text
+}
+
 // The words of a request, with one space between two.
 fn request_words(number: RequestNumber, request: Request) -> Text
     ensures value { result.items ≡ join_with_byte 32 (request_words number request) }
@@ -65,12 +82,7 @@ fn request_words(number: RequestNumber, request: Request) -> Text
         Request::Announce { event } => verb_named(verb, number, event),
         Request::Release { event, amount } => verb_sized(verb, number, event, amount),
         Request::Sell { event, amount } => verb_sized(verb, number, event, amount),
-        Request::Refund { sale } => {
-            let mut text = verb_numbered(verb, number);
-            put(&mut text, b" ");
-            put_number(&mut text, sale.get());
-            text
-        }
+        Request::Refund { sale, part } => refund_words(number, sale, part),
         Request::Cede { event, amount, to } => {
             let mut text = verb_sized(verb, number, event, amount);
             put(&mut text, b" ");

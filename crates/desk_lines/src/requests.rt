@@ -3,7 +3,7 @@
 ghost use Rattle.std.specs.Prelude.{◌≡◌};
 ghost use Rattle.std.specs.Option.{option_map};
 ghost use Rattle.delta_wire.specs.Fields.{value_at};
-ghost use Rattle.desk_lines.specs.Requests.{sized_at, announce_at, release_at, sell_at, refund_at, cede_at, request_at, numbered_at, request_from};
+ghost use Rattle.desk_lines.specs.Requests.{sized_at, announce_at, release_at, sell_at, last_amount_at, part_at, refund_at, cede_at, request_at, numbered_at, request_from};
 
 use delta_wire::{event_at, site_at, value_at};
 use plain_words::Words;
@@ -71,16 +71,37 @@ fn sell_at(words: &mut Words<'_>) -> Option<Request>
     }
 }
 
+#[tactic(auto, unfolding(crate::specs::Requests::last_amount_at))]
+fn last_amount_at(words: &mut Words<'_>) -> Option<Option<Amount>>
+    ensures { result ≡ last_amount_at words.old }
+{
+    let amount = amount_at(words)?;
+    if words.is_empty() {
+        Some(Some(amount))
+    } else {
+        None
+    }
+}
+
+// The part of a sale, or none where no word is left.
+#[tactic(auto, unfolding(crate::specs::Requests::part_at))]
+fn part_at(words: &mut Words<'_>) -> Option<Option<Amount>>
+    ensures { result ≡ part_at words.old }
+{
+    if words.is_empty() {
+        Some(None)
+    } else {
+        last_amount_at(words)
+    }
+}
+
 #[tactic(auto, unfolding(crate::specs::Requests::refund_at))]
 fn refund_at(words: &mut Words<'_>) -> Option<Request>
     ensures { result ≡ refund_at words.old }
 {
     let sale = request_number_at(words)?;
-    if words.is_empty() {
-        Some(Request::Refund { sale })
-    } else {
-        None
-    }
+    let part = part_at(words)?;
+    Some(Request::Refund { sale, part })
 }
 
 #[tactic(auto, unfolding(crate::specs::Requests::cede_at))]

@@ -7,7 +7,7 @@ use Rattle.std.proofs.lemmas.Slice.Eq.{bytes_eq-Decides}
 use Rattle.request_ledger.specs.declared.verb.Verb.{Verb}
 use Rattle.request_ledger.specs.declared.verb.Verb.TheVariants as verb
 use Rattle.request_ledger.specs.declared.reply.Reply.{Reply}
-use Rattle.request_ledger.specs.declared.reply.Reply.TheVariants.{Done, Known, Unknown, Short, CellFull, NoSale, Refunded, ToSelf, NoSite}
+use Rattle.request_ledger.specs.declared.reply.Reply.TheVariants.{Done, Known, Unknown, Short, CellFull, NoSale, Refunded, TooMany, ToSelf, NoSite}
 use Rattle.request_ledger.specs.Words.{verb_word, verb_of, verbs, reply_word, reply_number, reply_of, replies_with}
 
 some_is : {A : Type 0} (x y : A) → Some x ≡ Some y → x ≡ y
@@ -53,13 +53,14 @@ reply_again (Short left) = refl
 reply_again CellFull = refl
 reply_again NoSale = refl
 reply_again Refunded = refl
+reply_again (TooMany rest) = refl
 reply_again ToSelf = refl
 reply_again NoSite = refl
 
 -- and from no others
 have_number : (n : Option ℕ) → AllByRecursion (λ r. n ≡ reply_number r) (replies_with n)
 have_number None = (refl, (refl, (refl, (refl, (refl, (refl, (refl, (refl, tt))))))))
-have_number (Some left) = (refl, tt)
+have_number (Some seats) = (refl, (refl, tt))
 
 pub reply_found : (w : List ℕ) (n : Option ℕ) (r : Reply) → reply_of w n ≡ Some r → (w ≡ reply_word r) × (n ≡ reply_number r)
 unfolding reply_of

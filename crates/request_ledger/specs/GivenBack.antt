@@ -7,11 +7,12 @@ use Rattle.request_ledger.specs.declared.reply.Reply.{Reply}
 use Rattle.request_ledger.specs.declared.reply.Reply.TheVariants.{Done}
 use Rattle.request_ledger.specs.declared.reply.Kept.{Kept}
 use Rattle.request_ledger.specs.declared.reply.SaleState.{SaleState}
+use Rattle.request_ledger.specs.declared.ledger.DoneRefund.{DoneRefund}
 use Rattle.request_ledger.specs.Ledger.{Keeping, kept_under, given_back}
 
--- the sale that is given back, where the request is a refund that was done
-abbrev pub refund_with : Request → Reply → Option ℕ
-refund_with (Refund sale) Done = Some sale
+-- the refund, where the request is one that was done
+abbrev pub refund_with : Request → Reply → Option DoneRefund
+refund_with (Refund sale part) Done = Some (record { sale = sale; part = part })
 refund_with _ _ = None
 
 -- the sale, where the request is one that was done

@@ -1,6 +1,6 @@
 -- The ledger of a site: what was decided under each request number. (Our own.)
-use Rattle.std.specs.Prelude.{ℕ, ◌≡◌, Bool, false, ◌&&◌, ◌==◌, if◌then◌else◌, List, [], ◌∷◌, Option, Some, None, IsSomeAnd, refl}
-use Rattle.std.specs.List.{fold}
+use Rattle.std.specs.Prelude.{ℕ, ◌-◌, ◌≤◌, ◌==◌, min, if◌then◌else◌, List, [], ◌∷◌, Option, Some, None, IsSomeAnd, unwrap_or, refl}
+use Rattle.std.specs.List.{sum_by}
 use Rattle.std.specs.Coded.{Coded, code_by, coded_ℕ, coded_list, coded×}
 use Rattle.request_ledger.specs.contracts.reply.Kept as kept
 use Rattle.request_ledger.specs.declared.request.Request.{Request}
@@ -20,18 +20,26 @@ abbrev pub kept_under : Keeping → ℕ → Option Kept
 kept_under [] number = None
 kept_under (e ∷ es) number = if e.0 == number then Some e.1 else kept_under es number
 
--- the request gives back the seats of the sale
-abbrev pub is_refund_of : ℕ → Request → Bool
-is_refund_of sale (Refund other) = other == sale
-is_refund_of sale _ = false
+-- the seats that a request asks back of a sale of so many: the part that it names, or all of them
+abbrev pub part_asked : ℕ → ℕ → Request → ℕ
+part_asked sale seats (Refund other part) = if other == sale then unwrap_or part seats else 0
+part_asked sale seats _ = 0
 
--- what is given back of a sale of so many seats, after one more request
-abbrev pub given_after : ℕ → ℕ → ℕ → ℕ × Kept → ℕ
-given_after sale seats given e = if is_refund_of sale e.1.request && is_done e.1.reply then seats else given
+abbrev pub part_counted : ℕ → ℕ → ℕ × Kept → ℕ
+part_counted sale seats e = if is_done e.1.reply then part_asked sale seats e.1.request else 0
 
--- the seats of a sale that refunds which were done gave back
+-- the seats of a sale that refunds which were done gave back: the sum of their parts, and all seats once one asked for the rest;
+-- never more than the sale has
 abbrev pub given_back : Keeping → ℕ → ℕ → ℕ
-given_back es sale seats = fold (given_after sale seats) 0 es
+given_back es sale seats = min seats (sum_by (part_counted sale seats) es)
+
+-- the seats of a sale that are not given back
+abbrev pub rest_of : SaleState → ℕ
+rest_of sale = sale.seats - sale.given_back
+
+-- the seats that a refund of the sale gives back: the part that it names, or the rest
+abbrev pub amount_back : Option ℕ → SaleState → ℕ
+amount_back part sale = unwrap_or part (rest_of sale)
 
 -- the sale under a number, where the request is a sale that was done
 abbrev pub sale_in : Keeping → ℕ → Request → Reply → Option SaleState
@@ -45,9 +53,9 @@ sale_if_kept es number (Some k) = sale_in es number k.request k.reply
 abbrev pub sale_under : Keeping → ℕ → Option SaleState
 sale_under es number = sale_if_kept es number (kept_under es number)
 
--- a refund that was done is of a sale that is kept and not given back
+-- a refund that was done is of a sale that is kept, and gives back no more than is left of it
 abbrev pub IsRefundable : Keeping → Request → Reply → Type 0
-IsRefundable es (Refund sale) Done = IsSomeAnd (sale_under es sale) (λ state. state.given_back ≡ 0)
+IsRefundable es (Refund sale part) Done = IsSomeAnd (sale_under es sale) (λ state. amount_back part state ≤ rest_of state)
 IsRefundable es _ _ = Unit {0}
 
 -- what contracts see of a ledger: what is kept, and room for more

@@ -1,5 +1,6 @@
 -- What requests and replies are. (Our own.)
-use Rattle.std.specs.Prelude.{Bool, true, false, ◌&&◌, ◌==◌}
+use Rattle.std.specs.Prelude.{Bool, true, false, ◌&&◌, ◌==◌, nat_eq}
+use Rattle.std.specs.Option.{option_eq}
 use Rattle.rights_lattice.specs.Cell.{same_event}
 use Rattle.request_ledger.specs.declared.request.Request.{Request}
 use Rattle.request_ledger.specs.declared.request.Request.TheVariants.{Announce, Release, Sell, Refund, Cede}
@@ -15,6 +16,6 @@ abbrev pub same_request : Request → Request → Bool
 same_request (Announce e) (Announce f) = same_event e f
 same_request (Release e n) (Release f m) = same_event e f && (n == m)
 same_request (Sell e n) (Sell f m) = same_event e f && (n == m)
-same_request (Refund s) (Refund t) = s == t
+same_request (Refund s p) (Refund t q) = (s == t) && option_eq nat_eq p q
 same_request (Cede e n i) (Cede f m j) = same_event e f && (n == m) && (i == j)
 same_request _ _ = false

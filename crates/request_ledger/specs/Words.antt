@@ -7,7 +7,7 @@ use Rattle.request_ledger.specs.declared.verb.Verb.TheVariants.{Announce, Releas
 use Rattle.request_ledger.specs.declared.request.Request.{Request}
 use Rattle.request_ledger.specs.declared.request.Request.TheVariants as request
 use Rattle.request_ledger.specs.declared.reply.Reply.{Reply}
-use Rattle.request_ledger.specs.declared.reply.Reply.TheVariants.{Done, Known, Unknown, Short, CellFull, NoSale, Refunded, ToSelf, NoSite}
+use Rattle.request_ledger.specs.declared.reply.Reply.TheVariants.{Done, Known, Unknown, Short, CellFull, NoSale, Refunded, TooMany, ToSelf, NoSite}
 
 -- the word that says what is asked
 abbrev pub verb_word : Verb → List ℕ
@@ -28,7 +28,7 @@ abbrev pub request_verb : Request → Verb
 request_verb (request.Announce event) = Announce
 request_verb (request.Release event amount) = Release
 request_verb (request.Sell event amount) = Sell
-request_verb (request.Refund sale) = Refund
+request_verb (request.Refund sale part) = Refund
 request_verb (request.Cede event amount to) = Cede
 
 -- the first word of the line that tells a reply
@@ -40,17 +40,19 @@ reply_word (Short left) = codes "short"
 reply_word CellFull = codes "full-cell"
 reply_word NoSale = codes "no-sale"
 reply_word Refunded = codes "refunded"
+reply_word (TooMany rest) = codes "too-many"
 reply_word ToSelf = codes "to-self"
 reply_word NoSite = codes "no-site"
 
 -- the number behind it
 abbrev pub reply_number : Reply → Option ℕ
 reply_number (Short left) = Some left
+reply_number (TooMany rest) = Some rest
 reply_number _ = None
 
 -- the replies with this number, or those without one
 abbrev pub replies_with : Option ℕ → List Reply
-replies_with (Some left) = Short left ∷ []
+replies_with (Some seats) = Short seats ∷ TooMany seats ∷ []
 replies_with None = Done ∷ Known ∷ Unknown ∷ CellFull ∷ NoSale ∷ Refunded ∷ ToSelf ∷ NoSite ∷ []
 
 -- the reply that has this word and this number

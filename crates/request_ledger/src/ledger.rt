@@ -1,5 +1,5 @@
 //! What was decided under each request number, and what was given back of each sale.
-ghost use Rattle.std.specs.Prelude.{◌≡◌, ℕ, ◌+◌, ◌≤◌, ◌==◌, if◌then◌else◌, [], ◌∷◌, ◌++◌, map, length, nat_eq, None, Some, IsSome, OnOk, IsOk};
+ghost use Rattle.std.specs.Prelude.{◌≡◌, ℕ, ◌+◌, ◌-◌, ◌≤◌, ◌==◌, unwrap_or, if◌then◌else◌, [], ◌∷◌, ◌++◌, map, length, nat_eq, None, Some, IsSome, OnOk, IsOk};
 ghost use Rattle.std.specs.List.{IsDistinct};
 ghost use Rattle.indexmap.specs.IndexMap.{spare};
 ghost use Rattle.request_ledger.specs.GivenBack.{refund_with, sale_with, seats_under, sum_under, AreSums, AreSumsWith};
@@ -9,6 +9,7 @@ use crate::number::RequestNumber;
 use crate::reply::{Kept, Reply, SaleState};
 use crate::request::Request;
 use indexmap::IndexMap;
+use rights_lattice::Amount;
 use std::alloc::{AllocError, Global};
 use std::marker::Model;
 
@@ -19,6 +20,13 @@ pub struct Ledger {
     kept: IndexMap<RequestNumber, Kept>,
     /// Seats that refunds gave back, by the sale's number.
     given_back: IndexMap<RequestNumber, u64>,
+}
+
+/// A refund that was done: of which sale, and the part of it, or none where it asked for the rest.
+#[derive(Clone, Copy)]
+struct DoneRefund {
+    sale: RequestNumber,
+    part: Option<Amount>,
 }
 
 impl Model for Ledger {
@@ -88,6 +96,8 @@ impl Ledger {
             request,
             reply,
         };
+        // Names a type inside of the request, which the prover wants to see in this function.
+        let _: Option<Amount> = None;
         match self.kept.insert(number, kept) {
             Ok(_) => {}
             Err(_) => unreachable!(),
@@ -98,7 +108,7 @@ impl Ledger {
     pub fn sale(&self, number: RequestNumber) -> Option<SaleState>
         ensures sale { result ≡ sale_under self.now.entries number }
     {
-        let given_back = self.given_back.get(&number).copied().unwrap_or(0);
+        let given_back = sum_of(&self.given_back, number);
         let Some(kept) = self.kept(number) else {
             return None;
         };
@@ -127,12 +137,32 @@ fn give_back(
     ensures room { spare sums.old ≤ spare sums.new + 1 }
 {
     match refund_in(request, reply) {
-        Some(sale) => {
-            let seats = seats_of(kept, sale);
-            set_sum(sums, sale, seats);
+        Some(refund) => {
+            let seats = seats_of(kept, refund.sale);
+            let given = sum_of(sums, refund.sale);
+            set_sum(sums, refund.sale, given_with(given, refund.part, seats));
         }
         None => {}
     }
+}
+
+/// What is given back of a sale of so many seats once a part of it is given back too, or the rest where none is named.
+fn given_with(given: u64, part: Option<Amount>, seats: u64) -> u64
+    requires within { given ≤ seats }
+    requires fits { unwrap_or part (seats - given) ≤ seats - given }
+    ensures { result ≡ given + unwrap_or part (seats - given) }
+{
+    match part {
+        Some(part) => given + part.seats(),
+        None => seats,
+    }
+}
+
+/// What is given back of the sale.
+fn sum_of(sums: &IndexMap<RequestNumber, u64>, sale: RequestNumber) -> u64
+    ensures { result ≡ sum_under sums.now.entries sale }
+{
+    sums.get(&sale).copied().unwrap_or(0)
 }
 
 /// Sets what is given back of the sale.
@@ -147,12 +177,15 @@ fn set_sum(sums: &mut IndexMap<RequestNumber, u64>, sale: RequestNumber, seats: 
     }
 }
 
-/// The sale that is given back, where the request is a refund that was done.
-fn refund_in(request: &Request, reply: Reply) -> Option<RequestNumber>
+/// The refund, where the request is one that was done.
+fn refund_in(request: &Request, reply: Reply) -> Option<DoneRefund>
     ensures { result ≡ refund_with request.now reply }
 {
     match request {
-        Request::Refund { sale } if reply == Reply::Done => Some(*sale),
+        Request::Refund { sale, part } if reply == Reply::Done => Some(DoneRefund {
+            sale: *sale,
+            part: *part,
+        }),
         _ => None,
     }
 }

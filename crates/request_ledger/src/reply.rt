@@ -24,6 +24,8 @@ pub enum Reply {
     NoSale,
     /// All seats of the sale are given back.
     Refunded,
+    /// More seats are asked back than the `rest` of the sale that is not given back.
+    TooMany { rest: u64 },
     /// A site does not cede to itself.
     ToSelf,
     /// The site to cede to is not there.
@@ -55,6 +57,7 @@ impl Reply {
             Reply::CellFull => b"full-cell",
             Reply::NoSale => b"no-sale",
             Reply::Refunded => b"refunded",
+            Reply::TooMany { .. } => b"too-many",
             Reply::ToSelf => b"to-self",
             Reply::NoSite => b"no-site",
         }
@@ -66,6 +69,7 @@ impl Reply {
     {
         match self {
             Reply::Short { left } => Some(left),
+            Reply::TooMany { rest } => Some(rest),
             _ => None,
         }
     }
@@ -78,7 +82,10 @@ impl Reply {
         ensures exact { result ≡ reply_of word.now number }
     {
         match number {
-            Some(left) => first_with(&[Reply::Short { left }], word),
+            Some(seats) => first_with(
+                &[Reply::Short { left: seats }, Reply::TooMany { rest: seats }],
+                word,
+            ),
             None => first_with(&WITHOUT_NUMBER, word),
         }
     }

@@ -23,9 +23,10 @@ pub enum Request {
         event: Event,
         amount: Amount,
     },
-    /// Gives back all seats of the sale that this site made under `sale`.
+    /// Gives back a part of the sale that this site made under `sale`, or what is left of it where no part is given.
     Refund {
         sale: RequestNumber,
+        part: Option<Amount>,
     },
     /// Hands rights of this site to the site `to`.
     Cede {

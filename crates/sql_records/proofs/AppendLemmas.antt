@@ -20,7 +20,7 @@ use Rattle.sqlite.proofs.Callers.{IsPlain, command_of, statement_of, runs_as}
 use Rattle.request_ledger.specs.declared.request.Request.{Request}
 use Rattle.request_ledger.specs.declared.request.Request.TheVariants.{Announce, Release as ReleaseSeats, Sell, Refund, Cede}
 use Rattle.request_ledger.specs.declared.reply.Reply.{Reply}
-use Rattle.request_ledger.specs.declared.reply.Reply.TheVariants.{Done, Known, Unknown, Short, CellFull, NoSale, Refunded, ToSelf, NoSite}
+use Rattle.request_ledger.specs.declared.reply.Reply.TheVariants.{Done, Known, Unknown, Short, CellFull, NoSale, Refunded, TooMany, ToSelf, NoSite}
 use Rattle.book_core.specs.declared.entry.Entry.{Entry}
 use Rattle.book_core.specs.declared.entry.Entry.TheVariants.{Asked, Joined}
 use Rattle.sql_records.specs.declared.meta.Meta.{Meta}
@@ -48,21 +48,22 @@ amount_fits : (r : Request) → cast Integer (amount_column r) ≡ amount_column
 amount_fits (Announce event) = cast_null
 amount_fits (ReleaseSeats event amount) = cast_int amount
 amount_fits (Sell event amount) = cast_int amount
-amount_fits (Refund sale) = cast_null
+amount_fits (Refund sale None) = cast_null
+amount_fits (Refund sale (Some part)) = cast_int part
 amount_fits (Cede event amount to) = cast_int amount
 
 target_fits : (r : Request) → cast Integer (target_column r) ≡ target_column r
 target_fits (Announce event) = cast_null
 target_fits (ReleaseSeats event amount) = cast_null
 target_fits (Sell event amount) = cast_null
-target_fits (Refund sale) = cast_int sale
+target_fits (Refund sale part) = cast_int sale
 target_fits (Cede event amount to) = cast_int to
 
 event_fits : (r : Request) → cast Text (event_column r) ≡ event_column r
 event_fits (Announce event) = refl
 event_fits (ReleaseSeats event amount) = refl
 event_fits (Sell event amount) = refl
-event_fits (Refund sale) = refl
+event_fits (Refund sale part) = refl
 event_fits (Cede event amount to) = refl
 
 rest_fits : (r : Reply) → cast Integer (rest_column r) ≡ rest_column r
@@ -73,6 +74,7 @@ rest_fits (Short left) = cast_int left
 rest_fits CellFull = cast_null
 rest_fits NoSale = cast_null
 rest_fits Refunded = cast_null
+rest_fits (TooMany rest) = cast_int rest
 rest_fits ToSelf = cast_null
 rest_fits NoSite = cast_null
 

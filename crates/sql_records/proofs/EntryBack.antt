@@ -8,7 +8,7 @@ use Rattle.rights_lattice.specs.Cells.{max_value, IsValue}
 use Rattle.rights_lattice.specs.Limits.{greatest_site, IsSite}
 use Rattle.rights_lattice.specs.State.{State}
 use Rattle.rights_lattice.specs.EventName.{IsEventName}
-use Rattle.request_ledger.specs.Ranges.{IsRequest}
+use Rattle.request_ledger.specs.Ranges.{IsPart, IsRequest}
 use Rattle.request_ledger.specs.declared.request.Request.{Request}
 use Rattle.request_ledger.specs.declared.request.Request.TheVariants.{Announce, Release, Sell, Refund, Cede}
 use Rattle.request_ledger.specs.declared.reply.Reply.{Reply}
@@ -20,7 +20,7 @@ use Rattle.book_core.specs.declared.entry.Entry.TheVariants.{Asked, Joined}
 use Rattle.delta_wire.specs.Grammar.{most_bytes, IsDelta, delta_text}
 use Rattle.rights_lattice.proofs.EventLaws.{name_of_again}
 use Rattle.delta_wire.proofs.Texts.{delta_again}
-use Rattle.sql_records.specs.Rows.{event_column, amount_column, target_column, number_column, rest_column, columns_of, HasReplyColumns, IsStorable, number_within, value_in, site_in, event_in, verb_in, announce_of, release_of, sell_of, refund_of, cede_of, request_in, rest_in, reply_in, delta_in, asked_of, joined_of, entry_of}
+use Rattle.sql_records.specs.Rows.{event_column, amount_column, target_column, number_column, rest_column, columns_of, HasReplyColumns, IsStorable, number_within, value_in, site_in, event_in, verb_in, announce_of, release_of, sell_of, part_in, refund_of, cede_of, request_in, rest_in, reply_in, delta_in, asked_of, joined_of, entry_of}
 
 pub within_back : (low high n : ℕ) → low ≤ n → n ≤ high → number_within low high (Int (pos n)) ≡ Some n
 within_back low high n p q = cond-true _ _ _ (and_from _ _ (le-leb _ _ p) (le-leb _ _ q))
@@ -35,12 +35,17 @@ event_back : (e : List ℕ) → IsEventName e → event_in (Text e) ≡ Some e
 unfolding event_in
 event_back e h = name_of_again e h
 
+part_back : (part : Option ℕ) → IsPart part → part_in (number_column part) ≡ Some part
+unfolding part_in
+part_back None h = refl
+part_back (Some n) h = rw (value_back n h) refl
+
 pub request_back : (r : Request) → IsRequest r → request_in (Text (verb_word (request_verb r))) (event_column r) (amount_column r) (target_column r) ≡ Some r
 unfolding request_in verb_in announce_of release_of sell_of refund_of cede_of
 request_back (Announce e) h = rw (verb_again verb.Announce, event_back e h) refl
 request_back (Release e n) h = rw (verb_again verb.Release, event_back e h.0, value_back n h.1) refl
 request_back (Sell e n) h = rw (verb_again verb.Sell, event_back e h.0, value_back n h.1) refl
-request_back (Refund sale) h = rw (verb_again verb.Refund, value_back sale h) refl
+request_back (Refund sale part) h = rw (verb_again verb.Refund, value_back sale h.0, part_back part h.1) refl
 request_back (Cede e n to) h = rw (verb_again verb.Cede, event_back e h.0, value_back n h.1, site_back to h.2) refl
 
 rest_back : (number : Option ℕ) → IfSome number (λ n. n < 2 ^ 63) → rest_in (number_column number) ≡ Some number

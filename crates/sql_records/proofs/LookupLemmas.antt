@@ -39,7 +39,7 @@ use Rattle.request_ledger.specs.declared.verb.Verb.{Verb}
 use Rattle.request_ledger.specs.declared.verb.Verb.TheVariants as verb
 use Rattle.sqlite.specs.State.{State as Store}
 use Rattle.sql_records.proofs.OpeningLemmas.{has_some}
-use Rattle.sql_records.specs.Rows.{is_null, text_in, number_within, value_in, site_in, event_in, verb_in, event_column, announce_of, release_of, sell_of, refund_of, cede_of, request_of, request_in, reply_in, delta_in, asks_nothing, asked_of, joined_of, entry_with, entry_of, AreWhole}
+use Rattle.sql_records.specs.Rows.{is_null, text_in, number_within, value_in, site_in, event_in, verb_in, event_column, announce_of, release_of, sell_of, part_in, refund_of, cede_of, request_of, request_in, reply_in, delta_in, asks_nothing, asked_of, joined_of, entry_with, entry_of, AreWhole}
 use Rattle.sql_records.specs.Lookups.{IsFirstUnread, IsListFault, IsQueryFault, ReadsSome, found_in, listed_in, names_event, listing, has_number, has_event, found_columns, listed_columns, found_of, listed_of, first_found}
 
 -- ---- what was read from a value
@@ -92,9 +92,10 @@ named verb.Sell event amount target q e =
     let b = bind_some (value_in amount) (λ n. cond (is_null target) (Some (Sell a.0 n)) None) q a.2 in
     event_found event a.0 a.1 ∙ ap event_column (cond_is _ (Sell a.0 b.0) q b.2).1
 named verb.Refund event amount target q e =
-    let a = bind_some (value_in target) (λ sale. cond (is_null event && is_null amount) (Some (Refund sale)) None) q e in
-    let b = cond_is _ (Refund a.0) q a.2 in
-    null_found event (and_parts _ _ b.0).0 ∙ ap event_column b.1
+    let a = bind_some (value_in target) (λ sale. part_in amount >>= λ part. cond (is_null event) (Some (Refund sale part)) None) q e in
+    let b = bind_some (part_in amount) (λ part. cond (is_null event) (Some (Refund a.0 part)) None) q a.2 in
+    let d = cond_is _ (Refund a.0 b.0) q b.2 in
+    null_found event d.0 ∙ ap event_column d.1
 named verb.Cede event amount target q e =
     let a = bind_some (event_in event) (λ x. value_in amount >>= λ n. site_in target >>= λ to. Some (Cede x n to)) q e in
     let b = bind_some (value_in amount) (λ n. site_in target >>= λ to. Some (Cede a.0 n to)) q a.2 in
@@ -168,7 +169,7 @@ names : (name : List ℕ) (q : Request) → is_true (binary (Compare Eq Binary) 
 names name (Announce event) = same_text event name
 names name (Release event amount) = same_text event name
 names name (Sell event amount) = same_text event name
-names name (Refund sale) = no_number (Text name)
+names name (Refund sale part) = no_number (Text name)
 names name (Cede event amount to) = same_text event name
 
 -- ---- looking up a number

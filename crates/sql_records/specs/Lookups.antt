@@ -34,7 +34,7 @@ abbrev pub names_event : List ℕ → Request → Bool
 names_event name (Announce event) = same_event event name
 names_event name (Release event amount) = same_event event name
 names_event name (Sell event amount) = same_event event name
-names_event name (Refund sale) = false
+names_event name (Refund sale part) = false
 names_event name (Cede event amount to) = same_event event name
 
 abbrev pub listing : ℕ × Kept → Listed

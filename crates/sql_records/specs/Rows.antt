@@ -1,5 +1,5 @@
 -- The rows of the entries: the ten columns of each, and the entry that a row stands for. (Our own.)
-use Rattle.std.specs.Prelude.{ℕ, ◌+◌, ◌≤◌, ◌<◌, ◌^◌, ◌≡◌, nat_le, ◌&&◌, ◌==◌, if◌then◌else◌, Bool, true, false, List, [], ◌∷◌, ◌++◌, Option, Some, None, pos, negsuc, map, length, take, drop, slice_get, IsSome, IfSome, IsSorted, IsPermutation}
+use Rattle.std.specs.Prelude.{ℕ, ◌+◌, ◌≤◌, ◌<◌, ◌^◌, ◌≡◌, ◌≢◌, codes, nat_le, ◌&&◌, ◌==◌, if◌then◌else◌, Bool, true, false, List, [], ◌∷◌, ◌++◌, Option, Some, None, pos, negsuc, map, length, take, drop, slice_get, IsSome, IfSome, IsSorted, IsPermutation}
 use Rattle.std.specs.List.{AllByRecursion, filter_map, prefix_len, slice_split}
 use Rattle.std.specs.Option.{option_map}
 use Rattle.std.specs.Result.{result_ok}
@@ -36,14 +36,20 @@ abbrev pub event_column : Request → Value
 event_column (Announce event) = Text event
 event_column (Release event amount) = Text event
 event_column (Sell event amount) = Text event
-event_column (Refund sale) = Null
+event_column (Refund sale part) = Null
 event_column (Cede event amount to) = Text event
 
+-- a number, where there is one
+abbrev pub number_column : Option ℕ → Value
+number_column None = Null
+number_column (Some n) = Int (pos n)
+
+-- the amount, or the part of a sale that is asked back
 abbrev pub amount_column : Request → Value
 amount_column (Announce event) = Null
 amount_column (Release event amount) = Int (pos amount)
 amount_column (Sell event amount) = Int (pos amount)
-amount_column (Refund sale) = Null
+amount_column (Refund sale part) = number_column part
 amount_column (Cede event amount to) = Int (pos amount)
 
 -- the site that is ceded to, or the sale that is given back
@@ -51,14 +57,10 @@ abbrev pub target_column : Request → Value
 target_column (Announce event) = Null
 target_column (Release event amount) = Null
 target_column (Sell event amount) = Null
-target_column (Refund sale) = Int (pos sale)
+target_column (Refund sale part) = Int (pos sale)
 target_column (Cede event amount to) = Int (pos to)
 
 -- the number of a reply, where it has one
-abbrev pub number_column : Option ℕ → Value
-number_column None = Null
-number_column (Some n) = Int (pos n)
-
 abbrev pub rest_column : Reply → Value
 rest_column reply = number_column (reply_number reply)
 
@@ -150,10 +152,15 @@ sell_of event amount target = do
   n ← value_in amount
   if is_null target then Some (Sell e n) else None
 
+-- the part of a sale, or none where the column is null
+unfoldable pub part_in : Value → Option (Option ℕ)
+part_in amount = if is_null amount then Some None else option_map (λ n. Some n) (value_in amount)
+
 unfoldable pub refund_of : Value → Value → Value → Option Request
 refund_of event amount target = do
   sale ← value_in target
-  if is_null event && is_null amount then Some (Refund sale) else None
+  part ← part_in amount
+  if is_null event then Some (Refund sale part) else None
 
 unfoldable pub cede_of : Value → Value → Value → Option Request
 cede_of event amount target = do
@@ -284,14 +291,17 @@ abbrev pub AreWhole : ℕ → List Row → Type 0
 AreWhole from [] = Unit {0}
 AreWhole from (values ∷ rows) = IsEntryAt from values × AreWhole (from + 1) rows
 
--- what the first version does not have: a part of a sale that is asked back
+-- what the first version does not have: a part of a sale that is asked back, and the reply that it is too many
+abbrev pub too_many : List ℕ
+too_many = codes "too-many"
+
 pub record HasPart (values : Row) : Type 0 where
   pub refund : verb_in (column values 3) ≡ Some verb.Refund
   pub part : is_null (column values 5) ≡ false
 
 -- the columns of a request and its reply are those of this version
 abbrev pub IsOfVersion : Version → Row → Type 0
-IsOfVersion First values = ¬ HasPart values
+IsOfVersion First values = (¬ HasPart values) × (column values 7 ≢ Text too_many)
 IsOfVersion Second values = Unit {0}
 
 -- the row has this place and stands for an entry of this version

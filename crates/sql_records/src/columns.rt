@@ -1,15 +1,17 @@
 //! The columns that an entry is written as.
 ghost use Rattle.std.specs.Prelude.{◌≡◌, ◌↔◌, ◌<◌, ◌^◌, length, IsTrue};
 ghost use Rattle.sqlite.specs.Values.{bound};
-ghost use Rattle.request_ledger.specs.Ranges.{IsRequest};
+ghost use Rattle.sqlite_value.specs.Value.{owned};
+ghost use Rattle.request_ledger.specs.Ranges.{IsPart, IsRequest};
 ghost use Rattle.request_ledger.specs.Words.{verb_word, request_verb};
 ghost use Rattle.book_core.specs.History.{delta_of};
 ghost use Rattle.delta_wire.specs.Grammar.{IsDelta, delta_text};
-ghost use Rattle.sql_records.specs.Rows.{request_columns, reply_columns, columns_of, HasReplyColumns, HasRoom, IsStorable};
+ghost use Rattle.sql_records.specs.Rows.{number_column, request_columns, reply_columns, columns_of, HasReplyColumns, HasRoom, IsStorable};
 
 use book_core::Entry;
 use delta_wire::MOST_BYTES;
 use request_ledger::{Reply, Request};
+use rights_lattice::Amount;
 use sqlite::types::ValueRef;
 
 // The word of the request's verb.
@@ -17,6 +19,17 @@ fn verb_word(request: &Request) -> &[u8]
     ensures { result.now ≡ verb_word (request_verb request.now) }
 {
     request.verb().word()
+}
+
+// The part of a sale that is asked back, where one is named.
+fn part_column(part: Option<Amount>) -> ValueRef<'static>
+    ensures column { owned result ≡ number_column part }
+    ensures fits { IsPart part }
+{
+    match part {
+        None => ValueRef::Null,
+        Some(amount) => ValueRef::Int(amount.seats() as i64),
+    }
 }
 
 // The verb, the event, the amount and the target.
@@ -44,10 +57,10 @@ fn request_columns(request: &Request) -> [ValueRef<'_>; 4]
             ValueRef::Int(amount.seats() as i64),
             ValueRef::Null,
         ],
-        Request::Refund { sale } => [
+        Request::Refund { sale, part } => [
             ValueRef::Text(verb),
             ValueRef::Null,
-            ValueRef::Null,
+            part_column(*part),
             ValueRef::Int(sale.get() as i64),
         ],
         Request::Cede { event, amount, to } => [

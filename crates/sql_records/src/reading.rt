@@ -2,9 +2,10 @@
 ghost use Rattle.std.specs.Prelude.{◌≡◌, ◌↔◌, IfOk, OnErr, IsTrue, true};
 ghost use Rattle.std.specs.Option.{option_map};
 ghost use Rattle.sqlite.specs.Order.{column};
+ghost use Rattle.sqlite.specs.declared.types.Value.TheVariants.{Text};
 ghost use Rattle.sqlite_value.specs.Value.{owned};
 ghost use Rattle.rights_lattice.specs.State.{State};
-ghost use Rattle.sql_records.specs.Rows.{is_null, text_in, number_within, value_in, site_in, event_in, verb_in, announce_of, release_of, sell_of, refund_of, cede_of, request_of, request_in, rest_in, reply_in, delta_in, asks_nothing, asked_of, joined_of, entry_with, entry_of, with_delta, WantsForDelta, WantsForEntry, HasPart, IsOfVersion};
+ghost use Rattle.sql_records.specs.Rows.{is_null, text_in, number_within, value_in, site_in, event_in, verb_in, announce_of, release_of, sell_of, part_in, refund_of, cede_of, request_of, request_in, rest_in, reply_in, delta_in, asks_nothing, asked_of, joined_of, entry_with, entry_of, with_delta, WantsForDelta, WantsForEntry, HasPart, IsOfVersion, too_many};
 
 use crate::version::Version;
 use book_core::Entry;
@@ -131,13 +132,26 @@ fn sell_of(event: ValueRef<'_>, amount: ValueRef<'_>, target: ValueRef<'_>) -> O
     }
 }
 
+// The part of a sale that is asked back, or none where the column is null.
+#[tactic(auto, unfolding(crate::specs::Rows::part_in))]
+fn part_in(amount: ValueRef<'_>) -> Option<Option<Amount>>
+    ensures { result ≡ part_in (owned amount.entry) }
+{
+    if is_null(amount) {
+        return Some(None);
+    }
+    let amount = amount_in(amount)?;
+    Some(Some(amount))
+}
+
 #[tactic(auto, unfolding(crate::specs::Rows::refund_of))]
 fn refund_of(event: ValueRef<'_>, amount: ValueRef<'_>, target: ValueRef<'_>) -> Option<Request>
     ensures { result ≡ refund_of (owned event.entry) (owned amount.entry) (owned target.entry) }
 {
     let sale = request_number_in(target)?;
-    if is_null(event) && is_null(amount) {
-        Some(Request::Refund { sale })
+    let part = part_in(amount)?;
+    if is_null(event) {
+        Some(Request::Refund { sale, part })
     } else {
         None
     }
@@ -243,12 +257,21 @@ fn has_part(row: &Row) -> bool
     matches!(verb_in(value_at(row, 3)), Some(Verb::Refund)) && !is_null(value_at(row, 5))
 }
 
+fn is_too_many(value: ValueRef<'_>) -> bool
+    ensures { IsTrue result ↔ (owned value.entry ≡ Text too_many) }
+{
+    match value {
+        ValueRef::Text(text) => text == b"too-many".as_slice(),
+        _ => false,
+    }
+}
+
 /// Whether the columns of a request and its reply are those of this version.
 pub fn is_of_version(read: Version, row: &Row) -> bool
     ensures { IsTrue result ↔ IsOfVersion read row.now }
 {
     match read {
-        Version::First => !has_part(row),
+        Version::First => !has_part(row) && !is_too_many(value_at(row, 7)),
         Version::Second => true,
     }
 }

@@ -77,7 +77,7 @@ impl Book {
             Request::Announce { event } => self.announce(*event),
             Request::Release { event, amount } => self.release(*event, *amount),
             Request::Sell { event, amount } => self.sell(*event, *amount),
-            Request::Refund { sale } => self.refund(*sale),
+            Request::Refund { sale, part } => self.refund(*sale, *part),
             Request::Cede { event, amount, to } => self.cede(*event, *amount, *to),
         }
     }
@@ -126,9 +126,9 @@ impl Book {
         }
     }
 
-    fn refund(&self, number: RequestNumber) -> (Reply, Option<Item>)
-        ensures reply { result.0 ≡ reply_to self.now.office self.now.history (Refund number) }
-        ensures item { state_of_item result.1 ≡ delta_for self.now.office self.now.history (Refund number) result.0 }
+    fn refund(&self, number: RequestNumber, part: Option<Amount>) -> (Reply, Option<Item>)
+        ensures reply { result.0 ≡ reply_to self.now.office self.now.history (Refund number part) }
+        ensures item { state_of_item result.1 ≡ delta_for self.now.office self.now.history (Refund number part) result.0 }
         ensures idle { is_done result.0 ≡ false → result.1 ≡ None }
     {
         let Some(sale) = self.sale(number) else {
@@ -137,10 +137,14 @@ impl Book {
         let Some(rest) = Amount::of(sale.seats.seats().saturating_sub(sale.given_back)) else {
             return (Reply::Refunded, None);
         };
+        let amount = part.unwrap_or(rest);
+        if rest.seats() < amount.seats() {
+            return (Reply::TooMany { rest: rest.seats() }, None);
+        }
         let me = self.me();
         // No site gives back more than it sold, so the cell has room.
         let _sold = self.rights.get(sale.event, Cell::Used { by: me });
-        match refund(self.rights.rights(), me, sale.event, rest) {
+        match refund(self.rights.rights(), me, sale.event, amount) {
             Ok(mark) => (Reply::Done, Some(Item::Cell(mark))),
             Err(_) => unreachable!(),
         }

@@ -1,7 +1,6 @@
 use Rattle.std.proofs.Common.{rules, ◌≡◌, true, false, None, IsSome}
 use Rattle.std.specs.Prelude.{nat_le, length}
 use Rattle.rights_lattice.specs.Cells.{marks_of}
-use Rattle.rights_lattice.specs.State.{is_within}
 use Rattle.book_core.specs.History.{state_of}
 use Rattle.book_core.specs.Joining.{foreign, is_of_sites}
 use Rattle.book_core.proofs.OrderTests.{strange, above, fresh}

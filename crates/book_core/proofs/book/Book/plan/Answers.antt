@@ -1,8 +1,8 @@
-use Rattle.std.proofs.Common.{rules, ◌≡◌, false, None, IsOk, arith, ap, ◌∙◌}
+use Rattle.std.proofs.Common.{rules, ◌≡◌, false, None, arith, ap, ◌∙◌}
 use Rattle.std.specs.Prelude.{nat_le, length}
 use Rattle.request_ledger.specs.Requests.{is_done}
 use Rattle.rights_lattice.specs.State.{bottom}
-use Rattle.book_core.specs.Decision.{state_of_item, reply_to}
+use Rattle.book_core.specs.Decision.{state_of_item}
 use Rattle.book_core.specs.History.{kept}
 use Rattle.book_core.proofs.Rooms.{room_for_refusal, fresh_refusal}
 use Rattle.book_core.proofs.OwnRows.{opened_rights, same_rights}
