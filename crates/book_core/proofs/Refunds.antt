@@ -131,7 +131,7 @@ fitting : (part : Option ℕ) (seats sum : ℕ) → unwrap_or part (seats - min 
 fitting None seats sum fits = omega arith
 fitting (Some n) seats sum fits = omega arith
 
-done_is : (r : Reply) → is_done r ≡ true → r ≡ Done
+pub done_is : (r : Reply) → is_done r ≡ true → r ≡ Done
 done_is Done d = refl
 done_is r d = cc
 

@@ -1,12 +1,14 @@
 //! What holds of every legal history, and of the tests by which a peer's delta is judged, over the definitions alone.
 ghost use Rattle.book_core.specs.Laws.{RightsNeverNegative, EachReplyIsKept, NumbersAreKeptOnce, RefundsAreWithinSales, HistoryIsWithinLimit, RowTestIsTheOrder, SitesTestIsTheRange};
+ghost use Rattle.book_core.specs.Returned.{SalesAreReturnedWithinTheirSeats};
 ghost use Rattle.book_core.specs.WholeRefunds.{SalesAreRefundedWholeOnce};
 
 /// A site whose history is legal never sold a seat that it had no right to sell (SRDS 2015), whatever deltas it
-/// joined, and never took more back than it sold.
+/// joined, and never took more back than it sold: of no sale more than its seats, in however many parts.
 pub fn legal_histories_never_oversell()
     ensures rights { RightsNeverNegative }
     ensures refunds { RefundsAreWithinSales }
+    ensures sales { SalesAreReturnedWithinTheirSeats }
 {}
 
 /// Each request number of a legal history has one entry, which is what is kept under it.

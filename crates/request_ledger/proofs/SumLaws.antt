@@ -52,7 +52,7 @@ seats_if_either : (o other : Option Kept) → (seats_if_kept (or_else o other) �
 seats_if_either None other = inr refl
 seats_if_either (Some k) other = inl refl
 
-seats_or_new : (es : Keeping) (n : ℕ) (k : Kept) (number : ℕ) → (seats_under (es ++ (n, k) ∷ []) number ≡ seats_under es number) ⊎ (seats_under es number ≡ None)
+pub seats_or_new : (es : Keeping) (n : ℕ) (k : Kept) (number : ℕ) → (seats_under (es ++ (n, k) ∷ []) number ≡ seats_under es number) ⊎ (seats_under es number ≡ None)
 seats_or_new es n k number = elim (seats_if_either (kept_under es number) (cond (nat_eq n number) (Some k) None)) [
   | inl e ↦ inl (ap seats_if_kept (kept_under-push es n k number) ∙ e)
   | inr e ↦ inr e
@@ -95,7 +95,7 @@ abbrev pub with_part : Option ℕ → ℕ → ℕ → ℕ
 with_part part seats given = given + unwrap_or part (seats - given)
 
 -- what a part that fits adds to the sum it adds to what is given back, and a refund for the rest gives back all
-one_more : (part : Option ℕ) (seats sum given : ℕ) → given ≡ min seats sum → Fits part seats given
+pub one_more : (part : Option ℕ) (seats sum given : ℕ) → given ≡ min seats sum → Fits part seats given
     → with_part part seats given ≡ min seats (sum + unwrap_or part seats)
 one_more None seats sum given is fits = omega arith
 one_more (Some n) seats sum given is fits = omega arith

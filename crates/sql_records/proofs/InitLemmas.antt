@@ -30,7 +30,7 @@ half_schema = record { tables = meta_at 0 ∷ []; indexes = []; views = [] }
 
 -- the row of the numbers as the table keeps it
 abbrev stored_meta : Meta → Row
-stored_meta meta = Int (pos 1) ∷ Null ∷ Words our_kind ∷ Int (pos 1) ∷ Int (pos meta.me) ∷ Int (pos meta.sites) ∷ Int (pos meta.limit) ∷ []
+stored_meta meta = Int (pos 1) ∷ Null ∷ Words our_kind ∷ Int (pos 2) ∷ Int (pos meta.me) ∷ Int (pos meta.sites) ∷ Int (pos meta.limit) ∷ []
 
 meta_is : (command_of (understood no_schema meta_text) ≡ CreateTable) × (statement_of meta_text (understood no_schema meta_text) ≡ meta_text) × (table_defined_by meta_text ≡ Ok (meta_at 0))
 unfolding understood everything
@@ -111,7 +111,7 @@ adds_meta meta old new count has none h =
     let trees : done.0.trees ≡ written.0 = ap (λ (it : Written). it.trees) (same_value counted.2) ∙ same_value counted.1 in
     let step = one_step our_schema _ db written.0 (edit_of db (meta_at 0) [] Chosen 0 given.0) refl written.1 in
     let edit : edited db (edit_of db (meta_at 0) [] Chosen 0 given.0) ≡ stored_meta meta ∷ [] =
-    ap (λ all. edited db (edit_of db (meta_at 0) [] Chosen 0 all)) given.1.1 ∙ rw (none, cast_int 1, cast_null, cast_int meta.me, cast_int meta.sites, cast_int meta.limit) in (
+    ap (λ all. edited db (edit_of db (meta_at 0) [] Chosen 0 all)) given.1.1 ∙ rw (none, cast_int 1, cast_null, cast_int 2, cast_int meta.me, cast_int meta.sites, cast_int meta.limit) in (
       ap (λ (d : Database). d.schema) now,
       ap (map meta_shown) (ap (λ (d : Database). d.trees 0) now ∙ ap (λ (t : Trees). t 0) trees ∙ step.rows ∙ edit),
       ap (λ (d : Database). d.trees 1) now ∙ ap (λ (t : Trees). t 1) trees ∙ step.tables.1.0 one_zero,

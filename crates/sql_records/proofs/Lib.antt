@@ -15,3 +15,6 @@ pub mod OpeningLemmas
 pub mod KeepLemmas
 pub mod StopLemmas
 mod MakeLemmas
+pub mod UpdateLemmas
+pub mod VersionLemmas
+pub mod MigrateLemmas

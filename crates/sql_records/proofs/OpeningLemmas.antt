@@ -1,6 +1,6 @@
 -- What an open finds.
 use Rattle.std.proofs.Common.{◌≡◌, ◌⊎◌, inl, inr, ℕ, suc, ◌+◌, ◌-◌, ◌<◌, ◌≤◌, pos, false, List, [], ◌∷◌, ◌++◌, length, take, drop, get_or, slice_get, zero, IsTrue, IsSome, Option, Some, None, refl, sym, ap, subst, ◌∙◌, arith, Result, Ok, Err, OnOk, IfErr, IsErrAnd, Bool, true, not}
-use Rattle.std.specs.List.{filter_map, cons_option}
+use Rattle.std.specs.List.{AllByRecursion, filter_map, cons_option}
 use Rattle.std.proofs.lemmas.List.{take_more, length-take-le, length-drop}
 use Rattle.std.proofs.lemmas.List.Sums.{prefix_len-le-length}
 use Rattle.std.proofs.Math.Seq.{take-length}
@@ -19,8 +19,9 @@ use Rattle.sql_records.specs.declared.fault.OpenFault.{OpenFault}
 use Rattle.sql_records.specs.declared.fault.OpenFault.TheVariants.{NotOurs, OtherSchema, Damaged, Memory, Disk}
 use Rattle.sql_records.specs.Keeping.{LeavesOnly, LeavesWithOrWithout, Keeps}
 use Rattle.sql_records.specs.declared.meta.Meta.{Meta}
-use Rattle.sql_records.specs.Layout.{IsOurs, HasGoodMeta, HasMeta, AreNumbers}
-use Rattle.sql_records.specs.Rows.{delta_in, delta_named, entry_of, entry_with, text_in, is_below, rows_below, rows_from_0, AreInOrder, AreWhole, IsEntryAt, IsFirstDamaged, IsDamagedAt, WantsForEntry}
+use Rattle.sql_records.specs.declared.version.Version.{Version}
+use Rattle.sql_records.specs.Layout.{IsOurs, HasGoodMeta, HasMeta, HasMetaAs, AreNumbers}
+use Rattle.sql_records.specs.Rows.{delta_in, delta_named, entry_of, entry_with, text_in, is_below, rows_below, rows_from_0, AreInOrder, AreWhole, IsEntryIn, AreWholeIn, IsFirstDamaged, IsDamagedAt, WantsForEntry}
 use Rattle.sql_records.specs.Held.{IsAtRest, IsSiteIn, MayLeaveIn, LeavesSite, history_in, opened_in, rows_in}
 use Rattle.sql_records.specs.Opening.{AreRowsFault, IsMetaFault, IsOurFault, IsStoreFault, IsWantedAt}
 use Rattle.sql_records.specs.Faults.{HasDiskCause, IsUndoneForMemory}
@@ -34,23 +35,30 @@ pub whole_more : (rows : List Row) (i : ℕ) (values : Row) (entry : Entry) → 
 whole_more rows i values entry low at h is reads =
     rw (take_more rows i values low, ← at) (whole_next (take i rows) values entry 0 i h (omega (arith, length-take-le i rows (omega arith))) is reads)
 
+all_next : (P : Row → Type 0) (rows : List Row) (values : Row) → AllByRecursion P rows → P values → AllByRecursion P (rows ++ values ∷ [])
+all_next P [] values all is = (is, tt)
+all_next P (r ∷ rows) values all is = (all.0, all_next P rows values all.1 is)
+
+pub version_more : (P : Row → Type 0) (rows : List Row) (i : ℕ) (values : Row) → i < length rows → values ≡ get_or rows i values → AllByRecursion P (take i rows) → P values → AllByRecursion P (take (i + 1) rows)
+version_more P rows i values low at all is = rw (take_more rows i values low, ← at) (all_next P (take i rows) values all is)
+
 pub entries_more : (rows : List Row) (i : ℕ) (values : Row) (entry : Entry) → i < length rows → values ≡ get_or rows i values → entry_of values ≡ Some entry
     → filter_map entry_of (take (i + 1) rows) ≡ filter_map entry_of (take i rows) ++ entry ∷ []
 entries_more rows i values entry low at reads = rw (take_more rows i values low, ← at) (entries_next (take i rows) values entry reads)
 
 -- want of memory for a row, or the first row that is not the entry of its place
-abbrev pub StopsReading : List Row → OpenFault → Type 0
-StopsReading rows fault = ((fault ≡ Memory) × ((place : ℕ) × IsWantedAt place rows)) ⊎ ((place : ℕ) × (fault ≡ Damaged place) × IsFirstDamaged place rows)
+abbrev pub StopsReading : Version → List Row → OpenFault → Type 0
+StopsReading read rows fault = ((fault ≡ Memory) × ((place : ℕ) × IsWantedAt place rows)) ⊎ ((place : ℕ) × (fault ≡ Damaged place) × IsFirstDamaged read place rows)
 
 -- memory is wanted for the row at a place, the rows before it being whole
 pub wanted_at : (rows : List Row) (i : ℕ) (values : Row) → i < length rows → values ≡ get_or rows i values → AreWhole 0 (take i rows) → column values 0 ≡ Int (pos i) → IsSome (entry_of values) ⊎ WantsForEntry values → IsWantedAt i rows
 wanted_at rows i values low at whole placed wants = record { before = whole; values = values; here = slice_get_read rows (length rows) i values refl low at; placed = placed; wants = wants }
 
 -- the fault of that row
-pub fault_at : (rows : List Row) (i : ℕ) (values : Row) (fault : OpenFault) → i < length rows → values ≡ get_or rows i values → AreWhole 0 (take i rows) → (fault ≡ Memory) ⊎ (fault ≡ Damaged i)
-    → (fault ≡ Damaged i → ¬ IsEntryAt i values) → (fault ≡ Memory → (column values 0 ≡ Int (pos i)) × WantsForEntry values) → StopsReading rows fault
-fault_at rows i values fault low at whole (inl is) other wanted = let w = wanted is in inl (is, (i, wanted_at rows i values low at whole w.0 (inr w.1)))
-fault_at rows i values fault low at whole (inr is) other wanted = inr (i, is, (whole, (values, slice_get_read rows (length rows) i values refl low at, other is)))
+pub fault_at : (read : Version) (rows : List Row) (i : ℕ) (values : Row) (fault : OpenFault) → i < length rows → values ≡ get_or rows i values → AreWholeIn read 0 (take i rows) → (fault ≡ Memory) ⊎ (fault ≡ Damaged i)
+    → (fault ≡ Damaged i → ¬ IsEntryIn read i values) → (fault ≡ Memory → (column values 0 ≡ Int (pos i)) × WantsForEntry values) → StopsReading read rows fault
+fault_at read rows i values fault low at whole (inl is) other wanted = let w = wanted is in inl (is, (i, wanted_at rows i values low at whole.0 w.0 (inr w.1)))
+fault_at read rows i values fault low at whole (inr is) other wanted = inr (i, is, (whole, (values, slice_get_read rows (length rows) i values refl low at, other is)))
 
 -- ---- rows in front of the place 0
 
@@ -67,23 +75,23 @@ pub part_from_0 : (rows : List Row) (n : ℕ) → n ≡ rows_below rows → take
 part_from_0 rows n is = ap (λ (k : ℕ). take k (drop n rows)) (sym (length-drop n rows)) ∙ take-length (drop n rows) ∙ ap (λ (k : ℕ). drop k rows) is
 
 -- the first damaged row from the place 0 on
-pub damaged_above : (rows : List Row) (fault : OpenFault) → StopsReading (rows_from_0 rows) fault → AreRowsFault rows fault
-damaged_above rows fault (inl (is, wanted)) = subst (AreRowsFault rows) (sym is) wanted
-damaged_above rows fault (inr (place, is, (whole, (values, at, other)))) =
+pub damaged_above : (read : Version) (rows : List Row) (fault : OpenFault) → StopsReading read (rows_from_0 rows) fault → AreRowsFault read rows fault
+damaged_above read rows fault (inl (is, wanted)) = subst (AreRowsFault read rows) (sym is) wanted
+damaged_above read rows fault (inr (place, is, (whole, (values, at, other)))) =
     let low = has_some (rows_from_0 rows) place values at in
     let long = length-drop (rows_below rows) rows in
-    let here : (v : Row) → slice_get (rows_from_0 rows) place ≡ Some v → ¬ IsEntryAt place v = λ v there. subst (λ (r : Row). ¬ IsEntryAt place r) (one_row values v (sym at ∙ there)) other in
-    subst (AreRowsFault rows) (sym is) (record { low = omega (arith, low, long); before = whole; reached = omega (arith, low); missing = here })
+    let here : (v : Row) → slice_get (rows_from_0 rows) place ≡ Some v → ¬ IsEntryIn read place v = λ v there. subst (λ (r : Row). ¬ IsEntryIn read place r) (one_row values v (sym at ∙ there)) other in
+    subst (AreRowsFault read rows) (sym is) (record { low = omega (arith, low, long); before = whole; reached = omega (arith, low); missing = here })
 
 -- all rows from the place 0 on are whole, and some stand in front of it
-pub damaged_below : (rows : List Row) → 0 < rows_below rows → AreWhole 0 (rows_from_0 rows) → IsDamagedAt (length (rows_from_0 rows)) rows
-damaged_below rows some whole =
+pub damaged_below : (read : Version) (rows : List Row) → 0 < rows_below rows → AreWholeIn read 0 (rows_from_0 rows) → IsDamagedAt read (length (rows_from_0 rows)) rows
+damaged_below read rows some whole =
     let long = length-drop (rows_below rows) rows in
     let few = prefix_len-le-length (λ (r : Row). is_below (column r 0)) rows in
     let own = rows_from_0 rows in
     record {
       low = omega (arith, some, long, few);
-      before = subst (AreWhole 0) (sym (take-length own)) whole;
+      before = subst (AreWholeIn read 0) (sym (take-length own)) whole;
       reached = omega arith;
       missing = λ v there. absurd (let low = has_some own (length own) v there in omega (arith, low));
     }
@@ -121,12 +129,12 @@ unchanged_twice first mid last one two = (
   two.2 ∙ one.2,
 )
 
-module _ (first mid last : State) (rows : List Row) (one : IsUnchanged first mid) (two : IsUnchanged mid last) (order : AreInOrder (mid.now.trees 1) rows) (whole : AreWhole 0 rows) where
+module _ (read : Version) (first mid last : State) (rows : List Row) (one : IsUnchanged first mid) (two : IsUnchanged mid last) (order : AreInOrder (mid.now.trees 1) rows) (whole : AreWholeIn read 0 rows) where
   shown_are : rows ≡ rows_in first.now.trees
-  shown_are = whole_order (mid.now.trees 1) rows order whole ∙ ap (λ (d : Database). rows_in d.trees) one.0.now_is
+  shown_are = whole_order (mid.now.trees 1) rows order whole.0 ∙ ap (λ (d : Database). rows_in d.trees) one.0.now_is
 
-  pub read_whole : AreWhole 0 (rows_in first.now.trees)
-  read_whole = subst (AreWhole 0) shown_are whole
+  pub read_whole : AreWholeIn read 0 (rows_in first.now.trees)
+  read_whole = subst (AreWholeIn read 0) shown_are whole
 
   pub read_history : filter_map entry_of rows ≡ history_in first.now.trees
   read_history = ap (filter_map entry_of) shown_are
@@ -191,32 +199,32 @@ memory_before : (first mid last : State) → IsUnchanged first mid → IsUndoneF
 memory_before first mid last same h = (StoreError.OutOfMemory, refl, tt, undone_before first mid last same h.3, λ kind is yes. absurd cc)
 
 -- a fault of the numbers
-pub numbers_fault : (first last : State) (fault : OpenFault) → IsMetaFault first last fault → IsOurFault first last fault
-numbers_fault first last NotOurs h = h
-numbers_fault first last (OtherSchema version) h = h
-numbers_fault first last (Damaged place) h = absurd h
-numbers_fault first last Memory h = inl h
-numbers_fault first last Disk h = h
+pub numbers_fault : (read : Version) (first last : State) (fault : OpenFault) → IsMetaFault read first last fault → IsOurFault read first last fault
+numbers_fault read first last NotOurs h = h
+numbers_fault read first last (OtherSchema version) h = h
+numbers_fault read first last (Damaged place) h = absurd h
+numbers_fault read first last Memory h = inl h
+numbers_fault read first last Disk h = h
 
 -- a fault of the rows, which were shown
-pub entries_fault : (first mid last : State) (rows : List Row) → IsUnchanged first mid → IsUnchanged mid last → HasGoodMeta first.now.trees → AreInOrder (mid.now.trees 1) rows → (fault : OpenFault) → AreRowsFault rows fault → IsOurFault first last fault
-entries_fault first mid last rows one two good order fault h =
+pub entries_fault : (read : Version) (first mid last : State) (rows : List Row) → IsUnchanged first mid → IsUnchanged mid last → HasGoodMeta read first.now.trees → AreInOrder (mid.now.trees 1) rows → (fault : OpenFault) → AreRowsFault read rows fault → IsOurFault read first last fault
+entries_fault read first mid last rows one two good order fault h =
     let now = subst (λ (d : Database). AreInOrder (d.trees 1) rows) one.0.now_is order in
     by_fault fault now h
   where
-    by_fault : (f : OpenFault) → AreInOrder (first.now.trees 1) rows → AreRowsFault rows f → IsOurFault first last f
+    by_fault : (f : OpenFault) → AreInOrder (first.now.trees 1) rows → AreRowsFault read rows f → IsOurFault read first last f
     by_fault NotOurs now h = absurd h
     by_fault (OtherSchema version) now h = absurd h
     by_fault (Damaged place) now h = (good, (rows, now, h))
     by_fault Memory now h = inr (unchanged_twice first mid last one two, (good, (rows, now, h)))
     by_fault Disk now h = absurd h
 
-pub rows_fault : (first mid last : State) → IsUnchanged first mid → first.faults ≤ mid.faults → mid.step_limit ≡ first.step_limit → (fault : OpenFault) → IsStoreFault mid last fault → IsOurFault first last fault
-rows_fault first mid last same low limit NotOurs h = absurd h
-rows_fault first mid last same low limit (OtherSchema version) h = absurd h
-rows_fault first mid last same low limit (Damaged place) h = absurd h
-rows_fault first mid last same low limit Memory h = inl (memory_before first mid last same h)
-rows_fault first mid last same low limit Disk h = cause_before first mid last same low limit h
+pub rows_fault : (read : Version) (first mid last : State) → IsUnchanged first mid → first.faults ≤ mid.faults → mid.step_limit ≡ first.step_limit → (fault : OpenFault) → IsStoreFault mid last fault → IsOurFault read first last fault
+rows_fault read first mid last same low limit NotOurs h = absurd h
+rows_fault read first mid last same low limit (OtherSchema version) h = absurd h
+rows_fault read first mid last same low limit (Damaged place) h = absurd h
+rows_fault read first mid last same low limit Memory h = inl (memory_before first mid last same h)
+rows_fault read first mid last same low limit Disk h = cause_before first mid last same low limit h
 
 -- at rest the count is that of the entries
 pub rest_count : (s : State) (count : ℕ) → IsAtRest s count → length (history_in s.now.trees) ≡ count
@@ -229,8 +237,8 @@ abbrev numbers : ℕ → ℕ → ℕ → Meta
 numbers me sites limit = record { me = me; sites = sites; limit = limit }
 
 -- a database has the numbers of one site
-pub one_meta : (a b : Meta) (db : Trees) → HasMeta a db → HasMeta b db → a ≡ b
-one_meta a b db first second =
+pub one_meta : (read : Version) (a b : Meta) (db : Trees) → HasMetaAs read a db → HasMetaAs read b db → a ≡ b
+one_meta read a b db first second =
     let rows = sym first ∙ second in
     let me : a.me ≡ b.me = cc in
     let sites : a.sites ≡ b.sites = cc in

@@ -202,7 +202,7 @@ meta_query = record {
   from = inner 0 end;
   filter = [];
   group = None;
-  project = col 1 2 ∷ col 1 3 ∷ col 1 4 ∷ col 1 5 ∷ col 1 6 ∷ [];
+  project = col 1 0 ∷ col 1 2 ∷ col 1 3 ∷ col 1 4 ∷ col 1 5 ∷ col 1 6 ∷ [];
   distinct = false;
   collations = [];
   order = [];
@@ -211,7 +211,7 @@ meta_query = record {
 }
 
 abbrev meta_names : List (List ℕ)
-meta_names = codes "kind" ∷ codes "version" ∷ codes "me" ∷ codes "sites" ∷ codes "bound" ∷ []
+meta_names = codes "one" ∷ codes "kind" ∷ codes "version" ∷ codes "me" ∷ codes "sites" ∷ codes "bound" ∷ []
 
 meta_select_is : (more : List Table) (indexes : List Index) (views : List View) → (command_of (understood (ours_and more indexes views) meta_select_text) ≡ Select (record { lets = []; body = meta_query }) meta_names) × (reads_listing (ours_and more indexes views) meta_select_text ≡ false)
 unfolding understood everything

@@ -8,6 +8,7 @@ use Rattle.sqlite.specs.declared.types.Value.TheVariants.{Int}
 use Rattle.sqlite.specs.Tree.{Trees}
 use Rattle.sqlite.specs.State.{State}
 use Rattle.sql_records.specs.declared.meta.Meta.{Meta}
+use Rattle.sql_records.specs.declared.version.Version.TheVariants.{Second}
 use Rattle.sql_records.specs.declared.fault.OpenFault.{OpenFault}
 use Rattle.sql_records.specs.declared.fault.OpenFault.TheVariants.{NotOurs, OtherSchema, Damaged, Memory, Disk}
 use Rattle.sql_records.specs.Layout.{IsOurs, HasMeta, HasOtherSchema}
@@ -23,10 +24,10 @@ same_int v w x p q = cc
 same_row : (rows : List Row) (x y : Row) → rows ≡ x ∷ [] → rows ≡ y ∷ [] → x ≡ y
 same_row rows x y p q = cc
 
-no_other : (meta : Meta) (version : ℤ) (db : Trees) → HasMeta meta db → HasOtherSchema version db → ⊥
+no_other : (meta : Meta) (version : ℤ) (db : Trees) → HasMeta meta db → HasOtherSchema Second version db → ⊥
 no_other meta version db has other =
     let same = same_row _ _ _ other.alone has in
-    other.differs (same_int version (pos 1) (column other.values 1) other.version_is (ap (λ (x : Row). column x 1) same))
+    other.differs (same_int version (pos 2) (column other.values 2) other.version_is (ap (λ (x : Row). column x 2) same))
 
 whole_at : (from i : ℕ) (rows : List Row) (values : Row) → AreWhole from rows → slice_get rows i ≡ Some values → IsEntryAt (from + i) values
 whole_at from i [] values whole at = absurd cc
@@ -45,21 +46,21 @@ has_value [] i low = absurd (omega (arith, low))
 has_value (r ∷ rows) zero low = (r, refl)
 has_value (r ∷ rows) (suc i) low = has_value rows i (omega (arith, low))
 
-no_damage : (place : ℕ) (table rows : List Row) → AreInOrder table rows → AreWhole 0 (in_order (map shown table)) → IsDamagedAt place rows → ⊥
+no_damage : (place : ℕ) (table rows : List Row) → AreInOrder table rows → AreWhole 0 (in_order (map shown table)) → IsDamagedAt Second place rows → ⊥
 no_damage place table rows order whole damaged =
     let all = subst (AreWhole 0) (sym (order_whole table rows order whole)) whole in
     let same : rows_from_0 rows ≡ rows = ap (λ (n : ℕ). drop n rows) (none_below 0 rows all) in
     let value = has_value rows place damaged.low in
     let at : 0 + place ≡ place = omega arith in
     let here : slice_get (rows_from_0 rows) place ≡ Some value.0 = ap (λ (l : List Row). slice_get l place) same ∙ value.1 in
-    damaged.missing value.0 here (subst (λ k. IsEntryAt k value.0) at (whole_at 0 place rows value.0 all value.1))
+    damaged.missing value.0 here (subst (λ k. IsEntryAt k value.0) at (whole_at 0 place rows value.0 all value.1), tt)
 
 some : {A : Type 0} (o : Option A) → IsSome o → (x : A) × (o ≡ Some x)
 some None h = absurd (let e = h in cc)
 some (Some x) h = (x, refl)
 
 module _ (old new : State) (meta : Meta) (site : IsSiteIn meta old.now.trees) (sound : IsSound old.now.schema old.now.trees) (opens : IsSome (opened_in old.now.trees)) where
-  not_at_fault : (fault : OpenFault) → IsOurFault old new fault → IsAfterStop (Some fault)
+  not_at_fault : (fault : OpenFault) → IsOurFault Second old new fault → IsAfterStop (Some fault)
   not_at_fault NotOurs h = absurd (h.no_numbers meta site.within site.numbers)
   not_at_fault (OtherSchema version) h = absurd (no_other meta version old.now.trees site.numbers h)
   not_at_fault (Damaged place) h =

@@ -21,6 +21,8 @@ use Rattle.sqlite_schema.specs.Names.{same_name}
 use Rattle.rights_lattice.specs.Limits.{most_sites}
 use Rattle.book_core.specs.Limits.{greatest_limit}
 use Rattle.sql_records.specs.declared.meta.Meta.{Meta}
+use Rattle.sql_records.specs.declared.version.Version.{Version}
+use Rattle.sql_records.specs.declared.version.Version.TheVariants.{First, Second}
 
 abbrev pub plain : List ℕ → Kind → Column
 plain name kind = record { name = name; kind = kind; is_strict = true; not_null = false; default = Null; collation = Binary }
@@ -139,13 +141,22 @@ pub record IsBare (t : Table) : Type 0 where
 abbrev pub our_kind : List ℕ
 our_kind = codes "ticket-escrow"
 
--- its six columns: one, kind, version, me, sites, bound
-abbrev pub meta_of : Meta → Row
-meta_of meta = Int (pos 1) ∷ Words our_kind ∷ Int (pos 1) ∷ Int (pos meta.me) ∷ Int (pos meta.sites) ∷ Int (pos meta.limit) ∷ []
+-- the number of a version
+abbrev pub number_of : Version → ℤ
+number_of First = pos 1
+number_of Second = pos 2
 
--- the columns but the first of a row of the table, as a query shows them
+-- its six columns: one, kind, version, me, sites, bound
+abbrev pub meta_as : Version → Meta → Row
+meta_as version meta = Int (pos 1) ∷ Words our_kind ∷ Int (number_of version) ∷ Int (pos meta.me) ∷ Int (pos meta.sites) ∷ Int (pos meta.limit) ∷ []
+
+-- the same in the version that is written here
+abbrev pub meta_of : Meta → Row
+meta_of meta = meta_as Second meta
+
+-- the columns of a row of the table, as a query shows them
 abbrev pub meta_shown : Row → Row
-meta_shown values = column values 2 ∷ column values 3 ∷ column values 4 ∷ column values 5 ∷ column values 6 ∷ []
+meta_shown values = column values 0 ∷ column values 2 ∷ column values 3 ∷ column values 4 ∷ column values 5 ∷ column values 6 ∷ []
 
 abbrev pub meta_tree : ℕ
 meta_tree = 0
@@ -153,17 +164,22 @@ meta_tree = 0
 abbrev pub meta_rows : Trees → List Row
 meta_rows db = map meta_shown (db meta_tree)
 
--- the one row has these numbers, under the version that is read here
-abbrev pub HasMeta : Meta → Trees → Type 0
-HasMeta meta db = meta_rows db ≡ (Words our_kind ∷ Int (pos 1) ∷ Int (pos meta.me) ∷ Int (pos meta.sites) ∷ Int (pos meta.limit) ∷ []) ∷ []
+-- the one row has these numbers, under this version
+abbrev pub HasMetaAs : Version → Meta → Trees → Type 0
+HasMetaAs version meta db = meta_rows db ≡ meta_as version meta ∷ []
 
--- the one row is of our kind, and of another version
-pub record HasOtherSchema (version : ℤ) (db : Trees) : Type 0 where
+-- the same under the version that is written here
+abbrev pub HasMeta : Meta → Trees → Type 0
+HasMeta meta db = HasMetaAs Second meta db
+
+-- the one row is of our kind and of this version, which is another than the one that is read
+pub record HasOtherSchema (read : Version) (version : ℤ) (db : Trees) : Type 0 where
   pub values : Row
   pub alone : meta_rows db ≡ values ∷ []
-  pub kind : column values 0 ≡ Words our_kind
-  pub version_is : column values 1 ≡ Int version
-  pub differs : version ≢ pos 1
+  pub key : column values 0 ≡ Int (pos 1)
+  pub kind : column values 1 ≡ Words our_kind
+  pub version_is : column values 2 ≡ Int version
+  pub differs : version ≢ number_of read
 
 -- the numbers of a site
 pub record AreNumbers (meta : Meta) : Type 0 where
@@ -172,11 +188,11 @@ pub record AreNumbers (meta : Meta) : Type 0 where
   pub limit_is_positive : 1 ≤ meta.limit
   pub limit_is_low : meta.limit ≤ greatest_limit
 
--- the one row has the numbers of a site, under the version that is read here
-abbrev pub HasGoodMeta : Trees → Type 0
-HasGoodMeta db = (meta : Meta) × AreNumbers meta × HasMeta meta db
+-- the one row has the numbers of a site, under this version
+abbrev pub HasGoodMeta : Version → Trees → Type 0
+HasGoodMeta read db = (meta : Meta) × AreNumbers meta × HasMetaAs read meta db
 
 -- the rows of `meta` are those of no site, in this version or another
-pub record HasNoMeta (db : Trees) : Type 0 where
-  pub no_numbers : (meta : Meta) → AreNumbers meta → ¬ HasMeta meta db
-  pub no_version : (version : ℤ) → ¬ HasOtherSchema version db
+pub record HasNoMeta (read : Version) (db : Trees) : Type 0 where
+  pub no_numbers : (meta : Meta) → AreNumbers meta → ¬ HasMetaAs read meta db
+  pub no_version : (version : ℤ) → ¬ HasOtherSchema read version db

@@ -5,6 +5,7 @@ pub mod Layout
 pub mod ListView
 pub mod Lookups
 pub mod Making
+pub mod Migrating
 pub mod Opening
 pub mod Rows
 pub mod Texts

@@ -18,7 +18,9 @@ use Rattle.sql_records.specs.declared.meta.Meta.{Meta}
 use Rattle.sql_records.specs.declared.fault.OpenFault.{OpenFault}
 use Rattle.sql_records.specs.declared.fault.OpenFault.TheVariants.{NotOurs, OtherSchema, Damaged, Memory, Disk}
 use Rattle.sql_records.specs.Rows.{number_within, site_in, entry_of, rows_from_0, AreInOrder, AreWhole, IsDamagedAt, WantsForEntry}
-use Rattle.sql_records.specs.Layout.{IsOurs, our_kind, HasOtherSchema, HasGoodMeta, HasNoMeta}
+use Rattle.sql_records.specs.declared.version.Version.{Version}
+use Rattle.sql_records.specs.declared.version.Version.TheVariants.{Second}
+use Rattle.sql_records.specs.Layout.{IsOurs, our_kind, number_of, HasOtherSchema, HasGoodMeta, HasNoMeta}
 use Rattle.sql_records.specs.Faults.{HasDiskCause, IsUndoneForMemory}
 use Rattle.sql_records.specs.Texts.{meta_select_text}
 use Rattle.sql_records.specs.Held.{entries_tree}
@@ -30,31 +32,34 @@ int_in _ = None
 -- the numbers of a row of `meta`, where they are those of a site
 unfoldable pub numbers_in : Row → Option Meta
 numbers_in values = do
-  me ← site_in (column values 2)
-  sites ← number_within 1 most_sites (column values 3)
-  limit ← number_within 1 greatest_limit (column values 4)
+  me ← site_in (column values 3)
+  sites ← number_within 1 most_sites (column values 4)
+  limit ← number_within 1 greatest_limit (column values 5)
   if nat_lt me sites then Some (record { me = me; sites = sites; limit = limit }) else None
 
--- the row is of our kind, in the version that is read here, and has these numbers
-pub record IsRowOf (meta : Meta) (values : Row) : Type 0 where
-  pub kind : column values 0 ≡ Text our_kind
-  pub version : column values 1 ≡ Int (pos 1)
+-- the row is of our kind, in this version, and has these numbers
+pub record IsRowOf (read : Version) (meta : Meta) (values : Row) : Type 0 where
+  pub key : column values 0 ≡ Int (pos 1)
+  pub kind : column values 1 ≡ Text our_kind
+  pub version : column values 2 ≡ Int (number_of read)
   pub numbers : numbers_in values ≡ Some meta
 
 -- the row is of another kind, has no version, or has no numbers of a site
-abbrev pub IsForeignRow : Row → Type 0
-IsForeignRow values = (column values 0 ≢ Text our_kind) ⊎ ((int_in (column values 1) ≡ None) ⊎ ((column values 1 ≡ Int (pos 1)) × (numbers_in values ≡ None)))
+abbrev pub IsForeignRow : Version → Row → Type 0
+IsForeignRow read values =
+    ((column values 0 ≢ Int (pos 1)) ⊎ (column values 1 ≢ Text our_kind)) ⊎ ((int_in (column values 2) ≡ None) ⊎ ((column values 2 ≡ Int (number_of read)) × (numbers_in values ≡ None)))
 
-abbrev pub IsOtherVersion : ℤ → Row → Type 0
-IsOtherVersion version values = (column values 0 ≡ Text our_kind) × (column values 1 ≡ Int version) × (version ≢ pos 1)
+-- the row is of our kind, and of this version, which is another than the one that is read
+abbrev pub IsOtherVersion : Version → ℤ → Row → Type 0
+IsOtherVersion read version values = (column values 0 ≡ Int (pos 1)) × (column values 1 ≡ Text our_kind) × (column values 2 ≡ Int version) × (version ≢ number_of read)
 
 -- what is at fault in a row of `meta`
-abbrev pub IsRowFault : Row → OpenFault → Type 0
-IsRowFault values NotOurs = IsForeignRow values
-IsRowFault values (OtherSchema version) = IsOtherVersion version values
-IsRowFault values (Damaged place) = ⊥
-IsRowFault values Memory = ⊥
-IsRowFault values Disk = ⊥
+abbrev pub IsRowFault : Version → Row → OpenFault → Type 0
+IsRowFault read values NotOurs = IsForeignRow read values
+IsRowFault read values (OtherSchema version) = IsOtherVersion read version values
+IsRowFault read values (Damaged place) = ⊥
+IsRowFault read values Memory = ⊥
+IsRowFault read values Disk = ⊥
 
 -- a query failed: the store wants memory, or the disk is at fault
 abbrev pub IsStoreFault : State → State → OpenFault → Type 0
@@ -65,12 +70,12 @@ IsStoreFault old new Memory = IsUndoneForMemory old new
 IsStoreFault old new Disk = HasDiskCause old new
 
 -- what is at fault in the numbers of a database of ours
-abbrev pub IsMetaFault : State → State → OpenFault → Type 0
-IsMetaFault old new NotOurs = HasNoMeta old.now.trees
-IsMetaFault old new (OtherSchema version) = HasOtherSchema version old.now.trees
-IsMetaFault old new (Damaged place) = ⊥
-IsMetaFault old new Memory = IsUndoneForMemory old new
-IsMetaFault old new Disk = HasDiskCause old new
+abbrev pub IsMetaFault : Version → State → State → OpenFault → Type 0
+IsMetaFault read old new NotOurs = HasNoMeta read old.now.trees
+IsMetaFault read old new (OtherSchema version) = HasOtherSchema read version old.now.trees
+IsMetaFault read old new (Damaged place) = ⊥
+IsMetaFault read old new Memory = IsUndoneForMemory old new
+IsMetaFault read old new Disk = HasDiskCause old new
 
 -- memory may be wanted for the row at this place: it has its place, and is an entry or may want memory for its delta; those before it are the entries of theirs
 pub record IsWantedAt (place : ℕ) (rows : List Row) : Type 0 where
@@ -81,22 +86,22 @@ pub record IsWantedAt (place : ℕ) (rows : List Row) : Type 0 where
   pub wants : IsSome (entry_of values) ⊎ WantsForEntry values
 
 -- what is at fault in rows of entries, which are in an order of their places
-abbrev pub AreRowsFault : List Row → OpenFault → Type 0
-AreRowsFault rows NotOurs = ⊥
-AreRowsFault rows (OtherSchema version) = ⊥
-AreRowsFault rows (Damaged place) = IsDamagedAt place rows
-AreRowsFault rows Memory = (place : ℕ) × IsWantedAt place (rows_from_0 rows)
-AreRowsFault rows Disk = ⊥
+abbrev pub AreRowsFault : Version → List Row → OpenFault → Type 0
+AreRowsFault read rows NotOurs = ⊥
+AreRowsFault read rows (OtherSchema version) = ⊥
+AreRowsFault read rows (Damaged place) = IsDamagedAt read place rows
+AreRowsFault read rows Memory = (place : ℕ) × IsWantedAt place (rows_from_0 rows)
+AreRowsFault read rows Disk = ⊥
 
 -- the rows are one, of our kind and of this other version
-abbrev pub AreOfVersion : ℤ → List Row → Type 0
-AreOfVersion version rows = (values : Row) × (rows ≡ values ∷ []) × IsOtherVersion version values
+abbrev pub AreOfVersion : Version → ℤ → List Row → Type 0
+AreOfVersion read version rows = (values : Row) × (rows ≡ values ∷ []) × IsOtherVersion read version values
 
 -- what these rows are told as
-abbrev pub AreTold : List Row → OpenFault → Type 0
-AreTold rows NotOurs = (version : ℤ) → ¬ AreOfVersion version rows
-AreTold rows (OtherSchema version) = AreOfVersion version rows
-AreTold rows fault = ⊥
+abbrev pub AreTold : Version → List Row → OpenFault → Type 0
+AreTold read rows NotOurs = (version : ℤ) → ¬ AreOfVersion read version rows
+AreTold read rows (OtherSchema version) = AreOfVersion read version rows
+AreTold read rows fault = ⊥
 
 -- what this error is told as: want of memory, a failure of the store, or that there is nothing to select from
 abbrev pub foreign_told : Error → OpenFault
@@ -121,29 +126,37 @@ module _ {S : Type 0} (g : Ghosts S) (conn : Held S) where
     pub fails : FailsToQuery meta_select_text [] (state g (record conn { in_transaction = true })) (state g after) e
         ⊎ IsTooLate meta_select_text [] (state g (record conn { in_transaction = true })) (state g after) e
 
-  -- why a database is not read whose tables are not ours
+  -- why a database is not read in this version whose tables are not ours
+  abbrev pub IsForeignCauseAs : Version → OpenFault → Type 0
+  IsForeignCauseAs read fault = ((rows : List Row) × ShowsMeta rows × AreTold read rows fault) ⊎ ((e : Error) × FailsToShowMeta e × (fault ≡ foreign_told e))
+
+  -- the same in the version that is written here
   abbrev pub IsForeignCause : OpenFault → Type 0
-  IsForeignCause fault = ((rows : List Row) × ShowsMeta rows × AreTold rows fault) ⊎ ((e : Error) × FailsToShowMeta e × (fault ≡ foreign_told e))
+  IsForeignCause fault = IsForeignCauseAs Second fault
 
 -- what a database answers whose tables are not ours
-abbrev pub IsForeignFault : OpenFault → Type 0
-IsForeignFault (OtherSchema version) = version ≢ pos 1
-IsForeignFault (Damaged place) = ⊥
-IsForeignFault _ = Unit {0}
+abbrev pub IsForeignFault : Version → OpenFault → Type 0
+IsForeignFault read (OtherSchema version) = version ≢ number_of read
+IsForeignFault read (Damaged place) = ⊥
+IsForeignFault read _ = Unit {0}
 
 -- what is at fault in the rows of a database, in an order of their places
-abbrev pub IsEntriesFault : Trees → OpenFault → Type 0
-IsEntriesFault db fault = HasGoodMeta db × ((rows : List Row) × AreInOrder (db entries_tree) rows × AreRowsFault rows fault)
+abbrev pub IsEntriesFault : Version → Trees → OpenFault → Type 0
+IsEntriesFault read db fault = HasGoodMeta read db × ((rows : List Row) × AreInOrder (db entries_tree) rows × AreRowsFault read rows fault)
 
 -- what is at fault in a database of ours, in this order: the numbers, and then the rows
-abbrev pub IsOurFault : State → State → OpenFault → Type 0
-IsOurFault old new (Damaged place) = IsEntriesFault old.now.trees (Damaged place)
-IsOurFault old new Memory = IsUndoneForMemory old new ⊎ (IsUnchanged old new × IsEntriesFault old.now.trees Memory)
-IsOurFault old new fault = IsMetaFault old new fault
+abbrev pub IsOurFault : Version → State → State → OpenFault → Type 0
+IsOurFault read old new (Damaged place) = IsEntriesFault read old.now.trees (Damaged place)
+IsOurFault read old new Memory = IsUndoneForMemory old new ⊎ (IsUnchanged old new × IsEntriesFault read old.now.trees Memory)
+IsOurFault read old new fault = IsMetaFault read old new fault
 
--- what is at fault in a database
+-- what is at fault in a database that is read in this version
+abbrev pub IsReadFault : Version → State → State → OpenFault → Type 0
+IsReadFault read old new fault = ((¬ IsOurs old.now.schema) × IsForeignFault read fault) ⊎ (IsOurs old.now.schema × IsOurFault read old new fault)
+
+-- the same in the version that is written here
 abbrev pub IsOpenFault : State → State → OpenFault → Type 0
-IsOpenFault old new fault = ((¬ IsOurs old.now.schema) × IsForeignFault fault) ⊎ (IsOurs old.now.schema × IsOurFault old new fault)
+IsOpenFault old new fault = IsReadFault Second old new fault
 
 -- The store came back, and over it a new connection, with a database that a stop may leave; an open found this at
 -- fault in it. What such a database holds tells its schema.

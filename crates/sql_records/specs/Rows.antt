@@ -1,6 +1,6 @@
 -- The rows of the entries: the ten columns of each, and the entry that a row stands for. (Our own.)
-use Rattle.std.specs.Prelude.{ℕ, ◌+◌, ◌≤◌, ◌<◌, ◌^◌, ◌≡◌, nat_le, ◌&&◌, ◌==◌, if◌then◌else◌, Bool, true, false, List, [], ◌∷◌, ◌++◌, Option, Some, None, pos, negsuc, map, length, take, drop, slice_get, IsSome, IfSome, IsSorted, IsPermutation}
-use Rattle.std.specs.List.{filter_map, prefix_len, slice_split}
+use Rattle.std.specs.Prelude.{ℕ, ◌+◌, ◌≤◌, ◌<◌, ◌^◌, ◌≡◌, ◌≢◌, codes, nat_le, ◌&&◌, ◌==◌, if◌then◌else◌, Bool, true, false, List, [], ◌∷◌, ◌++◌, Option, Some, None, pos, negsuc, map, length, take, drop, slice_get, IsSome, IfSome, IsSorted, IsPermutation}
+use Rattle.std.specs.List.{AllByRecursion, filter_map, prefix_len, slice_split}
 use Rattle.std.specs.Option.{option_map}
 use Rattle.std.specs.Result.{result_ok}
 use Rattle.std.specs.declared.cmp.Ordering.{Ordering}
@@ -20,6 +20,8 @@ use Rattle.request_ledger.specs.declared.verb.Verb.TheVariants as verb
 use Rattle.request_ledger.specs.Ranges.{IsRequest}
 use Rattle.request_ledger.specs.Words.{verb_word, verb_of, request_verb, reply_word, reply_number, reply_of}
 use Rattle.book_core.specs.declared.entry.Entry.{Entry}
+use Rattle.sql_records.specs.declared.version.Version.{Version}
+use Rattle.sql_records.specs.declared.version.Version.TheVariants.{First, Second}
 use Rattle.book_core.specs.declared.entry.Entry.TheVariants.{Asked, Joined}
 use Rattle.sql_records.specs.declared.reading.EntryHead.{EntryHead}
 use Rattle.sql_records.specs.declared.reading.EntryHead.TheVariants as head
@@ -289,9 +291,30 @@ abbrev pub AreWhole : ℕ → List Row → Type 0
 AreWhole from [] = Unit {0}
 AreWhole from (values ∷ rows) = IsEntryAt from values × AreWhole (from + 1) rows
 
--- the first of these rows that is not the entry of its place
-abbrev pub IsFirstDamaged : ℕ → List Row → Type 0
-IsFirstDamaged place rows = AreWhole 0 (take place rows) × ((values : Row) × (slice_get rows place ≡ Some values) × ¬ IsEntryAt place values)
+-- what the first version does not have: a part of a sale that is asked back, and the reply that it is too many
+abbrev pub too_many : List ℕ
+too_many = codes "too-many"
+
+pub record HasPart (values : Row) : Type 0 where
+  pub refund : verb_in (column values 3) ≡ Some verb.Refund
+  pub part : is_null (column values 5) ≡ false
+
+-- the columns of a request and its reply are those of this version
+abbrev pub IsOfVersion : Version → Row → Type 0
+IsOfVersion First values = (¬ HasPart values) × (column values 7 ≢ Text too_many)
+IsOfVersion Second values = Unit {0}
+
+-- the row has this place and stands for an entry of this version
+abbrev pub IsEntryIn : Version → ℕ → Row → Type 0
+IsEntryIn read place values = IsEntryAt place values × IsOfVersion read values
+
+-- the rows have the places from one on, and each stands for an entry of this version
+abbrev pub AreWholeIn : Version → ℕ → List Row → Type 0
+AreWholeIn read from rows = AreWhole from rows × AllByRecursion (IsOfVersion read) rows
+
+-- the first of these rows that is not the entry of its place in this version
+abbrev pub IsFirstDamaged : Version → ℕ → List Row → Type 0
+IsFirstDamaged read place rows = AreWholeIn read 0 (take place rows) × ((values : Row) × (slice_get rows place ≡ Some values) × ¬ IsEntryIn read place values)
 
 -- ---- what is at fault in rows that are in an order of their places
 
@@ -307,9 +330,9 @@ rows_below rows = prefix_len (λ (values : Row). is_below (column values 0)) row
 abbrev pub rows_from_0 : List Row → List Row
 rows_from_0 rows = drop (rows_below rows) rows
 
--- the least place below the number of rows that is missing, or whose row does not read as an entry
-pub record IsDamagedAt (place : ℕ) (rows : List Row) : Type 0 where
+-- the least place below the number of rows that is missing, or whose row does not read as an entry of this version
+pub record IsDamagedAt (read : Version) (place : ℕ) (rows : List Row) : Type 0 where
   pub low : place < length rows
-  pub before : AreWhole 0 (take place (rows_from_0 rows))
+  pub before : AreWholeIn read 0 (take place (rows_from_0 rows))
   pub reached : place ≤ length (rows_from_0 rows)
-  pub missing : (values : Row) → slice_get (rows_from_0 rows) place ≡ Some values → ¬ IsEntryAt place values
+  pub missing : (values : Row) → slice_get (rows_from_0 rows) place ≡ Some values → ¬ IsEntryIn read place values

@@ -11,7 +11,11 @@ abbrev pub meta_insert_text : List ℕ
 meta_insert_text = codes "INSERT INTO meta VALUES (?1, ?2, ?3, ?4, ?5, ?6)"
 
 abbrev pub meta_select_text : List ℕ
-meta_select_text = codes "SELECT kind, version, me, sites, bound FROM meta"
+meta_select_text = codes "SELECT one, kind, version, me, sites, bound FROM meta"
+
+-- the records are of the second version from now on
+abbrev pub update_text : List ℕ
+update_text = codes "UPDATE meta SET version = 2"
 
 abbrev pub select_text : List ℕ
 select_text = codes "SELECT pos, peer, number, verb, event, amount, target, reply, rest, delta FROM entries ORDER BY pos"

@@ -12,6 +12,7 @@ use crate::fault::InitFault;
 use crate::meta::Meta;
 use crate::records::Records;
 use crate::shape::has_our_table;
+use crate::version::Version;
 use book_core::Limit;
 use rights_lattice::{SiteId, Sites};
 use sqlite::types::ValueRef;
@@ -39,7 +40,7 @@ fn meta_columns(meta: Meta) -> [ValueRef<'static>; 6]
     [
         ValueRef::Int(1),
         ValueRef::Text(b"ticket-escrow"),
-        ValueRef::Int(1),
+        ValueRef::Int(Version::Second.number()),
         ValueRef::Int(meta.me.number() as i64),
         ValueRef::Int(meta.sites.count() as i64),
         ValueRef::Int(meta.limit.entries() as i64),

@@ -38,6 +38,41 @@ pub enum OpenFault {
     Disk,
 }
 
+/// Why records are not migrated.
+#[derive(Clone, Copy, Debug, PartialEq, Eq, Error)]
+pub enum MigrateFault {
+    /// The tables are not those of records, or the numbers in them are those of no site.
+    #[error("the database holds no records of a site")]
+    NotOurs,
+    /// The records are of a version that is not known.
+    #[error("the records have the schema {version}")]
+    OtherSchema { version: i64 },
+    /// The records are of the version already.
+    #[error("there is nothing to migrate")]
+    Nothing,
+    /// The least place, below the number of rows, that has no row or whose row does not read as an entry of the first
+    /// version; or, where each does, the first whose entry may not follow those before it.
+    #[error("the entry {place} is damaged")]
+    Damaged { place: u64 },
+    #[error("out of memory")]
+    Memory,
+    /// The database could not be read or written.
+    #[error("the database could not be written")]
+    Disk,
+}
+
+impl From<StoreError> for MigrateFault {
+    ghost use Rattle.std.specs.Prelude.{◌≡◌};
+    ghost use Rattle.sql_records.specs.Faults.{told};
+    ghost use Rattle.sql_records.specs.declared.fault.MigrateFault.TheVariants.{Memory, Disk};
+
+    ghost from_gives = { λ error fault. fault ≡ told Memory Disk error };
+
+    fn from(error: StoreError) -> MigrateFault {
+        told(MigrateFault::Memory, MigrateFault::Disk, error)
+    }
+}
+
 impl From<StoreError> for InitFault {
     ghost use Rattle.std.specs.Prelude.{◌≡◌};
     ghost use Rattle.sql_records.specs.Faults.{told};

@@ -12,12 +12,14 @@ mod keeper;
 mod list;
 mod lookup;
 mod meta;
+mod migrating;
 mod opening;
 mod reading;
 mod records;
 mod shape;
+mod version;
 
-pub use fault::{InitFault, OpenFault};
+pub use fault::{InitFault, MigrateFault, OpenFault};
 pub use keeper::{KeepFault, Keeper};
 pub use list::ListKeeper;
 pub use lookup::{FindFault, Found, Listed};

@@ -8,22 +8,24 @@ ghost use Rattle.sqlite.specs.Order.{column};
 ghost use Rattle.sqlite_value.specs.Value.{owned};
 ghost use Rattle.rights_lattice.specs.Limits.{most_sites};
 ghost use Rattle.book_core.specs.Limits.{greatest_limit};
-ghost use Rattle.sql_records.specs.Layout.{IsOurs, our_kind, HasMeta, AreNumbers};
-ghost use Rattle.sql_records.specs.Rows.{entry_of, is_below, rows_below, number_within, IsEntryAt, AreInOrder, AreWhole, IsFirstDamaged, WantsForEntry};
+ghost use Rattle.sql_records.specs.Layout.{IsOurs, our_kind, number_of, HasMeta, HasMetaAs, AreNumbers};
+ghost use Rattle.sql_records.specs.Rows.{entry_of, is_below, rows_below, number_within, IsEntryIn, IsOfVersion, AreInOrder, AreWhole, AreWholeIn, IsFirstDamaged, WantsForEntry};
+ghost use Rattle.sql_records.specs.declared.version.Version.{Version};
 ghost use Rattle.sql_records.specs.Held.{entries_tree, rows_in, history_in, LeavesNoMore};
-ghost use Rattle.sql_records.specs.Opening.{int_in, numbers_in, IsRowOf, IsRowFault, IsMetaFault, AreRowsFault, IsStoreFault, IsWantedAt, IsForeignFault, IsForeignCause, AreOfVersion, AreTold, foreign_told, IsOpenFault, IsLeftOrUndone};
+ghost use Rattle.sql_records.specs.Opening.{int_in, numbers_in, IsRowOf, IsRowFault, IsMetaFault, AreRowsFault, IsStoreFault, IsWantedAt, IsForeignFault, IsForeignCause, IsForeignCauseAs, AreOfVersion, AreTold, foreign_told, IsOpenFault, IsReadFault, IsLeftOrUndone};
 
 use crate::fault::OpenFault;
 use crate::meta::Meta;
-use crate::reading::{number_within, read_entry, site_in, value_at};
+use crate::reading::{is_of_version, number_within, read_entry, site_in, value_at};
 use crate::shape::is_ours;
+use crate::version::Version;
 use book_core::{Entry, Limit};
 use rights_lattice::{MOST_SITES, Sites};
 use sqlite::types::ValueRef;
 use sqlite::{Alter, Connection, Error, ErrorCode, Row};
 use std::alloc::Global;
 
-const META_SELECT: &str = "SELECT kind, version, me, sites, bound FROM meta";
+const META_SELECT: &str = "SELECT one, kind, version, me, sites, bound FROM meta";
 
 const SELECT: &str =
     "SELECT pos, peer, number, verb, event, amount, target, reply, rest, delta FROM entries ORDER BY pos";
@@ -55,15 +57,16 @@ fn is_at(place: u64, value: ValueRef<'_>) -> bool
     }
 }
 
-// The entry of the row at this place.
-fn read_next(alloc: Global, place: u64, row: &Row) -> Result<Entry, OpenFault>
+// The entry of this version in the row at this place.
+fn read_next(alloc: Global, read: Version, place: u64, row: &Row) -> Result<Entry, OpenFault>
     ensures placed { OnOk result (column row.now 0 ≡ Int (pos place)) }
     ensures reads { IfOk result (λ entry. entry_of row.now ≡ Some entry) }
+    ensures version { OnOk result (IsOfVersion read row.now) }
     ensures named { IfErr result (λ fault. (fault ≡ OpenFault.Memory) ⊎ (fault ≡ OpenFault.Damaged place)) }
-    ensures damaged { result ≡ Err (OpenFault.Damaged place) → ¬ IsEntryAt place row.now }
+    ensures damaged { result ≡ Err (OpenFault.Damaged place) → ¬ IsEntryIn read place row.now }
     ensures memory { result ≡ Err OpenFault.Memory → (column row.now 0 ≡ Int (pos place)) × WantsForEntry row.now }
 {
-    if !is_at(place, value_at(row, 0)) {
+    if !is_at(place, value_at(row, 0)) || !is_of_version(read, row) {
         return Err(OpenFault::Damaged { place });
     }
     match read_entry(alloc, row)? {
@@ -72,15 +75,15 @@ fn read_next(alloc: Global, place: u64, row: &Row) -> Result<Entry, OpenFault>
     }
 }
 
-// The entries of the rows, which have the places 0, 1 and on.
-fn read_entries(alloc: Global, rows: &[Row]) -> Result<Vec<Entry>, OpenFault>
-    ensures whole { OnOk result (AreWhole 0 rows.now) }
+// The entries of this version in the rows, which have the places 0, 1 and on.
+fn read_entries(alloc: Global, read: Version, rows: &[Row]) -> Result<Vec<Entry>, OpenFault>
+    ensures whole { OnOk result (AreWholeIn read 0 rows.now) }
     ensures entries { IfOk result (λ entries. entries.items ≡ filter_map entry_of rows.now) }
-    ensures fault { IfErr result (λ fault. ((fault ≡ OpenFault.Memory) × ((place : ℕ) × IsWantedAt place rows.now)) ⊎ ((place : ℕ) × (fault ≡ OpenFault.Damaged place) × IsFirstDamaged place rows.now)) }
+    ensures fault { IfErr result (λ fault. ((fault ≡ OpenFault.Memory) × ((place : ℕ) × IsWantedAt place rows.now)) ⊎ ((place : ℕ) × (fault ≡ OpenFault.Damaged place) × IsFirstDamaged read place rows.now)) }
 {
     let mut entries = Vec::new(alloc);
     'rows: for (place, row) in rows.iter().enumerate() {
-        let entry = read_next(alloc, place as u64, row)?;
+        let entry = read_next(alloc, read, place as u64, row)?;
         entries.push(entry)?;
     }
     Ok(entries)
@@ -108,14 +111,14 @@ fn rows_below(rows: &[Row]) -> usize
     rows.len()
 }
 
-// The entries of all rows, which are in an order of their places.
-fn read_all(alloc: Global, rows: &[Row]) -> Result<Vec<Entry>, OpenFault>
-    ensures whole { OnOk result (AreWhole 0 rows.now) }
+// The entries of this version in all rows, which are in an order of their places.
+fn read_all(alloc: Global, read: Version, rows: &[Row]) -> Result<Vec<Entry>, OpenFault>
+    ensures whole { OnOk result (AreWholeIn read 0 rows.now) }
     ensures entries { IfOk result (λ entries. entries.items ≡ filter_map entry_of rows.now) }
-    ensures fault { IfErr result (AreRowsFault rows.now) }
+    ensures fault { IfErr result (AreRowsFault read rows.now) }
 {
     let below = rows_below(rows);
-    let entries = read_entries(alloc, &rows[below..])?;
+    let entries = read_entries(alloc, read, &rows[below..])?;
     if below > 0 {
         return Err(OpenFault::Damaged {
             place: entries.len() as u64,
@@ -160,9 +163,9 @@ fn limit_in(value: ValueRef<'_>) -> Option<Limit>
 fn numbers_in(row: &Row) -> Option<Meta>
     ensures { result ≡ numbers_in row.now }
 {
-    let me = site_in(value_at(row, 2))?;
-    let sites = sites_in(value_at(row, 3))?;
-    let limit = limit_in(value_at(row, 4))?;
+    let me = site_in(value_at(row, 3))?;
+    let sites = sites_in(value_at(row, 4))?;
+    let limit = limit_in(value_at(row, 5))?;
     if me.number() < sites.count() {
         Some(Meta { me, sites, limit })
     } else {
@@ -170,18 +173,18 @@ fn numbers_in(row: &Row) -> Option<Meta>
     }
 }
 
-// The numbers of a row of `meta`.
-fn read_numbers(row: &Row) -> Result<Meta, OpenFault>
-    ensures numbers { IfOk result (λ meta. IsRowOf meta row.now) }
-    ensures fault { IfErr result (IsRowFault row.now) }
+// The numbers of a row of `meta`, of this version.
+fn read_numbers(read: Version, row: &Row) -> Result<Meta, OpenFault>
+    ensures numbers { IfOk result (λ meta. IsRowOf read meta row.now) }
+    ensures fault { IfErr result (IsRowFault read row.now) }
 {
-    if !is_our_kind(value_at(row, 0)) {
+    if !is_at(1, value_at(row, 0)) || !is_our_kind(value_at(row, 1)) {
         return Err(OpenFault::NotOurs);
     }
-    let Some(version) = int_in(value_at(row, 1)) else {
+    let Some(version) = int_in(value_at(row, 2)) else {
         return Err(OpenFault::NotOurs);
     };
-    if version != 1 {
+    if version != read.number() {
         return Err(OpenFault::OtherSchema { version });
     }
     match numbers_in(row) {
@@ -201,14 +204,14 @@ fn only(mut rows: Vec<Row>) -> Option<Row>
     rows.pop()
 }
 
-// The numbers in `meta`.
-fn read_meta<S: Alter>(conn: &mut Connection<S>) -> Result<Meta, OpenFault>
+// The numbers in `meta`, of this version.
+fn read_meta<S: Alter>(read: Version, conn: &mut Connection<S>) -> Result<Meta, OpenFault>
     requires { HasCleanDisk (state S.Store conn.old) → IsOurs (state S.Store conn.old).now.schema }
-    ensures meta { HasCleanDisk (state S.Store conn.new) → IfOk result (λ meta. HasMeta meta (state S.Store conn.old).now.trees) }
+    ensures meta { HasCleanDisk (state S.Store conn.new) → IfOk result (λ meta. HasMetaAs read meta (state S.Store conn.old).now.trees) }
     ensures numbers { IfOk result AreNumbers }
     ensures same { HasCleanDisk (state S.Store conn.new) → OnOk result (IsUnchanged (state S.Store conn.old) (state S.Store conn.new)) }
     ensures undone { HasCleanDisk (state S.Store conn.new) → OnErr result (IsLeftOrUndone (state S.Store conn.old) (state S.Store conn.new)) }
-    ensures fault { HasCleanDisk (state S.Store conn.new) → IfErr result (IsMetaFault (state S.Store conn.old) (state S.Store conn.new)) }
+    ensures fault { HasCleanDisk (state S.Store conn.new) → IfErr result (IsMetaFault read (state S.Store conn.old) (state S.Store conn.new)) }
     ensures counts { (state S.Store conn.old).faults ≤ (state S.Store conn.new).faults }
     ensures limit { (state S.Store conn.new).step_limit ≡ (state S.Store conn.old).step_limit }
     ensures left { HasCleanDisk (state S.Store conn.new) → LeavesNoMore (state S.Store conn.old) (state S.Store conn.new) }
@@ -216,29 +219,29 @@ fn read_meta<S: Alter>(conn: &mut Connection<S>) -> Result<Meta, OpenFault>
 {
     let rows = conn.query_all(META_SELECT, &[])?;
     match only(rows) {
-        Some(row) => read_numbers(&row),
+        Some(row) => read_numbers(read, &row),
         None => Err(OpenFault::NotOurs),
     }
 }
 
-// Whether the rows are one, of our kind, and of another version.
-fn other_version(rows: Vec<Row>) -> Option<i64>
-    ensures some { IfSome result (λ version. AreOfVersion version rows.items) }
-    ensures none { IfNone result ((version : ℤ) → ¬ AreOfVersion version rows.items) }
-    ensures differs { IfSome result (λ version. version ≢ pos 1) }
+// Whether the rows are one, of our kind, and of another version than this.
+fn other_version(read: Version, rows: Vec<Row>) -> Option<i64>
+    ensures some { IfSome result (λ version. AreOfVersion read version rows.items) }
+    ensures none { IfNone result ((version : ℤ) → ¬ AreOfVersion read version rows.items) }
+    ensures differs { IfSome result (λ version. version ≢ number_of read) }
 {
-    match read_numbers(&only(rows)?) {
+    match read_numbers(read, &only(rows)?) {
         Err(OpenFault::OtherSchema { version }) => Some(version),
         _ => None,
     }
 }
 
 // What the rows that the select on `meta` shows are told as.
-fn foreign_rows(rows: Vec<Row>) -> OpenFault
-    ensures told { AreTold rows.items result }
-    ensures named { IsForeignFault result }
+fn foreign_rows(read: Version, rows: Vec<Row>) -> OpenFault
+    ensures told { AreTold read rows.items result }
+    ensures named { IsForeignFault read result }
 {
-    match other_version(rows) {
+    match other_version(read, rows) {
         Some(version) => OpenFault::OtherSchema { version },
         None => OpenFault::NotOurs,
     }
@@ -247,7 +250,7 @@ fn foreign_rows(rows: Vec<Row>) -> OpenFault
 // What an error of the select on `meta` is told as.
 fn foreign_told(error: Error) -> OpenFault
     ensures told { result ≡ foreign_told error }
-    ensures named { IsForeignFault result }
+    ensures named { (read : Version) → IsForeignFault read result }
 {
     match error {
         Error::SqliteFailure(ErrorCode::OutOfMemory) => OpenFault::Memory,
@@ -263,11 +266,11 @@ fn foreign_told(error: Error) -> OpenFault
 
 // What a database answers whose tables are not ours: a file of another version may have other columns. The
 // transaction says that nothing is written, whatever the database makes of the query.
-fn foreign_fault<S: Alter>(conn: &mut Connection<S>) -> OpenFault
-    ensures named { IsForeignFault result }
+fn foreign_fault<S: Alter>(read: Version, conn: &mut Connection<S>) -> OpenFault
+    ensures named { IsForeignFault read result }
     ensures undone { HasCleanDisk (state S.Store conn.new) → IsLeftOrUndone (state S.Store conn.old) (state S.Store conn.new) }
     ensures busy { conn.old.in_transaction ≡ true → result ≡ OpenFault.NotOurs }
-    ensures cause { conn.old.in_transaction ≡ false → HasCleanDisk (state S.Store conn.new) → IsForeignCause S.Store conn.old result }
+    ensures cause { conn.old.in_transaction ≡ false → HasCleanDisk (state S.Store conn.new) → IsForeignCauseAs S.Store conn.old read result }
     ensures left { HasCleanDisk (state S.Store conn.new) → LeavesNoMore (state S.Store conn.old) (state S.Store conn.new) }
     ensures limit { conn.new.step_limit ≡ conn.old.step_limit }
     ensures clean { HasCleanDisk (state S.Store conn.new) → HasCleanDisk (state S.Store conn.old) }
@@ -279,9 +282,39 @@ fn foreign_fault<S: Alter>(conn: &mut Connection<S>) -> OpenFault
     let answer = tx.query_all(META_SELECT, &[]);
     tx.rollback();
     match answer {
-        Ok(rows) => foreign_rows(rows),
+        Ok(rows) => foreign_rows(read, rows),
         Err(error) => foreign_told(error),
     }
+}
+
+/// The entries of a site's records of this version, the oldest first, and its numbers, as `read_records` reads them.
+pub fn read_as<S: Alter>(
+    alloc: Global,
+    read: Version,
+    conn: &mut Connection<S>,
+) -> Result<(Vec<Entry>, Meta), OpenFault>
+    ensures entries { HasCleanDisk (state S.Store conn.new) → IfOk result (λ it. it.0.items ≡ history_in (state S.Store conn.old).now.trees) }
+    ensures whole { HasCleanDisk (state S.Store conn.new) → OnOk result (AreWholeIn read 0 (rows_in (state S.Store conn.old).now.trees)) }
+    ensures meta { HasCleanDisk (state S.Store conn.new) → IfOk result (λ it. HasMetaAs read it.1 (state S.Store conn.old).now.trees) }
+    ensures numbers { IfOk result (λ it. AreNumbers it.1) }
+    ensures schema { OnOk result (IsOurs conn.old.schema) }
+    ensures live { IsLive (state S.Store conn.old) }
+    ensures same { HasCleanDisk (state S.Store conn.new) → OnOk result (IsUnchanged (state S.Store conn.old) (state S.Store conn.new)) }
+    ensures undone { HasCleanDisk (state S.Store conn.new) → OnErr result (IsLeftOrUndone (state S.Store conn.old) (state S.Store conn.new)) }
+    ensures fault { HasCleanDisk (state S.Store conn.new) → IfErr result (IsReadFault read (state S.Store conn.old) (state S.Store conn.new)) }
+    ensures busy { ¬ IsOurs conn.old.schema → conn.old.in_transaction ≡ true → result ≡ Err OpenFault.NotOurs }
+    ensures foreign { ¬ IsOurs conn.old.schema → conn.old.in_transaction ≡ false → HasCleanDisk (state S.Store conn.new) → IfErr result (IsForeignCauseAs S.Store conn.old read) }
+    ensures left { HasCleanDisk (state S.Store conn.new) → LeavesNoMore (state S.Store conn.old) (state S.Store conn.new) }
+    ensures limit { conn.new.step_limit ≡ conn.old.step_limit }
+    ensures clean { HasCleanDisk (state S.Store conn.new) → HasCleanDisk (state S.Store conn.old) }
+{
+    if !is_ours(conn.schema()) {
+        return Err(foreign_fault(read, conn));
+    }
+    let meta = read_meta(read, conn)?;
+    let rows = read_rows(conn)?;
+    let entries = read_all(alloc, read, rows.as_slice())?;
+    Ok((entries, meta))
 }
 
 /// The entries of a site's records, the oldest first, and its numbers. It writes nothing. Where a transaction is open a
@@ -308,11 +341,5 @@ pub fn read_records<S: Alter>(
     ensures limit { conn.new.step_limit ≡ conn.old.step_limit }
     ensures clean { HasCleanDisk (state S.Store conn.new) → HasCleanDisk (state S.Store conn.old) }
 {
-    if !is_ours(conn.schema()) {
-        return Err(foreign_fault(conn));
-    }
-    let meta = read_meta(conn)?;
-    let rows = read_rows(conn)?;
-    let entries = read_all(alloc, rows.as_slice())?;
-    Ok((entries, meta))
+    read_as(alloc, Version::Second, conn)
 }

@@ -1,11 +1,13 @@
 //! The entry that the columns of a row stand for.
-ghost use Rattle.std.specs.Prelude.{◌≡◌, IfOk, OnErr, IsTrue, true};
+ghost use Rattle.std.specs.Prelude.{◌≡◌, ◌↔◌, IfOk, OnErr, IsTrue, true};
 ghost use Rattle.std.specs.Option.{option_map};
 ghost use Rattle.sqlite.specs.Order.{column};
+ghost use Rattle.sqlite.specs.declared.types.Value.TheVariants.{Text};
 ghost use Rattle.sqlite_value.specs.Value.{owned};
 ghost use Rattle.rights_lattice.specs.State.{State};
-ghost use Rattle.sql_records.specs.Rows.{is_null, text_in, number_within, value_in, site_in, event_in, verb_in, announce_of, release_of, sell_of, part_in, refund_of, cede_of, request_of, request_in, rest_in, reply_in, delta_in, asks_nothing, asked_of, joined_of, entry_with, entry_of, with_delta, WantsForDelta, WantsForEntry};
+ghost use Rattle.sql_records.specs.Rows.{is_null, text_in, number_within, value_in, site_in, event_in, verb_in, announce_of, release_of, sell_of, part_in, refund_of, cede_of, request_of, request_in, rest_in, reply_in, delta_in, asks_nothing, asked_of, joined_of, entry_with, entry_of, with_delta, WantsForDelta, WantsForEntry, HasPart, IsOfVersion, too_many};
 
+use crate::version::Version;
 use book_core::Entry;
 use delta_mutators::Delta;
 use delta_wire::{MOST_BYTES, WireFault, read_delta};
@@ -246,6 +248,32 @@ fn asks_nothing(row: &Row) -> bool
         && is_null(value_at(row, 6))
         && is_null(value_at(row, 7))
         && is_null(value_at(row, 8))
+}
+
+// Whether the columns ask a part of a sale back.
+fn has_part(row: &Row) -> bool
+    ensures { IsTrue result ↔ HasPart row.now }
+{
+    matches!(verb_in(value_at(row, 3)), Some(Verb::Refund)) && !is_null(value_at(row, 5))
+}
+
+fn is_too_many(value: ValueRef<'_>) -> bool
+    ensures { IsTrue result ↔ (owned value.entry ≡ Text too_many) }
+{
+    match value {
+        ValueRef::Text(text) => text == b"too-many".as_slice(),
+        _ => false,
+    }
+}
+
+/// Whether the columns of a request and its reply are those of this version.
+pub fn is_of_version(read: Version, row: &Row) -> bool
+    ensures { IsTrue result ↔ IsOfVersion read row.now }
+{
+    match read {
+        Version::First => !has_part(row) && !is_too_many(value_at(row, 7)),
+        Version::Second => true,
+    }
 }
 
 // An entry without its delta.

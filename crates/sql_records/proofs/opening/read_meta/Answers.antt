@@ -15,10 +15,10 @@ returns-in-Some-clause-meta g c clean =
     let new = state g.S.Store c.query_all.new.self in
     let schema = c.requires (omega (arith, c.query_all.ensures.survives.clean)) in
     let one = alone old.now.trees _ c.in-Some.row (shown_meta old new _ schema (c.in_ok-rows.ensures.ok clean)) c.in-Some.ensures.one in
-    meta_found old.now.trees c.in-Some.row c.read_numbers.result one c.read_numbers.ensures.numbers
+    meta_found c.args.read old.now.trees c.in-Some.row c.read_numbers.result one c.read_numbers.ensures.numbers
 
 pub returns-in-Some-clause-numbers : goal.returns-in-Some-clause-numbers
-returns-in-Some-clause-numbers g c = numbers_are c.in-Some.row c.read_numbers.result c.read_numbers.ensures.numbers
+returns-in-Some-clause-numbers g c = numbers_are c.args.read c.in-Some.row c.read_numbers.result c.read_numbers.ensures.numbers
 
 pub returns-in-Some-clause-same : goal.returns-in-Some-clause-same
 returns-in-Some-clause-same g c clean =
@@ -33,14 +33,14 @@ returns-in-Some-clause-fault g c clean =
     let new = state g.S.Store c.query_all.new.self in
     let schema = c.requires (omega (arith, c.query_all.ensures.survives.clean)) in
     let one = alone old.now.trees _ c.in-Some.row (shown_meta old new _ schema (c.in_ok-rows.ensures.ok clean)) c.in-Some.ensures.one in
-    meta_fault old new c.in-Some.row c.read_numbers.result one c.read_numbers.ensures.fault
+    meta_fault c.args.read old new c.in-Some.row c.read_numbers.result one c.read_numbers.ensures.fault
 
 pub returns-in-None-clause-fault : goal.returns-in-None-clause-fault
 returns-in-None-clause-fault g c clean =
     let old = state g.S.Store c.args.conn.now in
     let new = state g.S.Store c.query_all.new.self in
     let schema = c.requires (omega (arith, c.query_all.ensures.survives.clean)) in
-    no_row old.now.trees _ (shown_meta old new _ schema (c.in_ok-rows.ensures.ok clean)) c.in-None.ensures.none
+    no_row c.args.read old.now.trees _ (shown_meta old new _ schema (c.in_ok-rows.ensures.ok clean)) c.in-None.ensures.none
 
 pub returns-in-Some-clause-left : goal.returns-in-Some-clause-left
 returns-in-Some-clause-left g c clean =
@@ -59,7 +59,7 @@ returns-in_err-rows-clause-fault g c clean =
     let old = state g.S.Store c.args.conn.now in
     let new = state g.S.Store c.query_all.new.self in
     let schema = c.requires (omega (arith, c.query_all.ensures.survives.clean)) in
-    if_err c.from_residual.result _ _ c.from_residual.ensures.1 (λ f e. rw e (told_fault (IsMetaFault old new) Memory Disk old new c.in_err-rows.field-0.0 (meta_select_wants old new c.in_err-rows.field-0.0 schema (c.in_err-rows.ensures.err clean)) (λ h. h) (meta_select_fails old new c.in_err-rows.field-0.0 schema (c.in_err-rows.ensures.err clean))))
+    if_err c.from_residual.result _ _ c.from_residual.ensures.1 (λ f e. rw e (told_fault (IsMetaFault c.args.read old new) Memory Disk old new c.in_err-rows.field-0.0 (meta_select_wants old new c.in_err-rows.field-0.0 schema (c.in_err-rows.ensures.err clean)) (λ h. h) (meta_select_fails old new c.in_err-rows.field-0.0 schema (c.in_err-rows.ensures.err clean))))
 
 pub returns-in_err-rows-clause-undone : goal.returns-in_err-rows-clause-undone
 returns-in_err-rows-clause-undone g c clean =

@@ -1,6 +1,7 @@
 use Rattle.std.proofs.Common.{arith, ◌≡◌, false, length, ap, ◌∙◌, sym, subst, IsTrue, Some}
 use Rattle.sqlite.specs.Held.{state}
 use Rattle.sqlite.specs.Effect.{Database}
+use Rattle.sql_records.specs.declared.version.Version.TheVariants.{Second}
 use Rattle.sql_records.specs.Layout.{HasMeta}
 use Rattle.sql_records.specs.Held.{history_in, rows_in}
 use Rattle.sql_records.proofs.RowLemmas.{read_from}
@@ -27,7 +28,7 @@ returns-clause-leaves g c clean =
     leaves_only last c.len.result rest (λ db is_open left. g.met.S.Store.settled c.read_records.new.conn.store db is_open left) (λ is_open. g.met.S.Store.stays c.read_records.new.conn.store is_open)
 
 pub returns-clause-given : goal.returns-clause-given
-returns-clause-given g c clean meta has = one_meta _ meta (state g.S.Store c.args.conn).now.trees (c.in_ok-entries.ensures.meta clean) has
+returns-clause-given g c clean meta has = one_meta Second _ meta (state g.S.Store c.args.conn).now.trees (c.in_ok-entries.ensures.meta clean) has
 
 pub returns-clause-holds : goal.returns-clause-holds
 returns-clause-holds g c clean =

@@ -1,5 +1,6 @@
 use Rattle.std.proofs.Common.{refl}
 use Rattle.sqlite.specs.Held.{state}
+use Rattle.sql_records.specs.declared.version.Version.TheVariants.{Second}
 use Rattle.sql_records.proofs.OpeningLemmas.{one_meta}
 use Rattle.sql_records.proofs.StopLemmas.{after_stop}
 use Rattle.sql_records.proofs.records.Records.open_after_stop.Goals as goal
@@ -17,7 +18,7 @@ pub returns-in-Ok-clause-numbers : goal.returns-in-Ok-clause-numbers
 returns-in-Ok-clause-numbers g c clean meta site =
     let was = c.in-Ok.ensures.clean clean in
     let db = (state g.S.Store c.in-Some.again).now.trees in
-    one_meta _ meta db (c.in-Ok.ensures.holds clean).0.numbers (site db (c.in-Some.ensures.left was)).numbers
+    one_meta Second _ meta db (c.in-Ok.ensures.holds clean).0.numbers (site db (c.in-Some.ensures.left was)).numbers
 
 pub returns-in-Err-clause-opens : goal.returns-in-Err-clause-opens
 returns-in-Err-clause-opens g c =

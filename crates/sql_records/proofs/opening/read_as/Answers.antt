@@ -2,28 +2,28 @@ use Rattle.std.proofs.Common.{inl, inr, ap, subst, ◌∙◌}
 use Rattle.std.specs.List.{filter_map}
 use Rattle.sqlite.specs.Held.{state}
 use Rattle.sql_records.specs.Layout.{IsOurs}
-use Rattle.sql_records.specs.Rows.{entry_of, AreWhole}
+use Rattle.sql_records.specs.Rows.{entry_of, AreWholeIn}
 use Rattle.sql_records.proofs.OpeningLemmas.{read_whole, read_history, rows_fault, numbers_fault, entries_fault, if_err}
 use Rattle.sql_records.specs.Opening.{AreRowsFault}
 use Rattle.sql_records.proofs.UndoneLemmas.{left_or_undone, left_after, on_err}
-use Rattle.sql_records.proofs.opening.read_records.Goals as goal
+use Rattle.sql_records.proofs.opening.read_as.Goals as goal
 
 pub returns-clause-entries : goal.returns-clause-entries
 returns-clause-entries g c clean =
     let first = state g.S.Store c.args.conn.now in
     let mid = state g.S.Store c.read_meta.new.conn in
     let last = state g.S.Store c.read_rows.new.conn in
-    let whole = subst (AreWhole 0) c.as_slice.ensures.value c.in_ok-entries.ensures.whole in
+    let whole = subst (AreWholeIn c.args.read 0) c.as_slice.ensures.value c.in_ok-entries.ensures.whole in
     c.in_ok-entries.ensures.entries ∙ ap (filter_map entry_of) c.as_slice.ensures.value
-    ∙ read_history first mid last _ (c.in_ok-meta.ensures.same (c.read_rows.ensures.clean clean)) (c.in_ok-rows.ensures.same clean) (c.in_ok-rows.ensures.shown clean) whole
+    ∙ read_history c.args.read first mid last _ (c.in_ok-meta.ensures.same (c.read_rows.ensures.clean clean)) (c.in_ok-rows.ensures.same clean) (c.in_ok-rows.ensures.shown clean) whole
 
 pub returns-clause-whole : goal.returns-clause-whole
 returns-clause-whole g c clean =
     let first = state g.S.Store c.args.conn.now in
     let mid = state g.S.Store c.read_meta.new.conn in
     let last = state g.S.Store c.read_rows.new.conn in
-    let whole = subst (AreWhole 0) c.as_slice.ensures.value c.in_ok-entries.ensures.whole in
-    read_whole first mid last _ (c.in_ok-meta.ensures.same (c.read_rows.ensures.clean clean)) (c.in_ok-rows.ensures.same clean) (c.in_ok-rows.ensures.shown clean) whole
+    let whole = subst (AreWholeIn c.args.read 0) c.as_slice.ensures.value c.in_ok-entries.ensures.whole in
+    read_whole c.args.read first mid last _ (c.in_ok-meta.ensures.same (c.read_rows.ensures.clean clean)) (c.in_ok-rows.ensures.same clean) (c.in_ok-rows.ensures.shown clean) whole
 
 pub returns-in_err-rows-clause-fault : goal.returns-in_err-rows-clause-fault
 returns-in_err-rows-clause-fault g c clean =
@@ -33,7 +33,7 @@ returns-in_err-rows-clause-fault g c clean =
     let ours = c.is_ours.ensures.0 c.if-not-is_ours.false in
     let same = c.in_ok-meta.ensures.same (c.read_rows.ensures.clean clean) in
     if_err c.from_residual-in_err-rows.result _ _ c.from_residual-in_err-rows.ensures.1
-    (λ f e. rw e (inr (subst IsOurs c.schema.ensures.value ours, rows_fault first mid last same c.read_meta.ensures.counts c.read_meta.ensures.limit _ (c.in_err-rows.ensures.fault clean))))
+    (λ f e. rw e (inr (subst IsOurs c.schema.ensures.value ours, rows_fault c.args.read first mid last same c.read_meta.ensures.counts c.read_meta.ensures.limit _ (c.in_err-rows.ensures.fault clean))))
 
 pub returns-in_err-meta-clause-fault : goal.returns-in_err-meta-clause-fault
 returns-in_err-meta-clause-fault g c clean =
@@ -41,7 +41,7 @@ returns-in_err-meta-clause-fault g c clean =
     let last = state g.S.Store c.read_meta.new.conn in
     let ours = c.is_ours.ensures.0 c.if-not-is_ours.false in
     if_err c.from_residual.result _ _ c.from_residual.ensures.1
-    (λ f e. rw e (inr (subst IsOurs c.schema.ensures.value ours, numbers_fault first last _ (c.in_err-meta.ensures.fault clean))))
+    (λ f e. rw e (inr (subst IsOurs c.schema.ensures.value ours, numbers_fault c.args.read first last _ (c.in_err-meta.ensures.fault clean))))
 
 pub returns-in_err-entries-clause-fault : goal.returns-in_err-entries-clause-fault
 returns-in_err-entries-clause-fault g c clean =
@@ -50,11 +50,11 @@ returns-in_err-entries-clause-fault g c clean =
     let last = state g.S.Store c.read_rows.new.conn in
     let ours = c.is_ours.ensures.0 c.if-not-is_ours.false in
     let before = c.read_rows.ensures.clean clean in
-    let fault = subst (λ rows. AreRowsFault rows c.in_err-entries.field-0.0) c.as_slice.ensures.value c.in_err-entries.ensures.fault in
+    let fault = subst (λ rows. AreRowsFault c.args.read rows c.in_err-entries.field-0.0) c.as_slice.ensures.value c.in_err-entries.ensures.fault in
     if_err c.from_residual-in_err-entries.result _ _ c.from_residual-in_err-entries.ensures.1
     (λ f e. rw e (inr (
       subst IsOurs c.schema.ensures.value ours,
-      entries_fault first mid last _ (c.in_ok-meta.ensures.same before) (c.in_ok-rows.ensures.same clean) (c.in_ok-meta.meta, c.in_ok-meta.ensures.numbers, c.in_ok-meta.ensures.meta before) (c.in_ok-rows.ensures.shown clean) _ fault,
+      entries_fault c.args.read first mid last _ (c.in_ok-meta.ensures.same before) (c.in_ok-rows.ensures.same clean) (c.in_ok-meta.meta, c.in_ok-meta.ensures.numbers, c.in_ok-meta.ensures.meta before) (c.in_ok-rows.ensures.shown clean) _ fault,
     )))
 
 pub returns-in_err-rows-clause-foreign : goal.returns-in_err-rows-clause-foreign

@@ -1,0 +1,115 @@
+-- What raising the version of the records leaves, and why it is not raised. (Our own.)
+use Rattle.std.specs.Prelude.{◌≡◌, ◌≢◌, ◌⊎◌, ℕ, pos, List, [], Bool, true, false, Err, IsTrue}
+use Rattle.sqlite.specs.Store.{Ghosts}
+use Rattle.sqlite.specs.Tree.{Trees}
+use Rattle.sqlite.specs.State.{State, HasCleanDisk, Executes, IsUnchanged}
+use Rattle.sqlite.specs.Held.{Held, state}
+use Rattle.sqlite.specs.declared.error.Error.{Error}
+use Rattle.sqlite.specs.declared.error.Error.TheVariants.{SqliteFailure}
+use Rattle.sqlite.specs.declared.error.ErrorCode.TheVariants.{OutOfMemory}
+use Rattle.book_core.specs.declared.entry.Entry.{Entry}
+use Rattle.book_core.specs.declared.plan.ReplayFault.{ReplayFault}
+use Rattle.book_core.specs.declared.plan.ReplayFault.TheVariants as replay
+use Rattle.book_core.specs.Decision.{Office}
+use Rattle.book_core.specs.Legal.{IsLegal}
+use Rattle.book_core.specs.Replay.{IsReplayFault}
+use Rattle.sql_records.specs.declared.meta.Meta.{Meta}
+use Rattle.sql_records.specs.declared.version.Version.TheVariants.{First, Second}
+use Rattle.sql_records.specs.declared.fault.OpenFault.{OpenFault}
+use Rattle.sql_records.specs.declared.fault.OpenFault.TheVariants as opening
+use Rattle.sql_records.specs.declared.fault.MigrateFault.{MigrateFault}
+use Rattle.sql_records.specs.declared.fault.MigrateFault.TheVariants.{NotOurs, OtherSchema, Nothing, Damaged, Memory, Disk}
+use Rattle.sql_records.specs.Texts.{update_text}
+use Rattle.sql_records.specs.Faults.{HasDiskCause, IsUndoneForMemory}
+use Rattle.sql_records.specs.Layout.{IsOurs, number_of, HasMetaAs, HasOtherSchema, HasNoMeta, AreNumbers}
+use Rattle.sql_records.specs.Rows.{AreWholeIn}
+use Rattle.sql_records.specs.Held.{entries_tree, rows_in, history_in}
+use Rattle.sql_records.specs.Opening.{IsEntriesFault, IsForeignCauseAs}
+
+-- ---- what is left
+
+-- a connection that is open still shows what it showed, all that it showed is committed as it was, and it is in a transaction only if it was in one
+abbrev pub IsAsBefore : State → State → Type 0
+IsAsBefore old new = IsTrue new.is_open → (new.now ≡ old.now) × (new.committed ≡ old.committed) × (new.in_transaction ≡ old.in_transaction)
+
+-- the numbers that were there under the first version are there under the second, and the entries are as they were
+pub record IsMigrated (old new : Trees) : Type 0 where
+  pub meta : Meta
+  pub was : HasMetaAs First meta old
+  pub is : HasMetaAs Second meta new
+  pub entries : new entries_tree ≡ old entries_tree
+
+-- each database that a stop may leave is one that it could leave before, or the migrated one
+abbrev pub LeavesAsBeforeOrMigrated : State → State → Type 0
+LeavesAsBeforeOrMigrated old new = (db : Trees) → new.may_leave db → old.may_leave db ⊎ IsMigrated old.now.trees db
+
+-- each database that a stop may leave is this one, or this one migrated
+abbrev pub LeavesItOrMigrated : Trees → State → Type 0
+LeavesItOrMigrated trees s = (db : Trees) → s.may_leave db → (db ≡ trees) ⊎ IsMigrated trees db
+
+-- ---- what may be migrated
+
+abbrev pub office_in : Meta → Office
+office_in meta = record { me = meta.me; sites = meta.sites; limit = meta.limit }
+
+-- the records of a site in the first version, of which each row reads
+pub record IsOfFirst (meta : Meta) (db : Trees) : Type 0 where
+  pub numbers : HasMetaAs First meta db
+  pub within : AreNumbers meta
+  pub whole : AreWholeIn First 0 (rows_in db)
+
+-- so are these, and their history is legal
+pub record IsLegalFirst (db : Trees) : Type 0 where
+  pub meta : Meta
+  pub first : IsOfFirst meta db
+  pub legal : IsLegal (office_in meta) (history_in db)
+
+-- so are these, but their history is not legal, or memory was wanted for it
+pub record IsNoHistory (db : Trees) (fault : ReplayFault) : Type 0 where
+  pub meta : Meta
+  pub first : IsOfFirst meta db
+  pub found : IsReplayFault (office_in meta) (history_in db) fault
+
+-- ---- why nothing is migrated
+
+-- what a fault of reading the first version is told as, where the tables are ours or not
+abbrev pub IsToldAs : Bool → OpenFault → MigrateFault → Type 0
+IsToldAs ours opening.NotOurs fault = fault ≡ NotOurs
+IsToldAs true (opening.OtherSchema version) fault = ((version ≡ number_of Second) × (fault ≡ Nothing)) ⊎ ((version ≢ number_of Second) × (fault ≡ OtherSchema version))
+IsToldAs false (opening.OtherSchema version) fault = ((version ≡ number_of Second) × (fault ≡ NotOurs)) ⊎ ((version ≢ number_of Second) × (fault ≡ OtherSchema version))
+IsToldAs ours (opening.Damaged place) fault = fault ≡ Damaged place
+IsToldAs ours opening.Memory fault = fault ≡ Memory
+IsToldAs ours opening.Disk fault = fault ≡ Disk
+
+abbrev pub of_replay : ReplayFault → MigrateFault
+of_replay (replay.IllegalAt place) = Damaged place
+of_replay replay.Memory = Memory
+
+-- what is at fault in records of ours, as they are read
+abbrev pub IsUnread : State → State → MigrateFault → Type 0
+IsUnread old new NotOurs = HasNoMeta First old.now.trees
+IsUnread old new (OtherSchema version) = (version ≢ number_of Second) × HasOtherSchema First version old.now.trees
+IsUnread old new Nothing = HasOtherSchema First (number_of Second) old.now.trees
+IsUnread old new (Damaged place) = IsEntriesFault First old.now.trees (opening.Damaged place) ⊎ IsNoHistory old.now.trees (replay.IllegalAt place)
+IsUnread old new Memory = IsUndoneForMemory old new ⊎ (IsUnchanged old new × (IsEntriesFault First old.now.trees opening.Memory ⊎ IsNoHistory old.now.trees replay.Memory))
+IsUnread old new Disk = HasDiskCause old new
+
+module _ {S : Type 0} (g : Ghosts S) (conn : Held S) where
+  -- why a database is not migrated whose tables are not ours
+  abbrev pub IsForeign : MigrateFault → Type 0
+  IsForeign fault = (cause : OpenFault) × IsForeignCauseAs g conn First cause × IsToldAs false cause fault
+
+  module _ (after : Held S) where
+    -- the UPDATE of records that were read was answered with this error
+    abbrev pub FailsToSet : Error → Type 0
+    FailsToSet e = (mid : Held S) × IsUnchanged (state g conn) (state g mid) × Executes update_text [] (state g mid) (state g after) (Err e)
+
+    -- the UPDATE failed, for want of memory or for another cause
+    abbrev pub IsUnset : MigrateFault → Type 0
+    IsUnset Memory = FailsToSet (SqliteFailure OutOfMemory)
+    IsUnset Disk = (e : Error) × (e ≢ SqliteFailure OutOfMemory) × FailsToSet e
+    IsUnset fault = ⊥
+
+    -- why records of ours are not migrated
+    abbrev pub IsMigrateFault : MigrateFault → Type 0
+    IsMigrateFault fault = IsUnread (state g conn) (state g after) fault ⊎ IsUnset fault

@@ -1,0 +1,24 @@
+//! The versions of the records.
+ghost use Rattle.std.specs.Prelude.{◌≡◌};
+ghost use Rattle.sql_records.specs.Layout.{number_of};
+
+/// A version of the records. Both have the same tables and columns.
+#[derive(Clone, Copy, Debug, PartialEq, Eq)]
+pub enum Version {
+    /// A sale is given back whole.
+    First,
+    /// A sale is given back in parts too. It is the version that is written.
+    Second,
+}
+
+impl Version {
+    /// The number that `meta` has for it.
+    pub fn number(self) -> i64
+        ensures { result ≡ number_of self }
+    {
+        match self {
+            Version::First => 1,
+            Version::Second => 2,
+        }
+    }
+}
