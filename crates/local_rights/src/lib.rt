@@ -12,6 +12,6 @@ pub mod report;
 pub mod rights;
 
 pub use counted::Counted;
-pub use position::{open_seats, view};
-pub use report::{Totals, ViewTotals};
+pub use position::open_seats;
+pub use report::Totals;
 pub use rights::{left, paper_value, totals};

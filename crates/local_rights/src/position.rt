@@ -1,9 +1,8 @@
 //! The seats that are open by a view.
 ghost use Rattle.std.specs.Prelude.{◌≡◌, ◌≤◌, ◌↔◌, ℕ, IsSome, IfSome, IsTrue, pos};
-ghost use Rattle.local_rights.specs.OpenSeats.{open_seats_in, view_in};
+ghost use Rattle.local_rights.specs.OpenSeats.{open_seats_in};
 ghost use Rattle.local_rights.specs.Rights.{HasRights, IsPosition, paper_value};
 
-use crate::report::{Totals, ViewTotals};
 use crate::rights::{gained_and_spent, totals};
 use rights_lattice::{Event, Rights, SiteId};
 
@@ -30,21 +29,4 @@ fn has_rights(rights: &Rights, site: SiteId, event: Event) -> bool
 {
     let (gained, spent) = gained_and_spent(rights, site, event);
     spent <= gained
-}
-
-/// What the view shows of an event: the seats that all sites released, sold and took back, and those that are open.
-pub fn view(rights: &Rights, event: Event) -> ViewTotals
-    ensures { result ≡ view_in rights.now.cells event }
-{
-    let Totals {
-        released,
-        sold,
-        refunded,
-    } = totals(rights, event);
-    ViewTotals {
-        released,
-        sold,
-        refunded,
-        open_seats: open_seats(rights, event),
-    }
 }
