@@ -2,5 +2,7 @@
 #![tactic(auto)]
 
 pub mod intervals;
+pub mod pending;
 
 pub use intervals::interval;
+pub use pending::Pending;

@@ -1,0 +1,36 @@
+-- What is pending of a history, and of a longer one.
+use Rattle.std.proofs.Common.{◌≡◌, ℕ, ◌+◌, ◌-◌, ◌≤◌, List, ◌++◌, length, take, drop, Some, sym, ap, ◌∙◌, arith, length-append, length-drop}
+use Rattle.std.specs.Prelude.{slice_get}
+use Rattle.std.proofs.lemmas.List.{take-append-le, drop-append-le}
+use Rattle.std.proofs.lemmas.Option.{slice_get_within}
+use Rattle.rights_lattice.specs.State.{join}
+use Rattle.book_core.specs.declared.entry.Entry.{Entry}
+use Rattle.book_core.specs.History.{delta_of, state_of, interval}
+use Rattle.delta_buffer.specs.Pending.{PendingView, IsPendingOf}
+use Rattle.delta_buffer.proofs.IntervalLaws.{one_between, meeting}
+
+-- one entry joined
+pub added : (h : List Entry) (p : PendingView) (entry : Entry) → IsPendingOf h p → slice_get h p.upto ≡ Some entry
+    → IsPendingOf h (record { from = p.from; upto = p.upto + 1; delta = join p.delta (delta_of entry) })
+added h p entry is found = record {
+  order = omega (arith, is.order);
+  within = omega (arith, slice_get_within h p.upto entry found);
+  delta =
+      (λ k. join (is.delta k) (sym (one_between h p.upto (p.upto + 1) entry (omega arith) found) k))
+      ∙ sym (meeting h p.from p.upto (p.upto + 1) is.order (omega arith));
+}
+
+-- all entries up to a place joined
+pub caught_up : (h : List Entry) (p : PendingView) (upto : ℕ) → IsPendingOf h p → p.upto ≤ upto → join p.delta (interval h p.upto upto) ≡ interval h p.from upto
+caught_up h p upto is le = ap (λ X. join X (interval h p.upto upto)) is.delta ∙ sym (meeting h p.from p.upto upto is.order le)
+
+behind : (h more : List Entry) (a n : ℕ) → a + n ≤ length h → take n (drop a (h ++ more)) ≡ take n (drop a h)
+behind h more a n le = ap (take n) (drop-append-le a h more (omega arith)) ∙ take-append-le n (drop a h) more (omega (arith, length-drop a h))
+
+-- what is pending of a history is pending of it with more behind it
+pub still_pending : (h more : List Entry) (p : PendingView) → IsPendingOf h p → IsPendingOf (h ++ more) p
+still_pending h more p is = record {
+  order = is.order;
+  within = omega (arith, is.within, length-append h more);
+  delta = is.delta ∙ ap state_of (sym (behind h more p.from (p.upto - p.from) (omega (arith, is.order, is.within))));
+}

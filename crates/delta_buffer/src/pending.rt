@@ -1,0 +1,118 @@
+//! What a peer has not acknowledged of a history, joined as the history grows.
+ghost use Rattle.std.specs.Prelude.{◌≡◌, ◌+◌, ◌<◌, ◌≤◌, max, length, slice_get, Some, List, OnOk, OnErr};
+ghost use Rattle.rights_lattice.specs.State.{bottom, join};
+ghost use Rattle.book_core.specs.declared.entry.Entry.{Entry as Entered};
+ghost use Rattle.book_core.specs.History.{delta_of, interval};
+ghost use Rattle.book_core.specs.Limits.{greatest_limit};
+ghost use Rattle.delta_buffer.specs.Pending.{IsPendingOf};
+
+use crate::intervals::interval;
+use book_core::{Book, Entry};
+use delta_mutators::Delta;
+use std::alloc::{AllocError, Global};
+use std::marker::Model;
+
+/// The delta-interval that is pending for one peer: from what the peer has acknowledged of a site's history up to the
+/// entries that were added (Almeida et al., JPDC 2018). Each entry is joined to it once.
+#[derive(Drop)]
+pub struct Pending {
+    from: usize,
+    upto: usize,
+    delta: Delta,
+}
+
+impl Model for Pending {
+    ghost use Rattle.delta_buffer.specs.Pending.{PendingView, coded_pending};
+
+    ghost Value = { PendingView };
+
+    ghost coded = { coded_pending };
+
+    ghost view = { λ p. record { from = p.from; upto = p.upto; delta = p.delta } };
+}
+
+impl Pending {
+    /// Nothing is acknowledged, and nothing was added. It takes no memory.
+    pub fn new(alloc: Global) -> Pending
+        ensures { result ≡ record { from = 0; upto = 0; delta = bottom } }
+    {
+        Pending {
+            from: 0,
+            upto: 0,
+            delta: Delta::empty(alloc),
+        }
+    }
+
+    /// How many entries the peer has acknowledged.
+    pub fn from(&self) -> usize
+        ensures { result ≡ self.now.from }
+    {
+        self.from
+    }
+
+    /// How many entries are joined or acknowledged.
+    pub fn upto(&self) -> usize
+        ensures { result ≡ self.now.upto }
+    {
+        self.upto
+    }
+
+    /// The join of the deltas from the one to the other.
+    pub fn delta(&self) -> &Delta
+        ensures { result.now ≡ self.now.delta }
+    {
+        &self.delta
+    }
+
+    /// Joins the entry behind those that were added. An error leaves it as it was.
+    pub fn add(&mut self, alloc: Global, entry: &Entry) -> Result<(), AllocError>
+        requires { self.old.upto < greatest_limit }
+        ensures added { OnOk result (self.new ≡ record { from = self.old.from; upto = self.old.upto + 1; delta = join self.old.delta (delta_of entry.now) }) }
+        ensures pending { OnOk result ((h : List Entered) → IsPendingOf h self.old → slice_get h self.old.upto ≡ Some entry.now → IsPendingOf h self.new) }
+        ensures unchanged { OnErr result (self.new ≡ self.old) }
+    {
+        self.delta = self.delta.join(alloc, entry.delta())?;
+        self.upto += 1;
+        Ok(())
+    }
+
+    /// Joins all entries of the history that were not added. They are joined by halves first, so that a long history
+    /// costs a logarithm more than its length. An error leaves it as it was.
+    pub fn catch_up(&mut self, alloc: Global, book: &Book) -> Result<(), AllocError>
+        requires { IsPendingOf book.now.history self.old }
+        ensures added { OnOk result (self.new ≡ record { from = self.old.from; upto = length book.now.history; delta = interval book.now.history self.old.from (length book.now.history) }) }
+        ensures unchanged { OnErr result (self.new ≡ self.old) }
+        ensures memory { OnErr result (self.old.upto < length book.now.history) }
+    {
+        let len = book.len();
+        if self.upto == len {
+            return Ok(());
+        }
+        let missing = interval(alloc, book, self.upto, len)?;
+        self.delta = self.delta.join(alloc, &missing)?;
+        self.upto = len;
+        Ok(())
+    }
+
+    /// Takes an acknowledgement of the first `n` entries: it begins there, or where it began if that is further, and
+    /// ends where it ended unless that is before. An error leaves it as it was.
+    pub fn acked(&mut self, alloc: Global, book: &Book, n: usize) -> Result<(), AllocError>
+        requires within { n ≤ length book.now.history }
+        requires pending { IsPendingOf book.now.history self.old }
+        ensures from { OnOk result (self.new.from ≡ max self.old.from n) }
+        ensures upto { OnOk result (self.new.upto ≡ max self.old.upto n) }
+        ensures pending { OnOk result (IsPendingOf book.now.history self.new) }
+        ensures unchanged { OnErr result (self.new ≡ self.old) }
+        // It wants memory only where a part of it is left.
+        ensures memory { OnErr result ((self.old.from < n) × (n < self.old.upto)) }
+    {
+        if n <= self.from {
+            return Ok(());
+        }
+        let upto = self.upto.max(n);
+        self.delta = interval(alloc, book, n, upto)?;
+        self.from = n;
+        self.upto = upto;
+        Ok(())
+    }
+}
