@@ -121,8 +121,14 @@ fn refund_in_parts(rt: HostRuntime) {
         sale,
         part: Some(four),
     };
-    keep_refusal(&rt, &mut ledger, number, request, Reply::TooMany { rest: 3 });
-    assert!(rt; ledger.sale(sale) == Some(less));
+    let refusal = Reply::TooMany { rest: 3 };
+    keep_refusal(&rt, &mut ledger, number, request, refusal);
+    let still = SaleState {
+        event,
+        seats,
+        given_back: 2,
+    };
+    assert!(rt; ledger.sale(sale) == Some(still));
 
     ledger.reserve().expect(&rt, "memory");
     assert!(rt; ledger.kept(rest) == None);
