@@ -12,7 +12,7 @@ import sys
 from trial import FORGED, call, change, make_sites, opened, same, try_each
 
 # What each site asks, in this order, with what is delivered between.
-NORTH = ["announce 1 gala", "release 2 gala 100", "cede 3 gala 40 1", "sell 4 gala 7", "sell 5 gala 5", "refund 6 4"]
+NORTH = ["announce 1 gala", "release 2 gala 100", "cede 3 gala 40 1", "sell 4 gala 7", "sell 5 gala 5", "refund 7 4 2", "refund 6 4"]
 SOUTH = ["sell 1 gala 30", "sell 2 gala 11", "announce 3 expo", "release 4 expo 9", "sell 5 expo 2", "refund 6 1"]
 
 
@@ -33,8 +33,9 @@ def summed(folder, files):
                 for event, amount in records.execute(done, (verb,)):
                     sums.setdefault(event, [0, 0, 0])[place] += amount
             given_back = (
-                "SELECT sale.event, sale.amount FROM entries refund JOIN entries sale ON refund.target = sale.number"
-                " WHERE refund.verb = 'refund' AND refund.reply = 'done'"
+                "SELECT sale.event, min(sale.amount, sum(coalesce(refund.amount, sale.amount)))"
+                " FROM entries refund JOIN entries sale ON refund.target = sale.number"
+                " WHERE refund.verb = 'refund' AND refund.reply = 'done' GROUP BY sale.number"
             )
             for event, amount in records.execute(given_back):
                 sums.setdefault(event, [0, 0, 0])[2] += amount

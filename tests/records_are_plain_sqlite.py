@@ -29,6 +29,8 @@ ASKED = [
     ("cede 4 gala 40 1", "done", (None, 4, "cede", "gala", 40, 1, "done", None, "gave gala 0 1 40\n")),
     ("sell 5 gala 61", "short 60", (None, 5, "sell", "gala", 61, None, "short", 60, "")),
     ("sell 6 gala 7", "done", (None, 6, "sell", "gala", 7, None, "done", None, "used gala 0 7\n")),
+    ("refund 14 6 2", "done", (None, 14, "refund", None, 2, 6, "done", None, "back gala 0 2\n")),
+    ("refund 15 6 6", "too-many 5", (None, 15, "refund", None, 6, 6, "too-many", 5, "")),
     ("refund 7 6", "done", (None, 7, "refund", None, None, 6, "done", None, "back gala 0 7\n")),
     ("refund 8 6", "refunded", (None, 8, "refund", None, None, 6, "refunded", None, "")),
     ("refund 9 5", "no-sale", (None, 9, "refund", None, None, 5, "no-sale", None, "")),
@@ -41,7 +43,7 @@ ASKED = [
         (None, 13, "release", "gala", 1000000000000, None, "full-cell", None, ""),
     ),
 ]
-MESSAGE = "delta 0 1 13\nname gala\ngave gala 0 0 100\ngave gala 0 1 40\nused gala 0 7\nback gala 0 7\nend\n"
+MESSAGE = "delta 0 1 15\nname gala\ngave gala 0 0 100\ngave gala 0 1 40\nused gala 0 7\nback gala 0 7\nend\n"
 JOINED = (0, None, None, None, None, None, None, None, "name gala\ngave gala 0 0 100\ngave gala 0 1 40\nused gala 0 7\nback gala 0 7\n")
 
 

@@ -9,8 +9,8 @@ use crate::files::{Files, close, open_or_make, open_there};
 use book_core::Limit;
 use operator_cli::{
     FileNames, Order, Status, WordsFault, ask_store, audit_stores, export_store, find_store,
-    import_store, init_store, list_store, open_store, read_words, refuse_parts, refuse_site,
-    serve_stores, tell_listen_fault, world_script,
+    import_store, init_store, list_store, migrate_store, open_store, read_words, refuse_parts,
+    refuse_site, serve_stores, tell_listen_fault, world_script,
 };
 use request_ledger::RequestNumber;
 use rights_lattice::{SiteId, Sites};
@@ -82,6 +82,12 @@ fn run_init<S: Start>(
     }
     let mut conn = open_or_make(rt, file, start)?;
     let status = init_store(&mut conn, me, sites, limit, &mut out, &mut err);
+    Ok(close(rt, (status, Some(conn))))
+}
+
+fn run_migrate<S: Start>(rt: &HostRuntime, file: &str, start: S) -> Result<Status, Status> {
+    let mut conn = open_there(rt, file, start)?;
+    let status = migrate_store(rt.alloc(), &mut conn, &mut rt.stdout(), &mut rt.stderr());
     Ok(close(rt, (status, Some(conn))))
 }
 
@@ -332,6 +338,7 @@ fn run_order<S: Start + Send>(
             sites,
             limit,
         } => run_init(rt, file, me, sites, limit, start.first()),
+        Order::Migrate { file } => run_migrate(rt, file, start.first()),
         Order::Ask { file } => run_ask(rt, host, file, start.first()),
         Order::Find { file, number } => run_find(rt, file, number, start.first()),
         Order::List { file, event } => run_list(rt, file, event, start.first()),

@@ -14,7 +14,7 @@ use Rattle.operator_cli.specs.declared.status.Status.TheVariants.{Done, Refused,
 use Rattle.operator_cli.specs.declared.store_fault.StoreFault.{StoreFault}
 use Rattle.operator_cli.specs.declared.store_fault.StoreFault.TheVariants as fault
 use Rattle.operator_cli.specs.declared.told.Told.{Told}
-use Rattle.operator_cli.specs.declared.told.Told.TheVariants.{Made, Joined, NothingNew, Acked, AlreadyThere, NoSite, Nothing, NotFound, TooLong, Unread, NotTaken, NotWhole, Ahead}
+use Rattle.operator_cli.specs.declared.told.Told.TheVariants.{Made, Migrated, Joined, NothingNew, Acked, AlreadyThere, NoSite, Nothing, NotFound, TooLong, Unread, NotTaken, NotWhole, Ahead}
 use Rattle.operator_cli.specs.Exchanged.{HoldsOnly}
 use Rattle.operator_cli.specs.Opened.{FailsFor}
 use Rattle.operator_cli.specs.Told.{store_fault_line, told_status, FaultTold}
@@ -35,6 +35,7 @@ nothing_told old Failed = (fault.Write, AppendsFront-nothing old old (store_faul
 
 never_failed : (told : Told) → told_status told ≢ Failed
 never_failed Made e = cc
+never_failed Migrated e = cc
 never_failed Joined e = cc
 never_failed NothingNew e = cc
 never_failed Acked e = cc

@@ -13,7 +13,9 @@ use Rattle.book_core.specs.Replay.{IsReplayFault}
 use Rattle.sql_records.specs.declared.fault.OpenFault.{OpenFault}
 use Rattle.sql_records.specs.declared.fault.OpenFault.TheVariants as opening
 use Rattle.sql_records.specs.declared.fault.InitFault.TheVariants as making
+use Rattle.sql_records.specs.declared.fault.MigrateFault.TheVariants as migrating
 use Rattle.sql_records.specs.declared.meta.Meta.{Meta}
+use Rattle.sql_records.specs.Migrating.{IsAsBefore, IsMigrated, IsMigrateFault}
 use Rattle.sql_records.specs.Faults.{HasDiskCause, IsUndoneForMemory}
 use Rattle.sql_records.specs.Making.{IsInitFault}
 use Rattle.sql_records.specs.Held.{MayLeaveIn, history_in}
@@ -33,6 +35,17 @@ IsMakeEnd g conn meta fault.Memory = IsInitFault g conn meta making.Memory
 IsMakeEnd g conn meta fault.Disk = IsInitFault g conn meta making.Disk
 IsMakeEnd g conn meta fault.Write = ⊤
 IsMakeEnd g conn meta _ = ⊥
+
+-- What ends raising the version early. The records are as they were, save where what is told is not written: then they were
+-- migrated, or had the version already.
+abbrev pub IsMigrateEnd : {S : Type 0} → Ghosts S → Held S → Held S → StoreFault → Type 0
+IsMigrateEnd g conn after fault.NotOurs = IsAsBefore (state g conn) (state g after) × IsMigrateFault g conn after migrating.NotOurs
+IsMigrateEnd g conn after (fault.OtherSchema version) = IsAsBefore (state g conn) (state g after) × IsMigrateFault g conn after (migrating.OtherSchema version)
+IsMigrateEnd g conn after (fault.Damaged place) = IsAsBefore (state g conn) (state g after) × IsMigrateFault g conn after (migrating.Damaged place)
+IsMigrateEnd g conn after fault.Memory = IsAsBefore (state g conn) (state g after) × IsMigrateFault g conn after migrating.Memory
+IsMigrateEnd g conn after fault.Disk = IsAsBefore (state g conn) (state g after) × IsMigrateFault g conn after migrating.Disk
+IsMigrateEnd g conn after fault.Write = IsMigrated (state g conn).now.trees (state g after).now.trees ⊎ IsMigrateFault g conn after migrating.Nothing
+IsMigrateEnd g conn after _ = ⊥
 
 -- what ends looking a number up early: the store wants memory, the disk is at fault, or what is found is not written and the records are as they were
 abbrev pub IsFindEnd : State → State → StoreFault → Type 0

@@ -44,6 +44,9 @@ world_app = new_app (codes "world")
 abbrev pub init_app : App
 init_app = taking (taking (taking (taking (new_app (codes "init")) (codes "FILE")) (codes "ME")) (codes "SITES")) (codes "LIMIT")
 
+abbrev pub migrate_app : App
+migrate_app = taking (new_app (codes "migrate")) (codes "FILE")
+
 abbrev pub ask_app : App
 ask_app = taking (new_app (codes "ask")) (codes "FILE")
 
@@ -74,12 +77,13 @@ abbrev pub above : App → App → App
 above a b = with_subcommand a b.top
 
 abbrev pub boxoffice : App
-boxoffice = above (above (above (above (above (above (above (above (above (needing (new_app (codes "boxoffice"))) world_app) init_app) ask_app) find_app) list_app) export_app) import_app) audit_app) serve_app
+boxoffice = above (above (above (above (above (above (above (above (above (above (needing (new_app (codes "boxoffice"))) world_app) init_app) migrate_app) ask_app) find_app) list_app) export_app) import_app) audit_app) serve_app
 
 -- What is ordered: a command with its values, words as bytes and numbers as themselves.
 pub data Said : Type 0 where
   SaysWorld : Said
   SaysInit : (file : Text) (me sites limit : ℕ) → Said
+  SaysMigrate : (file : Text) → Said
   SaysAsk : (file : Text) → Said
   SaysFind : (file : Text) (number : ℕ) → Said
   SaysList : (file event : Text) → Said
@@ -91,6 +95,7 @@ pub data Said : Type 0 where
 abbrev pub said_by : Order → Said
 said_by order.World = SaysWorld
 said_by (order.Init file me sites limit) = SaysInit file.now me sites limit
+said_by (order.Migrate file) = SaysMigrate file.now
 said_by (order.Ask file) = SaysAsk file.now
 said_by (order.Find file number) = SaysFind file.now number
 said_by (order.List file event) = SaysList file.now event.now
@@ -112,6 +117,11 @@ init_in rows = do
   sites ← number_in (codes "SITES") 1 most_sites rows
   limit ← number_in (codes "LIMIT") 1 greatest_limit rows
   Some (SaysInit file me sites limit)
+
+unfoldable pub migrate_in : List Row → Option Said
+migrate_in rows = do
+  file ← first_of (codes "FILE") rows
+  Some (SaysMigrate file)
 
 unfoldable pub ask_in : List Row → Option Said
 ask_in rows = do
@@ -169,13 +179,14 @@ unfoldable pub named_order : Text → List Row → Option Said
 named_order name rows =
     if bytes_eq name (codes "world") then Some SaysWorld else (
     if bytes_eq name (codes "init") then init_in rows else (
+    if bytes_eq name (codes "migrate") then migrate_in rows else (
     if bytes_eq name (codes "ask") then ask_in rows else (
     if bytes_eq name (codes "find") then find_in rows else (
     if bytes_eq name (codes "list") then list_in rows else (
     if bytes_eq name (codes "export") then export_in rows else (
     if bytes_eq name (codes "import") then import_in rows else (
     if bytes_eq name (codes "audit") then audit_in rows else (
-    if bytes_eq name (codes "serve") then serve_in rows else None))))))))
+    if bytes_eq name (codes "serve") then serve_in rows else None)))))))))
 
 -- the order of the subcommand that was met
 abbrev pub order_in : Option (Text × List Row) → Option Said
@@ -199,13 +210,14 @@ unfoldable pub values_of : Text → List Misfit
 values_of name =
     if bytes_eq name (codes "world") then [] else (
     if bytes_eq name (codes "init") then File ∷ Me ∷ Sites ∷ Limit ∷ [] else (
+    if bytes_eq name (codes "migrate") then File ∷ [] else (
     if bytes_eq name (codes "ask") then File ∷ [] else (
     if bytes_eq name (codes "find") then File ∷ Number ∷ [] else (
     if bytes_eq name (codes "list") then File ∷ Event ∷ [] else (
     if bytes_eq name (codes "export") then File ∷ To ∷ [] else (
     if bytes_eq name (codes "import") then File ∷ [] else (
     if bytes_eq name (codes "audit") then Files ∷ [] else (
-    if bytes_eq name (codes "serve") then Port ∷ Sessions ∷ Rounds ∷ Files ∷ [] else Command ∷ []))))))))
+    if bytes_eq name (codes "serve") then Port ∷ Sessions ∷ Rounds ∷ Files ∷ [] else Command ∷ [])))))))))
 
 -- whether a value is given and in its range
 abbrev pub fits : List Row → Misfit → Bool

@@ -12,7 +12,7 @@ use Rattle.sql_records.specs.declared.lookup.Found.{Found}
 use Rattle.sql_records.specs.declared.lookup.Listed.{Listed}
 use Rattle.sql_records.specs.Lookups.{found_in, listed_in}
 use Rattle.operator_cli.specs.declared.told.Told.{Told}
-use Rattle.operator_cli.specs.declared.told.Told.TheVariants.{Made, Joined, NothingNew, Acked, AlreadyThere, NoSite, Nothing, NotFound, TooLong, Unread, NotTaken}
+use Rattle.operator_cli.specs.declared.told.Told.TheVariants.{Made, Migrated, Joined, NothingNew, Acked, AlreadyThere, NoSite, Nothing, NotFound, TooLong, Unread, NotTaken}
 use Rattle.operator_cli.specs.declared.status.Status.{Status}
 use Rattle.operator_cli.specs.declared.status.Status.TheVariants.{Done, Refused, NotUnderstood, Failed}
 use Rattle.operator_cli.specs.declared.store_fault.StoreFault.{StoreFault}
@@ -41,6 +41,12 @@ IsTellingOf Q status text = (told : Told) × Q told × (told_status told ≡ sta
 abbrev pub told_of_making : ℕ → ℕ → Bool → Told
 told_of_making me sites there = if nat_le sites me then NoSite else if there then AlreadyThere else Made
 
+-- what raising the version of records may tell
+abbrev pub IsOfMigrating : Told → Type 0
+IsOfMigrating Migrated = ⊤
+IsOfMigrating Nothing = ⊤
+IsOfMigrating _ = ⊥
+
 -- what looking up may tell
 abbrev pub IsOfLooking : Told → Type 0
 IsOfLooking NotFound = ⊤
@@ -64,6 +70,9 @@ IsOfTaking _ = ⊥
 
 abbrev pub IsMadeText : ℕ → ℕ → Bool → Status → List ℕ → Type 0
 IsMadeText me sites there = IsTellingOf (λ told. told ≡ told_of_making me sites there)
+
+abbrev pub IsMigratedText : Status → List ℕ → Type 0
+IsMigratedText = IsTellingOf IsOfMigrating
 
 abbrev pub IsTakenText : Status → List ℕ → Type 0
 IsTakenText = IsTellingOf IsOfTaking

@@ -18,7 +18,7 @@ use Rattle.sql_records.specs.declared.lookup.FindFault.TheVariants as find
 use Rattle.operator_cli.specs.declared.store_fault.StoreFault.{StoreFault}
 use Rattle.operator_cli.specs.declared.store_fault.StoreFault.TheVariants as fault
 use Rattle.operator_cli.specs.declared.told.Told.{Told}
-use Rattle.operator_cli.specs.declared.told.Told.TheVariants.{Made, Joined, NothingNew, Acked, AlreadyThere, NoSite, Nothing, NotFound, TooLong, Unread, NotTaken, NotWhole, Ahead}
+use Rattle.operator_cli.specs.declared.told.Told.TheVariants.{Made, Migrated, Joined, NothingNew, Acked, AlreadyThere, NoSite, Nothing, NotFound, TooLong, Unread, NotTaken, NotWhole, Ahead}
 use Rattle.operator_cli.specs.declared.status.Status.{Status}
 use Rattle.operator_cli.specs.declared.status.Status.TheVariants.{Done, Refused, NotUnderstood, Failed}
 use Rattle.desk_lines.specs.Replies.{take_fault_text}
@@ -55,6 +55,7 @@ wire_fault_text wire.Memory = codes "memory"
 
 abbrev pub told_text : Told → List ℕ
 told_text Made = codes "done"
+told_text Migrated = codes "migrated"
 told_text Joined = codes "joined"
 told_text NothingNew = codes "nothing-new"
 told_text Acked = codes "acked"
@@ -73,6 +74,7 @@ told_line told = told_text told ++ 10 ∷ []
 
 abbrev pub told_status : Told → Status
 told_status Made = Done
+told_status Migrated = Done
 told_status Joined = Done
 told_status NothingNew = Done
 told_status Acked = Done

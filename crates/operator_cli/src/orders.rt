@@ -6,7 +6,7 @@ ghost use Rattle.clap.specs.Words.{subcommand_of, subcommand_rows_of, kind_of, a
 ghost use Rattle.rights_lattice.specs.Cells.{max_value};
 ghost use Rattle.rights_lattice.specs.Limits.{greatest_site, most_sites};
 ghost use Rattle.book_core.specs.Limits.{greatest_limit};
-ghost use Rattle.operator_cli.specs.Orders.{boxoffice, greatest_port, most_sessions, AreUnderstood, order_in, said_by, number_in, init_in, ask_in, find_in, list_in, export_in, import_in, files_in, audit_in, serve_in, named_order, values_of, first_misfit, misfit_in, misfit_line, TellsMisfit, IsRefusal};
+ghost use Rattle.operator_cli.specs.Orders.{boxoffice, greatest_port, most_sessions, AreUnderstood, order_in, said_by, number_in, init_in, migrate_in, ask_in, find_in, list_in, export_in, import_in, files_in, audit_in, serve_in, named_order, values_of, first_misfit, misfit_in, misfit_line, TellsMisfit, IsRefusal};
 
 use crate::words::boxoffice;
 use arrayvec::ArrayVec;
@@ -42,6 +42,10 @@ pub enum Order<'a> {
         me: SiteId,
         sites: Sites,
         limit: Limit,
+    },
+    /// Makes records of the first schema ones of the second.
+    Migrate {
+        file: &'a str,
     },
     /// Answers the requests on standard input.
     Ask {
@@ -187,6 +191,15 @@ fn init_of<'a>(values: &ArgMatches<'a>) -> Result<Order<'a>, Misfit>
     })
 }
 
+#[tactic(auto, unfolding(crate::specs::Orders::migrate_in))]
+fn migrate_of<'a>(values: &ArgMatches<'a>) -> Result<Order<'a>, Misfit>
+    ensures order { MatchResult result (λ order. migrate_in (rows_of (found_of values.now)) ≡ Some (said_by order)) (λ _. migrate_in (rows_of (found_of values.now)) ≡ None) }
+    ensures misfit { IfErr result (λ misfit. first_misfit (Misfit.File ∷ []) (rows_of (found_of values.now)) ≡ Some misfit) }
+{
+    let file = value_of(values, "FILE").ok_or(Misfit::File)?;
+    Ok(Order::Migrate { file })
+}
+
 #[tactic(auto, unfolding(crate::specs::Orders::ask_in))]
 fn ask_of<'a>(values: &ArgMatches<'a>) -> Result<Order<'a>, Misfit>
     ensures order { MatchResult result (λ order. ask_in (rows_of (found_of values.now)) ≡ Some (said_by order)) (λ _. ask_in (rows_of (found_of values.now)) ≡ None) }
@@ -299,6 +312,8 @@ fn named_order<'a>(name: &str, values: &ArgMatches<'a>) -> Result<Order<'a>, Mis
         Ok(Order::World)
     } else if name == "init" {
         init_of(values)
+    } else if name == "migrate" {
+        migrate_of(values)
     } else if name == "ask" {
         ask_of(values)
     } else if name == "find" {

@@ -23,6 +23,8 @@ use world_steps::AuditFault;
 pub(crate) enum Told {
     /// The records are made.
     Made,
+    /// The records have the schema of this program now.
+    Migrated,
     /// The message brought something new.
     Joined,
     /// The message brought what was known.
@@ -33,7 +35,7 @@ pub(crate) enum Told {
     AlreadyThere,
     /// The site is not there, or would send to itself.
     NoSite,
-    /// There is nothing to send.
+    /// There is nothing to send, or to migrate.
     Nothing,
     /// Nothing was found.
     NotFound,
@@ -78,6 +80,7 @@ fn told_text(told: &Told) -> Text
 {
     match told {
         Told::Made => word(b"done"),
+        Told::Migrated => word(b"migrated"),
         Told::Joined => word(b"joined"),
         Told::NothingNew => word(b"nothing-new"),
         Told::Acked => word(b"acked"),
@@ -97,7 +100,7 @@ fn told_status(told: &Told) -> Status
     ensures { result ≡ told_status told.now }
 {
     match told {
-        Told::Made | Told::Joined | Told::NothingNew | Told::Acked => Status::Done,
+        Told::Made | Told::Migrated | Told::Joined | Told::NothingNew | Told::Acked => Status::Done,
         _ => Status::Refused,
     }
 }

@@ -3,7 +3,7 @@
 ghost use Rattle.std.specs.Prelude.{◌≡◌, IfOk, false, codes};
 ghost use Rattle.clap.specs.Words.{app_of, new_app, rule_of};
 ghost use Rattle.clap.specs.declared.builder.command.Command.TheViews.{out-Command as fields_of};
-ghost use Rattle.operator_cli.specs.Orders.{operand, boxoffice, init_app, ask_app, find_app, list_app, export_app, import_app, audit_app, serve_app, operands};
+ghost use Rattle.operator_cli.specs.Orders.{operand, boxoffice, init_app, migrate_app, ask_app, find_app, list_app, export_app, import_app, audit_app, serve_app, operands};
 
 use crate::orders::MOST_FILES;
 use clap::{Arg, Command};
@@ -57,6 +57,18 @@ fn init<'a>(alloc: Global) -> Result<Command<'a>, AllocError>
         .arg(me)?
         .arg(sites)?
         .arg(limit)
+}
+
+fn migrate<'a>(alloc: Global) -> Result<Command<'a>, AllocError>
+    ensures app { IfOk result (λ command. app_of command ≡ migrate_app) }
+    ensures local { IfOk result (λ command. (fields_of command).has_globals ≡ false) }
+{
+    named(
+        alloc,
+        "migrate",
+        "Raises the records of a site to the schema of this program",
+    )
+    .arg(file(alloc))
 }
 
 fn ask<'a>(alloc: Global) -> Result<Command<'a>, AllocError>
@@ -162,6 +174,7 @@ pub(crate) fn boxoffice<'a>(alloc: Global) -> Result<Command<'a>, AllocError>
     .subcommand_required(true)
     .subcommand(world)?
     .subcommand(init(alloc)?)?
+    .subcommand(migrate(alloc)?)?
     .subcommand(ask(alloc)?)?
     .subcommand(find(alloc)?)?
     .subcommand(list(alloc)?)?

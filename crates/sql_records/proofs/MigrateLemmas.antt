@@ -1,5 +1,6 @@
 -- What is told of records that are not migrated, and what is left of those that are.
-use Rattle.std.proofs.Common.{◌≡◌, inl, inr, List, [], Bool, true, false, Err, IsTrue, refl, sym, subst}
+use Rattle.std.proofs.Common.{◌≡◌, inl, inr, List, [], Bool, true, false, Err, IsTrue, sym, subst, ◌∙◌}
+use Rattle.std.proofs.lemmas.Bool.{cases_Bool}
 use Rattle.sqlite.specs.State.{State, Executes, IsUnchanged}
 use Rattle.sqlite.specs.Store.{Ghosts}
 use Rattle.sqlite.specs.Held.{Held, state}
@@ -18,16 +19,12 @@ use Rattle.sql_records.specs.Texts.{update_text}
 use Rattle.sql_records.specs.Faults.{told}
 use Rattle.sql_records.specs.Layout.{IsOurs, HasOtherSchema}
 use Rattle.sql_records.specs.Held.{history_in}
-use Rattle.sql_records.specs.Opening.{IsOurFault, IsReadFault}
-use Rattle.sql_records.specs.Migrating.{office_in, IsOfFirst, IsToldAs, of_replay, IsUnread, IsMigrateFault}
+use Rattle.sql_records.specs.Opening.{IsForeignCauseAs, IsOurFault, IsReadFault}
+use Rattle.sql_records.specs.Migrating.{office_in, IsOfFirst, IsToldAs, of_replay, IsUnread, IsUnfit, IsMigrateFault}
 use Rattle.sql_records.proofs.FaultLemmas.{told_either}
 
-pub not_ours : (b : Bool) → (IsTrue b → ⊥) → b ≡ false
-not_ours true h = absurd (h refl)
-not_ours false h = refl
-
 -- what is at fault in records of ours is told as it is
-pub unread : (old new : State) (ours : Bool) (cause : OpenFault) (fault : MigrateFault) → ours ≡ true → IsOurs old.now.schema → IsReadFault First old new cause → IsToldAs ours cause fault → IsUnread old new fault
+unread : (old new : State) (ours : Bool) (cause : OpenFault) (fault : MigrateFault) → ours ≡ true → IsOurs old.now.schema → IsReadFault First old new cause → IsToldAs ours cause fault → IsUnread old new fault
 unread old new ours cause fault is schema (inl foreign) told = absurd (foreign.0 schema)
 unread old new ours cause fault is schema (inr found) told = by_cause cause found.1 (subst (λ b. IsToldAs b cause fault) is told)
   where
@@ -40,6 +37,16 @@ unread old new ours cause fault is schema (inr found) told = by_cause cause foun
     by_cause Memory (inr (same, h)) is = subst (IsUnread old new) (sym is) (inr (same, inl h))
     by_cause Disk h is = subst (IsUnread old new) (sym is) h
 
+-- what a reading answered is told as it is, where the tables are ours or not
+pub unfit : {S : Type 0} (g : Ghosts S) (conn after : Held S) (ours : Bool) (cause : OpenFault) (fault : MigrateFault) → conn.in_transaction ≡ false → (IsTrue ours → IsOurs conn.schema) → (IsOurs conn.schema → IsTrue ours)
+    → (¬ IsOurs conn.schema → IsForeignCauseAs g conn First cause) → IsReadFault First (state g conn) (state g after) cause → IsToldAs ours cause fault → IsUnfit g conn after fault
+unfit g conn after ours cause fault outside to from foreign found tells = elim (cases_Bool ours) [
+  | inl ours_are ↦ inr (outside, inr (to ours_are, unread (state g conn) (state g after) ours cause fault ours_are (to ours_are) found tells))
+  | inr are_not ↦ (
+      let strange : ¬ IsOurs conn.schema = λ is. (let e : false ≡ true = sym are_not ∙ from is in cc) in
+      inr (outside, inl (strange, (cause, foreign strange, subst (λ b. IsToldAs b cause fault) are_not tells))))
+]
+
 -- so is a history that is not legal
 pub no_history : (old new : State) (meta : Meta) (entries : List Entry) (cause : ReplayFault) (fault : MigrateFault) → IsUnchanged old new → IsOfFirst meta old.now.trees → entries ≡ history_in old.now.trees
     → IsReplayFault (office_in meta) entries cause → fault ≡ of_replay cause → IsUnread old new fault
@@ -49,10 +56,10 @@ no_history old new meta entries NoMemory fault same first is found told =
     subst (IsUnread old new) (sym told) (inr (same, inr (record { meta = meta; first = first; found = subst (λ l. IsReplayFault (office_in meta) l NoMemory) is found })))
 
 -- what the UPDATE was answered with is told as it is
-pub unset : {S : Type 0} (g : Ghosts S) (conn mid after : Held S) (e : Error) → IsUnchanged (state g conn) (state g mid) → Executes update_text [] (state g mid) (state g after) (Err e)
+pub unset : {S : Type 0} (g : Ghosts S) (conn mid after : Held S) (e : Error) → IsOurs conn.schema → IsUnchanged (state g conn) (state g mid) → Executes update_text [] (state g mid) (state g after) (Err e)
     → IsMigrateFault g conn after (told migrate.Memory migrate.Disk e)
-unset g conn mid after e same fails =
+unset g conn mid after e ours same fails =
     elim (told_either migrate.Memory migrate.Disk e) [
-      | inl memory ↦ subst (IsMigrateFault g conn after) (sym memory.1) (inr (mid, same, subst (λ x. Executes update_text [] (state g mid) (state g after) (Err x)) memory.0 fails))
-      | inr other ↦ subst (IsMigrateFault g conn after) (sym other.1) (inr (e, other.0, (mid, same, fails)))
+      | inl memory ↦ subst (IsMigrateFault g conn after) (sym memory.1) (inr (ours, (mid, same, subst (λ x. Executes update_text [] (state g mid) (state g after) (Err x)) memory.0 fails)))
+      | inr other ↦ subst (IsMigrateFault g conn after) (sym other.1) (inr (ours, (e, other.0, (mid, same, fails))))
     ]

@@ -97,9 +97,14 @@ IsUnread old new Disk = HasDiskCause old new
 module _ {S : Type 0} (g : Ghosts S) (conn : Held S) where
   -- why a database is not migrated whose tables are not ours
   abbrev pub IsForeign : MigrateFault → Type 0
-  IsForeign fault = (cause : OpenFault) × IsForeignCauseAs g conn First cause × IsToldAs false cause fault
+  IsForeign fault = (¬ IsOurs conn.schema) × ((cause : OpenFault) × IsForeignCauseAs g conn First cause × IsToldAs false cause fault)
 
   module _ (after : Held S) where
+    -- why records are not migrated, before anything is written: a transaction is open, the tables are not ours, or what is read is at fault
+    abbrev pub IsUnfit : MigrateFault → Type 0
+    IsUnfit fault = ((conn.in_transaction ≡ true) × (fault ≡ Disk))
+        ⊎ ((conn.in_transaction ≡ false) × (IsForeign fault ⊎ (IsOurs conn.schema × IsUnread (state g conn) (state g after) fault)))
+
     -- the UPDATE of records that were read was answered with this error
     abbrev pub FailsToSet : Error → Type 0
     FailsToSet e = (mid : Held S) × IsUnchanged (state g conn) (state g mid) × Executes update_text [] (state g mid) (state g after) (Err e)
@@ -110,6 +115,6 @@ module _ {S : Type 0} (g : Ghosts S) (conn : Held S) where
     IsUnset Disk = (e : Error) × (e ≢ SqliteFailure OutOfMemory) × FailsToSet e
     IsUnset fault = ⊥
 
-    -- why records of ours are not migrated
+    -- why records are not migrated
     abbrev pub IsMigrateFault : MigrateFault → Type 0
-    IsMigrateFault fault = IsUnread (state g conn) (state g after) fault ⊎ IsUnset fault
+    IsMigrateFault fault = IsUnfit fault ⊎ (IsOurs conn.schema × IsUnset fault)

@@ -1,5 +1,5 @@
 //! Records of the first version, made ones of the second.
-ghost use Rattle.std.specs.Prelude.{◌≡◌, ◌<◌, ℕ, true, false, length, Err, OnOk, OnErr, IfErr, IsErr, IsTrue, []};
+ghost use Rattle.std.specs.Prelude.{◌≡◌, ◌<◌, ℕ, true, false, length, Err, OnOk, OnErr, IfErr, IsTrue, []};
 ghost use Rattle.sqlite.specs.State.{HasCleanDisk, Executes, IsUnchanged};
 ghost use Rattle.sqlite.specs.Held.{state};
 ghost use Rattle.sql_records.specs.declared.meta.Meta.{Meta as Numbers};
@@ -11,7 +11,7 @@ ghost use Rattle.book_core.specs.Replay.{IsReplayFault};
 ghost use Rattle.sql_records.specs.Opening.{IsLeftOrUndone};
 ghost use Rattle.sql_records.specs.Held.{IsAtRest, LeavesNoMore, LeavesSite, MayLeaveIn, history_in};
 ghost use Rattle.sql_records.specs.Keeping.{LeavesOnly};
-ghost use Rattle.sql_records.specs.Migrating.{IsAsBefore, IsMigrated, LeavesAsBeforeOrMigrated, LeavesItOrMigrated, office_in, IsLegalFirst, IsToldAs, of_replay, IsUnread, IsForeign, IsMigrateFault};
+ghost use Rattle.sql_records.specs.Migrating.{IsAsBefore, IsMigrated, LeavesAsBeforeOrMigrated, LeavesItOrMigrated, office_in, IsLegalFirst, IsToldAs, of_replay, IsUnfit, IsMigrateFault};
 
 use crate::fault::{MigrateFault, OpenFault};
 use crate::meta::Meta;
@@ -97,8 +97,7 @@ fn check_first<S: Alter>(alloc: Global, conn: &mut Connection<S>) -> Result<(), 
     ensures first { HasCleanDisk (state S.Store conn.new) → OnOk result (IsLegalFirst (state S.Store conn.old).now.trees) }
     ensures same { HasCleanDisk (state S.Store conn.new) → OnOk result (IsUnchanged (state S.Store conn.old) (state S.Store conn.new)) }
     ensures undone { HasCleanDisk (state S.Store conn.new) → OnErr result (IsLeftOrUndone (state S.Store conn.old) (state S.Store conn.new)) }
-    ensures fault { conn.old.in_transaction ≡ false → IsOurs conn.old.schema → HasCleanDisk (state S.Store conn.new) → IfErr result (IsUnread (state S.Store conn.old) (state S.Store conn.new)) }
-    ensures foreign { conn.old.in_transaction ≡ false → ¬ IsOurs conn.old.schema → HasCleanDisk (state S.Store conn.new) → IfErr result (IsForeign S.Store conn.old) }
+    ensures fault { HasCleanDisk (state S.Store conn.new) → IfErr result (IsUnfit S.Store conn.old conn.new) }
     ensures left { HasCleanDisk (state S.Store conn.new) → LeavesNoMore (state S.Store conn.old) (state S.Store conn.new) }
     ensures limit { conn.new.step_limit ≡ conn.old.step_limit }
     ensures clean { HasCleanDisk (state S.Store conn.new) → HasCleanDisk (state S.Store conn.old) }
@@ -124,7 +123,7 @@ impl<S: Alter> Records<S> {
     /// which changes nothing.
     pub fn migrate(alloc: Global, conn: &mut Connection<S>) -> Result<(), MigrateFault>
         ensures busy { conn.old.in_transaction ≡ true → (result ≡ Err MigrateFault.Disk) × (conn.new ≡ conn.old) }
-        ensures schema { ¬ IsOurs conn.old.schema → IsErr result }
+        ensures schema { OnOk result (IsOurs conn.old.schema) }
         ensures first { HasCleanDisk (state S.Store conn.new) → OnOk result (IsLegalFirst (state S.Store conn.old).now.trees) }
         ensures set { HasCleanDisk (state S.Store conn.new) → OnOk result (IsMigrated (state S.Store conn.old).now.trees (state S.Store conn.new).now.trees) }
         ensures rest { HasCleanDisk (state S.Store conn.new) → OnOk result (IsAtRest (state S.Store conn.new) (length (history_in (state S.Store conn.old).now.trees))) }
@@ -134,8 +133,7 @@ impl<S: Alter> Records<S> {
         ensures either { conn.old.in_transaction ≡ false → IsTrue (state S.Store conn.old).is_open → HasCleanDisk (state S.Store conn.new)
             → LeavesItOrMigrated (state S.Store conn.old).now.trees (state S.Store conn.new) }
         ensures as_before { HasCleanDisk (state S.Store conn.new) → OnErr result (IsAsBefore (state S.Store conn.old) (state S.Store conn.new)) }
-        ensures fault { conn.old.in_transaction ≡ false → IsOurs conn.old.schema → HasCleanDisk (state S.Store conn.new) → IfErr result (IsMigrateFault S.Store conn.old conn.new) }
-        ensures foreign { conn.old.in_transaction ≡ false → ¬ IsOurs conn.old.schema → HasCleanDisk (state S.Store conn.new) → IfErr result (IsForeign S.Store conn.old) }
+        ensures fault { HasCleanDisk (state S.Store conn.new) → IfErr result (IsMigrateFault S.Store conn.old conn.new) }
         ensures limit { conn.new.step_limit ≡ conn.old.step_limit }
         ensures clean { HasCleanDisk (state S.Store conn.new) → HasCleanDisk (state S.Store conn.old) }
     {

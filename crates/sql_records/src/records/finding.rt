@@ -15,7 +15,7 @@ use super::Records;
 use crate::lookup::{FindFault, Found, Listed};
 use crate::reading::{reply_in, request_in, request_number_in, value_at};
 use request_ledger::{Request, RequestNumber};
-use rights_lattice::Event;
+use rights_lattice::{Amount, Event};
 use sqlite::types::ValueRef;
 use sqlite::{Alter, Connection, Row};
 use std::alloc::Global;
@@ -144,8 +144,9 @@ fn all_of(alloc: Global, rows: &[Row]) -> Result<Vec<Listed>, FindFault>
     ensures damaged { IfErr result (λ fault. ((fault ≡ FindFault.Memory) × ReadsSome rows.now) ⊎ IsFirstUnread rows.now fault) }
     ensures shut { result ≢ Err FindFault.Shut }
 {
-    // The prover has to meet the type of what a `Listed` holds.
+    // The prover has to meet the types of what a `Listed` holds.
     let _: Option<Request> = None;
+    let _: Option<Amount> = None;
     let mut all = Vec::new(alloc);
     'rows: for row in rows {
         let Some(listed) = listed_of(row) else {

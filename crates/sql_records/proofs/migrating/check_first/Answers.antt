@@ -1,12 +1,10 @@
-use Rattle.std.proofs.Common.{◌≡◌, false, IsTrue, length, refl, sym, subst, ◌∙◌}
+use Rattle.std.proofs.Common.{◌≡◌, inr, false, IsTrue, length, refl, sym, subst, ◌∙◌}
 use Rattle.sqlite.specs.Held.{state}
 use Rattle.sql_records.specs.Layout.{IsOurs}
-use Rattle.sql_records.specs.Opening.{IsForeignCauseAs}
-use Rattle.sql_records.specs.Migrating.{IsToldAs}
 use Rattle.sql_records.specs.Held.{history_in}
 use Rattle.sql_records.proofs.MakeLemmas.{each_err}
 use Rattle.sql_records.proofs.OpeningLemmas.{opened, not_true, on_ok}
-use Rattle.sql_records.proofs.MigrateLemmas.{not_ours, unread, no_history}
+use Rattle.sql_records.proofs.MigrateLemmas.{unfit, no_history}
 use Rattle.sql_records.proofs.migrating.check_first.Goals as goal
 
 pub returns-in-Ok-clause-rest : goal.returns-in-Ok-clause-rest
@@ -18,19 +16,23 @@ returns-in-Ok-clause-rest g c clean =
     on_ok c.check_history.result _ (opened first last (length (history_in first.now.trees)) (c.in-Ok.ensures.same clean) outside (c.is_autocommit-is_settled.ensures.settled autocommit) c.read_as.ensures.live c.in-Ok.ensures.schema (c.in-Ok.ensures.whole clean).0 refl)
 
 pub returns-in-Ok-clause-fault : goal.returns-in-Ok-clause-fault
-returns-in-Ok-clause-fault g c outside ours clean =
+returns-in-Ok-clause-fault g c clean =
     let old = state g.S.Store c.args.conn.now in
     let new = state g.S.Store c.read_as.new.conn in
-    each_err c.check_history.result _ _ c.check_history.ensures.fault (λ fault it. no_history old new c.in-Ok.meta c.in-Ok.entries.items it.0 fault (c.in-Ok.ensures.same clean)
-    (record { numbers = c.in-Ok.ensures.meta clean; within = c.in-Ok.ensures.numbers; whole = c.in-Ok.ensures.whole clean }) (c.in-Ok.ensures.entries clean) it.1 it.2)
+    let autocommit : IsTrue c.is_autocommit-is_settled.result = c.if-not-is_settled.false in
+    let outside : c.args.conn.now.in_transaction ≡ false = not_true _ (sym c.is_autocommit-is_settled.ensures.value ∙ autocommit) in
+    each_err c.check_history.result _ _ c.check_history.ensures.fault (λ fault it. inr (
+      outside,
+      inr (
+        c.in-Ok.ensures.schema,
+        no_history old new c.in-Ok.meta c.in-Ok.entries.items it.0 fault (c.in-Ok.ensures.same clean)
+            (record { numbers = c.in-Ok.ensures.meta clean; within = c.in-Ok.ensures.numbers; whole = c.in-Ok.ensures.whole clean }) (c.in-Ok.ensures.entries clean) it.1 it.2,
+      ),
+    ))
 
 pub returns-in-Err-clause-fault : goal.returns-in-Err-clause-fault
-returns-in-Err-clause-fault g c outside ours clean =
-    let old = state g.S.Store c.args.conn.now in
-    let new = state g.S.Store c.read_as.new.conn in
-    unread old new c.is_ours-are_ours.result c.in-Err.fault c.told_as.result (c.is_ours-are_ours.ensures.1 (subst IsOurs (sym c.schema.ensures.value) ours)) ours (c.in-Err.ensures.fault clean) c.told_as.ensures
-
-pub returns-in-Err-clause-foreign : goal.returns-in-Err-clause-foreign
-returns-in-Err-clause-foreign g c outside foreign clean =
-    let strange = not_ours c.is_ours-are_ours.result (λ is. foreign (subst IsOurs c.schema.ensures.value (c.is_ours-are_ours.ensures.0 is))) in
-    (c.in-Err.fault, c.in-Err.ensures.foreign foreign outside clean, subst (λ b. IsToldAs b c.in-Err.fault c.told_as.result) strange c.told_as.ensures)
+returns-in-Err-clause-fault g c clean =
+    let autocommit : IsTrue c.is_autocommit-is_settled.result = c.if-not-is_settled.false in
+    let outside : c.args.conn.now.in_transaction ≡ false = not_true _ (sym c.is_autocommit-is_settled.ensures.value ∙ autocommit) in
+    unfit g.S.Store c.args.conn.now c.read_as.new.conn c.is_ours-are_ours.result c.in-Err.fault c.told_as.result outside (λ is. subst IsOurs c.schema.ensures.value (c.is_ours-are_ours.ensures.0 is))
+    (λ ours. c.is_ours-are_ours.ensures.1 (subst IsOurs (sym c.schema.ensures.value) ours)) (λ foreign. c.in-Err.ensures.foreign foreign outside clean) (c.in-Err.ensures.fault clean) c.told_as.ensures

@@ -10,7 +10,7 @@ returns-clause-rest g c clean =
     c.in_ok-set_version.ensures.rest clean (length (history_in (state g.S.Store c.args.conn.now).now.trees)) (c.in_ok-check_first.ensures.rest (c.set_version.ensures.clean clean))
 
 pub returns-in_err-set_version-clause-fault : goal.returns-in_err-set_version-clause-fault
-returns-in_err-set_version-clause-fault g c outside ours clean =
+returns-in_err-set_version-clause-fault g c clean =
     let same = c.in_ok-check_first.ensures.same (c.set_version.ensures.clean clean) in
     if_err c.from_residual-in_err-set_version.result _ _ c.from_residual-in_err-set_version.ensures.1
-    (λ f e. rw e (unset g.S.Store c.args.conn.now c.check_first.new.conn c.set_version.new.conn c.in_err-set_version.field-0.0 same (c.in_err-set_version.ensures.fails clean)))
+    (λ f e. rw e (unset g.S.Store c.args.conn.now c.check_first.new.conn c.set_version.new.conn c.in_err-set_version.field-0.0 c.in_ok-check_first.ensures.schema same (c.in_err-set_version.ensures.fails clean)))

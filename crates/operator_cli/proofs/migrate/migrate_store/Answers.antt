@@ -1,0 +1,42 @@
+use Rattle.std.proofs.Common.{◌≡◌}
+use Rattle.sqlite.specs.Held.{state}
+use Rattle.sql_records.specs.Held.{MayLeaveIn, history_in}
+use Rattle.sql_records.specs.Keeping.{LeavesOnly}
+use Rattle.sql_records.specs.Migrating.{IsAsBefore, IsMigrated, IsLegalFirst, IsMigrateFault}
+use Rattle.sql_records.specs.declared.fault.MigrateFault.TheVariants.{Nothing}
+use Rattle.operator_cli.specs.declared.status.Status.{Status}
+use Rattle.operator_cli.specs.declared.status.Status.TheVariants.{Done, Refused}
+use Rattle.operator_cli.specs.Printed.{IsMigratedText}
+use Rattle.operator_cli.specs.Opened.{IsMigrateEnd}
+use Rattle.operator_cli.proofs.EndLaws.{fails_for}
+use Rattle.operator_cli.proofs.PrintLaws.{ends_printed, ends_as}
+use Rattle.operator_cli.proofs.migrate.migrate_store.Goals as goal
+
+pub returns-clause-out : goal.returns-clause-out
+returns-clause-out g c =
+    ends_printed IsMigratedText (g.W.Write.contents c.args.out.now) (g.W.Write.contents c.write_migrated-came.new.out) (g.W.Write.contents c.ended.new.out) c.write_migrated-came.result c.ended.result c.write_migrated-came.ensures.out c.ended.ensures.kept c.ended.ensures.status
+
+pub returns-clause-set : goal.returns-clause-set
+returns-clause-set g c clean =
+    ends_as (λ (status : Status). status ≡ Done → IsMigrated (state g.S.Store c.args.conn.now).now.trees (state g.S.Store c.write_migrated-came.new.conn).now.trees) c.write_migrated-came.result c.ended.result (c.write_migrated-came.ensures.set clean) (λ e. absurd (let is = e in cc)) c.ended.ensures.status
+
+pub returns-clause-first : goal.returns-clause-first
+returns-clause-first g c clean =
+    ends_as (λ (status : Status). status ≡ Done → IsLegalFirst (state g.S.Store c.args.conn.now).now.trees) c.write_migrated-came.result c.ended.result (c.write_migrated-came.ensures.first clean) (λ e. absurd (let is = e in cc)) c.ended.ensures.status
+
+pub returns-clause-leaves : goal.returns-clause-leaves
+returns-clause-leaves g c clean =
+    ends_as (λ (status : Status). status ≡ Done → LeavesOnly (history_in (state g.S.Store c.args.conn.now).now.trees) (MayLeaveIn (state g.S.Store c.write_migrated-came.new.conn))) c.write_migrated-came.result c.ended.result (c.write_migrated-came.ensures.leaves clean) (λ e. absurd (let is = e in cc)) c.ended.ensures.status
+
+pub returns-clause-nothing : goal.returns-clause-nothing
+returns-clause-nothing g c clean =
+    ends_as (λ (status : Status). status ≡ Refused → IsMigrateFault g.S.Store c.args.conn.now c.write_migrated-came.new.conn Nothing) c.write_migrated-came.result c.ended.result (c.write_migrated-came.ensures.nothing clean) (λ e. absurd (let is = e in cc)) c.ended.ensures.status
+
+pub returns-clause-kept : goal.returns-clause-kept
+returns-clause-kept g c clean =
+    ends_as (λ (status : Status). status ≡ Refused → IsAsBefore (state g.S.Store c.args.conn.now) (state g.S.Store c.write_migrated-came.new.conn)) c.write_migrated-came.result c.ended.result (c.write_migrated-came.ensures.kept clean) (λ e. absurd (let is = e in cc)) c.ended.ensures.status
+
+pub returns-clause-cause : goal.returns-clause-cause
+returns-clause-cause g c clean =
+    fails_for (IsMigrateEnd g.S.Store c.args.conn.now c.write_migrated-came.new.conn) (g.E.Write.contents c.args.err.now) (g.E.Write.contents c.ended.new.err) c.write_migrated-came.result c.ended.result (c.write_migrated-came.ensures.fault clean)
+    (c.write_migrated-came.ensures.unsaid clean) c.write_migrated-came.ensures.ends c.ended.ensures.line c.ended.ensures.flush

@@ -1,0 +1,48 @@
+use Rattle.std.proofs.Common.{◌≡◌, refl}
+use Rattle.sqlite.specs.Held.{state}
+use Rattle.sql_records.specs.Held.{MayLeaveIn, history_in}
+use Rattle.sql_records.specs.Keeping.{LeavesOnly}
+use Rattle.sql_records.specs.Migrating.{IsAsBefore, IsMigrated, IsLegalFirst, IsMigrateFault}
+use Rattle.sql_records.specs.declared.fault.MigrateFault.TheVariants.{Nothing}
+use Rattle.operator_cli.specs.declared.status.Status.{Status}
+use Rattle.operator_cli.specs.declared.status.Status.TheVariants.{Done, Refused}
+use Rattle.operator_cli.specs.Printed.{IsMigratedText}
+use Rattle.operator_cli.proofs.EndLaws.{for_write, told_lives, always}
+use Rattle.operator_cli.proofs.PrintLaws.{told_printed, told_ends}
+use Rattle.operator_cli.proofs.MigrateLaws.{unsaid}
+use Rattle.operator_cli.proofs.migrate.write_migrated.Goals as goal
+
+pub returns-in-Ok-clause-out : goal.returns-in-Ok-clause-out
+returns-in-Ok-clause-out g c =
+    told_printed IsMigratedText (g.W.Write.contents c.args.out.now) (g.W.Write.contents c.tell.new.out) c.tell.result c.in-Ok.told (c.in-Ok.told, c.in-Ok.ensures.told, refl, refl) c.tell.ensures.written c.tell.ensures.status
+
+pub returns-in-Ok-clause-set : goal.returns-in-Ok-clause-set
+returns-in-Ok-clause-set g c clean =
+    told_ends (λ (status : Status). status ≡ Done → IsMigrated (state g.S.Store c.args.conn.now).now.trees (state g.S.Store c.migrate.new.conn).now.trees) c.tell.result c.in-Ok.told c.tell.ensures.status (c.in-Ok.ensures.set clean)
+
+pub returns-in-Ok-clause-first : goal.returns-in-Ok-clause-first
+returns-in-Ok-clause-first g c clean =
+    told_ends (λ (status : Status). status ≡ Done → IsLegalFirst (state g.S.Store c.args.conn.now).now.trees) c.tell.result c.in-Ok.told c.tell.ensures.status (c.in-Ok.ensures.first clean)
+
+pub returns-in-Ok-clause-leaves : goal.returns-in-Ok-clause-leaves
+returns-in-Ok-clause-leaves g c clean =
+    told_ends (λ (status : Status). status ≡ Done → LeavesOnly (history_in (state g.S.Store c.args.conn.now).now.trees) (MayLeaveIn (state g.S.Store c.migrate.new.conn))) c.tell.result c.in-Ok.told c.tell.ensures.status (c.in-Ok.ensures.leaves clean)
+
+pub returns-in-Ok-clause-nothing : goal.returns-in-Ok-clause-nothing
+returns-in-Ok-clause-nothing g c clean =
+    told_ends (λ (status : Status). status ≡ Refused → IsMigrateFault g.S.Store c.args.conn.now c.migrate.new.conn Nothing) c.tell.result c.in-Ok.told c.tell.ensures.status (c.in-Ok.ensures.nothing clean)
+
+pub returns-in-Ok-clause-kept : goal.returns-in-Ok-clause-kept
+returns-in-Ok-clause-kept g c clean =
+    told_ends (λ (status : Status). status ≡ Refused → IsAsBefore (state g.S.Store c.args.conn.now) (state g.S.Store c.migrate.new.conn)) c.tell.result c.in-Ok.told c.tell.ensures.status (c.in-Ok.ensures.kept clean)
+
+pub returns-in-Ok-clause-fault : goal.returns-in-Ok-clause-fault
+returns-in-Ok-clause-fault g c clean =
+    for_write c.tell.result _ c.tell.ensures.fault (unsaid g.S.Store c.args.conn.now c.migrate.new.conn c.in-Ok.told c.in-Ok.ensures.told (c.in-Ok.ensures.set clean) (c.in-Ok.ensures.nothing clean))
+
+pub returns-in-Ok-clause-unsaid : goal.returns-in-Ok-clause-unsaid
+returns-in-Ok-clause-unsaid g c clean =
+    always c.tell.result _ (unsaid g.S.Store c.args.conn.now c.migrate.new.conn c.in-Ok.told c.in-Ok.ensures.told (c.in-Ok.ensures.set clean) (c.in-Ok.ensures.nothing clean))
+
+pub returns-in-Ok-clause-ends : goal.returns-in-Ok-clause-ends
+returns-in-Ok-clause-ends g c = told_lives c.tell.result c.in-Ok.told c.tell.ensures.status

@@ -1,0 +1,104 @@
+//! The command `migrate`: records of the first schema, made ones of the second.
+
+ghost use Rattle.std.specs.Prelude.{◌≡◌, ◌≢◌, false, IfOk, IfErr, OnOk, IsTrue};
+ghost use Rattle.sqlite.specs.State.{HasCleanDisk};
+ghost use Rattle.sqlite.specs.Held.{state};
+ghost use Rattle.sql_records.specs.Held.{MayLeaveIn, history_in};
+ghost use Rattle.sql_records.specs.Keeping.{LeavesOnly};
+ghost use Rattle.sql_records.specs.Migrating.{IsAsBefore, IsMigrated, IsLegalFirst, IsMigrateFault, LeavesAsBeforeOrMigrated, LeavesItOrMigrated};
+ghost use Rattle.sql_records.specs.declared.fault.MigrateFault.TheVariants.{Nothing};
+ghost use Rattle.operator_cli.specs.Told.{FaultTold, told_status};
+ghost use Rattle.operator_cli.specs.Opened.{IsMigrateEnd, FailsFor};
+ghost use Rattle.operator_cli.specs.Printed.{Printed, IsMigratedText, IsOfMigrating};
+ghost use Rattle.operator_cli.specs.declared.store_fault.StoreFault.TheVariants.{Write as WriteFailed};
+ghost use Rattle.operator_cli.specs.declared.status.Status.TheVariants.{Done, Refused, Failed};
+
+use crate::ending::ended;
+use crate::status::Status;
+use crate::store_fault::StoreFault;
+use crate::told::{Told, tell};
+use sql_records::{MigrateFault, Records};
+use sqlite::{Alter, Connection};
+use std::alloc::Global;
+use std::io::Write;
+
+fn migrate<S: Alter>(alloc: Global, conn: &mut Connection<S>) -> Result<Told, StoreFault>
+    ensures told { IfOk result IsOfMigrating }
+    ensures set { HasCleanDisk (state S.Store conn.new) → IfOk result (λ told. told_status told ≡ Done
+        → IsMigrated (state S.Store conn.old).now.trees (state S.Store conn.new).now.trees) }
+    ensures first { HasCleanDisk (state S.Store conn.new) → IfOk result (λ told. told_status told ≡ Done → IsLegalFirst (state S.Store conn.old).now.trees) }
+    ensures leaves { HasCleanDisk (state S.Store conn.new) → IfOk result (λ told. told_status told ≡ Done
+        → LeavesOnly (history_in (state S.Store conn.old).now.trees) (MayLeaveIn (state S.Store conn.new))) }
+    ensures nothing { HasCleanDisk (state S.Store conn.new) → IfOk result (λ told. told_status told ≡ Refused → IsMigrateFault S.Store conn.old conn.new Nothing) }
+    ensures kept { HasCleanDisk (state S.Store conn.new) → IfOk result (λ told. told_status told ≡ Refused → IsAsBefore (state S.Store conn.old) (state S.Store conn.new)) }
+    ensures crash { HasCleanDisk (state S.Store conn.new) → LeavesAsBeforeOrMigrated (state S.Store conn.old) (state S.Store conn.new) }
+    ensures either { conn.old.in_transaction ≡ false → IsTrue (state S.Store conn.old).is_open → HasCleanDisk (state S.Store conn.new)
+        → LeavesItOrMigrated (state S.Store conn.old).now.trees (state S.Store conn.new) }
+    ensures fault { HasCleanDisk (state S.Store conn.new) → IfErr result (IsMigrateEnd S.Store conn.old conn.new) }
+{
+    match Records::migrate(alloc, conn) {
+        Ok(()) => Ok(Told::Migrated),
+        Err(MigrateFault::Nothing) => Ok(Told::Nothing),
+        Err(MigrateFault::NotOurs) => Err(StoreFault::NotOurs),
+        Err(MigrateFault::OtherSchema { version }) => Err(StoreFault::OtherSchema { version }),
+        Err(MigrateFault::Damaged { place }) => Err(StoreFault::Damaged { place }),
+        Err(MigrateFault::Memory) => Err(StoreFault::Memory),
+        Err(MigrateFault::Disk) => Err(StoreFault::Disk),
+    }
+}
+
+fn write_migrated<S: Alter, W: Write>(
+    alloc: Global,
+    conn: &mut Connection<S>,
+    out: &mut W,
+) -> Result<Status, StoreFault>
+    ensures out { IfOk result (Printed IsMigratedText (W.contents out.old) (W.contents out.new)) }
+    ensures set { HasCleanDisk (state S.Store conn.new) → IfOk result (λ status. status ≡ Done
+        → IsMigrated (state S.Store conn.old).now.trees (state S.Store conn.new).now.trees) }
+    ensures first { HasCleanDisk (state S.Store conn.new) → IfOk result (λ status. status ≡ Done → IsLegalFirst (state S.Store conn.old).now.trees) }
+    ensures leaves { HasCleanDisk (state S.Store conn.new) → IfOk result (λ status. status ≡ Done
+        → LeavesOnly (history_in (state S.Store conn.old).now.trees) (MayLeaveIn (state S.Store conn.new))) }
+    ensures nothing { HasCleanDisk (state S.Store conn.new) → IfOk result (λ status. status ≡ Refused → IsMigrateFault S.Store conn.old conn.new Nothing) }
+    ensures kept { HasCleanDisk (state S.Store conn.new) → IfOk result (λ status. status ≡ Refused → IsAsBefore (state S.Store conn.old) (state S.Store conn.new)) }
+    ensures crash { HasCleanDisk (state S.Store conn.new) → LeavesAsBeforeOrMigrated (state S.Store conn.old) (state S.Store conn.new) }
+    ensures either { conn.old.in_transaction ≡ false → IsTrue (state S.Store conn.old).is_open → HasCleanDisk (state S.Store conn.new)
+        → LeavesItOrMigrated (state S.Store conn.old).now.trees (state S.Store conn.new) }
+    ensures fault { HasCleanDisk (state S.Store conn.new) → IfErr result (IsMigrateEnd S.Store conn.old conn.new) }
+    ensures unsaid { HasCleanDisk (state S.Store conn.new) → OnOk result (IsMigrateEnd S.Store conn.old conn.new WriteFailed) }
+    ensures ends { IfOk result (λ status. status ≢ Failed) }
+{
+    match migrate(alloc, conn) {
+        Ok(told) => tell(&told, out),
+        Err(fault) => Err(fault),
+    }
+}
+
+/// Makes the records of a site in the first schema records of the second, and prints `migrated`; or `nothing` where they
+/// are of the second already, with status 1.
+///
+/// Each other refusal is told on `err`, with status 3: `not-ours`, `other-schema V`, `damaged K`, `memory` and `disk`. Only
+/// `migrated` changes the database, and of that the version alone; it is changed too where `migrated` could not be written. A stop
+/// leaves the database as it was, or migrated.
+pub fn migrate_store<S: Alter, W: Write, E: Write>(
+    alloc: Global,
+    conn: &mut Connection<S>,
+    out: &mut W,
+    err: &mut E,
+) -> Status
+    ensures out { Printed IsMigratedText (W.contents out.old) (W.contents out.new) result }
+    ensures err { FaultTold (E.contents err.old) (E.contents err.new) result }
+    ensures set { HasCleanDisk (state S.Store conn.new) → result ≡ Done
+        → IsMigrated (state S.Store conn.old).now.trees (state S.Store conn.new).now.trees }
+    ensures first { HasCleanDisk (state S.Store conn.new) → result ≡ Done → IsLegalFirst (state S.Store conn.old).now.trees }
+    ensures leaves { HasCleanDisk (state S.Store conn.new) → result ≡ Done
+        → LeavesOnly (history_in (state S.Store conn.old).now.trees) (MayLeaveIn (state S.Store conn.new)) }
+    ensures nothing { HasCleanDisk (state S.Store conn.new) → result ≡ Refused → IsMigrateFault S.Store conn.old conn.new Nothing }
+    ensures kept { HasCleanDisk (state S.Store conn.new) → result ≡ Refused → IsAsBefore (state S.Store conn.old) (state S.Store conn.new) }
+    ensures crash { HasCleanDisk (state S.Store conn.new) → LeavesAsBeforeOrMigrated (state S.Store conn.old) (state S.Store conn.new) }
+    ensures either { conn.old.in_transaction ≡ false → IsTrue (state S.Store conn.old).is_open → HasCleanDisk (state S.Store conn.new)
+        → LeavesItOrMigrated (state S.Store conn.old).now.trees (state S.Store conn.new) }
+    ensures cause { HasCleanDisk (state S.Store conn.new) → FailsFor (IsMigrateEnd S.Store conn.old conn.new) (E.contents err.old) (E.contents err.new) result }
+{
+    let came = write_migrated(alloc, conn, out);
+    ended(came, out, err)
+}
