@@ -3,11 +3,11 @@ use Rattle.std.proofs.Common.{◌≡◌, ℕ, ◌+◌, ◌-◌, ◌≤◌, List,
 use Rattle.std.specs.Prelude.{slice_get}
 use Rattle.std.proofs.lemmas.List.{take-append-le, drop-append-le}
 use Rattle.std.proofs.lemmas.Option.{slice_get_within}
-use Rattle.rights_lattice.specs.State.{join}
+use Rattle.rights_lattice.specs.State.{bottom, join}
 use Rattle.book_core.specs.declared.entry.Entry.{Entry}
 use Rattle.book_core.specs.History.{delta_of, state_of, interval}
 use Rattle.delta_buffer.specs.Pending.{PendingView, IsPendingOf}
-use Rattle.delta_buffer.proofs.IntervalLaws.{one_between, meeting}
+use Rattle.delta_buffer.proofs.IntervalLaws.{none_between, one_between, meeting}
 
 -- one entry joined
 pub added : (h : List Entry) (p : PendingView) (entry : Entry) → IsPendingOf h p → slice_get h p.upto ≡ Some entry
@@ -34,3 +34,7 @@ still_pending h more p is = record {
   within = omega (arith, is.within, length-append h more);
   delta = is.delta ∙ ap state_of (sym (behind h more p.from (p.upto - p.from) (omega (arith, is.order, is.within))));
 }
+
+-- nothing is pending behind what is acknowledged
+pub none_pending : (h : List Entry) (n : ℕ) → n ≤ length h → IsPendingOf h (record { from = n; upto = n; delta = bottom })
+none_pending h n le = record { order = omega arith; within = le; delta = sym (none_between h n) }

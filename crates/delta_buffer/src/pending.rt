@@ -36,28 +36,21 @@ impl Pending {
     pub fn new(alloc: Global) -> Pending
         ensures { result ≡ record { from = 0; upto = 0; delta = bottom } }
     {
+        Pending::behind(alloc, 0)
+    }
+
+    /// The first `n` entries are acknowledged, and nothing was added behind them. It takes no memory.
+    pub fn behind(alloc: Global, n: usize) -> Pending
+        ensures { result ≡ record { from = n; upto = n; delta = bottom } }
+    {
         Pending {
-            from: 0,
-            upto: 0,
+            from: n,
+            upto: n,
             delta: Delta::empty(alloc),
         }
     }
 
-    /// How many entries the peer has acknowledged.
-    pub fn from(&self) -> usize
-        ensures { result ≡ self.now.from }
-    {
-        self.from
-    }
-
-    /// How many entries are joined or acknowledged.
-    pub fn upto(&self) -> usize
-        ensures { result ≡ self.now.upto }
-    {
-        self.upto
-    }
-
-    /// The join of the deltas from the one to the other.
+    /// The join of the deltas from what the peer has acknowledged up to what was added.
     pub fn delta(&self) -> &Delta
         ensures { result.now ≡ self.now.delta }
     {
