@@ -189,7 +189,7 @@ def read_by_sqlite(folder, file):
             if db.execute("PRAGMA integrity_check").fetchall() != [("ok",)]:
                 return None
             ((kind, version, me, sites),) = db.execute("SELECT kind, version, me, sites FROM meta").fetchall()
-            if (kind, version) != ("ticket-escrow", 1):
+            if (kind, version) != ("ticket-escrow", 2):
                 return None
             return History(me, sites, db.execute(ROWS).fetchall())
     except (sqlite3.Error, ValueError, TypeError, AttributeError, UnicodeDecodeError):

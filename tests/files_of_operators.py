@@ -160,7 +160,7 @@ def damaged(folder):
 def other_records(folder):
     changes = [
         ("newer", ["UPDATE meta SET version = 7"], "other-schema 7"),
-        ("wider", ["ALTER TABLE meta ADD COLUMN zone TEXT", "UPDATE meta SET version = 2"], "other-schema 2"),
+        ("wider", ["ALTER TABLE meta ADD COLUMN zone TEXT", "UPDATE meta SET version = 3"], "other-schema 3"),
         ("hole", ["DELETE FROM entries WHERE pos = 1"], "damaged 1"),
         ("forged", ["UPDATE entries SET amount = 4 WHERE pos = 3"], "damaged 3"),
         ("without", ["DROP TABLE meta"], "not-ours"),

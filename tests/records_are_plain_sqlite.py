@@ -62,7 +62,7 @@ def read(folder, file, me, rows):
         strict = db.execute("SELECT name, strict FROM pragma_table_list WHERE schema = 'main' AND name IN ('meta', 'entries') ORDER BY name")
         same(f"{path}: strict", strict.fetchall(), [("entries", 1), ("meta", 1)])
         meta = db.execute("SELECT one, kind, version, me, sites, bound FROM meta").fetchall()
-        same(f"{path}: meta", meta, [(1, "ticket-escrow", 1, me, 2, 1000)])
+        same(f"{path}: meta", meta, [(1, "ticket-escrow", 2, me, 2, 1000)])
         found = db.execute(
             "SELECT pos, peer, number, verb, event, amount, target, reply, rest, delta FROM entries ORDER BY pos"
         ).fetchall()

@@ -310,8 +310,8 @@ fn fault_after(rt: &impl Abort, alloc: Global, sql: &str) -> Option<OpenFault> {
 #[test]
 fn records_that_others_changed_are_refused(rt: HostRuntime) {
     let alloc = rt.alloc();
-    let later = fault_after(&rt, alloc, "UPDATE meta SET version = 2");
-    assert_eq!(rt; later, Some(OpenFault::OtherSchema { version: 2 }));
+    let later = fault_after(&rt, alloc, "UPDATE meta SET version = 3");
+    assert_eq!(rt; later, Some(OpenFault::OtherSchema { version: 3 }));
     let strange = fault_after(&rt, alloc, "UPDATE meta SET me = 2");
     assert_eq!(rt; strange, Some(OpenFault::NotOurs));
     let hole = fault_after(&rt, alloc, "DELETE FROM entries WHERE pos = 1");

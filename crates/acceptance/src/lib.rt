@@ -20,6 +20,8 @@ mod many_sites;
 #[cfg(test)]
 mod messages;
 #[cfg(test)]
+mod migrating;
+#[cfg(test)]
 mod one_site;
 #[cfg(test)]
 mod program_words;
