@@ -22,7 +22,7 @@ INSERT INTO entries VALUES
 
 // Their rows in one text.
 const ROWS: &str =
-    "SELECT group_concat(pos || number || verb || ifnull(event, '') || ifnull(amount, '') || ifnull(target, '') || reply || delta, ' ') FROM entries";
+    "SELECT group_concat(pos || number || verb || ifnull(event, '') || ifnull(amount, '') || ifnull(target, '') || reply || delta) FROM entries";
 
 // The helpers have no clause, so that the proof of a test does not carry the state of each call.
 
