@@ -13,7 +13,6 @@ use Rattle.plain_words.specs.Words.{ended, ◌>>=◌}
 use Rattle.plain_words.proofs.WordLaws.{lacks_space, some_is, bind_some, ended_found}
 use Rattle.delta_wire.specs.Fields.{event_at, site_at, value_at}
 use Rattle.rights_lattice.specs.Cells.{IsValue}
-use Rattle.rights_lattice.specs.Limits.{IsSite}
 use Rattle.delta_wire.proofs.FieldLaws.{event_at_found, event_again, site_at_found, site_again, site_lacks_space, value_at_found, value_again, value_lacks_space}
 use Rattle.delta_wire.proofs.Names.{name_lacks_space}
 use Rattle.request_ledger.specs.Ranges.{IsPart, IsRequest}
