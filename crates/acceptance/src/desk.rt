@@ -53,7 +53,7 @@ pub(crate) fn failing_book(
     }
 }
 
-fn copies(alloc: Global, entries: &[Entry]) -> Result<Vec<Entry>, AllocError>
+pub(crate) fn copies(alloc: Global, entries: &[Entry]) -> Result<Vec<Entry>, AllocError>
     ensures { IfOk result (λ copies. copies.items ≡ entries.now) }
 {
     let mut copies = Vec::new(alloc);

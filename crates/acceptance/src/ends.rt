@@ -12,8 +12,8 @@ use std::test::Fail;
 
 // Gives one byte a call, and then fails.
 #[derive(Drop)]
-struct Broken {
-    bytes: &'static [u8],
+pub(crate) struct Broken {
+    pub(crate) bytes: &'static [u8],
 }
 
 impl Read for Broken {

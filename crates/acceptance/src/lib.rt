@@ -10,6 +10,12 @@ mod desk_answers;
 #[cfg(test)]
 mod ends;
 #[cfg(test)]
+mod failing_sessions;
+#[cfg(test)]
+mod forged;
+#[cfg(test)]
+mod growth;
+#[cfg(test)]
 mod keepers;
 #[cfg(test)]
 mod line_texts;
@@ -43,6 +49,8 @@ mod sessions;
 mod sites;
 #[cfg(test)]
 mod sockets;
+#[cfg(test)]
+mod stops;
 #[cfg(test)]
 mod texts;
 #[cfg(test)]

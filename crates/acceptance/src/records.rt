@@ -17,7 +17,7 @@ use std::sync::Wait;
 use std::test::Fail;
 
 // Makes the records of a site of two.
-fn init<S: Alter>(
+pub(crate) fn init<S: Alter>(
     rt: &impl Abort,
     alloc: Global,
     conn: &mut Connection<S>,
@@ -69,7 +69,7 @@ fn ask<S: Alter + Drop>(
 }
 
 // Imports a text.
-fn import<S: Alter + Drop>(
+pub(crate) fn import<S: Alter + Drop>(
     rt: &impl Abort,
     alloc: Global,
     conn: Connection<S>,
@@ -87,7 +87,7 @@ fn import<S: Alter + Drop>(
 }
 
 // Site 1 of two has 50 seats and sold 8 of them.
-fn sold_eight<S: Alter + Drop>(
+pub(crate) fn sold_eight<S: Alter + Drop>(
     rt: &impl Abort,
     alloc: Global,
     mut conn: Connection<S>,
@@ -159,7 +159,7 @@ fn records_meet_forged_messages(rt: HostRuntime) -> Result<(), Fail> {
 }
 
 // A session with the records, up to its end.
-fn session<S: Alter + Drop>(
+pub(crate) fn session<S: Alter + Drop>(
     rt: &(impl Abort + Wait),
     alloc: Global,
     conn: Connection<S>,
@@ -388,7 +388,7 @@ fn audit<S: Alter + Drop>(
 }
 
 // Sums up site 0 alone, and sites 0 and 1.
-fn audit_two<S: Alter + Drop>(
+pub(crate) fn audit_two<S: Alter + Drop>(
     rt: &impl Abort,
     alloc: Global,
     conns: (Connection<S>, Connection<S>),
