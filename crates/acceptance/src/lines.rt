@@ -132,10 +132,7 @@ fn reply_lines(rt: HostRuntime) -> Result<(), Fail> {
         (Answered::Kept(Reply::CellFull), b"full-cell\n"),
         (Answered::Kept(Reply::NoSale), b"no-sale\n"),
         (Answered::Kept(Reply::Refunded), b"refunded\n"),
-        (
-            Answered::Kept(Reply::TooMany { rest: 3 }),
-            b"too-many 3\n",
-        ),
+        (Answered::Kept(Reply::TooMany { rest: 3 }), b"too-many 3\n"),
         (Answered::Kept(Reply::ToSelf), b"to-self\n"),
         (Answered::Kept(Reply::NoSite), b"no-site\n"),
         (Answered::LeftIs(96), b"left 96\n"),
