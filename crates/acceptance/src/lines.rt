@@ -38,12 +38,22 @@ fn lines_of_a_session(rt: HostRuntime) -> Result<(), Fail> {
         request: cession,
     };
     assert!(rt; read_line(b"cede 3 gala 40 1") == Ok(asked));
-    let refund = |part| Line::Ask {
+    let whole = Line::Ask {
         number: three,
-        request: Request::Refund { sale: three, part },
+        request: Request::Refund {
+            sale: three,
+            part: None,
+        },
     };
-    assert!(rt; read_line(b"refund 3 3") == Ok(refund(None)));
-    assert!(rt; read_line(b"refund 3 3 40") == Ok(refund(Some(amount(40)?))));
+    assert!(rt; read_line(b"refund 3 3") == Ok(whole));
+    let part = Line::Ask {
+        number: three,
+        request: Request::Refund {
+            sale: three,
+            part: Some(amount(40)?),
+        },
+    };
+    assert!(rt; read_line(b"refund 3 3 40") == Ok(part));
     assert!(rt; read_line(b"left gala") == Ok(Line::Left { event }));
     assert!(rt; read_line(b"totals gala") == Ok(Line::Totals { event }));
     assert!(rt; read_line(b"quit") == Ok(Line::Quit));
@@ -132,10 +142,7 @@ fn reply_lines(rt: HostRuntime) -> Result<(), Fail> {
         (Answered::Kept(Reply::CellFull), b"full-cell\n"),
         (Answered::Kept(Reply::NoSale), b"no-sale\n"),
         (Answered::Kept(Reply::Refunded), b"refunded\n"),
-        (
-            Answered::Kept(Reply::TooMany { rest: 3 }),
-            b"too-many 3\n",
-        ),
+        (Answered::Kept(Reply::TooMany { rest: 3 }), b"too-many 3\n"),
         (Answered::Kept(Reply::ToSelf), b"to-self\n"),
         (Answered::Kept(Reply::NoSite), b"no-site\n"),
         (Answered::LeftIs(96), b"left 96\n"),
