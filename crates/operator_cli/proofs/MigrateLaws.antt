@@ -1,14 +1,15 @@
 -- What is told of records whose version was to be raised.
-use Rattle.std.proofs.Common.{◌≡◌, inl, inr, refl}
+use Rattle.std.proofs.Common.{◌≡◌, inl, inr, IfOk, IfErr, refl}
 use Rattle.sqlite.specs.Store.{Ghosts}
 use Rattle.sqlite.specs.Held.{Held, state}
+use Rattle.sql_records.specs.declared.fault.MigrateFault.{MigrateFault}
 use Rattle.sql_records.specs.declared.fault.MigrateFault.TheVariants as migrating
-use Rattle.sql_records.specs.Migrating.{IsMigrated, IsMigrateFault}
+use Rattle.sql_records.specs.Migrating.{IsAsBefore, IsMigrated, IsMigrateFault}
 use Rattle.operator_cli.specs.declared.status.Status.TheVariants.{Done, Refused}
 use Rattle.operator_cli.specs.declared.store_fault.StoreFault.TheVariants.{Write}
 use Rattle.operator_cli.specs.declared.told.Told.{Told}
 use Rattle.operator_cli.specs.declared.told.Told.TheVariants.{Migrated, Nothing}
-use Rattle.operator_cli.specs.Told.{told_status}
+use Rattle.operator_cli.specs.Told.{told_status, ended_by_migrate}
 use Rattle.operator_cli.specs.Printed.{IsOfMigrating}
 use Rattle.operator_cli.specs.Opened.{IsMigrateEnd}
 
@@ -18,3 +19,45 @@ pub unsaid : {S : Type 0} (g : Ghosts S) (conn after : Held S) (told : Told) →
 unsaid g conn after Migrated is set nothing = inl (set refl)
 unsaid g conn after Nothing is set nothing = inr (nothing refl)
 unsaid g conn after _ is set nothing = absurd is
+
+-- ---- what is told of records that are not migrated
+
+pub refusal_told : (f : MigrateFault) → IfOk (ended_by_migrate f) IsOfMigrating
+refusal_told migrating.Nothing = tt
+refusal_told migrating.NotOurs = tt
+refusal_told (migrating.OtherSchema version) = tt
+refusal_told (migrating.Damaged place) = tt
+refusal_told migrating.Memory = tt
+refusal_told migrating.Disk = tt
+
+pub refusal_done : (P : Type 0) (f : MigrateFault) → IfOk (ended_by_migrate f) (λ told. told_status told ≡ Done → P)
+refusal_done P migrating.Nothing = λ e. absurd (let is = e in cc)
+refusal_done P migrating.NotOurs = tt
+refusal_done P (migrating.OtherSchema version) = tt
+refusal_done P (migrating.Damaged place) = tt
+refusal_done P migrating.Memory = tt
+refusal_done P migrating.Disk = tt
+
+pub refusal_nothing : (Is : MigrateFault → Type 0) (f : MigrateFault) → Is f → IfOk (ended_by_migrate f) (λ told. told_status told ≡ Refused → Is migrating.Nothing)
+refusal_nothing Is migrating.Nothing h = λ e. h
+refusal_nothing Is migrating.NotOurs h = tt
+refusal_nothing Is (migrating.OtherSchema version) h = tt
+refusal_nothing Is (migrating.Damaged place) h = tt
+refusal_nothing Is migrating.Memory h = tt
+refusal_nothing Is migrating.Disk h = tt
+
+pub refusal_kept : (P : Type 0) (f : MigrateFault) → P → IfOk (ended_by_migrate f) (λ told. told_status told ≡ Refused → P)
+refusal_kept P migrating.Nothing h = λ e. h
+refusal_kept P migrating.NotOurs h = tt
+refusal_kept P (migrating.OtherSchema version) h = tt
+refusal_kept P (migrating.Damaged place) h = tt
+refusal_kept P migrating.Memory h = tt
+refusal_kept P migrating.Disk h = tt
+
+pub refusal_ends : {S : Type 0} (g : Ghosts S) (conn after : Held S) (f : MigrateFault) → IsAsBefore (state g conn) (state g after) → IsMigrateFault g conn after f → IfErr (ended_by_migrate f) (IsMigrateEnd g conn after)
+refusal_ends g conn after migrating.Nothing kept h = tt
+refusal_ends g conn after migrating.NotOurs kept h = (kept, h)
+refusal_ends g conn after (migrating.OtherSchema version) kept h = (kept, h)
+refusal_ends g conn after (migrating.Damaged place) kept h = (kept, h)
+refusal_ends g conn after migrating.Memory kept h = (kept, h)
+refusal_ends g conn after migrating.Disk kept h = (kept, h)

@@ -13,6 +13,8 @@ use Rattle.book_core.specs.declared.plan.ReplayFault.{ReplayFault}
 use Rattle.book_core.specs.declared.plan.ReplayFault.TheVariants as replay
 use Rattle.sql_records.specs.declared.fault.OpenFault.{OpenFault}
 use Rattle.sql_records.specs.declared.fault.OpenFault.TheVariants as opening
+use Rattle.sql_records.specs.declared.fault.MigrateFault.{MigrateFault}
+use Rattle.sql_records.specs.declared.fault.MigrateFault.TheVariants as migrating
 use Rattle.sql_records.specs.declared.lookup.FindFault.{FindFault}
 use Rattle.sql_records.specs.declared.lookup.FindFault.TheVariants as find
 use Rattle.operator_cli.specs.declared.store_fault.StoreFault.{StoreFault}
@@ -106,6 +108,15 @@ ended_by_take take.Full = Ok (NotTaken take.Full)
 ended_by_take take.Memory = Err fault.Memory
 ended_by_take take.Closed = Err fault.Store
 ended_by_take take.Store = Err fault.Store
+
+-- that there is nothing to migrate is told, but each other fault ends the command
+abbrev pub ended_by_migrate : MigrateFault → Result Told StoreFault
+ended_by_migrate migrating.Nothing = Ok Nothing
+ended_by_migrate migrating.NotOurs = Err fault.NotOurs
+ended_by_migrate (migrating.OtherSchema version) = Err (fault.OtherSchema version)
+ended_by_migrate (migrating.Damaged place) = Err (fault.Damaged place)
+ended_by_migrate migrating.Memory = Err fault.Memory
+ended_by_migrate migrating.Disk = Err fault.Disk
 
 -- what stands in the way of the sums is told, but want of memory ends the command
 abbrev pub ended_by_audit : AuditFault → Result Told StoreFault

@@ -7,7 +7,7 @@ ghost use Rattle.sql_records.specs.Held.{MayLeaveIn, history_in};
 ghost use Rattle.sql_records.specs.Keeping.{LeavesOnly};
 ghost use Rattle.sql_records.specs.Migrating.{IsAsBefore, IsMigrated, IsLegalFirst, IsMigrateFault, LeavesAsBeforeOrMigrated, LeavesItOrMigrated};
 ghost use Rattle.sql_records.specs.declared.fault.MigrateFault.TheVariants.{Nothing};
-ghost use Rattle.operator_cli.specs.Told.{FaultTold, told_status};
+ghost use Rattle.operator_cli.specs.Told.{FaultTold, told_status, ended_by_migrate};
 ghost use Rattle.operator_cli.specs.Opened.{IsMigrateEnd, FailsFor};
 ghost use Rattle.operator_cli.specs.Printed.{Printed, IsMigratedText, IsOfMigrating};
 ghost use Rattle.operator_cli.specs.declared.store_fault.StoreFault.TheVariants.{Write as WriteFailed};
@@ -21,6 +21,20 @@ use sql_records::{MigrateFault, Records};
 use sqlite::{Alter, Connection};
 use std::alloc::Global;
 use std::io::Write;
+
+// What records that are not migrated come to.
+fn ended_by_migrate(fault: MigrateFault) -> Result<Told, StoreFault>
+    ensures { result ≡ ended_by_migrate fault }
+{
+    match fault {
+        MigrateFault::Nothing => Ok(Told::Nothing),
+        MigrateFault::NotOurs => Err(StoreFault::NotOurs),
+        MigrateFault::OtherSchema { version } => Err(StoreFault::OtherSchema { version }),
+        MigrateFault::Damaged { place } => Err(StoreFault::Damaged { place }),
+        MigrateFault::Memory => Err(StoreFault::Memory),
+        MigrateFault::Disk => Err(StoreFault::Disk),
+    }
+}
 
 fn migrate<S: Alter>(alloc: Global, conn: &mut Connection<S>) -> Result<Told, StoreFault>
     ensures told { IfOk result IsOfMigrating }
@@ -38,12 +52,7 @@ fn migrate<S: Alter>(alloc: Global, conn: &mut Connection<S>) -> Result<Told, St
 {
     match Records::migrate(alloc, conn) {
         Ok(()) => Ok(Told::Migrated),
-        Err(MigrateFault::Nothing) => Ok(Told::Nothing),
-        Err(MigrateFault::NotOurs) => Err(StoreFault::NotOurs),
-        Err(MigrateFault::OtherSchema { version }) => Err(StoreFault::OtherSchema { version }),
-        Err(MigrateFault::Damaged { place }) => Err(StoreFault::Damaged { place }),
-        Err(MigrateFault::Memory) => Err(StoreFault::Memory),
-        Err(MigrateFault::Disk) => Err(StoreFault::Disk),
+        Err(fault) => ended_by_migrate(fault),
     }
 }
 
