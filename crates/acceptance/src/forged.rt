@@ -8,7 +8,7 @@ use std::alloc::Global;
 use std::process::Abort;
 use std::sync::Wait;
 
-// What stands here beside is told of texts in memory, and of a message that is foreign, stray or cut otherwise.
+// Foreign rows, stray acknowledgements and texts that are damaged otherwise are among the tests of `records`.
 #[test]
 fn forged_messages_are_told(rt: HostRuntime) {
     let alloc = rt.alloc();
