@@ -16,7 +16,7 @@ enum Req {
     Announce(Ev),
     Release(Ev, u64),
     Sell(Ev, u64),
-    Refund(u64),
+    Refund(u64, Option<u64>),
     Cede(Ev, u64, u8),
 }
 #[derive(Clone, PartialEq)]
@@ -28,6 +28,7 @@ enum Reply {
     CellFull,
     NoSale,
     Refunded,
+    TooMany(u64),
     ToSelf,
     NoSite,
 }
@@ -161,12 +162,15 @@ impl Site {
                     )
                 }
             }
-            Req::Refund(sale) => match self.kept.get(sale) {
+            Req::Refund(sale, part) => match self.kept.get(sale) {
                 Some((Req::Sell(e, n), Reply::Done)) => {
-                    if self.given.contains_key(sale) {
+                    let rest = *n - self.given.get(sale).copied().unwrap_or(0);
+                    if rest == 0 {
                         no(Reply::Refunded)
+                    } else if part.is_some_and(|part| part > rest) {
+                        no(Reply::TooMany(rest))
                     } else {
-                        up(e, (2, me, me), *n, 2)
+                        up(e, (2, me, me), part.unwrap_or(rest), 2)
                     }
                 }
                 _ => no(Reply::NoSale),
@@ -214,8 +218,8 @@ impl Site {
         if store {
             self.enter_delta(&delta);
             if kind == 2 {
-                if let Req::Refund(sale) = &req {
-                    self.given.insert(*sale, amount);
+                if let Req::Refund(sale, _) = &req {
+                    *self.given.entry(*sale).or_insert(0) += amount;
                 }
             }
             self.kept.insert(number, (req, reply));
@@ -339,6 +343,7 @@ fn text(r: &Reply) -> String {
         Reply::CellFull => "full-cell".into(),
         Reply::NoSale => "no-sale".into(),
         Reply::Refunded => "refunded".into(),
+        Reply::TooMany(n) => format!("too-many {n}"),
         Reply::ToSelf => "to-self".into(),
         Reply::NoSite => "no-site".into(),
     }
@@ -372,7 +377,8 @@ fn req(w: &[&str]) -> Option<(u64, Req)> {
             ("announce", 3) => Req::Announce(ev(w[2])?),
             ("release", 4) => Req::Release(ev(w[2])?, num(w[3], 1, BIG)?),
             ("sell", 4) => Req::Sell(ev(w[2])?, num(w[3], 1, BIG)?),
-            ("refund", 3) => Req::Refund(num(w[2], 1, BIG)?),
+            ("refund", 3) => Req::Refund(num(w[2], 1, BIG)?, None),
+            ("refund", 4) => Req::Refund(num(w[2], 1, BIG)?, Some(num(w[3], 1, BIG)?)),
             ("cede", 5) => Req::Cede(ev(w[2])?, num(w[3], 1, BIG)?, site(w[4])?),
             _ => return None,
         },
