@@ -190,13 +190,13 @@ fn left(rt: &impl Abort, alloc: Global, calls: u64) -> Option<i64> {
 #[test]
 fn stop_leaves_records_of_either_schema(rt: HostRuntime) {
     let alloc = rt.alloc();
-    let (mut first, mut second) = (0, 0);
+    let (mut saw_first, mut saw_second) = (false, false);
     for calls in 0..100 {
         match left(&rt, alloc, calls) {
-            Some(1) => first += 1,
-            Some(_) => second += 1,
+            Some(1) => saw_first = true,
+            Some(_) => saw_second = true,
             None => {}
         }
     }
-    assert!(rt; first > 0 && second > 0);
+    assert!(rt; saw_first && saw_second);
 }
