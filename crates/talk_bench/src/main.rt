@@ -3,6 +3,8 @@
 //! with the argument `list` it has a list in memory, to which each entry is copied.
 #![tactic(auto)]
 
+ghost use Rattle.std.specs.Prelude.{◌<◌, IfSome};
+
 mod unkept;
 
 use book_core::Limit;
@@ -28,7 +30,9 @@ fn asks_for_a_list(rt: &HostRuntime) -> std::io::Result<bool> {
     Ok(words.len() > 1)
 }
 
-fn only_site() -> Option<Meta> {
+fn only_site() -> Option<Meta>
+    ensures site { IfSome result (λ meta. meta.me < meta.sites) }
+{
     Some(Meta {
         me: SiteId::of(0)?,
         sites: Sites::of(1)?,
