@@ -4,7 +4,7 @@ use Rattle.sqlite.specs.Store.{Ghosts}
 use Rattle.sqlite.specs.Held.{Held, state}
 use Rattle.sql_records.specs.declared.fault.MigrateFault.{MigrateFault}
 use Rattle.sql_records.specs.declared.fault.MigrateFault.TheVariants as migrating
-use Rattle.sql_records.specs.Migrating.{IsAsBefore, IsMigrated, IsMigrateFault}
+use Rattle.sql_records.specs.Migrating.{IsAsBefore, IsMigrated, IsLegalFirst, IsMigrateFault}
 use Rattle.operator_cli.specs.declared.status.Status.TheVariants.{Done, Refused}
 use Rattle.operator_cli.specs.declared.store_fault.StoreFault.TheVariants.{Write}
 use Rattle.operator_cli.specs.declared.told.Told.{Told}
@@ -14,11 +14,12 @@ use Rattle.operator_cli.specs.Printed.{IsOfMigrating}
 use Rattle.operator_cli.specs.Opened.{IsMigrateEnd}
 
 -- where it is not written, the records were migrated, or had the version already
-pub unsaid : {S : Type 0} (g : Ghosts S) (conn after : Held S) (told : Told) → IsOfMigrating told → (told_status told ≡ Done → IsMigrated (state g conn).now.trees (state g after).now.trees)
+pub unsaid : {S : Type 0} (g : Ghosts S) (conn after : Held S) (told : Told) → IsOfMigrating told → (told_status told ≡ Done → IsLegalFirst (state g conn).now.trees)
+    → (told_status told ≡ Done → IsMigrated (state g conn).now.trees (state g after).now.trees) → (told_status told ≡ Refused → IsAsBefore (state g conn) (state g after))
     → (told_status told ≡ Refused → IsMigrateFault g conn after migrating.Nothing) → IsMigrateEnd g conn after Write
-unsaid g conn after Migrated is set nothing = inl (set refl)
-unsaid g conn after Nothing is set nothing = inr (nothing refl)
-unsaid g conn after _ is set nothing = absurd is
+unsaid g conn after Migrated is first set kept nothing = inl (first refl, set refl)
+unsaid g conn after Nothing is first set kept nothing = inr (kept refl, nothing refl)
+unsaid g conn after _ is first set kept nothing = absurd is
 
 -- ---- what is told of records that are not migrated
 

@@ -2,15 +2,18 @@
 use Rattle.std.proofs.Common.{◌≡◌, ◌⊎◌, ℕ, List, [], ◌∷◌, length, Option, Result, Ok, Err, inl, inr, refl, sym, subst}
 use Rattle.std.specs.Prelude.{MatchResult, MatchOption, IfOk, IfSome, OnOk, Some, None}
 use Rattle.std.specs.Io.KnownBytes.{Appends, Keeps}
-use Rattle.std.proofs.KnownBytes.{Appends-kept}
+use Rattle.std.proofs.KnownBytes.{Appends-kept, Keeps-refl, Keeps-trans}
 use Rattle.plain_words.specs.Writing.{Writes}
+use Rattle.plain_words.proofs.WriteLaws.{AppendsFront-nothing, AppendsFront-kept}
 use Rattle.operator_cli.specs.declared.status.Status.{Status}
 use Rattle.operator_cli.specs.declared.status.Status.TheVariants.{Done, Refused, NotUnderstood, Failed}
 use Rattle.operator_cli.specs.declared.store_fault.StoreFault.{StoreFault}
+use Rattle.operator_cli.specs.declared.store_fault.StoreFault.TheVariants as fault
 use Rattle.operator_cli.specs.declared.told.Told.{Told}
 use Rattle.operator_cli.specs.Told.{told_line, told_status}
 use Rattle.sql_records.specs.declared.lookup.Listed.{Listed}
-use Rattle.operator_cli.specs.Printed.{Printed}
+use Rattle.operator_cli.specs.Printed.{Printed, Unsaid}
+use Rattle.operator_cli.proofs.EndLaws.{front_written}
 
 pub printed : (P : Status → List ℕ → Type 0) (a b : Option (List ℕ)) (status : Status) (text : List ℕ) → P status text → Appends a b text → Printed P a b status
 printed P a b Done text p h = (text, p, h)
@@ -28,6 +31,19 @@ kept P a b c Done h k = (h.0, h.1, Appends-kept a b c h.0 h.2 k)
 kept P a b c Refused h k = (h.0, h.1, Appends-kept a b c h.0 h.2 k)
 kept P a b c NotUnderstood h k = (h.0, h.1, Appends-kept a b c h.0 h.2 k)
 kept P a b c Failed h k = tt
+
+-- What went out behind a failed write is a front of what was told.
+pub told_unsaid : (P : Status → List ℕ → Type 0) (a b : Option (List ℕ)) (r : Result Status StoreFault) (told : Told) → P (told_status told) (told_line told) → Writes a b r (told_line told) → Unsaid P a b fault.Write
+told_unsaid P a b r told p h = (told_status told, told_line told, p, front_written a b r (told_line told) h)
+
+-- where nothing was written
+pub unsaid_yet : (P : Status → List ℕ → Type 0) (a : Option (List ℕ)) (status : Status) (text : List ℕ) → P status text → (f : StoreFault) → Unsaid P a a f
+unsaid_yet P a status text p fault.Write = (status, text, p, AppendsFront-nothing a a text (Keeps-refl a))
+unsaid_yet P a status text p _ = Keeps-refl a
+
+pub unsaid_kept : (P : Status → List ℕ → Type 0) (a b c : Option (List ℕ)) → Keeps b c → (f : StoreFault) → Unsaid P a b f → Unsaid P a c f
+unsaid_kept P a b c k fault.Write h = (h.0, h.1, h.2, AppendsFront-kept a b c h.1 h.3 k)
+unsaid_kept P a b c k _ h = Keeps-trans a b c h k
 
 -- what goes with the status of what is told
 pub told_ends : (C : Status → Type 0) (r : Result Status StoreFault) (told : Told) → IfOk r (λ status. status ≡ told_status told) → C (told_status told) → IfOk r C

@@ -15,7 +15,7 @@ use Rattle.sql_records.specs.declared.fault.OpenFault.TheVariants as opening
 use Rattle.sql_records.specs.declared.fault.InitFault.TheVariants as making
 use Rattle.sql_records.specs.declared.fault.MigrateFault.TheVariants as migrating
 use Rattle.sql_records.specs.declared.meta.Meta.{Meta}
-use Rattle.sql_records.specs.Migrating.{IsAsBefore, IsMigrated, IsMigrateFault}
+use Rattle.sql_records.specs.Migrating.{IsAsBefore, IsMigrated, IsLegalFirst, IsMigrateFault}
 use Rattle.sql_records.specs.Faults.{HasDiskCause, IsUndoneForMemory}
 use Rattle.sql_records.specs.Making.{IsInitFault}
 use Rattle.sql_records.specs.Held.{MayLeaveIn, history_in}
@@ -44,7 +44,8 @@ IsMigrateEnd g conn after (fault.OtherSchema version) = IsAsBefore (state g conn
 IsMigrateEnd g conn after (fault.Damaged place) = IsAsBefore (state g conn) (state g after) × IsMigrateFault g conn after (migrating.Damaged place)
 IsMigrateEnd g conn after fault.Memory = IsAsBefore (state g conn) (state g after) × IsMigrateFault g conn after migrating.Memory
 IsMigrateEnd g conn after fault.Disk = IsAsBefore (state g conn) (state g after) × IsMigrateFault g conn after migrating.Disk
-IsMigrateEnd g conn after fault.Write = IsMigrated (state g conn).now.trees (state g after).now.trees ⊎ IsMigrateFault g conn after migrating.Nothing
+IsMigrateEnd g conn after fault.Write = (IsLegalFirst (state g conn).now.trees × IsMigrated (state g conn).now.trees (state g after).now.trees)
+    ⊎ (IsAsBefore (state g conn) (state g after) × IsMigrateFault g conn after migrating.Nothing)
 IsMigrateEnd g conn after _ = ⊥
 
 -- what ends looking a number up early: the store wants memory, the disk is at fault, or what is found is not written and the records are as they were

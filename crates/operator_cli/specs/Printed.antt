@@ -33,6 +33,12 @@ Unprinted P old new fault.Memory = Keeps old new
 Unprinted P old new fault.Write = (status : Status) × (text : List ℕ) × P status text × AppendsFront old new text
 Unprinted P old new _ = ⊥
 
+-- What went out where a command over one site's records failed: nothing, save where the failed write was that of such a text:
+-- then a front of one.
+abbrev pub Unsaid : (Status → List ℕ → Type 0) → Option (List ℕ) → Option (List ℕ) → StoreFault → Type 0
+Unsaid P old new fault.Write = (status : Status) × (text : List ℕ) × P status text × AppendsFront old new text
+Unsaid P old new _ = Keeps old new
+
 -- the line of something told, with its status
 abbrev pub IsTellingOf : (Told → Type 0) → Status → List ℕ → Type 0
 IsTellingOf Q status text = (told : Told) × Q told × (told_status told ≡ status) × (text ≡ told_line told)

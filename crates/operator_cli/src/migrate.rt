@@ -9,7 +9,7 @@ ghost use Rattle.sql_records.specs.Migrating.{IsAsBefore, IsMigrated, IsLegalFir
 ghost use Rattle.sql_records.specs.declared.fault.MigrateFault.TheVariants.{Nothing};
 ghost use Rattle.operator_cli.specs.Told.{FaultTold, told_status, ended_by_migrate};
 ghost use Rattle.operator_cli.specs.Opened.{IsMigrateEnd, FailsFor};
-ghost use Rattle.operator_cli.specs.Printed.{Printed, IsMigratedText, IsOfMigrating};
+ghost use Rattle.operator_cli.specs.Printed.{Printed, Unsaid, IsMigratedText, IsOfMigrating};
 ghost use Rattle.operator_cli.specs.declared.store_fault.StoreFault.TheVariants.{Write as WriteFailed};
 ghost use Rattle.operator_cli.specs.declared.status.Status.TheVariants.{Done, Refused, Failed};
 
@@ -75,6 +75,8 @@ fn write_migrated<S: Alter, W: Write>(
     ensures fault { HasCleanDisk (state S.Store conn.new) → IfErr result (IsMigrateEnd S.Store conn.old conn.new) }
     ensures unsaid { HasCleanDisk (state S.Store conn.new) → OnOk result (IsMigrateEnd S.Store conn.old conn.new WriteFailed) }
     ensures ends { IfOk result (λ status. status ≢ Failed) }
+    ensures silent { IfErr result (Unsaid IsMigratedText (W.contents out.old) (W.contents out.new)) }
+    ensures begun { OnOk result (Unsaid IsMigratedText (W.contents out.old) (W.contents out.new) WriteFailed) }
 {
     match migrate(alloc, conn) {
         Ok(told) => tell(&told, out),
@@ -85,7 +87,7 @@ fn write_migrated<S: Alter, W: Write>(
 /// Makes the records of a site in the first schema records of the second, and prints `migrated`; or `nothing` where they
 /// are of the second already, with status 1.
 ///
-/// Each other refusal is told on `err`, with status 3: `not-ours`, `other-schema V`, `damaged K`, `memory` and `disk`. Only
+/// Each other refusal is told on `err`, with status 3 and nothing printed: `not-ours`, `other-schema V`, `damaged K`, `memory` and `disk`. Only
 /// `migrated` changes the database, and of that the version alone; it is changed too where `migrated` could not be written. A stop
 /// leaves the database as it was, or migrated.
 pub fn migrate_store<S: Alter, W: Write, E: Write>(
@@ -107,6 +109,7 @@ pub fn migrate_store<S: Alter, W: Write, E: Write>(
     ensures either { conn.old.in_transaction ≡ false → IsTrue (state S.Store conn.old).is_open → HasCleanDisk (state S.Store conn.new)
         → LeavesItOrMigrated (state S.Store conn.old).now.trees (state S.Store conn.new) }
     ensures cause { HasCleanDisk (state S.Store conn.new) → FailsFor (IsMigrateEnd S.Store conn.old conn.new) (E.contents err.old) (E.contents err.new) result }
+    ensures silent { FailsFor (Unsaid IsMigratedText (W.contents out.old) (W.contents out.new)) (E.contents err.old) (E.contents err.new) result }
 {
     let came = write_migrated(alloc, conn, out);
     ended(came, out, err)

@@ -5,11 +5,12 @@ use Rattle.sql_records.specs.Keeping.{LeavesOnly}
 use Rattle.sql_records.specs.Migrating.{IsAsBefore, IsMigrated, IsLegalFirst, IsMigrateFault}
 use Rattle.sql_records.specs.declared.fault.MigrateFault.TheVariants.{Nothing}
 use Rattle.operator_cli.specs.declared.status.Status.{Status}
+use Rattle.operator_cli.specs.declared.store_fault.StoreFault.TheVariants as fault
 use Rattle.operator_cli.specs.declared.status.Status.TheVariants.{Done, Refused}
-use Rattle.operator_cli.specs.Printed.{IsMigratedText}
+use Rattle.operator_cli.specs.Printed.{IsMigratedText, Unsaid}
 use Rattle.operator_cli.specs.Opened.{IsMigrateEnd}
-use Rattle.operator_cli.proofs.EndLaws.{fails_for}
-use Rattle.operator_cli.proofs.PrintLaws.{ends_printed, ends_as}
+use Rattle.operator_cli.proofs.EndLaws.{fails_for, weaker, on_ok_map}
+use Rattle.operator_cli.proofs.PrintLaws.{ends_printed, ends_as, unsaid_kept}
 use Rattle.operator_cli.proofs.migrate.migrate_store.Goals as goal
 
 pub returns-clause-out : goal.returns-clause-out
@@ -40,3 +41,14 @@ pub returns-clause-cause : goal.returns-clause-cause
 returns-clause-cause g c clean =
     fails_for (IsMigrateEnd g.S.Store c.args.conn.now c.write_migrated-came.new.conn) (g.E.Write.contents c.args.err.now) (g.E.Write.contents c.ended.new.err) c.write_migrated-came.result c.ended.result (c.write_migrated-came.ensures.fault clean)
     (c.write_migrated-came.ensures.unsaid clean) c.write_migrated-came.ensures.ends c.ended.ensures.line c.ended.ensures.flush
+
+pub returns-clause-silent : goal.returns-clause-silent
+returns-clause-silent g c =
+    let before = g.W.Write.contents c.args.out.now in
+    let between = g.W.Write.contents c.write_migrated-came.new.out in
+    let after = g.W.Write.contents c.ended.new.out in
+    let still = unsaid_kept IsMigratedText before between after c.ended.ensures.kept in
+    fails_for (Unsaid IsMigratedText before after) (g.E.Write.contents c.args.err.now) (g.E.Write.contents c.ended.new.err) c.write_migrated-came.result c.ended.result
+    (weaker (Unsaid IsMigratedText before between) (Unsaid IsMigratedText before after) c.write_migrated-came.result still c.write_migrated-came.ensures.silent)
+    (on_ok_map c.write_migrated-came.result (Unsaid IsMigratedText before between fault.Write) (Unsaid IsMigratedText before after fault.Write) (still fault.Write) c.write_migrated-came.ensures.begun)
+    c.write_migrated-came.ensures.ends c.ended.ensures.line c.ended.ensures.flush

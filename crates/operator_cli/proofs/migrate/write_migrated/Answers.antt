@@ -3,12 +3,14 @@ use Rattle.sqlite.specs.Held.{state}
 use Rattle.sql_records.specs.Held.{MayLeaveIn, history_in}
 use Rattle.sql_records.specs.Keeping.{LeavesOnly}
 use Rattle.sql_records.specs.Migrating.{IsAsBefore, IsMigrated, IsLegalFirst, IsMigrateFault}
-use Rattle.sql_records.specs.declared.fault.MigrateFault.TheVariants.{Nothing}
+use Rattle.sql_records.specs.declared.fault.MigrateFault.TheVariants as fault
 use Rattle.operator_cli.specs.declared.status.Status.{Status}
 use Rattle.operator_cli.specs.declared.status.Status.TheVariants.{Done, Refused}
+use Rattle.operator_cli.specs.declared.told.Told.TheVariants.{Nothing}
+use Rattle.operator_cli.specs.Told.{told_line}
 use Rattle.operator_cli.specs.Printed.{IsMigratedText}
 use Rattle.operator_cli.proofs.EndLaws.{for_write, told_lives, always}
-use Rattle.operator_cli.proofs.PrintLaws.{told_printed, told_ends}
+use Rattle.operator_cli.proofs.PrintLaws.{told_printed, told_ends, told_unsaid, unsaid_yet}
 use Rattle.operator_cli.proofs.MigrateLaws.{unsaid}
 use Rattle.operator_cli.proofs.migrate.write_migrated.Goals as goal
 
@@ -30,7 +32,7 @@ returns-in-Ok-clause-leaves g c clean =
 
 pub returns-in-Ok-clause-nothing : goal.returns-in-Ok-clause-nothing
 returns-in-Ok-clause-nothing g c clean =
-    told_ends (λ (status : Status). status ≡ Refused → IsMigrateFault g.S.Store c.args.conn.now c.migrate.new.conn Nothing) c.tell.result c.in-Ok.told c.tell.ensures.status (c.in-Ok.ensures.nothing clean)
+    told_ends (λ (status : Status). status ≡ Refused → IsMigrateFault g.S.Store c.args.conn.now c.migrate.new.conn fault.Nothing) c.tell.result c.in-Ok.told c.tell.ensures.status (c.in-Ok.ensures.nothing clean)
 
 pub returns-in-Ok-clause-kept : goal.returns-in-Ok-clause-kept
 returns-in-Ok-clause-kept g c clean =
@@ -38,11 +40,23 @@ returns-in-Ok-clause-kept g c clean =
 
 pub returns-in-Ok-clause-fault : goal.returns-in-Ok-clause-fault
 returns-in-Ok-clause-fault g c clean =
-    for_write c.tell.result _ c.tell.ensures.fault (unsaid g.S.Store c.args.conn.now c.migrate.new.conn c.in-Ok.told c.in-Ok.ensures.told (c.in-Ok.ensures.set clean) (c.in-Ok.ensures.nothing clean))
+    for_write c.tell.result _ c.tell.ensures.fault (unsaid g.S.Store c.args.conn.now c.migrate.new.conn c.in-Ok.told c.in-Ok.ensures.told (c.in-Ok.ensures.first clean) (c.in-Ok.ensures.set clean) (c.in-Ok.ensures.kept clean) (c.in-Ok.ensures.nothing clean))
 
 pub returns-in-Ok-clause-unsaid : goal.returns-in-Ok-clause-unsaid
 returns-in-Ok-clause-unsaid g c clean =
-    always c.tell.result _ (unsaid g.S.Store c.args.conn.now c.migrate.new.conn c.in-Ok.told c.in-Ok.ensures.told (c.in-Ok.ensures.set clean) (c.in-Ok.ensures.nothing clean))
+    always c.tell.result _ (unsaid g.S.Store c.args.conn.now c.migrate.new.conn c.in-Ok.told c.in-Ok.ensures.told (c.in-Ok.ensures.first clean) (c.in-Ok.ensures.set clean) (c.in-Ok.ensures.kept clean) (c.in-Ok.ensures.nothing clean))
 
 pub returns-in-Ok-clause-ends : goal.returns-in-Ok-clause-ends
 returns-in-Ok-clause-ends g c = told_lives c.tell.result c.in-Ok.told c.tell.ensures.status
+
+pub returns-in-Ok-clause-silent : goal.returns-in-Ok-clause-silent
+returns-in-Ok-clause-silent g c =
+    for_write c.tell.result _ c.tell.ensures.fault (told_unsaid IsMigratedText (g.W.Write.contents c.args.out.now) (g.W.Write.contents c.tell.new.out) c.tell.result c.in-Ok.told (c.in-Ok.told, c.in-Ok.ensures.told, refl, refl) c.tell.ensures.written)
+
+pub returns-in-Ok-clause-begun : goal.returns-in-Ok-clause-begun
+returns-in-Ok-clause-begun g c =
+    always c.tell.result _ (told_unsaid IsMigratedText (g.W.Write.contents c.args.out.now) (g.W.Write.contents c.tell.new.out) c.tell.result c.in-Ok.told (c.in-Ok.told, c.in-Ok.ensures.told, refl, refl) c.tell.ensures.written)
+
+pub returns-in-Err-clause-silent : goal.returns-in-Err-clause-silent
+returns-in-Err-clause-silent g c =
+    unsaid_yet IsMigratedText (g.W.Write.contents c.args.out.now) Refused (told_line Nothing) (Nothing, tt, refl, refl) c.in-Err.fault
