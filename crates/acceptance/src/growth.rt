@@ -1,29 +1,22 @@
-//! A script, two books and two sessions that may be refused memory once, anywhere: no answer stands in the place of a
-//! refusal, and what was refused is answered when it is asked again.
+//! A script and two books that may be refused memory once, anywhere: no answer stands in the place of a refusal, and what
+//! was refused is answered when it is asked again.
 //!
 //! `tests/growth_refused.py` runs each of these with every request for memory refused in its turn.
-ghost use Rattle.std.specs.Prelude.{◌≡◌};
 
 use crate::desk::{copies, header};
-use crate::refused_memory::selling_book;
 use crate::values::{gala, number, seats, site};
 use book_core::{Entry, Limit};
 use delta_wire::{WireFault, read_message};
 use operator_cli::{Status, world_script};
 use request_ledger::{Reply, Request};
 use rights_lattice::Sites;
-use session_server::{Ended, Session, SessionEnd, TalkFault, serve_all};
-use site_desk::{AskFault, Desk, FinishFault, NextFault, NoGate, Opens, SiteBook, Taken};
+use site_desk::{AskFault, NextFault, SiteBook, Taken};
 use site_exchange::{Message, TakeFault};
 use sql_records::{ListKeeper, Meta};
 use std::alloc::Global;
 use std::io;
-use std::io::Write;
-use std::marker::Brand;
+use std::io::{ErrorKind, Write};
 use std::process::Abort;
-use std::sync::Wait;
-use std::sync::ledger::Blank;
-use std::thread::Threads;
 
 const PRINTED: &[u8] = b"done\ndone\ndone\ngala released 100 sold 3 refunded 0 outstanding 3\n";
 
@@ -66,15 +59,14 @@ impl Page {
 
 impl Write for Page {
     fn write(&mut self, buf: &[u8]) -> io::Result<usize> {
-        let mut taken: usize = 0;
         for byte in buf {
-            if self.len < 100 {
-                self.bytes[self.len] = *byte;
-                self.len += 1;
-                taken = taken.wrapping_add(1);
-            }
+            let Some(room) = self.bytes.get_mut(self.len) else {
+                return Err(ErrorKind::Other.into());
+            };
+            *room = *byte;
+            self.len = self.len.wrapping_add(1);
         }
-        Ok(taken)
+        Ok(buf.len())
     }
 
     fn flush(&mut self) -> io::Result<()> {
@@ -245,110 +237,4 @@ fn books_answer_again_what_was_refused(rt: HostRuntime) {
     let one = ask_each(&rt, alloc, one, &late);
     assert!(rt; shown(&rt, &zero) == (4, 60, true));
     assert!(rt; shown(&rt, &one) == (4, 0, true));
-}
-
-// Whether the text is a line of the first and one of the second.
-fn is_lines(text: &[u8], first: &[&[u8]], second: &[&[u8]]) -> bool {
-    for line in first {
-        for rest in second {
-            if text.starts_with(*line) && text.get(line.len()..) == Some(*rest) {
-                return true;
-            }
-        }
-    }
-    false
-}
-
-fn left_line(rt: &impl Abort, left: u64) -> &'static [u8] {
-    match left {
-        100 => b"left 100\n",
-        97 => b"left 97\n",
-        96 => b"left 96\n",
-        93 => b"left 93\n",
-        _ => panic!(rt; "another number of seats"),
-    }
-}
-
-// A session that was started and had its buffer wrote a line for each of its two: what it was given a receipt or a look
-// for is answered, and nothing else is.
-fn is_answered(rt: &impl Abort, end: &SessionEnd<&'static [u8], Page>) {
-    let Some(page) = &end.writer else {
-        assert!(rt; end.ended == Err(TalkFault::NotStarted));
-        return;
-    };
-    if end.ended != Ok(Ended::EndOfInput) {
-        assert!(rt; end.ended == Err(TalkFault::Memory));
-        assert!(rt; page.text().is_empty() && end.receipts.is_empty() && end.seen.is_empty());
-        return;
-    }
-    let refused: [&[u8]; 3] = [b"memory\n", b"store\n", b"closed\n"];
-    let done: [&[u8]; 1] = [b"done\n"];
-    let first = if end.receipts.is_empty() {
-        refused.as_slice()
-    } else {
-        done.as_slice()
-    };
-    let is_right = match end.seen.as_slice().first() {
-        Some(seen) => is_lines(page.text(), first, &[left_line(rt, seen.left)]),
-        None => is_lines(page.text(), first, &refused),
-    };
-    assert!(rt; is_right);
-}
-
-// Two sessions sell and look at once. Where all could be started, as many entries are new as there are receipts.
-fn served<R: Threads + Wait + Abort + Sync, L: Opens + Send + Sync>(
-    rt: &R,
-    alloc: Global,
-    book: SiteBook<ListKeeper>,
-    blank: Blank,
-) -> Option<()>
-    requires name { blank.name ≡ L.name }
-    requires parts { blank.parts ≡ L.parts }
-    requires two { blank.parts ≡ 2 }
-    requires began { L.began ≡ book.book.history }
-    requires office { L.office ≡ book.book.office }
-{
-    let mut receipts = Vec::with_capacity(alloc, 2).ok()?;
-    let mut looks = Vec::with_capacity(alloc, 2).ok()?;
-    let mut sessions = Vec::with_capacity(alloc, 2).ok()?;
-    let (desk, seat) = Desk::<ListKeeper, L>::new(book, blank);
-    let (zero, one) = seat.split();
-    let lines: [&'static [u8]; 2] = [
-        b"sell 10 gala 3\nleft gala\n",
-        b"sell 20 gala 4\nleft gala\n",
-    ];
-    for (id, reader, seat) in [(0, lines[0], zero), (1, lines[1], one)] {
-        let writer = Page::new();
-        let session = Session {
-            id,
-            reader,
-            writer,
-            seat,
-        };
-        sessions.push(session).expect(rt, "room");
-    }
-    let (ends, seats) = serve_all(rt, alloc, sessions, &desk, &NoGate).ok()?;
-    for end in ends.as_slice() {
-        is_answered(rt, end);
-        for receipt in end.receipts.as_slice() {
-            receipts.push(*receipt).expect(rt, "room");
-        }
-        for seen in end.seen.as_slice() {
-            looks.push(*seen).expect(rt, "room");
-        }
-    }
-    let is_whole = seats.len() == 2;
-    match desk.finish(seats, receipts.as_slice(), looks.as_slice()) {
-        Ok(book) => assert!(rt; book.book().len() == receipts.len().wrapping_add(2)),
-        Err((_, fault)) => assert!(rt; fault == FinishFault::SeatsOut && !is_whole),
-    }
-    Some(())
-}
-
-#[test]
-fn sessions_answer_or_tell_what_was_refused(rt: HostRuntime) {
-    let alloc = rt.alloc();
-    if let Some(book) = selling_book(&rt, alloc) {
-        let _ = served::<_, Brand>(&rt, alloc, book, Blank::new(2));
-    }
 }

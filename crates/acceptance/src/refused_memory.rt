@@ -18,7 +18,7 @@ use std::sync::Wait;
 use std::sync::ledger::Blank;
 
 // The book of site 0 with 100 seats released, where there is memory for it.
-pub(crate) fn selling_book(rt: &impl Abort, alloc: Global) -> Option<SiteBook<ListKeeper>> {
+fn selling_book(rt: &impl Abort, alloc: Global) -> Option<SiteBook<ListKeeper>> {
     let meta = Meta {
         me: SiteId::of(0)?,
         sites: Sites::of(2)?,

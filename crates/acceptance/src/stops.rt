@@ -84,7 +84,7 @@ fn give(
 fn behind(conn: Stopping) -> (bool, Files<Fuse<Memory>>) {
     match conn.close_files() {
         Ok(files) => (true, files),
-        Err((_, store)) => (false, store.close()),
+        Err((_error, store)) => (false, store.close()),
     }
 }
 
@@ -113,9 +113,9 @@ fn run(
                 let (is_closed, files) = behind(conn);
                 (is_closed && status == Status::Done, Some(files))
             }
-            (_, None) => (false, None),
+            (_status, None) => (false, None),
         },
-        Err((_, left)) => (false, Some(left.into_files())),
+        Err((_error, left)) => (false, Some(left.into_files())),
     };
     Came {
         out,
