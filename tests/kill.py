@@ -270,7 +270,7 @@ def is_made(trial, folder):
             if not tables:
                 return False
             trial.same("the tables", tables, [("entries",), ("meta",)])
-            trial.same("the numbers", db.execute("SELECT * FROM meta").fetchall(), [(1, "ticket-escrow", 1, 0, 2, 1000)])
+            trial.same("the numbers", db.execute("SELECT * FROM meta").fetchall(), [(1, "ticket-escrow", 2, 0, 2, 1000)])
             trial.same("in C SQLite", db.execute("PRAGMA integrity_check").fetchall(), [("ok",)])
             return True
     except sqlite3.DatabaseError:
