@@ -1,5 +1,7 @@
 //! What two books tell each other, worked out by hand, with ample memory.
 
+ghost use Rattle.site_exchange.specs.Pendings.{IsPendingIn};
+
 use crate::values::{book_of, event, gave, join, mark, number, seats, site};
 use book_core::{Book, JoinFault, Plan};
 use delta_mutators::{Delta, Item};
@@ -30,10 +32,13 @@ fn ask_each(rt: &impl Abort, alloc: Global, book: &mut Book, rows: &[(u64, Reque
 fn due(
     rt: &impl Abort,
     alloc: Global,
-    exchange: &Exchange,
+    exchange: &mut Exchange,
     book: &Book,
     to: SiteId,
-) -> Option<Message> {
+) -> Option<Message>
+    requires { IsPendingIn book.now.history exchange.old.pendings to }
+    ensures { IsPendingIn book.now.history exchange.new.pendings to }
+{
     assert!(rt; to.number() < book.sites().count() && to != book.me());
     assert!(rt; exchange.acked(to) <= book.len() as u64);
     exchange.next(alloc, book, to).expect(rt, "memory")
@@ -127,7 +132,8 @@ fn selling_book(rt: &impl Abort, alloc: Global, event: Event) -> Book {
 
 // The whole history of the book as the message that a site of it has not had.
 fn first_message(rt: &impl Abort, alloc: Global, book: &Book, to: u64) -> Message {
-    due(rt, alloc, &Exchange::fresh(), book, site(rt, to)).expect(rt, "a message")
+    let mut exchange = Exchange::fresh(alloc);
+    due(rt, alloc, &mut exchange, book, site(rt, to)).expect(rt, "a message")
 }
 
 // The message is a delta of these names and these marks.
@@ -191,25 +197,66 @@ fn cession_reaches_the_other_site(rt: HostRuntime) {
     assert!(rt; joined == (Ok(()), Ok(true), Ok(false), 40));
 }
 
-// Whether the book of the cession has a message for the peer.
-fn is_due(rt: &impl Abort, alloc: Global, exchange: &Exchange, peer: SiteId) -> bool {
+// What the other site has acknowledged of the book of the cession, and whether a message is due to it.
+fn is_due(
+    rt: &impl Abort,
+    alloc: Global,
+    exchange: &mut Exchange,
+    book: &Book,
+    peer: SiteId,
+) -> (u64, bool)
+    requires { IsPendingIn book.now.history exchange.old.pendings peer }
+    ensures { IsPendingIn book.now.history exchange.new.pendings peer }
+{
+    let acked = exchange.acked(peer);
+    (acked, due(rt, alloc, exchange, book, peer).is_some())
+}
+
+// Takes an acknowledgement of the peer.
+fn acknowledge(rt: &impl Abort, exchange: &mut Exchange, book: &Book, peer: SiteId, upto: Upto)
+    requires { IsPendingIn book.now.history exchange.old.pendings peer }
+    ensures { IsPendingIn book.now.history exchange.new.pendings peer }
+{
+    assert!(rt; upto.entries() <= book.len() as u64);
+    let acked = exchange.ack(book, peer, upto);
+    assert!(rt; acked.is_ok());
+}
+
+// The same where the other site acknowledged four entries, and then one; and after a restart.
+fn acknowledged_and_fresh(rt: &impl Abort, alloc: Global) -> [(u64, bool); 2] {
     let book = ceding_book(rt, alloc, event(rt, b"gala"));
-    due(rt, alloc, exchange, &book, peer).is_some()
+    let peer = site(rt, 1);
+    let mut exchange = Exchange::fresh(alloc);
+    acknowledge(rt, &mut exchange, &book, peer, upto(rt, 4));
+    acknowledge(rt, &mut exchange, &book, peer, upto(rt, 1));
+    let acknowledged = is_due(rt, alloc, &mut exchange, &book, peer);
+    exchange = Exchange::fresh(alloc);
+    [acknowledged, is_due(rt, alloc, &mut exchange, &book, peer)]
 }
 
 #[test]
 fn restart_forgets_acknowledgements(rt: HostRuntime) {
-    let peer = site(&rt, 1);
-    let (four, one) = (upto(&rt, 4), upto(&rt, 1));
-    let mut exchange = Exchange::fresh();
-    assert!(rt; exchange.acked(peer) == 0);
-    exchange.ack(peer, four);
-    exchange.ack(peer, one);
-    assert!(rt; exchange.acked(peer) == 4);
-    assert!(rt; !is_due(&rt, rt.alloc(), &exchange, peer));
-    let fresh = Exchange::fresh();
-    assert!(rt; fresh.acked(peer) == 0);
-    assert!(rt; is_due(&rt, rt.alloc(), &fresh, peer));
+    assert!(rt; acknowledged_and_fresh(&rt, rt.alloc()) == [(4, false), (0, true)]);
+}
+
+// The message that is due once the other site acknowledged two of the four entries of the message before.
+fn due_behind_two(rt: &impl Abort, alloc: Global, gala: Event) -> Message {
+    let book = ceding_book(rt, alloc, gala);
+    let peer = site(rt, 1);
+    let mut exchange = Exchange::fresh(alloc);
+    let first = is_due(rt, alloc, &mut exchange, &book, peer);
+    assert!(rt; first == (0, true));
+    acknowledge(rt, &mut exchange, &book, peer, upto(rt, 2));
+    due(rt, alloc, &mut exchange, &book, peer).expect(rt, "a message")
+}
+
+#[test]
+fn acknowledged_interval(rt: HostRuntime) {
+    let gala = event(&rt, b"gala");
+    let message = due_behind_two(&rt, rt.alloc(), gala);
+    let ceded = mark(&rt, gala, gave(&rt, 0, 1), 40);
+    assert!(rt; header(&message) == (0, 1, 4));
+    holds(&rt, &message, &[], &[ceded]);
 }
 
 // The header of what a site answers to a delta.

@@ -47,12 +47,12 @@ ack_of (taken.Joined ack) = Some ack
 ack_of (taken.NothingNew ack) = Some ack
 ack_of taken.Acked = None
 
--- as of a request: the fault is the verdict, or memory or the store was refused to a delta that is joined
-abbrev pub IsTakeFault : Bool → Verdict → ℕ → ℕ → TakeFault → Type 0
-IsTakeFault closed verdict before after take_fault.Closed = closed ≡ true
-IsTakeFault closed verdict before after take_fault.Memory = (closed ≡ false) × (verdict ≡ exchange.Joins)
-IsTakeFault closed verdict before after take_fault.Store = (closed ≡ false) × (verdict ≡ exchange.Joins) × (before ≡ 0) × (after ≡ 1)
-IsTakeFault closed verdict before after fault = (closed ≡ false) × (verdict ≡ exchange.Refuses fault)
+-- as of a request: the fault is the verdict, or memory was refused where it is wanted, or the store to a delta that is joined
+abbrev pub IsTakeFault : Bool → Verdict → Type 0 → ℕ → ℕ → TakeFault → Type 0
+IsTakeFault closed verdict Wants before after take_fault.Closed = closed ≡ true
+IsTakeFault closed verdict Wants before after take_fault.Memory = (closed ≡ false) × Wants
+IsTakeFault closed verdict Wants before after take_fault.Store = (closed ≡ false) × (verdict ≡ exchange.Joins) × (before ≡ 0) × (after ≡ 1)
+IsTakeFault closed verdict Wants before after fault = (closed ≡ false) × (verdict ≡ exchange.Refuses fault)
 
 -- there is an entry to add, and a stop leaves the list with it at the end or without it
 abbrev pub LeavesEither : List Entry → Option Entry → (Option (List Entry) → Type 0) → Type 0

@@ -32,7 +32,7 @@ pub(crate) fn join<K: Keeper>(
     ensures office { book.new.office ≡ book.old.office }
     ensures taken { IfOk result (IsTaken (verdict_of (join_decision book.old.office book.old.history peer delta)) (Some ack)) }
     ensures entered { OnOk result (book.new.history ≡ extended (entry_of_join book.old.office book.old.history peer delta) book.old.history) }
-    ensures fault { IfErr result (IsTakeFault false (verdict_of (join_decision book.old.office book.old.history peer delta)) (K.failed keeper.old) (K.failed keeper.new)) }
+    ensures fault { IfErr result (IsTakeFault false (verdict_of (join_decision book.old.office book.old.history peer delta)) (verdict_of (join_decision book.old.office book.old.history peer delta) ≡ Joins) (K.failed keeper.old) (K.failed keeper.new)) }
     ensures unchanged { OnErr result (book.new.history ≡ book.old.history) }
     ensures untouched { IfErr result (λ fault. fault ≢ TakeFault.Store → keeper.new ≡ keeper.old) }
     ensures again { OnOk result (verdict_of (join_decision book.old.office book.old.history peer delta) ≢ Joins → keeper.new ≡ keeper.old) }

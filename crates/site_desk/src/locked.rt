@@ -5,7 +5,7 @@ ghost use Rattle.book_core.specs.History.{state_of};
 ghost use Rattle.book_core.specs.Legal.{IsLegal};
 ghost use Rattle.book_core.specs.OwnRow.{HasOwnRights};
 ghost use Rattle.site_exchange.specs.Exchange.{ack_for, next};
-ghost use Rattle.site_exchange.specs.Taking.{site_after, with_entry};
+ghost use Rattle.site_exchange.specs.Taking.{MayTake, site_after, with_entry};
 ghost use Rattle.sql_records.specs.Keeping.{LeavesOnly};
 ghost use Rattle.site_desk.specs.Answers.{IsAnswer, IsAskFault, IsSeenAt, IsTakeFault, IsTaken, is_peer};
 ghost use Rattle.site_desk.specs.SiteView.{decision_in, entry_in, site_of, verdict_in};
@@ -149,7 +149,7 @@ impl<K: Keeper, L: Opens> Locked<K, L> {
         ensures taken { IfOk result (IsTaken (verdict_in self.old.book message) (ack_for message)) }
         ensures changed { OnOk result (site_of self.new ≡ site_after (verdict_in self.old.book message) message (site_of self.old)) }
         ensures closed { (result ≡ Err TakeFault.Closed) ↔ (self.old.closed ≡ true) }
-        ensures fault { IfErr result (IsTakeFault self.old.closed (verdict_in self.old.book message) (K.failed self.old.keeper) (K.failed self.new.keeper)) }
+        ensures fault { IfErr result (IsTakeFault self.old.closed (verdict_in self.old.book message) (MayTake (verdict_in self.old.book message) (site_of self.old) message) (K.failed self.old.keeper) (K.failed self.new.keeper)) }
         ensures unchanged { OnErr result (site_of self.new ≡ site_of self.old) }
         ensures untouched { IfErr result (λ fault. fault ≢ TakeFault.Store → self.new.keeper ≡ self.old.keeper) }
         ensures closes { (self.new.closed ≡ true) ↔ ((self.old.closed ≡ true) ⊎ (result ≡ Err TakeFault.Store)) }
@@ -158,11 +158,12 @@ impl<K: Keeper, L: Opens> Locked<K, L> {
     }
 
     /// The message that is due to a peer.
-    pub fn next(&self, alloc: Global, to: SiteId) -> Result<Option<Message>, NextFault>
-        ensures message { IfOk result (λ message. message ≡ next self.now.book.office.me (site_of self.now) to) }
-        ensures closed { (result ≡ Err NextFault.Closed) ↔ (self.now.closed ≡ true) }
-        ensures no_site { (result ≡ Err NextFault.NoSite) ↔ ((self.now.closed ≡ false) × (is_peer self.now.book.office to ≡ false)) }
-        ensures memory { result ≡ Err NextFault.Memory → IsSome (next self.now.book.office.me (site_of self.now) to) }
+    pub fn next(&mut self, alloc: Global, to: SiteId) -> Result<Option<Message>, NextFault>
+        ensures message { IfOk result (λ message. message ≡ next self.old.book.office.me (site_of self.old) to) }
+        ensures closed { (result ≡ Err NextFault.Closed) ↔ (self.old.closed ≡ true) }
+        ensures no_site { (result ≡ Err NextFault.NoSite) ↔ ((self.old.closed ≡ false) × (is_peer self.old.book.office to ≡ false)) }
+        ensures memory { result ≡ Err NextFault.Memory → IsSome (next self.old.book.office.me (site_of self.old) to) }
+        ensures same { self.new ≡ self.old }
     {
         self.book.next(alloc, to)
     }

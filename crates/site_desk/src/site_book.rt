@@ -8,7 +8,7 @@ ghost use Rattle.book_core.specs.OwnRow.{HasOwnRights, cell_in};
 ghost use Rattle.book_core.specs.Legal.{IsLegal};
 ghost use Rattle.book_core.specs.Replay.{IsReplayFault};
 ghost use Rattle.site_exchange.specs.Exchange.{Joins, ack_for, entry_of_take, next, zeros};
-ghost use Rattle.site_exchange.specs.Taking.{site_after, with_entry};
+ghost use Rattle.site_exchange.specs.Taking.{MayTake, site_after, with_entry};
 ghost use Rattle.sql_records.specs.Keeping.{Keeps, LeavesOnly};
 ghost use Rattle.sql_records.specs.declared.meta.Meta.{Meta as Numbers};
 ghost use Rattle.site_desk.specs.Answers.{IsAnswer, IsAskFault, IsSeenAt, IsTakeFault, IsTaken, LeavesEither, is_peer};
@@ -45,7 +45,7 @@ impl<K: Keeper> Model for SiteBook<K> {
 
     ghost coded = { coded_view K.code };
 
-    ghost view = { λ s. record { book = s.book; acked = s.exchange; keeper = s.keeper; closed = s.is_closed } };
+    ghost view = { λ s. record { book = s.book; acked = s.exchange.acked; keeper = s.keeper; closed = s.is_closed } };
 
     ghost invariant = { λ s. IsInStep s.is_closed (K.failed s.keeper) (K.is_trusted s.keeper) (K.kept s.keeper) (K.may_leave s.keeper) s.exchange s.book };
 }
@@ -82,7 +82,7 @@ impl<K: Keeper> SiteBook<K> {
                 let _len = book.len();
                 Ok(SiteBook {
                     book,
-                    exchange: Exchange::fresh(),
+                    exchange: Exchange::fresh(alloc),
                     keeper,
                     is_closed: false,
                 })
@@ -164,8 +164,8 @@ impl<K: Keeper> SiteBook<K> {
 
     /// Takes a peer's message: joins its delta where it holds something new, or notes what it acknowledges.
     ///
-    /// No message changes a cell of the own row, forged ones too. Errors are as for a request; an acknowledgement
-    /// and a delta that holds nothing new take no memory.
+    /// No message changes a cell of the own row, forged ones too. Errors are as for a request; a delta that holds nothing
+    /// new takes no memory, and neither does an acknowledgement of no more than was acknowledged.
     pub fn take(&mut self, message: Message) -> Result<Taken, TakeFault>
         ensures office { self.new.book.office ≡ self.old.book.office }
         ensures taken { IfOk result (IsTaken (verdict_in self.old.book message) (ack_for message)) }
@@ -173,7 +173,7 @@ impl<K: Keeper> SiteBook<K> {
 
         // When each error comes, and what it leaves.
         ensures closed { (result ≡ Err TakeFault.Closed) ↔ (self.old.closed ≡ true) }
-        ensures fault { IfErr result (IsTakeFault self.old.closed (verdict_in self.old.book message) (K.failed self.old.keeper) (K.failed self.new.keeper)) }
+        ensures fault { IfErr result (IsTakeFault self.old.closed (verdict_in self.old.book message) (MayTake (verdict_in self.old.book message) (site_of self.old) message) (K.failed self.old.keeper) (K.failed self.new.keeper)) }
         ensures unchanged { OnErr result (site_of self.new ≡ site_of self.old) }
         ensures untouched { IfErr result (λ fault. fault ≢ TakeFault.Store → self.new.keeper ≡ self.old.keeper) }
         ensures closes { (self.new.closed ≡ true) ↔ ((self.old.closed ≡ true) ⊎ (result ≡ Err TakeFault.Store)) }
@@ -196,7 +196,7 @@ impl<K: Keeper> SiteBook<K> {
         check(&self.book, &message)?;
         match message {
             Message::Ack { by, upto, .. } => {
-                self.exchange.ack(by, upto);
+                self.exchange.ack(&self.book, by, upto)?;
                 Ok(Taken::Acked)
             }
             Message::Delta {
@@ -217,12 +217,14 @@ impl<K: Keeper> SiteBook<K> {
         }
     }
 
-    /// The message that is due to a peer, and none where it has acknowledged all, which takes no memory.
-    pub fn next(&self, alloc: Global, to: SiteId) -> Result<Option<Message>, NextFault>
-        ensures message { IfOk result (λ message. message ≡ next self.now.book.office.me (site_of self.now) to) }
-        ensures closed { (result ≡ Err NextFault.Closed) ↔ (self.now.closed ≡ true) }
-        ensures no_site { (result ≡ Err NextFault.NoSite) ↔ ((self.now.closed ≡ false) × (is_peer self.now.book.office to ≡ false)) }
-        ensures memory { result ≡ Err NextFault.Memory → IsSome (next self.now.book.office.me (site_of self.now) to) }
+    /// The message that is due to a peer, and none where it has acknowledged all, which takes no memory. Each entry is
+    /// joined for a peer once.
+    pub fn next(&mut self, alloc: Global, to: SiteId) -> Result<Option<Message>, NextFault>
+        ensures message { IfOk result (λ message. message ≡ next self.old.book.office.me (site_of self.old) to) }
+        ensures closed { (result ≡ Err NextFault.Closed) ↔ (self.old.closed ≡ true) }
+        ensures no_site { (result ≡ Err NextFault.NoSite) ↔ ((self.old.closed ≡ false) × (is_peer self.old.book.office to ≡ false)) }
+        ensures memory { result ≡ Err NextFault.Memory → IsSome (next self.old.book.office.me (site_of self.old) to) }
+        ensures same { self.new ≡ self.old }
     {
         if self.is_closed {
             return Err(NextFault::Closed);

@@ -1,5 +1,5 @@
 -- A site after it was asked, took a message, or started anew. (Our own.)
-use Rattle.std.specs.Prelude.{max, Bool, if◌then◌else◌, List, [], ◌∷◌, ◌++◌, set, get_or, Option, Some, None}
+use Rattle.std.specs.Prelude.{◌≡◌, ◌⊎◌, ◌<◌, max, Bool, if◌then◌else◌, List, [], ◌∷◌, ◌++◌, set, get_or, Option, Some, None}
 use Rattle.book_core.specs.declared.entry.Entry.{Entry}
 use Rattle.site_exchange.specs.declared.message.Message.{Message}
 use Rattle.site_exchange.specs.declared.message.Message.TheVariants.{Delta, Ack}
@@ -25,6 +25,15 @@ site_after Joins message site = with_entry (entry_if Joins message) site
 site_after NothingNew message site = site
 site_after Acks message site = with_ack message site
 site_after (Refuses fault) message site = site
+
+-- the message acknowledges more than its sender had acknowledged
+abbrev pub IsRaising : Site → Message → Type 0
+IsRaising site (Ack by to upto) = get_or site.acked by 0 < upto
+IsRaising site (Delta by to upto delta) = ⊥
+
+-- taking a message may want memory where its delta is joined, or where it raises what its sender had acknowledged
+abbrev pub MayTake : Verdict → Site → Message → Type 0
+MayTake v site message = (v ≡ Joins) ⊎ ((v ≡ Acks) × IsRaising site message)
 
 -- what a site gives back for a message
 abbrev pub given_back : Verdict → Message → Option Message

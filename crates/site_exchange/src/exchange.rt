@@ -1,72 +1,101 @@
-//! What each peer has acknowledged, and the message that is due to it.
-ghost use Rattle.std.specs.Prelude.{◌≡◌, ◌≢◌, ◌<◌, ◌≤◌, max, set, get_or, length, IfOk, IsSome, OnErr};
+//! What each peer has acknowledged, what is pending for it, and the message that is due to it.
+ghost use Rattle.std.specs.Prelude.{◌≡◌, ◌≢◌, ◌<◌, ◌≤◌, [], ℕ, List, max, set, get_or, length, IfOk, IsSome, OnOk, OnErr};
+ghost use Rattle.book_core.specs.declared.entry.Entry.{Entry as Entered};
+ghost use Rattle.book_core.specs.History.{interval};
+ghost use Rattle.delta_buffer.specs.Pending.{IsPendingOf};
 ghost use Rattle.site_exchange.specs.Exchange.{next, zeros};
+ghost use Rattle.site_exchange.specs.Pendings.{BeginAtAcked, IsPendingIn};
 
 use crate::message::Message;
 use crate::upto::Upto;
 use book_core::Book;
-use delta_buffer::interval;
+use delta_buffer::Pending;
+use delta_mutators::Delta;
 use rights_lattice::{SITE_NUMBERS, SiteId};
 use std::alloc::{AllocError, Global};
 use std::marker::Model;
 
-/// How much of a site's history each peer has acknowledged. It is kept in memory alone: after a restart it is fresh.
+/// How much of a site's history each peer has acknowledged, and what is pending for it. It is kept in memory alone:
+/// after a restart it is fresh.
 #[derive(Drop)]
 pub struct Exchange {
+    alloc: Global,
     acked: [u64; SITE_NUMBERS],
+    /// Of the peers with the lowest numbers, as far as messages were asked for.
+    pendings: Vec<Pending>,
 }
 
 impl Model for Exchange {
-    ghost use Rattle.std.specs.Prelude.{List, ℕ};
+    ghost use Rattle.site_exchange.specs.Pendings.{BeginAtAcked, ExchangeView, coded_exchange};
 
-    ghost Value = { List ℕ };
+    ghost Value = { ExchangeView };
 
-    ghost view = { λ e. e.acked };
+    ghost coded = { coded_exchange };
+
+    ghost view = { λ e. record { acked = e.acked; pendings = e.pendings.items } };
+
+    ghost invariant = { λ e. BeginAtAcked e.acked e.pendings.items };
 }
 
 impl Exchange {
-    /// Nothing counts as acknowledged by any peer.
+    /// Nothing counts as acknowledged by any peer. It takes no memory.
     #[tactic(auto, unfolding(rights_lattice::specs::Sums::max_sites))]
-    pub fn fresh() -> Exchange
-        ensures { result ≡ zeros }
+    pub fn fresh(alloc: Global) -> Exchange
+        ensures { result ≡ record { acked = zeros; pendings = [] } }
     {
         Exchange {
+            alloc,
             acked: [0; SITE_NUMBERS],
+            pendings: Vec::new(alloc),
         }
     }
 
     /// How many entries the peer has acknowledged.
     pub fn acked(&self, peer: SiteId) -> u64
-        ensures { result ≡ get_or self.now peer 0 }
+        ensures { result ≡ get_or self.now.acked peer 0 }
     {
         self.acked[peer.number() as usize]
     }
 
-    /// Takes an acknowledgement: the number is the greater of the old one and this.
-    pub fn ack(&mut self, peer: SiteId, upto: Upto)
-        ensures { self.new ≡ set self.old peer (max (get_or self.old peer 0) upto) }
+    /// Takes an acknowledgement: the number is the greater of the old one and this, and what is pending begins there.
+    /// An error leaves all as it was.
+    pub fn ack(&mut self, book: &Book, peer: SiteId, upto: Upto) -> Result<(), AllocError>
+        requires within { upto ≤ length book.now.history }
+        requires pending { IsPendingIn book.now.history self.old.pendings peer }
+        ensures acked { OnOk result (self.new.acked ≡ set self.old.acked peer (max (get_or self.old.acked peer 0) upto)) }
+        ensures pending { OnOk result ((other : ℕ) → IsPendingIn book.now.history self.old.pendings other → IsPendingIn book.now.history self.new.pendings other) }
+        ensures unchanged { OnErr result (self.new ≡ self.old) }
+        // It wants memory only where it raises the number.
+        ensures memory { OnErr result (get_or self.old.acked peer 0 < upto) }
     {
         let place = peer.number() as usize;
+        let n = upto.entries() as usize;
+        forget(self.alloc, &mut self.pendings, place, book, n)?;
         self.acked[place] = self.acked[place].max(upto.entries());
+        Ok(())
     }
 
     /// The message that is due to a peer: the delta-interval from what it has acknowledged to the end of the
-    /// history, and none where it has acknowledged all, which takes no memory.
+    /// history, and none where it has acknowledged all, which takes no memory. Each entry is joined for a peer once.
+    ///
+    /// An error leaves the acknowledged numbers, and all messages given later, as they would have been.
     pub fn next(
-        &self,
+        &mut self,
         alloc: Global,
         book: &Book,
         to: SiteId,
     ) -> Result<Option<Message>, AllocError>
         requires site { to < book.now.office.sites }
         requires other { to ≢ book.now.office.me }
-        requires acked { get_or self.now to 0 ≤ length book.now.history }
-        ensures message { IfOk result (λ message. message ≡ next book.now.office.me (record { history = book.now.history; acked = self.now }) to) }
-        ensures memory { OnErr result (IsSome (next book.now.office.me (record { history = book.now.history; acked = self.now }) to)) }
+        requires acked { get_or self.old.acked to 0 ≤ length book.now.history }
+        requires pending { IsPendingIn book.now.history self.old.pendings to }
+        ensures message { IfOk result (λ message. message ≡ next book.now.office.me (record { history = book.now.history; acked = self.old.acked }) to) }
+        ensures memory { OnErr result (IsSome (next book.now.office.me (record { history = book.now.history; acked = self.old.acked }) to)) }
+        ensures acked { self.new.acked ≡ self.old.acked }
+        ensures pending { (peer : ℕ) → get_or self.old.acked peer 0 ≤ length book.now.history → IsPendingIn book.now.history self.old.pendings peer → IsPendingIn book.now.history self.new.pendings peer }
     {
-        let from = self.acked(to) as usize;
         let len = book.len();
-        if from == len {
+        if self.acked(to) as usize == len {
             return Ok(None);
         }
         // Bounds the length, which the prover wants to see here.
@@ -74,7 +103,9 @@ impl Exchange {
         let Some(upto) = Upto::of(len as u64) else {
             unreachable!()
         };
-        let delta = interval(alloc, book, from, len)?;
+        let place = to.number() as usize;
+        reach(self.alloc, &mut self.pendings, &self.acked, place)?;
+        let delta = due(alloc, &mut self.pendings, place, book)?;
         Ok(Some(Message::Delta {
             by: book.me(),
             to,
@@ -82,4 +113,71 @@ impl Exchange {
             delta,
         }))
     }
+}
+
+// What is pending for a peer, if anything, begins behind its first `n` entries.
+fn forget(
+    alloc: Global,
+    pendings: &mut Vec<Pending>,
+    place: usize,
+    book: &Book,
+    n: usize,
+) -> Result<(), AllocError>
+    requires within { n ≤ length book.now.history }
+    requires pending { IsPendingIn book.now.history pendings.old.items place }
+    ensures begins { (acked : List ℕ) → place < length acked → BeginAtAcked acked pendings.old.items → OnOk result (BeginAtAcked (set acked place (max (get_or acked place 0) n)) pendings.new.items) }
+    ensures pending { OnOk result ((peer : ℕ) → IsPendingIn book.now.history pendings.old.items peer → IsPendingIn book.now.history pendings.new.items peer) }
+    ensures unchanged { OnErr result (pendings.new.items ≡ pendings.old.items) }
+    ensures memory { (acked : List ℕ) → BeginAtAcked acked pendings.old.items → OnErr result (get_or acked place 0 < n) }
+{
+    if place >= pendings.len() {
+        return Ok(());
+    }
+    pendings[place].acked(alloc, book, n)?;
+    Ok(())
+}
+
+// Has a pending delta for each peer up to this one: nothing is added behind what it has acknowledged.
+fn reach(
+    alloc: Global,
+    pendings: &mut Vec<Pending>,
+    acked: &[u64],
+    place: usize,
+) -> Result<(), AllocError>
+    requires { place < length acked.now }
+    ensures reached { OnOk result (place < length pendings.new.items) }
+    ensures begins { BeginAtAcked acked.now pendings.old.items → BeginAtAcked acked.now pendings.new.items }
+    ensures pending { (h : List Entered) (peer : ℕ) → get_or acked.now peer 0 ≤ length h → IsPendingIn h pendings.old.items peer → IsPendingIn h pendings.new.items peer }
+{
+    for peer in pendings.len()..place + 1 {
+        pendings.push(Pending::behind(alloc, acked[peer] as usize))?;
+    }
+    Ok(())
+}
+
+// What is pending for a peer, with all entries of the history added.
+fn due(
+    alloc: Global,
+    pendings: &mut Vec<Pending>,
+    place: usize,
+    book: &Book,
+) -> Result<Delta, AllocError>
+    requires there { place < length pendings.old.items }
+    requires pending { IsPendingIn book.now.history pendings.old.items place }
+    ensures delta { (acked : List ℕ) → BeginAtAcked acked pendings.old.items → IfOk result (λ delta. delta ≡ interval book.now.history (get_or acked place 0) (length book.now.history)) }
+    ensures begins { (acked : List ℕ) → BeginAtAcked acked pendings.old.items → BeginAtAcked acked pendings.new.items }
+    ensures pending { (peer : ℕ) → IsPendingIn book.now.history pendings.old.items peer → IsPendingIn book.now.history pendings.new.items peer }
+{
+    caught_up(alloc, &mut pendings[place], book)
+}
+
+// What is pending, with all entries of the history added.
+fn caught_up(alloc: Global, pending: &mut Pending, book: &Book) -> Result<Delta, AllocError>
+    requires { IsPendingOf book.now.history pending.old }
+    ensures delta { IfOk result (λ delta. delta ≡ interval book.now.history pending.old.from (length book.now.history)) }
+    ensures from { pending.new.from ≡ pending.old.from }
+    ensures pending { IsPendingOf book.now.history pending.new }
+{
+    pending.catch_up(alloc, book)?;
+    pending.delta().copy(alloc)
 }

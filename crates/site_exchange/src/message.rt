@@ -3,6 +3,7 @@ use crate::upto::Upto;
 use book_core::JoinFault;
 use delta_mutators::Delta;
 use rights_lattice::{Mark, SiteId};
+use std::alloc::AllocError;
 use thiserror::Error;
 
 /// What one site sends to another.
@@ -78,6 +79,17 @@ impl From<CheckFault> for TakeFault {
             CheckFault::UnknownSite => TakeFault::UnknownSite,
             CheckFault::StrayAck { len } => TakeFault::StrayAck { len },
         }
+    }
+}
+
+impl From<AllocError> for TakeFault {
+    ghost use Rattle.std.specs.Prelude.{◌≡◌};
+    ghost use Rattle.site_exchange.specs.declared.message.TakeFault.TheVariants.{Memory};
+
+    ghost from_gives = { λ _ fault. fault ≡ Memory };
+
+    fn from(_error: AllocError) -> TakeFault {
+        TakeFault::Memory
     }
 }
 

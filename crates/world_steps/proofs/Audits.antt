@@ -11,7 +11,7 @@ use Rattle.rights_lattice.proofs.CellLaws.{value_at-all_zero}
 use Rattle.book_core.specs.declared.entry.Entry.{Entry}
 use Rattle.book_core.specs.History.{state_of}
 use Rattle.book_core.specs.Legal.{IsLegal}
-use Rattle.book_core.specs.BookView.{BookView, SeesWithin}
+use Rattle.book_core.specs.BookView.{BookView}
 use Rattle.world_steps.specs.Audit.{books_of, history_in, AreSites, NoneIsAhead, AreNotOversold}
 use Rattle.world_steps.proofs.Balance.{office_of, not_oversold}
 use Rattle.world_steps.proofs.Promised.{refunds_below}

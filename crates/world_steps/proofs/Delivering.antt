@@ -1,15 +1,14 @@
 -- A delivery: what taking a message that was sent does.
-use Rattle.std.proofs.Common.{◌≡◌, ℕ, ◌<◌, List, Option, Some, None, refl, subst, sym, ap, ◌∙◌, arith, length, get_or, set, map}
+use Rattle.std.proofs.Common.{◌≡◌, ℕ, ◌<◌, ◌⊎◌, List, Option, Some, refl, subst, sym, ap, ◌∙◌, arith, length, get_or, set, map}
 use Rattle.std.specs.Prelude.{slice_get, Result, Ok, IsSome, IsSomeAnd}
 use Rattle.std.proofs.lemmas.Option.{slice_get_read}
+use Rattle.book_core.specs.BookView.{BookView}
 use Rattle.book_core.specs.Decision.{Office}
-use Rattle.book_core.specs.declared.entry.Entry.{Entry}
-use Rattle.site_exchange.specs.declared.message.CheckFault.{CheckFault}
 use Rattle.site_exchange.specs.declared.message.Message.{Message}
 use Rattle.site_exchange.specs.declared.message.Message.TheVariants.{Delta, Ack}
-use Rattle.site_exchange.specs.Exchange.{Site, Verdict, Joins, receiver, check, verdict, verdict_if}
-use Rattle.site_exchange.specs.Taking.{site_after, given_back}
-use Rattle.world_steps.specs.declared.node.Node.{Node}
+use Rattle.site_exchange.specs.Exchange.{Site, Verdict, receiver, verdict}
+use Rattle.site_exchange.specs.Taking.{MayTake, site_after, given_back}
+use Rattle.world_steps.specs.NodeView.{NodeView}
 use Rattle.world_steps.specs.declared.node.Taken.{Taken}
 use Rattle.world_steps.specs.declared.step.Step.TheVariants.{Deliver}
 use Rattle.world_steps.specs.declared.step.Outcome.{Outcome}
@@ -30,7 +29,7 @@ receiver_there : (w : World) (message : Message) → IsSound w message → recei
 receiver_there w (Delta by to upto delta) ok = ok.0.1
 receiver_there w (Ack by to upto) ok = ok.0.1
 
-pub receiver_below : (nodes : List Node) (sent : List Message) (index i : ℕ) (message : Message) → IsKept nodes sent → slice_get sent index ≡ Some message → i ≡ receiver message → i < length nodes
+pub receiver_below : (nodes : List NodeView) (sent : List Message) (index i : ℕ) (message : Message) → IsKept nodes sent → slice_get sent index ≡ Some message → i ≡ receiver message → i < length nodes
 receiver_below nodes sent index i message kept found is =
     let w : World = world_of nodes sent in
     omega (arith, is, receiver_there w message ((sound_in w kept.reached).sent index message found), length-sites nodes)
@@ -45,22 +44,26 @@ same_message sent now index message again same l is is_again =
     one_at (slice_get sent index) again message (message_at sent now index again same l is_again) (message_at sent sent index message refl l is)
 
 -- so is a site
-pub same_node : (nodes : List Node) (i : ℕ) (node again : Node) → i < length nodes → node ≡ get_or nodes i node → again ≡ get_or nodes i again → node ≡ again
+pub same_node : (nodes : List NodeView) (i : ℕ) (node again : NodeView) → i < length nodes → node ≡ get_or nodes i node → again ≡ get_or nodes i again → node ≡ again
 same_node nodes i node again l is is_again = one_at (slice_get nodes i) node again (found_at nodes i node l is) (found_at nodes i again l is_again)
 
+-- a verdict by the book that a site shows is the site's
+pub verdict_by : (told : Verdict) (message : Message) (shown book : BookView) → told ≡ verdict shown.office shown.history message → shown ≡ book → told ≡ verdict book.office book.history message
+verdict_by told message shown book is same = is ∙ ap (λ (b : BookView). verdict b.office b.history message) same
+
 -- a message that was sent, and the place of its receiver
-pub record IsFor (nodes : List Node) (sent : List Message) (index i : ℕ) (message : Message) : Type 0 where
+pub record IsFor (nodes : List NodeView) (sent : List Message) (index i : ℕ) (message : Message) : Type 0 where
   pub sent_is : slice_get sent index ≡ Some message
   pub to : i ≡ receiver message
   pub below : i < length nodes
 
-pub is_for : (nodes : List Node) (sent : List Message) (index i : ℕ) (message : Message) → IsKept nodes sent → index < length sent → message ≡ get_or sent index message → i ≡ receiver message
+pub is_for : (nodes : List NodeView) (sent : List Message) (index i : ℕ) (message : Message) → IsKept nodes sent → index < length sent → message ≡ get_or sent index message → i ≡ receiver message
     → IsFor nodes sent index i message
 is_for nodes sent index i message kept l is to =
     let found = message_at sent sent index message refl l is in
     record { sent_is = found; to = to; below = receiver_below nodes sent index i message kept found to }
 
-judged_is : (nodes : List Node) (sent : List Message) (i : ℕ) (message : Message) (old : Node) → IsKept nodes sent → i ≡ receiver message → i < length nodes → old ≡ get_or nodes i old
+judged_is : (nodes : List NodeView) (sent : List Message) (i : ℕ) (message : Message) (old : NodeView) → IsKept nodes sent → i ≡ receiver message → i < length nodes → old ≡ get_or nodes i old
     → verdict old.book.office old.book.history message ≡ judged (world_of nodes sent) message
 judged_is nodes sent i message old kept to l is =
     let w : World = world_of nodes sent in
@@ -69,33 +72,26 @@ judged_is nodes sent i message old kept to l is =
     ∙ ap (λ (s : Site). verdict (office_at w i) s.history message) (sym here.site)
     ∙ ap (λ k. verdict (office_at w k) (history_at w k) message) to
 
--- a delivery that wants memory is one that is acknowledged
-pub deliver_wants : (nodes : List Node) (sent : List Message) (index i : ℕ) (message : Message) (old : Node) → IsKept nodes sent → slice_get sent index ≡ Some message
+-- a delivery that wants memory is acknowledged, or is taken with more memory
+pub deliver_wants : (nodes : List NodeView) (sent : List Message) (index i : ℕ) (message : Message) (old : NodeView) → IsKept nodes sent → slice_get sent index ≡ Some message
     → i ≡ receiver message → i < length nodes → old ≡ get_or nodes i old
-    → IsSome (given_back (verdict old.book.office old.book.history message) message) → MayGrow (world_of nodes sent) (Deliver index)
-deliver_wants nodes sent index i message old kept sent_is to l is acknowledged =
+    → IsSome (given_back (verdict old.book.office old.book.history message) message) ⊎ MayTake (verdict old.book.office old.book.history message) (site_of old) message
+    → MayGrow (world_of nodes sent) (Deliver index)
+deliver_wants nodes sent index i message old kept sent_is to l is wants =
     let w : World = world_of nodes sent in
-    subst (λ (o : Option Message). IsSomeAnd o (λ m. IsSome (given_back (judged w m) m))) (sym sent_is)
-    (subst (λ (v : Verdict). IsSome (given_back v message)) (judged_is nodes sent i message old kept to l is) acknowledged)
-
--- a message whose delta is joined is acknowledged
-pub joined_is_acknowledged : (office : Office) (h : List Entry) (message : Message) → verdict office h message ≡ Joins → IsSome (given_back (verdict office h message) message)
-joined_is_acknowledged office h (Delta by to upto delta) e =
-    let message = Delta by to upto delta in
-    subst (λ (v : Verdict). IsSome (given_back v message)) (sym e) refl
-joined_is_acknowledged office h (Ack by to upto) e = absurd (go (check office h (Ack by to upto)) e)
-  where
-    go : (o : Option CheckFault) → verdict_if o office h (Ack by to upto) ≡ Joins → ⊥
-    go None found = cc
-    go (Some fault) found = cc
+    let here = at_place nodes sent i old kept l is in
+    let site_is : site_of old ≡ site_at w (receiver message) = sym here.site ∙ ap (site_at w) to in
+    subst (λ (o : Option Message). IsSomeAnd o (λ m. IsSome (given_back (judged w m) m) ⊎ MayTake (judged w m) (site_at w (receiver m)) m)) (sym sent_is)
+    (subst (λ (s : Site). IsSome (given_back (judged w message) message) ⊎ MayTake (judged w message) s message) site_is
+    (subst (λ (v : Verdict). IsSome (given_back v message) ⊎ MayTake v (site_of old) message) (judged_is nodes sent i message old kept to l is) wants))
 
 -- what a delivery gives
-pub record IsDelivered (nodes : List Node) (sent : List Message) (now : List Node) (sent_now : List Message) (index : ℕ) (given : Outcome) : Type 0 where
+pub record IsDelivered (nodes : List NodeView) (sent : List Message) (now : List NodeView) (sent_now : List Message) (index : ℕ) (given : Outcome) : Type 0 where
   pub kept : IsKept now sent_now
   pub made : world_of now sent_now ≡ after (world_of nodes sent) (Deliver index)
   pub outcome : outcome (world_of nodes sent) (Deliver index) ≡ Ok given
 
-pub deliver_gives : (nodes : List Node) (sent : List Message) (index i : ℕ) (message : Message) (old new : Node) (taken : Taken) → IsKept nodes sent → slice_get sent index ≡ Some message
+pub deliver_gives : (nodes : List NodeView) (sent : List Message) (index i : ℕ) (message : Message) (old new : NodeView) (taken : Taken) → IsKept nodes sent → slice_get sent index ≡ Some message
     → i ≡ receiver message → i < length nodes → old ≡ get_or nodes i old → new.book.office ≡ old.book.office
     → verdict_told taken ≡ verdict old.book.office old.book.history message
     → site_of new ≡ site_after (verdict old.book.office old.book.history message) message (site_of old)

@@ -11,5 +11,6 @@ pub mod Steps
 pub mod Worlds
 mod FlatList
 mod Names
+mod Nodes
 mod Runs
 mod Totals

@@ -1,15 +1,14 @@
 -- What each kind of step does, site by site.
-use Rattle.std.proofs.Common.{◌≡◌, ℕ, zero, suc, ◌<◌, ◌≤◌, Bool, true, false, cond, not, ◌&&◌, List, [], ◌∷◌, Option, Some, None, refl, sym, ap, ◌∙◌, subst, arith, length, get_or, set}
+use Rattle.std.proofs.Common.{◌≡◌, ℕ, zero, suc, ◌<◌, ◌≤◌, Bool, true, cond, not, ◌&&◌, List, [], ◌∷◌, Option, Some, None, refl, sym, ap, ◌∙◌, subst, arith, length, get_or, set}
 use Rattle.std.specs.Prelude.{slice_get, nat_lt, ◌==◌, Result, Ok, Err, IsOk, IfOk, IfErr, OnOk, OnErr}
 use Rattle.std.proofs.lemmas.Bool.{lt-ltb, ltb-true, and_parts}
 use Rattle.request_ledger.specs.declared.request.Request.{Request}
-use Rattle.book_core.specs.declared.entry.Entry.{Entry}
 use Rattle.book_core.specs.Decision.{Office, decision, entry_of_ask}
 use Rattle.book_core.specs.Plans.{IsFresh}
 use Rattle.site_exchange.specs.declared.message.Message.{Message}
 use Rattle.site_exchange.specs.Exchange.{Site, zeros, next}
 use Rattle.site_exchange.specs.Taking.{with_entry, restarted, stopped_with}
-use Rattle.world_steps.specs.declared.node.Node.{Node}
+use Rattle.world_steps.specs.NodeView.{NodeView}
 use Rattle.world_steps.specs.declared.step.Input.{Input}
 use Rattle.world_steps.specs.declared.step.Step.{Step}
 use Rattle.world_steps.specs.declared.step.Step.TheVariants.{Ask, Send, Deliver, Restart, Stop}
@@ -17,16 +16,15 @@ use Rattle.world_steps.specs.declared.step.Outcome.{Outcome}
 use Rattle.world_steps.specs.declared.step.Outcome.TheVariants as outcomes
 use Rattle.world_steps.specs.declared.step.WorldFault.{WorldFault}
 use Rattle.world_steps.specs.declared.step.WorldFault.TheVariants.{NoSite, NoMessage, Memory}
-use Rattle.world_steps.specs.Nodes.{site_of, limit_of}
+use Rattle.world_steps.specs.Nodes.{site_of}
 use Rattle.world_steps.specs.Outcomes.{answered, outcome, delivered_as, IsDue, MayGrow, MayStore}
 use Rattle.world_steps.specs.Reaching.{world_of, IsKept}
 use Rattle.world_steps.specs.World.{World, count, site_at, history_at, office_at, at_site, with_sent, sends, asks, entry_of_input, is_there, after, IsReached}
 use Rattle.world_steps.proofs.Reached.{reached_after, sound_in}
-use Rattle.world_steps.proofs.Worlds.{Sound}
 use Rattle.world_steps.proofs.Sites.{IsMade, at_place, made_at, same_world, kept_same, length-sites}
 
 -- what a step gives that changed one site, or nothing
-pub record IsGiven (nodes : List Node) (sent : List Message) (now : List Node) (step : Step) (result : Result Outcome WorldFault) : Type 0 where
+pub record IsGiven (nodes : List NodeView) (sent : List Message) (now : List NodeView) (step : Step) (result : Result Outcome WorldFault) : Type 0 where
   pub kept : IsKept now sent
   pub outcome : IfOk result (λ o. outcome (world_of nodes sent) step ≡ Ok o)
   pub due : IfErr result (IsDue (world_of nodes sent) step)
@@ -45,7 +43,7 @@ answered_at : (w : World) (i number : ℕ) (request : Request) → i < count w �
 unfolding answered_in
 answered_at w i number request l = ap (λ b. cond b (answered_in w i number request) (Err NoSite)) (lt-ltb i (count w) l)
 
-pub ask_gives : (nodes : List Node) (sent : List Message) (i number : ℕ) (request : Request) (old new : Node) (result : Result Outcome WorldFault)
+pub ask_gives : (nodes : List NodeView) (sent : List Message) (i number : ℕ) (request : Request) (old new : NodeView) (result : Result Outcome WorldFault)
     → IsKept nodes sent → i < length nodes → old ≡ get_or nodes i old → new.book.office ≡ old.book.office
     → IfOk result (λ o. o ≡ answered (decision old.book.office old.book.history number request)) → IfErr result (λ fault. fault ≡ Memory)
     → OnOk result (site_of new ≡ with_entry (entry_of_ask old.book.office old.book.history number request) (site_of old)) → OnErr result (site_of new ≡ site_of old)
@@ -84,7 +82,7 @@ ask_gives nodes sent i number request old new (Err fault) kept l is office answe
     }
 
 -- a request that wants memory is a fresh one
-pub ask_wants : (nodes : List Node) (sent : List Message) (i number : ℕ) (request : Request) (old : Node) → IsKept nodes sent → i < length nodes → old ≡ get_or nodes i old
+pub ask_wants : (nodes : List NodeView) (sent : List Message) (i number : ℕ) (request : Request) (old : NodeView) → IsKept nodes sent → i < length nodes → old ≡ get_or nodes i old
     → IsFresh (decision old.book.office old.book.history number request) → MayGrow (world_of nodes sent) (Ask i number request)
 ask_wants nodes sent i number request old kept l is fresh =
     let w : World = world_of nodes sent in
@@ -93,7 +91,7 @@ ask_wants nodes sent i number request old kept l is fresh =
     (subst (λ (f : Office). IsFresh (decision f old.book.history number request)) (sym here.office) fresh)
 
 -- a stop that wants memory stores what wants it
-pub stop_wants : (nodes : List Node) (sent : List Message) (i : ℕ) (in_hand : Input) (stored : Bool) (old : Node) → IsKept nodes sent → i < length nodes → old ≡ get_or nodes i old
+pub stop_wants : (nodes : List NodeView) (sent : List Message) (i : ℕ) (in_hand : Input) (stored : Bool) (old : NodeView) → IsKept nodes sent → i < length nodes → old ≡ get_or nodes i old
     → stored ≡ true → MayStore old.book.office old.book.history sent in_hand → MayGrow (world_of nodes sent) (Stop i in_hand stored)
 stop_wants nodes sent i in_hand stored old kept l is stores wants =
     let w : World = world_of nodes sent in
@@ -104,17 +102,17 @@ stop_wants nodes sent i in_hand stored old kept l is stores wants =
     )
 
 -- a restart
-pub restart_made : (nodes : List Node) (sent : List Message) (i : ℕ) (old new : Node) → IsKept nodes sent → i < length nodes → old ≡ get_or nodes i old
-    → new.book ≡ old.book → new.exchange ≡ zeros → IsMade nodes sent (set nodes i new) sent (Restart i)
-restart_made nodes sent i old new kept l is book fresh =
+pub restart_made : (nodes : List NodeView) (sent : List Message) (i : ℕ) (old new : NodeView) → IsKept nodes sent → i < length nodes → old ≡ get_or nodes i old
+    → new ≡ record old { acked = zeros } → IsMade nodes sent (set nodes i new) sent (Restart i)
+restart_made nodes sent i old new kept l is fresh =
     let w : World = world_of nodes sent in
     let here = at_place nodes sent i old kept l is in
-    let site_is : site_of new ≡ restarted (site_at w i) = (λ k. record { history = (book k).history; acked = fresh k }) ∙ ap restarted (sym here.site) in
-    made_at nodes sent sent i old new (Restart i) kept here.found (ap (λ b. b.office) book)
+    let site_is : site_of new ≡ restarted (site_at w i) = ap site_of fresh ∙ ap restarted (sym here.site) in
+    made_at nodes sent sent i old new (Restart i) kept here.found (ap (λ (n : NodeView). n.book.office) fresh)
     (ap (λ b. cond b (at_site w i (restarted (site_at w i))) w) (lt-ltb i (count w) here.below) ∙ ap (at_site w i) (sym site_is))
 
 -- a stop
-pub stop_made : (nodes : List Node) (sent : List Message) (i : ℕ) (in_hand : Input) (stored : Bool) (old new : Node) → IsKept nodes sent → i < length nodes → old ≡ get_or nodes i old
+pub stop_made : (nodes : List NodeView) (sent : List Message) (i : ℕ) (in_hand : Input) (stored : Bool) (old new : NodeView) → IsKept nodes sent → i < length nodes → old ≡ get_or nodes i old
     → is_there sent in_hand ≡ true → new.book.office ≡ old.book.office
     → site_of new ≡ stopped_with (entry_of_input old.book.office old.book.history sent in_hand) stored (site_of old) → IsMade nodes sent (set nodes i new) sent (Stop i in_hand stored)
 stop_made nodes sent i in_hand stored old new kept l is there office stopped =
@@ -133,7 +131,7 @@ outcome_of_stop w i in_hand l there stored =
     ap (λ b. cond b (cond (is_there w.sent in_hand) (let r : Result Outcome WorldFault = Ok outcomes.Stopped in r) (Err NoMessage)) (Err NoSite)) (lt-ltb i (count w) l)
     ∙ ap (λ b. cond b (let r : Result Outcome WorldFault = Ok outcomes.Stopped in r) (Err NoMessage)) there
 
-pub stop_gives : (nodes : List Node) (sent : List Message) (i : ℕ) (in_hand : Input) (stored : Bool) (old new : Node) (result : Result Outcome WorldFault)
+pub stop_gives : (nodes : List NodeView) (sent : List Message) (i : ℕ) (in_hand : Input) (stored : Bool) (old new : NodeView) (result : Result Outcome WorldFault)
     → IsKept nodes sent → i < length nodes → old ≡ get_or nodes i old → is_there sent in_hand ≡ true → new.book.office ≡ old.book.office
     → IfOk result (λ o. o ≡ outcomes.Stopped) → IfErr result (λ fault. fault ≡ Memory)
     → OnOk result (site_of new ≡ stopped_with (entry_of_input old.book.office old.book.history sent in_hand) stored (site_of old)) → OnErr result (site_of new ≡ site_of old)
@@ -161,7 +159,7 @@ stop_gives nodes sent i in_hand stored old new (Err fault) kept l is there offic
     }
 
 -- messages put behind those that were sent, where no site changes
-pub sent_made : (nodes : List Node) (sent sent_now : List Message) (step : Step) → IsKept nodes sent → after (world_of nodes sent) step ≡ world_of nodes sent_now → IsMade nodes sent nodes sent_now step
+pub sent_made : (nodes : List NodeView) (sent sent_now : List Message) (step : Step) → IsKept nodes sent → after (world_of nodes sent) step ≡ world_of nodes sent_now → IsMade nodes sent nodes sent_now step
 sent_made nodes sent sent_now step kept is = record {
   kept = record {
     offices = kept.offices;
@@ -171,7 +169,7 @@ sent_made nodes sent sent_now step kept is = record {
 }
 
 -- a message sent
-pub send_made : (nodes : List Node) (sent : List Message) (i j : ℕ) (old : Node) (due : Option Message) → IsKept nodes sent → i < length nodes → old ≡ get_or nodes i old
+pub send_made : (nodes : List NodeView) (sent : List Message) (i j : ℕ) (old : NodeView) (due : Option Message) → IsKept nodes sent → i < length nodes → old ≡ get_or nodes i old
     → (nat_lt i (count (world_of nodes sent)) && nat_lt j (count (world_of nodes sent)) && not (i == j)) ≡ true
     → due ≡ next old.book.office.me (site_of old) j → IsMade nodes sent nodes (with_sent sent due) (Send i j)
 send_made nodes sent i j old due kept l is peers due_is =
@@ -185,18 +183,19 @@ send_made nodes sent i j old due kept l is peers due_is =
 abbrev pub are_peers : World → ℕ → ℕ → Bool
 are_peers w i j = nat_lt i (count w) && nat_lt j (count w) && not (i == j)
 
-pub peers_in : (nodes : List Node) (sent : List Message) (w : World) (i by j : ℕ) → world_of nodes sent ≡ w → i ≡ by → true ≡ are_peers w by j → are_peers (world_of nodes sent) i j ≡ true
+pub peers_in : (nodes : List NodeView) (sent : List Message) (w : World) (i by j : ℕ) → world_of nodes sent ≡ w → i ≡ by → true ≡ are_peers w by j → are_peers (world_of nodes sent) i j ≡ true
 peers_in nodes sent w i by j is here peers = (λ k. are_peers (is k) (here k) j) ∙ sym peers
 
-pub peer_below : (nodes : List Node) (sent : List Message) (i j : ℕ) → are_peers (world_of nodes sent) i j ≡ true → i < length nodes
+pub peer_below : (nodes : List NodeView) (sent : List Message) (i j : ℕ) → are_peers (world_of nodes sent) i j ≡ true → i < length nodes
 peer_below nodes sent i j peers =
     let w : World = world_of nodes sent in
     let front = (and_parts (nat_lt i (count w) && nat_lt j (count w)) (not (i == j)) peers).0 in
     subst (λ n. i < n) (length-sites nodes) (ltb-true i (count w) (and_parts (nat_lt i (count w)) (nat_lt j (count w)) front).0)
 
 -- what is acknowledged is in the history
-pub acked_within : (nodes : List Node) (sent : List Message) (i j : ℕ) (old : Node) → IsKept nodes sent → i < length nodes → old ≡ get_or nodes i old → get_or old.exchange j 0 ≤ length old.book.history
-acked_within nodes sent i j old kept l is =
+pub acked_within : (nodes : List NodeView) (sent : List Message) (i : ℕ) (old : NodeView) → IsKept nodes sent → i < length nodes → old ≡ get_or nodes i old
+    → (j : ℕ) → get_or old.acked j 0 ≤ length old.book.history
+acked_within nodes sent i old kept l is j =
     let w : World = world_of nodes sent in
     let here = at_place nodes sent i old kept l is in
     subst (λ (s : Site). get_or s.acked j 0 ≤ length s.history) here.site ((sound_in w kept.reached).acked i j).0

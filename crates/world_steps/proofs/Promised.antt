@@ -1,11 +1,10 @@
 -- The promises, from what holds of every world that steps lead to.
-use Rattle.std.proofs.Common.{◌≡◌, ℕ, zero, suc, ◌≤◌, ◌<◌, max, inl, inr, List, Some, refl, sym, ap, ◌∙◌, subst, arith, length, take, get_or}
-use Rattle.std.specs.Prelude.{slice_get, Result, Ok, Err, OnOk, OnErr}
+use Rattle.std.proofs.Common.{◌≡◌, ℕ, zero, suc, ◌≤◌, ◌<◌, inl, inr, List, sym, ap, ◌∙◌, subst, arith, take, get_or}
+use Rattle.std.specs.Prelude.{Result, Ok, Err, OnOk, OnErr}
 use Rattle.std.proofs.lemmas.Bool.{cases_eq}
 use Rattle.std.proofs.lemmas.List.Sums.{sum_by-append}
 use Rattle.std.proofs.Math.Seq.{take-length}
-use Rattle.rights_lattice.specs.Cell.{owner_of}
-use Rattle.rights_lattice.specs.State.{State, Spot, At, at, join, AtOrBelow}
+use Rattle.rights_lattice.specs.State.{State, At, join, AtOrBelow}
 use Rattle.rights_lattice.specs.Sums.{max_sites}
 use Rattle.rights_lattice.proofs.StateLaws.{at-join, same_states}
 use Rattle.book_core.specs.declared.entry.Entry.{Entry}
@@ -14,18 +13,17 @@ use Rattle.book_core.specs.Decision.{Selling, Refunding}
 use Rattle.book_core.specs.Legal.{IsLegal}
 use Rattle.book_core.specs.Operations.{operations, operations_below, counted, sold, refunded}
 use Rattle.book_core.proofs.Refunds.{legal_refunds}
-use Rattle.site_exchange.specs.declared.message.Message.{Message}
 use Rattle.site_exchange.specs.declared.message.Message.TheVariants.{Delta, Ack}
 use Rattle.world_steps.specs.declared.step.Step.{Step}
 use Rattle.world_steps.specs.declared.step.Outcome.{Outcome}
 use Rattle.world_steps.specs.declared.step.WorldFault.{WorldFault}
-use Rattle.world_steps.specs.World.{IsReached, World, count, after, run, site_at, history_at, state_at}
-use Rattle.world_steps.specs.Promises.{NeverOversold, RefundsWithinSales, NoSeatIsLost, OperationsAreDistinct, ViewsBelowOwners, DeltasBelowOwners, RowsAreVersions, JoinsAreCausal, AcknowledgedIsHeld, AcksAreTrue, IsAllAcknowledged, AgreeOnceAcknowledged, ViewsArePositions, ViewsNotOversold, HoldsPromises, own_state}
+use Rattle.world_steps.specs.World.{IsReached, World, count, after, run, history_at, state_at}
+use Rattle.world_steps.specs.Promises.{NeverOversold, RefundsWithinSales, NoSeatIsLost, OperationsAreDistinct, ViewsBelowOwners, DeltasBelowOwners, RowsAreVersions, JoinsAreCausal, AcknowledgedIsHeld, AcksAreTrue, AgreeOnceAcknowledged, ViewsArePositions, ViewsNotOversold, HoldsPromises, own_state}
 use Rattle.world_steps.proofs.Positions.{sound_position, position_balance}
 use Rattle.world_steps.proofs.Balance.{office_of, not_oversold}
 use Rattle.world_steps.proofs.FlatList.{distinct_below}
 use Rattle.world_steps.proofs.Seats.{seats_add_up}
-use Rattle.world_steps.proofs.Worlds.{Sound, HasVersion, sound_views, sound_rows, sound_version, state_take_le}
+use Rattle.world_steps.proofs.Worlds.{Sound, HasVersion, sound_views, sound_rows, sound_version}
 use Rattle.world_steps.proofs.Reached.{no_history, sound_in, count_in, reached_after, reached_run}
 
 pub never_oversold : (w : World) → Sound w → count w ≤ max_sites → NeverOversold w

@@ -1,7 +1,7 @@
 -- Where each seat of an event is: sums over the sites.
-use Rattle.std.proofs.Common.{◌≡◌, ◌≢◌, inl, inr, ℕ, zero, suc, ◌+◌, ◌-◌, ◌≤◌, ◌<◌, max, Bool, true, false, cond, List, [], ◌∷◌, ◌++◌, refl, sym, ap, ◌∙◌, subst, arith, eq-eqb, ne_eqb, append-nil, length}
-use Rattle.std.specs.Prelude.{◌==◌, Some, slice_get}
-use Rattle.std.proofs.lemmas.Bool.{cases_lt, cases_eq, eqb-true, eqb-false}
+use Rattle.std.proofs.Common.{◌≡◌, inl, inr, ℕ, ◌+◌, ◌-◌, ◌≤◌, ◌<◌, Bool, true, false, cond, List, [], ◌∷◌, ◌++◌, refl, sym, ap, ◌∙◌, arith, eq-eqb, ne_eqb}
+use Rattle.std.specs.Prelude.{◌==◌}
+use Rattle.std.proofs.lemmas.Bool.{cases_lt, cases_eq}
 use Rattle.rights_lattice.specs.declared.cell.Cell.{Cell}
 use Rattle.rights_lattice.specs.declared.cell.Cell.TheVariants.{Gave, Used, Back}
 use Rattle.rights_lattice.specs.Cells.{Cells, value_at, marks_of}
@@ -16,12 +16,12 @@ use Rattle.book_core.specs.declared.entry.Entry.{Entry}
 use Rattle.book_core.specs.History.{state_of, delta_of}
 use Rattle.book_core.specs.Decision.{Office, Releasing, Selling, Refunding, Ceding}
 use Rattle.book_core.specs.Legal.{IsNext, IsLegal}
-use Rattle.book_core.specs.Operations.{operations, total, released, sold, refunded, ceded}
+use Rattle.book_core.specs.Operations.{operations, total, sold, refunded, ceded}
 use Rattle.book_core.proofs.BookLaws.{marks_within}
 use Rattle.book_core.proofs.Histories.{at-push, legal_along}
 use Rattle.book_core.proofs.Rows.{legal_rights, legal_cells}
 use Rattle.world_steps.specs.World.{World, count, history_at, office_at, all_operations}
-use Rattle.world_steps.specs.Promises.{own_state, SeatsAddUp}
+use Rattle.world_steps.specs.Promises.{SeatsAddUp}
 use Rattle.world_steps.proofs.Balance.{total_below, ceded_below}
 use Rattle.world_steps.proofs.FlatList.{ceded_all, ceded_self}
 use Rattle.world_steps.proofs.Worlds.{Sound, sound_views}

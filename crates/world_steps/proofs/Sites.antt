@@ -8,27 +8,27 @@ use Rattle.book_core.specs.Decision.{Office}
 use Rattle.book_core.proofs.Histories.{get_push}
 use Rattle.site_exchange.specs.declared.message.Message.{Message}
 use Rattle.site_exchange.specs.Exchange.{Site, zeros}
-use Rattle.world_steps.specs.declared.node.Node.{Node}
+use Rattle.world_steps.specs.NodeView.{NodeView}
 use Rattle.world_steps.specs.declared.step.Step.{Step}
 use Rattle.world_steps.specs.Nodes.{site_of, limit_of}
 use Rattle.world_steps.specs.Reaching.{world_of, IsKept}
-use Rattle.world_steps.specs.World.{World, opened, opening, count, no_site, site_at, history_at, office_at, at_site, after, IsReached}
+use Rattle.world_steps.specs.World.{World, opened, opening, count, no_site, site_at, history_at, office_at, after, IsReached}
 use Rattle.world_steps.proofs.Reached.{reached_after}
 
 -- site i before any step
-pub record IsOpened (sites limit i : ℕ) (node : Node) : Type 0 where
+pub record IsOpened (sites limit i : ℕ) (node : NodeView) : Type 0 where
   pub office : node.book.office ≡ record { me = i; sites = sites; limit = limit }
   pub history : node.book.history ≡ []
-  pub acked : node.exchange ≡ zeros
+  pub acked : node.acked ≡ zeros
 
-pub opened_push : (sites limit : ℕ) (nodes : List Node) (node : Node) → ((i : ℕ) (n : Node) → slice_get nodes i ≡ Some n → IsOpened sites limit i n)
-    → IsOpened sites limit (length nodes) node → (i : ℕ) (n : Node) → slice_get (nodes ++ node ∷ []) i ≡ Some n → IsOpened sites limit i n
+pub opened_push : (sites limit : ℕ) (nodes : List NodeView) (node : NodeView) → ((i : ℕ) (n : NodeView) → slice_get nodes i ≡ Some n → IsOpened sites limit i n)
+    → IsOpened sites limit (length nodes) node → (i : ℕ) (n : NodeView) → slice_get (nodes ++ node ∷ []) i ≡ Some n → IsOpened sites limit i n
 opened_push sites limit nodes node before here i n found = elim (get_push nodes node i n found) [
   | inl p ↦ before i n p.1
   | inr p ↦ subst (λ k. IsOpened sites limit k n) (sym p.0) (subst (IsOpened sites limit (length nodes)) p.1 here)
 ]
 
-all_empty : (nodes : List Node) → ((i : ℕ) (n : Node) → slice_get nodes i ≡ Some n → (n.book.history ≡ []) × (n.exchange ≡ zeros))
+all_empty : (nodes : List NodeView) → ((i : ℕ) (n : NodeView) → slice_get nodes i ≡ Some n → (n.book.history ≡ []) × (n.acked ≡ zeros))
     → map site_of nodes ≡ replicate (length nodes) no_site
 all_empty [] empty = refl
 all_empty (node ∷ nodes) empty =
@@ -36,7 +36,7 @@ all_empty (node ∷ nodes) empty =
     let here = empty 0 node refl in
     λ i. record { history = here.0 i; acked = here.1 i } ∷ rest i
 
-all_limited : (limit : ℕ) (nodes : List Node) → ((i : ℕ) (n : Node) → slice_get nodes i ≡ Some n → limit_of n ≡ limit) → map limit_of nodes ≡ replicate (length nodes) limit
+all_limited : (limit : ℕ) (nodes : List NodeView) → ((i : ℕ) (n : NodeView) → slice_get nodes i ≡ Some n → limit_of n ≡ limit) → map limit_of nodes ≡ replicate (length nodes) limit
 all_limited limit [] same = refl
 all_limited limit (node ∷ nodes) same =
     let rest = all_limited limit nodes (λ i n found. same (suc i) n found) in
@@ -44,8 +44,8 @@ all_limited limit (node ∷ nodes) same =
     λ i. here i ∷ rest i
 
 -- the sites that a world begins with
-pub kept_opening : (sites limit : ℕ) (nodes : List Node) (sent : List Message) → sites ≤ max_sites → length nodes ≡ sites → sent ≡ []
-    → ((i : ℕ) (n : Node) → slice_get nodes i ≡ Some n → IsOpened sites limit i n) → IsKept nodes sent × (world_of nodes sent ≡ opening sites limit)
+pub kept_opening : (sites limit : ℕ) (nodes : List NodeView) (sent : List Message) → sites ≤ max_sites → length nodes ≡ sites → sent ≡ []
+    → ((i : ℕ) (n : NodeView) → slice_get nodes i ≡ Some n → IsOpened sites limit i n) → IsKept nodes sent × (world_of nodes sent ≡ opening sites limit)
 kept_opening sites limit nodes sent few len none opened_each =
     let limits_are : map limit_of nodes ≡ replicate sites limit =
     all_limited limit nodes (λ i n found. ap (λ (o : Office). o.limit) (opened_each i n found).office) ∙ ap (λ n. replicate n limit) len in
@@ -66,44 +66,44 @@ kept_opening sites limit nodes sent few len none opened_each =
       is,
     )
 
-pub sites_set : (nodes : List Node) (i : ℕ) (node : Node) → map site_of (set nodes i node) ≡ set (map site_of nodes) i (site_of node)
+pub sites_set : (nodes : List NodeView) (i : ℕ) (node : NodeView) → map site_of (set nodes i node) ≡ set (map site_of nodes) i (site_of node)
 sites_set [] i node = refl
 sites_set (n ∷ nodes) zero node = refl
 sites_set (n ∷ nodes) (suc i) node = ap (λ (ss : List Site). site_of n ∷ ss) (sites_set nodes i node)
 
 -- a site with the same limit in its place
-limits_set : (nodes : List Node) (i : ℕ) (old new : Node) → slice_get nodes i ≡ Some old → limit_of new ≡ limit_of old → map limit_of (set nodes i new) ≡ map limit_of nodes
+limits_set : (nodes : List NodeView) (i : ℕ) (old new : NodeView) → slice_get nodes i ≡ Some old → limit_of new ≡ limit_of old → map limit_of (set nodes i new) ≡ map limit_of nodes
 limits_set [] i old new found same = refl
 limits_set (n ∷ nodes) zero old new found same =
     let is : n ≡ old = cc in
     ap (λ (l : ℕ). l ∷ map limit_of nodes) (same ∙ sym (ap limit_of is))
 limits_set (n ∷ nodes) (suc i) old new found same = ap (λ (ls : List ℕ). limit_of n ∷ ls) (limits_set nodes i old new found same)
 
-pub site_found : (nodes : List Node) (i : ℕ) (old : Node) → slice_get nodes i ≡ Some old → get_or (map site_of nodes) i no_site ≡ site_of old
+pub site_found : (nodes : List NodeView) (i : ℕ) (old : NodeView) → slice_get nodes i ≡ Some old → get_or (map site_of nodes) i no_site ≡ site_of old
 site_found [] i old found = cc
 site_found (n ∷ nodes) zero old found = let same : n ≡ old = cc in ap site_of same
 site_found (n ∷ nodes) (suc i) old found = site_found nodes i old found
 
-limit_found : (nodes : List Node) (i : ℕ) (old : Node) → slice_get nodes i ≡ Some old → get_or (map limit_of nodes) i 0 ≡ limit_of old
+limit_found : (nodes : List NodeView) (i : ℕ) (old : NodeView) → slice_get nodes i ≡ Some old → get_or (map limit_of nodes) i 0 ≡ limit_of old
 limit_found [] i old found = cc
 limit_found (n ∷ nodes) zero old found = let same : n ≡ old = cc in ap limit_of same
 limit_found (n ∷ nodes) (suc i) old found = limit_found nodes i old found
 
-pub length-sites : (nodes : List Node) → length (map site_of nodes) ≡ length nodes
+pub length-sites : (nodes : List NodeView) → length (map site_of nodes) ≡ length nodes
 length-sites [] = refl
 length-sites (n ∷ nodes) = ap suc (length-sites nodes)
 
 -- the history of a site of the program
-pub history_found : (nodes : List Node) (sent : List Message) (i : ℕ) (node : Node) → slice_get nodes i ≡ Some node → history_at (world_of nodes sent) i ≡ node.book.history
+pub history_found : (nodes : List NodeView) (sent : List Message) (i : ℕ) (node : NodeView) → slice_get nodes i ≡ Some node → history_at (world_of nodes sent) i ≡ node.book.history
 history_found nodes sent i node found = ap (λ (s : Site). s.history) (site_found nodes i node found)
 
 -- each book is of the site that its place names, among n
-abbrev IsInPlace : ℕ → ℕ → Node → Type 0
+abbrev IsInPlace : ℕ → ℕ → NodeView → Type 0
 IsInPlace n i node = node.book.office ≡ record { me = i; sites = n; limit = limit_of node }
 
 -- what holds of each site at its place holds with another one put there
-each_set : (Holds : ℕ → Node → Type 0) (nodes : List Node) (i k : ℕ) (new node : Node) → slice_get (set nodes i new) k ≡ Some node
-    → ((j : ℕ) (m : Node) → slice_get nodes j ≡ Some m → Holds j m) → Holds i new → Holds k node
+each_set : (Holds : ℕ → NodeView → Type 0) (nodes : List NodeView) (i k : ℕ) (new node : NodeView) → slice_get (set nodes i new) k ≡ Some node
+    → ((j : ℕ) (m : NodeView) → slice_get nodes j ≡ Some m → Holds j m) → Holds i new → Holds k node
 each_set Holds [] i k new node found before here = before k node found
 each_set Holds (x ∷ nodes) zero zero new node found before here = let same : new ≡ node = cc in subst (Holds zero) same here
 each_set Holds (x ∷ nodes) zero (suc k) new node found before here = before (suc k) node found
@@ -112,23 +112,27 @@ each_set Holds (x ∷ nodes) (suc i) (suc k) new node found before here =
     each_set (λ j. Holds (suc j)) nodes i k new node found (λ j m there. before (suc j) m there) here
 
 -- the office of a site that is put in the place of another is that of its place
-kept_offices : (nodes : List Node) (i : ℕ) (old new : Node) → ((j : ℕ) (m : Node) → slice_get nodes j ≡ Some m → IsInPlace (length nodes) j m)
-    → slice_get nodes i ≡ Some old → new.book.office ≡ old.book.office → (k : ℕ) (n : Node) → slice_get (set nodes i new) k ≡ Some n → IsInPlace (length (set nodes i new)) k n
+kept_offices : (nodes : List NodeView) (i : ℕ) (old new : NodeView) → ((j : ℕ) (m : NodeView) → slice_get nodes j ≡ Some m → IsInPlace (length nodes) j m)
+    → slice_get nodes i ≡ Some old → new.book.office ≡ old.book.office → (k : ℕ) (n : NodeView) → slice_get (set nodes i new) k ≡ Some n → IsInPlace (length (set nodes i new)) k n
 kept_offices nodes i old new before found same k n there =
     subst (λ c. IsInPlace c k n) (sym (length-set nodes i new))
     (each_set (IsInPlace (length nodes)) nodes i k new n there before
     (same ∙ before i old found ∙ (λ t. record { me = i; sites = length nodes; limit = sym (ap (λ (o : Office). o.limit) same) t })))
 
-pub found_at : (nodes : List Node) (i : ℕ) (n : Node) → i < length nodes → n ≡ get_or nodes i n → slice_get nodes i ≡ Some n
+pub found_at : (nodes : List NodeView) (i : ℕ) (n : NodeView) → i < length nodes → n ≡ get_or nodes i n → slice_get nodes i ≡ Some n
 found_at nodes i n l e = slice_get_read nodes (length nodes) i n refl l e
 
+-- a site that is put back as it was changes nothing
+pub put_back : (nodes : List NodeView) (i : ℕ) (old new : NodeView) → old ≡ get_or nodes i old → new ≡ old → set nodes i new ≡ nodes
+put_back nodes i old new is same = ap (set nodes i) (same ∙ is) ∙ set-get_or nodes i old
+
 -- the sites and the messages after a step that changed one site, and put messages behind those that were sent
-pub record IsMade (nodes : List Node) (sent : List Message) (now : List Node) (sent_now : List Message) (step : Step) : Type 0 where
+pub record IsMade (nodes : List NodeView) (sent : List Message) (now : List NodeView) (sent_now : List Message) (step : Step) : Type 0 where
   pub kept : IsKept now sent_now
   pub made : world_of now sent_now ≡ after (world_of nodes sent) step
 
 -- the program's world with one site in another state
-world_set : (nodes : List Node) (sent : List Message) (i : ℕ) (old new : Node) → slice_get nodes i ≡ Some old → new.book.office ≡ old.book.office
+world_set : (nodes : List NodeView) (sent : List Message) (i : ℕ) (old new : NodeView) → slice_get nodes i ≡ Some old → new.book.office ≡ old.book.office
     → world_of (set nodes i new) sent ≡ record { limits = map limit_of nodes; sites = set (map site_of nodes) i (site_of new); sent = sent }
 world_set nodes sent i old new found same = λ k. record {
   limits = limits_set nodes i old new found (ap (λ (o : Office). o.limit) same) k;
@@ -137,7 +141,7 @@ world_set nodes sent i old new found same = λ k. record {
 }
 
 -- what the definition of the step changes is what was changed
-pub made_at : (nodes : List Node) (sent sent_now : List Message) (i : ℕ) (old new : Node) (step : Step) → IsKept nodes sent → slice_get nodes i ≡ Some old → new.book.office ≡ old.book.office
+pub made_at : (nodes : List NodeView) (sent sent_now : List Message) (i : ℕ) (old new : NodeView) (step : Step) → IsKept nodes sent → slice_get nodes i ≡ Some old → new.book.office ≡ old.book.office
     → after (world_of nodes sent) step ≡ record { limits = map limit_of nodes; sites = set (map site_of nodes) i (site_of new); sent = sent_now } → IsMade nodes sent (set nodes i new) sent_now step
 made_at nodes sent sent_now i old new step kept found same after_is =
     let is : world_of (set nodes i new) sent_now ≡ after (world_of nodes sent) step = world_set nodes sent_now i old new found same ∙ sym after_is in
@@ -150,13 +154,13 @@ made_at nodes sent sent_now i old new step kept found same after_is =
     }
 
 -- a site that shows the same makes the same world
-pub same_world : (nodes : List Node) (sent : List Message) (i : ℕ) (old new : Node) → slice_get nodes i ≡ Some old → new.book.office ≡ old.book.office → site_of new ≡ site_of old → world_of (set nodes i new) sent ≡ world_of nodes sent
+pub same_world : (nodes : List NodeView) (sent : List Message) (i : ℕ) (old new : NodeView) → slice_get nodes i ≡ Some old → new.book.office ≡ old.book.office → site_of new ≡ site_of old → world_of (set nodes i new) sent ≡ world_of nodes sent
 same_world nodes sent i old new found same_office same =
     world_set nodes sent i old new found same_office
     ∙ ap (λ (ss : List Site). let w : World = record { limits = map limit_of nodes; sites = ss; sent = sent } in w)
     (ap (set (map site_of nodes) i) (same ∙ sym (site_found nodes i old found)) ∙ set-get_or (map site_of nodes) i no_site)
 
-pub kept_same : (nodes : List Node) (sent : List Message) (i : ℕ) (old new : Node) → IsKept nodes sent → slice_get nodes i ≡ Some old → new.book.office ≡ old.book.office → site_of new ≡ site_of old
+pub kept_same : (nodes : List NodeView) (sent : List Message) (i : ℕ) (old new : NodeView) → IsKept nodes sent → slice_get nodes i ≡ Some old → new.book.office ≡ old.book.office → site_of new ≡ site_of old
     → IsKept (set nodes i new) sent
 kept_same nodes sent i old new kept found same_office same = record {
   offices = kept_offices nodes i old new kept.offices found same_office;
@@ -164,13 +168,13 @@ kept_same nodes sent i old new kept found same_office same = record {
 }
 
 -- the site at a place, as the world has it
-pub record IsAt (nodes : List Node) (sent : List Message) (i : ℕ) (old : Node) : Type 0 where
+pub record IsAt (nodes : List NodeView) (sent : List Message) (i : ℕ) (old : NodeView) : Type 0 where
   pub found : slice_get nodes i ≡ Some old
   pub below : i < count (world_of nodes sent)
   pub site : site_at (world_of nodes sent) i ≡ site_of old
   pub office : office_at (world_of nodes sent) i ≡ old.book.office
 
-pub at_place : (nodes : List Node) (sent : List Message) (i : ℕ) (old : Node) → IsKept nodes sent → i < length nodes → old ≡ get_or nodes i old → IsAt nodes sent i old
+pub at_place : (nodes : List NodeView) (sent : List Message) (i : ℕ) (old : NodeView) → IsKept nodes sent → i < length nodes → old ≡ get_or nodes i old → IsAt nodes sent i old
 at_place nodes sent i old kept l is =
     let found = found_at nodes i old l is in
     record {

@@ -1,5 +1,5 @@
 -- The sums over the flat list of all operations, from the sites' own cells.
-use Rattle.std.proofs.Common.{◌≡◌, ℕ, suc, ◌+◌, ◌*◌, ◌^◌, ◌≤◌, ◌<◌, List, refl, sym, ap, ◌∙◌, arith}
+use Rattle.std.proofs.Common.{◌≡◌, ℕ, suc, ◌+◌, ◌*◌, ◌≤◌, ◌<◌, List, refl, sym, ap, ◌∙◌, arith}
 use Rattle.rights_lattice.specs.declared.cell.Cell.{Cell}
 use Rattle.rights_lattice.specs.declared.cell.Cell.TheVariants.{Gave, Used, Back}
 use Rattle.rights_lattice.specs.Cells.{value_at, max_value}

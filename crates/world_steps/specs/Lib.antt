@@ -1,4 +1,5 @@
 pub mod Audit
+pub mod NodeView
 pub mod Nodes
 pub mod Outcomes
 pub mod Promises

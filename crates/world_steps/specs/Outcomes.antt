@@ -1,5 +1,5 @@
 -- What each step is answered. (Our own.)
-use Rattle.std.specs.Prelude.{◌≡◌, ℕ, true, not, ◌&&◌, ◌==◌, if◌then◌else◌, nat_lt, List, [], ◌∷◌, length, slice_get, Option, Some, None, Result, Ok, Err, IsOk, IsSome, IsSomeAnd}
+use Rattle.std.specs.Prelude.{◌≡◌, ℕ, ◌⊎◌, true, not, ◌&&◌, ◌==◌, if◌then◌else◌, nat_lt, List, [], ◌∷◌, length, slice_get, Option, Some, None, Result, Ok, Err, IsOk, IsSome, IsSomeAnd}
 use Rattle.book_core.specs.declared.plan.PlanFault.TheVariants as fault
 use Rattle.book_core.specs.Decision as decided
 use Rattle.book_core.specs.declared.entry.Entry.{Entry}
@@ -7,8 +7,8 @@ use Rattle.book_core.specs.Decision.{Office, decision}
 use Rattle.book_core.specs.Plans.{IsFresh}
 use Rattle.site_exchange.specs.declared.message.Message.{Message}
 use Rattle.site_exchange.specs.Exchange as exchange
-use Rattle.site_exchange.specs.Exchange.{Verdict, next, verdict}
-use Rattle.site_exchange.specs.Taking.{given_back}
+use Rattle.site_exchange.specs.Exchange.{Verdict, next, receiver, verdict}
+use Rattle.site_exchange.specs.Taking.{MayTake, given_back}
 use Rattle.world_steps.specs.declared.step.Input.{Input}
 use Rattle.world_steps.specs.declared.step.Input.TheVariants as input
 use Rattle.world_steps.specs.declared.step.Step.{Step}
@@ -67,10 +67,12 @@ MayStore office h sent (input.Request number request) = IsFresh (decision office
 MayStore office h sent (input.Take index) = IsSomeAnd (slice_get sent index) (λ message. verdict office h message ≡ exchange.Joins)
 
 -- Making the step may want memory: a kept number and a full history want none, nor does a send where nothing is due,
--- a delivery where no acknowledgement is due, starting anew, or a stop that stores nothing.
+-- a delivery where no acknowledgement is due and that raises no acknowledged number, starting anew, or a stop that
+-- stores nothing.
 abbrev pub MayGrow : World → Step → Type 0
 MayGrow w (Ask i number request) = IsFresh (decision (office_at w i) (history_at w i) number request)
 MayGrow w (Send i j) = IsSome (next i (site_at w i) j)
-MayGrow w (Deliver index) = IsSomeAnd (slice_get w.sent index) (λ message. IsSome (given_back (judged w message) message))
+MayGrow w (Deliver index) =
+    IsSomeAnd (slice_get w.sent index) (λ message. IsSome (given_back (judged w message) message) ⊎ MayTake (judged w message) (site_at w (receiver message)) message)
 MayGrow w (Restart i) = ⊥
 MayGrow w (Stop i in_hand stored) = (stored ≡ true) × MayStore (office_at w i) (history_at w i) w.sent in_hand

@@ -1,29 +1,94 @@
-//! One site of a world: its book, and what its peers have acknowledged.
-ghost use Rattle.std.specs.Prelude.{[], ◌∷◌, ◌++◌, ◌≡◌, IfOk, IfErr, OnOk, OnErr, IsTrue, Err};
+//! One site of a world: its book, what its peers have acknowledged, and what is pending for them.
+ghost use Rattle.std.specs.Prelude.{[], ◌∷◌, ◌++◌, ◌≡◌, ◌≢◌, ◌≤◌, ◌<◌, ℕ, get_or, length, max, set, IfOk, IfErr, OnOk, OnErr, IsSome, IsTrue, Err};
 ghost use Rattle.book_core.specs.Decision.{decision, entry_of_ask};
 ghost use Rattle.book_core.specs.Plans.{IsFresh};
 ghost use Rattle.book_core.specs.Joining as join;
 ghost use Rattle.book_core.specs.Joining.{join_decision};
 ghost use Rattle.book_core.specs.declared.entry.Entry.TheVariants.{Joined};
-ghost use Rattle.site_exchange.specs.Exchange.{Joins, entry_of_take, verdict};
-ghost use Rattle.site_exchange.specs.Taking.{extended, site_after, stopped_with, with_entry};
+ghost use Rattle.site_exchange.specs.Exchange.{Joins, entry_of_take, next, verdict, zeros};
+ghost use Rattle.site_exchange.specs.Taking.{MayTake, extended, site_after, stopped_with, with_entry};
 ghost use Rattle.world_steps.specs.World.{entry_of_input, is_there};
 ghost use Rattle.world_steps.specs.Outcomes.{answered, MayStore};
 ghost use Rattle.world_steps.specs.Nodes.{site_of, verdict_told};
 
 use crate::step::{Input, Outcome, WorldFault};
-use book_core::{Book, JoinDecision, JoinPlan, Plan, PlanFault};
+use book_core::{Book, JoinDecision, JoinPlan, Limit, Plan, PlanFault};
 use delta_mutators::Delta;
 use request_ledger::{Request, RequestNumber};
-use rights_lattice::SiteId;
-use site_exchange::{Exchange, Message, TakeFault, check};
+use rights_lattice::{SiteId, Sites};
+use site_exchange::{Exchange, Message, TakeFault, Upto, check};
 use std::alloc::{AllocError, Global};
+use std::marker::Model;
 
-/// One site of a world.
+/// One site of a world. What is pending for its peers is of its book's history.
 #[derive(Drop)]
 pub struct Node {
-    pub book: Book,
-    pub exchange: Exchange,
+    book: Book,
+    exchange: Exchange,
+}
+
+impl Model for Node {
+    ghost use Rattle.site_exchange.specs.Pendings.{ArePending};
+    ghost use Rattle.world_steps.specs.NodeView.{NodeView, coded_node};
+
+    ghost Value = { NodeView };
+
+    ghost coded = { coded_node };
+
+    ghost view = { λ n. record { book = n.book; acked = n.exchange.acked } };
+
+    ghost invariant = { λ n. ArePending n.book.history n.exchange };
+}
+
+impl Node {
+    /// A site that has no history: nothing counts as acknowledged, and nothing is pending.
+    pub fn new(alloc: Global, me: SiteId, sites: Sites, limit: Limit) -> Node
+        requires { me < sites }
+        ensures office { result.book.office ≡ record { me = me; sites = sites; limit = limit } }
+        ensures history { result.book.history ≡ [] }
+        ensures acked { result.acked ≡ zeros }
+    {
+        Node {
+            book: Book::new(alloc, me, sites, limit),
+            exchange: Exchange::fresh(alloc),
+        }
+    }
+
+    /// Its book.
+    pub fn book(&self) -> &Book
+        ensures { result.now ≡ self.now.book }
+    {
+        &self.book
+    }
+
+    /// Starts it anew from its history: nothing counts as acknowledged, and nothing is pending.
+    pub fn restart(&mut self, alloc: Global)
+        ensures { self.new ≡ record self.old { acked = zeros } }
+    {
+        self.exchange = Exchange::fresh(alloc);
+    }
+
+    /// The message that is due to a peer, if any. Nothing that is shown changes, also where memory is refused.
+    pub fn next(&mut self, alloc: Global, to: SiteId) -> Result<Option<Message>, AllocError>
+        requires site { to < self.old.book.office.sites }
+        requires other { to ≢ self.old.book.office.me }
+        requires acked { (peer : ℕ) → get_or self.old.acked peer 0 ≤ length self.old.book.history }
+        ensures message { IfOk result (λ message. message ≡ next self.old.book.office.me (site_of self.old) to) }
+        ensures memory { OnErr result (IsSome (next self.old.book.office.me (site_of self.old) to)) }
+        ensures unchanged { self.new ≡ self.old }
+    {
+        self.exchange.next(alloc, &self.book, to)
+    }
+
+    // Takes an acknowledgement of the first entries of its history.
+    fn ack(&mut self, by: SiteId, upto: Upto) -> Result<(), AllocError>
+        requires { upto ≤ length self.old.book.history }
+        ensures taken { OnOk result (self.new ≡ record self.old { acked = set self.old.acked by (max (get_or self.old.acked by 0) upto) }) }
+        ensures wanted { OnErr result (get_or self.old.acked by 0 < upto) }
+        ensures unchanged { OnErr result (self.new ≡ self.old) }
+    {
+        self.exchange.ack(&self.book, by, upto)
+    }
 }
 
 /// What a site does with a message.
@@ -86,17 +151,14 @@ pub fn judge(book: &Book, message: &Message) -> Taken
 pub fn take(node: &mut Node, alloc: Global, message: &Message) -> Result<(), AllocError>
     ensures office { node.new.book.office ≡ node.old.book.office }
     ensures changed { OnOk result (site_of node.new ≡ site_after (verdict node.old.book.office node.old.book.history message.now) message.now (site_of node.old)) }
-    ensures wanted { OnErr result (verdict node.old.book.office node.old.book.history message.now ≡ Joins) }
+    ensures wanted { OnErr result (MayTake (verdict node.old.book.office node.old.book.history message.now) (site_of node.old) message.now) }
     ensures unchanged { OnErr result (site_of node.new ≡ site_of node.old) }
 {
     match (judge(&node.book, message), message) {
         (Taken::Joined, Message::Delta { by, delta, .. }) => {
             join(&mut node.book, alloc, *by, delta)
         }
-        (Taken::Acked, Message::Ack { by, upto, .. }) => {
-            node.exchange.ack(*by, *upto);
-            Ok(())
-        }
+        (Taken::Acked, Message::Ack { by, upto, .. }) => node.ack(*by, *upto),
         _ => Ok(()),
     }
 }
@@ -140,7 +202,7 @@ pub fn stop(
     if stored && store(&mut node.book, alloc, sent, input).is_err() {
         return Err(WorldFault::Memory);
     }
-    node.exchange = Exchange::fresh();
+    node.restart(alloc);
     Ok(Outcome::Stopped)
 }
 

@@ -85,7 +85,8 @@ pub enum WorldFault {
     #[error("no such message")]
     NoMessage,
     /// A growth was refused. Only a step that is not refused otherwise gets this: a new request, a send where something
-    /// is due, a delivery where an acknowledgement is due, and a stop that stores a new entry.
+    /// is due, a delivery where an acknowledgement is due or one is taken that raises a number, and a stop that stores a
+    /// new entry.
     #[error("out of memory")]
     Memory,
 }

@@ -16,7 +16,7 @@ use book_core::{Book, Limit};
 use local_rights::Totals;
 use request_ledger::{Request, RequestNumber};
 use rights_lattice::{Event, SiteId, Sites};
-use site_exchange::{Exchange, Message, TakeFault, ack_for};
+use site_exchange::{Message, TakeFault, ack_for};
 use std::alloc::{AllocError, Global};
 use std::collections::BTreeSet;
 use std::marker::Model;
@@ -51,10 +51,7 @@ impl World {
     {
         let mut nodes = Vec::new(alloc);
         for number in 0..sites.count() {
-            nodes.push(Node {
-                book: Book::new(alloc, sites.site(number), sites, limit),
-                exchange: Exchange::fresh(),
-            })?;
+            nodes.push(Node::new(alloc, sites.site(number), sites, limit))?;
         }
         Ok(World {
             sites: nodes,
@@ -92,7 +89,7 @@ impl World {
             } => self.ask(alloc, site, number, &request),
             Step::Send { by, to } => self.send(alloc, by, to),
             Step::Deliver { index } => self.deliver(alloc, index),
-            Step::Restart { site } => self.restart(site),
+            Step::Restart { site } => self.restart(alloc, site),
             Step::Stop {
                 site,
                 input,
@@ -122,7 +119,7 @@ impl World {
         ask(node, alloc, number, request)
     }
 
-    fn restart(&mut self, site: SiteId) -> Result<Outcome, WorldFault>
+    fn restart(&mut self, alloc: Global, site: SiteId) -> Result<Outcome, WorldFault>
         ensures outcome { IfOk result (λ o. outcome self.old (Step.Restart site) ≡ Ok o) }
         ensures fault { IfErr result (IsDue self.old (Step.Restart site)) }
         ensures memory { result ≡ Err WorldFault.Memory → ⊥ }
@@ -134,7 +131,7 @@ impl World {
             return Err(WorldFault::NoSite);
         }
         let node = &mut self.sites[place];
-        node.exchange = Exchange::fresh();
+        node.restart(alloc);
         Ok(Outcome::Restarted)
     }
 
@@ -220,8 +217,8 @@ impl World {
         if !self.are_peers(by, to) {
             return Err(WorldFault::NoSite);
         }
-        let node = &self.sites[by.number() as usize];
-        let due = node.exchange.next(alloc, &node.book, to)?;
+        let node = &mut self.sites[by.number() as usize];
+        let due = node.next(alloc, to)?;
         make_room(&mut self.sent, due.is_some())?;
         let outcome = sent_as(&due, self.sent.len());
         put(&mut self.sent, due);
@@ -247,7 +244,7 @@ impl World {
         }
         let message = &self.sent[index];
         let place = receiver(message).number() as usize;
-        let taken = judge(&self.sites[place].book, message);
+        let taken = judge(self.sites[place].book(), message);
         let ack = given_back(&taken, message);
         // Room first, so that nothing can fail once the message is taken.
         if make_room(&mut self.sent, ack.is_some()).is_err() {
@@ -308,7 +305,7 @@ impl World {
             refunded: 0,
         };
         for node in &self.sites {
-            totals = with_own(totals, &node.book, event);
+            totals = with_own(totals, node.book(), event);
         }
         totals
     }
@@ -319,7 +316,7 @@ impl World {
     {
         let mut names = BTreeSet::new(alloc);
         for node in &self.sites {
-            add_names(&mut names, &node.book)?;
+            add_names(&mut names, node.book())?;
         }
         listed(alloc, &names)
     }
@@ -338,7 +335,7 @@ impl World {
         ensures history { IfSome result (λ book. book.now.history ≡ history_at self.now site) }
     {
         match self.sites.get(site.number() as usize) {
-            Some(node) => Some(&node.book),
+            Some(node) => Some(node.book()),
             None => None,
         }
     }

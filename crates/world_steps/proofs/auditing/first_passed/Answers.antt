@@ -1,7 +1,6 @@
-use Rattle.std.proofs.Common.{◌≡◌, ℕ, Some, false, true, sym, ap, ◌∙◌, subst, arith}
-use Rattle.std.specs.Prelude.{IsTrue, slice_get}
-use Rattle.rights_lattice.proofs.TestLaws.{refused}
-use Rattle.book_core.specs.BookView.{BookView, SeesWithin}
+use Rattle.std.proofs.Common.{◌≡◌, Some, false, true, sym, ◌∙◌, subst, arith}
+use Rattle.std.specs.Prelude.{slice_get}
+use Rattle.book_core.specs.BookView.{SeesWithin}
 use Rattle.world_steps.specs.Audit.{books_of, IsFirstPassed}
 use Rattle.world_steps.proofs.Audits.{found_view, each_more, each_all, length-views}
 use Rattle.world_steps.proofs.auditing.first_passed.Goals as goal

@@ -1,10 +1,10 @@
-use Rattle.std.proofs.Common.{◌≡◌, ◌≤◌, ℕ, zero, suc, List, [], ◌∷◌, Some, true, false, Bor, sym, ap, ◌∙◌, subst, arith, length}
+use Rattle.std.proofs.Common.{◌≡◌, ◌≤◌, ℕ, List, [], ◌∷◌, Some, true, false, Bor, sym, ◌∙◌, arith, length}
 use Rattle.std.specs.Prelude.{IsTrue, slice_get}
 use Rattle.rights_lattice.proofs.TestLaws.{refused, granted}
 use Rattle.rights_lattice.specs.Sums.{max_sites}
 use Rattle.book_core.specs.BookView.{BookView}
 use Rattle.book_core.specs.Legal.{IsLegal}
-use Rattle.world_steps.specs.Audit.{books_of, AreSites, IsWhole, StandsAt}
+use Rattle.world_steps.specs.Audit.{books_of, IsWhole, StandsAt}
 use Rattle.world_steps.proofs.Audits.{found_view, each_more, each_all, length-views}
 use Rattle.world_steps.proofs.auditing.is_whole.Goals as goal
 

@@ -1,3 +1,7 @@
+use Rattle.std.proofs.Common.{arith, rules}
+use Rattle.site_exchange.proofs.PendingLaws.{pending_entered}
+use Rattle.site_desk.specs.SiteView.{entry_in}
+use Rattle.site_desk.proofs.Acknowledged.{no_shorter}
 use Rattle.site_desk.proofs.Growth.{grown}
 use Rattle.site_desk.proofs.site_book.SiteBook.ask.Goals as goal
 
@@ -6,3 +10,14 @@ returns-clause-grown g c =
     let s = c.self.inside in
     let answer = c.answer-answer in
     rw (← c.self.view_is) (grown answer.result s.book.office s.book.history answer.new.book.history c.args.number c.args.request.now answer.ensures.answer answer.ensures.entered)
+
+pub invariant_of-self : goal.invariant_of-self
+invariant_of-self g c = record {
+  sound = search rules;
+  same = search rules;
+  rests = search rules;
+  acknowledged = λ peer. omega (arith, c.self.invariant.acknowledged peer, no_shorter c.answer-answer.result (entry_in c.self.inside.book c.args.number c.args.request.now) c.self.inside.book.history c.answer-answer.new.book.history c.answer-answer.ensures.entered c.answer-answer.ensures.unchanged);
+  pending = pending_entered c.answer-answer.result (entry_in c.self.inside.book c.args.number c.args.request.now) c.self.inside.book.history c.answer-answer.new.book.history c.self.inside.exchange
+      c.answer-answer.ensures.entered c.answer-answer.ensures.unchanged c.self.invariant.pending;
+  has_rights = search rules;
+}

@@ -1,9 +1,9 @@
-use Rattle.std.proofs.Common.{◌≡◌, ◌<◌, List, subst, sym, ◌∙◌, ap, length, rules}
+use Rattle.std.proofs.Common.{◌≡◌, ◌<◌, List, inl, inr, subst, sym, ◌∙◌, ap, length, rules}
 use Rattle.std.specs.Prelude.{Some, Ok, Result, IsSome, slice_get, slice_set}
 use Rattle.site_exchange.specs.declared.message.Message.{Message}
-use Rattle.site_exchange.specs.Exchange.{verdict, Joins, Verdict}
-use Rattle.site_exchange.specs.Taking.{given_back, site_after}
-use Rattle.world_steps.specs.declared.node.Node.{Node}
+use Rattle.site_exchange.specs.Exchange.{verdict, Verdict}
+use Rattle.site_exchange.specs.Taking.{MayTake, given_back, site_after}
+use Rattle.world_steps.specs.NodeView.{NodeView}
 use Rattle.world_steps.specs.declared.step.Step.TheVariants.{Deliver}
 use Rattle.world_steps.specs.declared.step.Outcome.{Outcome}
 use Rattle.world_steps.specs.declared.step.WorldFault.{WorldFault}
@@ -14,7 +14,7 @@ use Rattle.world_steps.specs.Reaching.{world_of, IsKept}
 use Rattle.world_steps.specs.World.{World, after, with_sent}
 use Rattle.world_steps.proofs.Making.{sent_is_due}
 use Rattle.world_steps.proofs.Sites.{kept_same, same_world, found_at}
-use Rattle.world_steps.proofs.Delivering.{IsDelivered, deliver_gives, deliver_wants, joined_is_acknowledged, IsFor, is_for, same_message, same_node}
+use Rattle.world_steps.proofs.Delivering.{IsDelivered, deliver_gives, deliver_wants, IsFor, is_for, same_message, same_node, verdict_by}
 use Rattle.world_steps.proofs.world.World.deliver.Goals as goal
 
 pub index-requires : goal.index-requires
@@ -44,7 +44,7 @@ returns-then-is_err-clause-memory c refused =
     subst (λ (w : World). MayGrow w (Deliver c.args.index)) c.self.view_is
     (deliver_wants c.self.inside.sites.items c.self.inside.sent.items c.args.index c.number-place.result c.index-message.result.now c.index.result.now
     c.self.invariant there.sent_is there.to there.below c.index.ensures
-    (subst IsSome (c.given_back-ack.ensures ∙ ap (λ (v : Verdict). given_back v c.index-message.result.now) c.judge-taken.ensures) acknowledged))
+    (inl (subst IsSome (c.given_back-ack.ensures ∙ ap (λ (v : Verdict). given_back v c.index-message.result.now) (verdict_by _ c.index-message.result.now c.book.result.now c.index.result.now.book c.judge-taken.ensures c.book.ensures)) acknowledged)))
 
 in_err : (c : goal.Joined-ack-3) → IsFor c.self.inside.sites.items c.self.inside.sent.items c.args.index c.number-place.result c.index-message.result.now
 in_err c = is_for c.self.inside.sites.items c.self.inside.sent.items c.args.index c.number-place.result c.index-message.result.now c.self.invariant (search rules) c.index-message.ensures (c.number-place.ensures.number ∙ c.receiver.ensures)
@@ -54,14 +54,13 @@ node_in_err c = found_at c.self.inside.sites.items c.number-place.result c.index
 
 pub returns-then-is_err-2-clause-memory : goal.returns-then-is_err-2-clause-memory
 returns-then-is_err-2-clause-memory c refused =
-    let book = c.index_mut-node.result.now.book in
-    let joins : verdict book.office book.history c.index-2.result.now ≡ Joins = search rules in
+    let node : NodeView = c.index_mut-node.result.now in
+    let wanted : MayTake (verdict node.book.office node.book.history c.index-2.result.now) (site_of node) c.index-2.result.now = search rules in
     let same = same_message c.self.inside.sent.items c.make_room.new.sent.items c.args.index c.index-message.result.now c.index-2.result.now c.make_room.ensures.items (search rules) c.index-message.ensures c.index-2.ensures in
     subst (λ (w : World). MayGrow w (Deliver c.args.index)) c.self.view_is
-    (deliver_wants c.self.inside.sites.items c.self.inside.sent.items c.args.index c.number-place.result c.index-message.result.now c.index_mut-node.result.now
+    (deliver_wants c.self.inside.sites.items c.self.inside.sent.items c.args.index c.number-place.result c.index-message.result.now node
     c.self.invariant (in_err c).sent_is (in_err c).to (in_err c).below c.index_mut-node.ensures.value
-    (joined_is_acknowledged book.office book.history c.index-message.result.now
-    (subst (λ (m : Message). verdict book.office book.history m ≡ Joins) same joins)))
+    (inr (subst (λ (m : Message). MayTake (verdict node.book.office node.book.history m) (site_of node) m) same wanted)))
 
 pub invariant_of-self-then-is_err-2 : goal.invariant_of-self-then-is_err-2
 invariant_of-self-then-is_err-2 c =
@@ -76,13 +75,13 @@ returns-then-is_err-2-clause-unchanged c =
 
 given : (c : goal.After-put) → IsDelivered c.self.inside.sites.items c.self.inside.sent.items (slice_set c.self.inside.sites.items c.number-place.result c.take.new.node) (with_sent c.self.inside.sent.items (given_back (verdict_told c.judge-taken.result) c.index-message.result.now)) c.args.index (taken_as (verdict_told c.judge-taken.result) (length c.self.inside.sent.items))
 given c =
-    let old : Node = c.index_mut-node.result.now in
+    let old : NodeView = c.index_mut-node.result.now in
     let there = is_for c.self.inside.sites.items c.self.inside.sent.items c.args.index c.number-place.result c.index-message.result.now c.self.invariant (search rules) c.index-message.ensures (c.number-place.ensures.number ∙ c.receiver.ensures) in
     let changed : site_of c.take.new.node ≡ site_after (verdict old.book.office old.book.history c.index-2.result.now) c.index-2.result.now (site_of old) = search rules in
     deliver_gives c.self.inside.sites.items c.self.inside.sent.items c.args.index c.number-place.result c.index-message.result.now old c.take.new.node c.judge-taken.result
     c.self.invariant there.sent_is there.to there.below c.index_mut-node.ensures.value c.take.ensures.office
-    (c.judge-taken.ensures
-    ∙ ap (λ (n : Node). verdict n.book.office n.book.history c.index-message.result.now) (same_node c.self.inside.sites.items c.number-place.result c.index.result.now old there.below c.index.ensures c.index_mut-node.ensures.value))
+    (verdict_by _ c.index-message.result.now c.book.result.now c.index.result.now.book c.judge-taken.ensures c.book.ensures
+    ∙ ap (λ (n : NodeView). verdict n.book.office n.book.history c.index-message.result.now) (same_node c.self.inside.sites.items c.number-place.result c.index.result.now old there.below c.index.ensures c.index_mut-node.ensures.value))
     (changed
     ∙ ap (λ (m : Message). site_after (verdict old.book.office old.book.history m) m (site_of old))
     (same_message c.self.inside.sent.items c.make_room.new.sent.items c.args.index c.index-message.result.now c.index-2.result.now c.make_room.ensures.items (search rules) c.index-message.ensures c.index-2.ensures))

@@ -2,7 +2,7 @@ use Rattle.std.proofs.Common.{◌≡◌, ℕ, ◌≤◌, List, [], ◌∷◌, �
 use Rattle.std.specs.Prelude.{slice_get}
 use Rattle.rights_lattice.specs.Limits.{most_sites}
 use Rattle.rights_lattice.specs.Sums.{max_sites}
-use Rattle.world_steps.specs.declared.node.Node.{Node}
+use Rattle.world_steps.specs.NodeView.{NodeView}
 use Rattle.book_core.specs.Decision.{Office}
 use Rattle.world_steps.specs.World.{opening}
 use Rattle.world_steps.specs.Reaching.{IsKept, world_of}
@@ -17,16 +17,16 @@ few n l = omega arith
 pub loop-number-preserved : goal.loop-number-preserved
 loop-number-preserved c =
     let before = c.loop-number.nodes.items in
-    let node : Node = record { book = c.new.result; exchange = c.fresh.result } in
+    let node : NodeView = c.new.result in
     let items : c.push.new.self.items ≡ before ++ node ∷ [] = c.in_ok-push.ensures.items in
     let opened : IsOpened c.args.sites c.args.limit (length before) node = record {
       office = c.new.ensures.office ∙ ap (λ (n : ℕ). let o : Office = record { me = n; sites = c.args.sites; limit = c.args.limit } in o) (c.site.ensures ∙ sym c.loop-number.invariant.len);
       history = c.new.ensures.history;
-      acked = c.fresh.ensures;
+      acked = c.new.ensures.acked;
     } in
     record {
       len = omega (arith, ap length items, length-append before (node ∷ []), c.loop-number.invariant.len);
-      opened = λ i b found. opened_push c.args.sites c.args.limit before node c.loop-number.invariant.opened opened i b (subst (λ (l : List Node). slice_get l i ≡ Some b) items found);
+      opened = λ i b found. opened_push c.args.sites c.args.limit before node c.loop-number.invariant.opened opened i b (subst (λ (l : List NodeView). slice_get l i ≡ Some b) items found);
     }
 
 kept : (c : goal.After-new-2) → IsKept c.loop-number.nodes.items c.new-2.result.items × (world_of c.loop-number.nodes.items c.new-2.result.items ≡ opening c.args.sites c.args.limit)

@@ -1,9 +1,10 @@
-use Rattle.std.proofs.Common.{◌≡◌, ℕ, ◌+◌, ◌*◌, ◌≤◌, List, arith, sym, ap, ◌∙◌, subst, length, get_or}
+use Rattle.std.proofs.Common.{◌≡◌, ◌+◌, ◌*◌, ◌≤◌, List, arith, sym, ap, ◌∙◌, subst, length, get_or}
 use Rattle.std.specs.Prelude.{slice_get, Some}
 use Rattle.rights_lattice.specs.Cells.{max_value}
 use Rattle.rights_lattice.specs.Sums.{max_sites}
 use Rattle.book_core.specs.Decision.{Office}
-use Rattle.world_steps.specs.declared.node.Node.{Node}
+use Rattle.book_core.specs.BookView.{BookView}
+use Rattle.world_steps.specs.NodeView.{NodeView}
 use Rattle.world_steps.specs.Reaching.{world_of}
 use Rattle.world_steps.specs.Promises.{HoldsPromises}
 use Rattle.world_steps.specs.World.{IsReached, World, count, history_at}
@@ -23,15 +24,18 @@ pub loop-node-preserved : goal.loop-node-preserved
 loop-node-preserved c =
     let i = c.loop-node.node-index in
     let node = c.node-item.result in
+    let book = c.book.result.now in
     let found : slice_get c.self.inside.sites.items i ≡ Some node =
-    subst (λ (nodes : List Node). slice_get nodes i ≡ Some node) c.deref-node-items.ensures.value
+    subst (λ (nodes : List NodeView). slice_get nodes i ≡ Some node) c.deref-node-items.ensures.value
     (found_at c.deref-node-items.result.now i node c.loop-node-test.true c.node-item.is) in
-    let here : node.book.office.me ≡ i = ap (λ (o : Office). o.me) (c.self.invariant.offices i node found) in
-    let is : history_at c.args.self.now i ≡ node.book.history =
-    ap (λ (w : World). history_at w i) (sym c.self.view_is) ∙ history_found c.self.inside.sites.items c.self.inside.sent.items i node found in
+    let here : book.office.me ≡ i = ap (λ (b : BookView). b.office.me) c.book.ensures ∙ ap (λ (o : Office). o.me) (c.self.invariant.offices i node found) in
+    let is : history_at c.args.self.now i ≡ book.history =
+    ap (λ (w : World). history_at w i) (sym c.self.view_is)
+    ∙ history_found c.self.inside.sites.items c.self.inside.sent.items i node found
+    ∙ ap (λ (b : BookView). b.history) (sym c.book.ensures) in
     record {
       own = subst (AreOwn (i + 1) (history_at c.args.self.now) c.args.event) (sym c.with_own-totals.ensures.sums)
-          (own_all_more (history_at c.args.self.now) c.args.event i node.book c.loop-node.totals here is c.loop-node.invariant.own);
+          (own_all_more (history_at c.args.self.now) c.args.event i book c.loop-node.totals here is c.loop-node.invariant.own);
       bound = one_more i c.with_own-totals.result (c.with_own-totals.ensures.bound (max_value * i) c.loop-node.invariant.bound);
     }
 

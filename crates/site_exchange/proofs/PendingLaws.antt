@@ -1,0 +1,67 @@
+-- What an exchange keeps for its peers: of one peer more, of a peer that was caught up, and of a longer history.
+use Rattle.std.proofs.Common.{◌≡◌, ◌≢◌, ◌⊎◌, inl, inr, ℕ, zero, suc, ◌+◌, ◌<◌, ◌≤◌, List, [], ◌∷◌, ◌++◌, length, get_or, set, Option, Some, None, refl, sym, ap, ◌∙◌, subst, arith, get_or-set_same, get_or-set_other}
+use Rattle.std.specs.Prelude.{Result, Ok, Err, OnOk, OnErr, slice_get}
+use Rattle.rights_lattice.specs.State.{bottom}
+use Rattle.book_core.specs.declared.entry.Entry.{Entry}
+use Rattle.book_core.proofs.Histories.{get_push}
+use Rattle.delta_buffer.specs.Pending.{PendingView, IsPendingOf}
+use Rattle.delta_buffer.proofs.PendingLaws.{none_pending, still_pending}
+use Rattle.site_exchange.specs.Taking.{extended}
+use Rattle.site_exchange.specs.Pendings.{ArePending, BeginAtAcked, ExchangeView, IsPendingIn}
+
+-- nothing was added behind what a peer has acknowledged
+abbrev pub nothing_behind : ℕ → PendingView
+nothing_behind n = record { from = n; upto = n; delta = bottom }
+
+pub begins_more : (acked : List ℕ) (ps : List PendingView) → BeginAtAcked acked ps → BeginAtAcked acked (ps ++ nothing_behind (get_or acked (length ps) 0) ∷ [])
+begins_more acked ps begins peer p found = elim (get_push ps (nothing_behind (get_or acked (length ps) 0)) peer p found) [
+  | inl old ↦ begins peer p old.1
+  | inr new ↦ ap (λ (v : PendingView). v.from) (sym new.1) ∙ ap (λ k. get_or acked k 0) (sym new.0)
+]
+
+pub pending_more : (acked : List ℕ) (ps : List PendingView) (h : List Entry) (peer : ℕ) → get_or acked peer 0 ≤ length h → IsPendingIn h ps peer
+    → IsPendingIn h (ps ++ nothing_behind (get_or acked (length ps) 0) ∷ []) peer
+pending_more acked ps h peer le old p found = elim (get_push ps (nothing_behind (get_or acked (length ps) 0)) peer p found) [
+  | inl before ↦ old p before.1
+  | inr new ↦ subst (IsPendingOf h) new.1 (none_pending h (get_or acked (length ps) 0) (subst (λ k. get_or acked k 0 ≤ length h) new.0 le))
+]
+
+-- an element of a list in which one was set
+pub at_set : {A : Type 0} (xs : List A) (i k : ℕ) (new a : A) → slice_get (set xs i new) k ≡ Some a → ((k ≡ i) × (new ≡ a)) ⊎ ((k ≢ i) × (slice_get xs k ≡ Some a))
+at_set [] i k new a found = cc
+at_set (x ∷ xs) zero zero new a found = inl (refl, cc)
+at_set (x ∷ xs) zero (suc k) new a found = inr ((λ e. cc), found)
+at_set (x ∷ xs) (suc i) zero new a found = inr ((λ e. cc), found)
+at_set (x ∷ xs) (suc i) (suc k) new a found = elim (at_set xs i k new a found) [ inl p ↦ inl (ap suc p.0, p.1) | inr p ↦ inr ((λ e. p.0 (omega (arith, e))), p.1) ]
+
+pub begins_set : (acked : List ℕ) (ps : List PendingView) (i : ℕ) (new : PendingView) → BeginAtAcked acked ps → new.from ≡ get_or acked i 0 → BeginAtAcked acked (set ps i new)
+begins_set acked ps i new begins from peer p found = elim (at_set ps i peer new p found) [
+  | inl here ↦ ap (λ (v : PendingView). v.from) (sym here.1) ∙ from ∙ ap (λ k. get_or acked k 0) (sym here.0)
+  | inr there ↦ begins peer p there.1
+]
+
+pub pending_set : (h : List Entry) (ps : List PendingView) (i peer : ℕ) (new : PendingView) → IsPendingOf h new → IsPendingIn h ps peer → IsPendingIn h (set ps i new) peer
+pending_set h ps i peer new is old p found = elim (at_set ps i peer new p found) [ inl here ↦ subst (IsPendingOf h) here.1 is | inr there ↦ old p there.1 ]
+
+-- with the number raised at a place, and what is pending there begun anew there
+pub begins_raised : (acked : List ℕ) (ps : List PendingView) (i n : ℕ) (new : PendingView) → i < length acked → BeginAtAcked acked ps → new.from ≡ n → BeginAtAcked (set acked i n) (set ps i new)
+begins_raised acked ps i n new l begins from peer p found = elim (at_set ps i peer new p found) [
+  | inl here ↦ ap (λ (v : PendingView). v.from) (sym here.1) ∙ from ∙ sym (ap (λ k. get_or (set acked i n) k 0) here.0 ∙ get_or-set_same acked i n 0 l)
+  | inr there ↦ begins peer p there.1 ∙ sym (get_or-set_other acked i peer n 0 there.0)
+]
+
+-- ---- for callers
+
+-- what is pending of a history is pending of it with more behind it
+pub pending_grown : (h more : List Entry) (e : ExchangeView) → ArePending h e → ArePending (h ++ more) e
+pending_grown h more e are peer p found = still_pending h more p (are peer p found)
+
+pub pending_extended : (entry : Option Entry) (h : List Entry) (e : ExchangeView) → ArePending h e → ArePending (extended entry h) e
+pending_extended None h e are = are
+pending_extended (Some entry) h e are = pending_grown h (entry ∷ []) e are
+
+-- so it is of a history that an input was entered in, or that stayed as it was
+pub pending_entered : {A F : Type 0} (came : Result A F) (entry : Option Entry) (old new : List Entry) (e : ExchangeView) → OnOk came (new ≡ extended entry old) → OnErr came (new ≡ old)
+    → ArePending old e → ArePending new e
+pending_entered (Ok a) entry old new e entered same are = subst (λ (h : List Entry). ArePending h e) (sym entered) (pending_extended entry old e are)
+pending_entered (Err f) entry old new e entered same are = subst (λ (h : List Entry). ArePending h e) (sym same) are

@@ -1,0 +1,25 @@
+-- What each peer has acknowledged, and what is pending for it (JPDC 2018).
+use Rattle.std.specs.Prelude.{◌≡◌, ℕ, List, get_or, slice_get, Some, refl}
+use Rattle.std.specs.Coded.{Coded, code_by, coded_ℕ, coded_list, coded×}
+use Rattle.book_core.specs.declared.entry.Entry.{Entry}
+use Rattle.delta_buffer.specs.Pending.{PendingView, coded_pending, IsPendingOf}
+
+-- what contracts see of an exchange: the acknowledged numbers, and the pending deltas of the first peers
+pub record ExchangeView : Type 0 where
+  pub acked : List ℕ
+  pub pendings : List PendingView
+
+abbrev pub coded_exchange : Coded ExchangeView
+coded_exchange = code_by (List ℕ × List PendingView) (coded× (coded_list coded_ℕ) (coded_list coded_pending)) (λ e. (e.acked, e.pendings)) (λ p. record { acked = p.0; pendings = p.1 }) (λ _. refl)
+
+-- each begins at what its peer has acknowledged
+abbrev pub BeginAtAcked : List ℕ → List PendingView → Type 0
+BeginAtAcked acked pendings = (peer : ℕ) (p : PendingView) → slice_get pendings peer ≡ Some p → p.from ≡ get_or acked peer 0
+
+-- what is pending for the peer, if anything, is an interval of this history
+abbrev pub IsPendingIn : List Entry → List PendingView → ℕ → Type 0
+IsPendingIn h pendings peer = (p : PendingView) → slice_get pendings peer ≡ Some p → IsPendingOf h p
+
+-- so it is for each peer
+abbrev pub ArePending : List Entry → ExchangeView → Type 0
+ArePending h e = (peer : ℕ) → IsPendingIn h e.pendings peer
