@@ -1,19 +1,20 @@
 -- An exchange, message by message and peer by peer.
-use Rattle.std.proofs.Common.{◌≡◌, ℕ, zero, suc, ◌+◌, ◌≤◌, get_or, set, List, [], ◌∷◌, ◌++◌, length, inl, inr, Option, Some, None, refl, sym, ap, ◌∙◌, subst, arith}
-use Rattle.std.specs.Prelude.{◌⊎◌, MatchResult, map}
+use Rattle.std.proofs.Common.{◌≡◌, ℕ, zero, suc, ◌+◌, ◌≤◌, get_or, set, List, [], ◌∷◌, ◌++◌, length, inl, inr, Some, refl, sym, ap, ◌∙◌, subst, arith}
+use Rattle.std.specs.Prelude.{All, MatchResult, map}
 use Rattle.std.proofs.Common.{Result, Ok, Err}
 use Rattle.std.proofs.lemmas.List.{append-nil, length_push}
 use Rattle.std.specs.List.{filter_map, AllZip, cons_option}
-use Rattle.std.proofs.lemmas.List.Elements.{All-append, All-cons, All-nil, filter_map-append}
+use Rattle.std.proofs.lemmas.List.Elements.{All-append, All-cons, All-head, All-nil, All-tail, filter_map-append}
 use Rattle.link_queue.specs.End.{End, end_of}
 use Rattle.site_exchange.specs.declared.message.Message.{Message}
 use Rattle.site_exchange.specs.Exchange.{ack_for, receiver}
 use Rattle.session_server.specs.Exchanged.{IsSubsequence, Acknowledges, SentTo, SentMore, IsEndOf, Exchanged, Sent, Received, HasSent, HasReceived, outgoing, incoming}
+use Rattle.session_server.specs.Mesh.{IsNew, linkage_left, linkage_of}
+use Rattle.session_server.specs.Settled.{IsLeftOfNew}
 use Rattle.session_server.specs.declared.peer.Peer.{Peer}
 use Rattle.session_server.specs.declared.peer.PeerEnd.{PeerEnd}
 use Rattle.session_server.specs.declared.sending.Outgoing.{Outgoing}
 use Rattle.session_server.specs.declared.sending.OutgoingEnd.{OutgoingEnd}
-use Rattle.session_server.specs.declared.receiving.Incoming.{Incoming}
 use Rattle.session_server.specs.declared.receiving.IncomingEnd.{IncomingEnd}
 
 pub subsequence_end : {X : Type 0} (xs ys zs : List X) → IsSubsequence xs ys → IsSubsequence xs (ys ++ zs)
@@ -175,3 +176,45 @@ exchanged (p ∷ ps) (o ∷ os) (i ∷ is) (e ∷ es) s r hs hr = (one p o i e s
 -- one pair more at the ends of two lists
 pub paired : {A B : Type 0} (R : A → B → Type 0) (xs xs' : List A) (ys ys' : List B) (x : A) (y : B) → xs ≡ xs' ++ x ∷ [] → ys ≡ ys' ++ y ∷ [] → AllZip R xs' ys' → R x y → AllZip R xs ys
 paired R xs xs' ys ys' x y p q h r = subst (λ l. AllZip R l ys) (sym p) (subst (λ l. AllZip R (xs' ++ x ∷ []) l) (sym q) (all_zip_push R xs' ys' x y h r))
+
+-- the ends are of the links of what was handed in
+pub same_links : (ps : List Peer) (es : List PeerEnd) → AllZip Exchanged ps es → map linkage_left es ≡ map linkage_of ps
+same_links [] [] h = refl
+same_links [] (e ∷ es) h = absurd h
+same_links (p ∷ ps) [] h = absurd h
+same_links (p ∷ ps) (e ∷ es) h = λ i. record { delta_tx = h.0.delta_tx i; ack_tx = h.0.ack_tx i; delta_rx = h.0.delta_rx i; ack_rx = h.0.ack_rx i } ∷ same_links ps es h.1 i
+
+-- each site's ends are of its links
+pub rows_linked : {A B : Type 0} (peers : A → List Peer) (ends : B → List PeerEnd) (xs : List A) (ys : List B) → AllZip (λ x y. AllZip Exchanged (peers x) (ends y)) xs ys → map (λ y. map linkage_left (ends y)) ys ≡ map (λ x. map linkage_of (peers x)) xs
+rows_linked peers ends [] [] h = refl
+rows_linked peers ends [] (y ∷ ys) h = absurd h
+rows_linked peers ends (x ∷ xs) [] h = absurd h
+rows_linked peers ends (x ∷ xs) (y ∷ ys) h = λ i. same_links (peers x) (ends y) h.0 i ∷ rows_linked peers ends xs ys h.1 i
+
+same_names : (ps : List Peer) (es : List PeerEnd) → AllZip Exchanged ps es → map (λ e. e.to) es ≡ map (λ p. p.to) ps
+same_names [] [] h = refl
+same_names [] (e ∷ es) h = absurd h
+same_names (p ∷ ps) [] h = absurd h
+same_names (p ∷ ps) (e ∷ es) h = λ i. h.0.to i ∷ same_names ps es h.1 i
+
+-- and has the names that were handed in
+pub rows_named : {A B : Type 0} (peers : A → List Peer) (ends : B → List PeerEnd) (xs : List A) (ys : List B) → AllZip (λ x y. AllZip Exchanged (peers x) (ends y)) xs ys → map (λ y. map (λ e. e.to) (ends y)) ys ≡ map (λ x. map (λ p. p.to) (peers x)) xs
+rows_named peers ends [] [] h = refl
+rows_named peers ends [] (y ∷ ys) h = absurd h
+rows_named peers ends (x ∷ xs) [] h = absurd h
+rows_named peers ends (x ∷ xs) (y ∷ ys) h = λ i. same_names (peers x) (ends y) h.0 i ∷ rows_named peers ends xs ys h.1 i
+
+left_of_new : (ps : List Peer) (es : List PeerEnd) → All IsNew ps → AllZip Exchanged ps es → All IsLeftOfNew es
+left_of_new [] [] n h = All-nil IsLeftOfNew
+left_of_new [] (e ∷ es) n h = absurd h
+left_of_new (p ∷ ps) [] n h = absurd h
+left_of_new (p ∷ ps) (e ∷ es) n h = All-cons IsLeftOfNew e es (p, All-head IsNew p ps n, h.0) (left_of_new ps es (All-tail IsNew p ps n) h.1)
+
+-- and each was left by an exchange of new links
+pub rows_left : {A B : Type 0} (peers : A → List Peer) (ends : B → List PeerEnd) (xs : List A) (ys : List B) → All (λ x. All IsNew (peers x)) xs → AllZip (λ x y. AllZip Exchanged (peers x) (ends y)) xs ys → All (λ row. All IsLeftOfNew row) (map ends ys)
+rows_left peers ends [] [] n h = All-nil (λ row. All IsLeftOfNew row)
+rows_left peers ends [] (y ∷ ys) n h = absurd h
+rows_left peers ends (x ∷ xs) [] n h = absurd h
+rows_left peers ends (x ∷ xs) (y ∷ ys) n h =
+    All-cons (λ row. All IsLeftOfNew row) (ends y) (map ends ys) (left_of_new (peers x) (ends y) (All-head (λ x. All IsNew (peers x)) x xs n) h.0)
+    (rows_left peers ends xs ys (All-tail (λ x. All IsNew (peers x)) x xs n) h.1)

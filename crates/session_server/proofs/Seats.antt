@@ -1,9 +1,9 @@
 -- What a session leaves of a seat.
-use Rattle.std.proofs.Common.{◌≡◌, ◌⊎◌, inl, inr, ℕ, ◌+◌, ◌≤◌, Bool, true, false, List, [], ◌∷◌, ◌++◌, cond, map, nat_le, arith, Option, Some, None, Result, refl, sym, ap, ◌∙◌, subst}
-use Rattle.std.specs.Prelude.{All, if◌then◌else◌}
+use Rattle.std.proofs.Common.{◌≡◌, ◌⊎◌, inl, inr, ℕ, ◌+◌, ◌≤◌, Bool, true, false, List, [], ◌∷◌, ◌++◌, cond, map, length, nat_le, arith, Option, Some, None, Result, refl, sym, ap, ◌∙◌, subst}
+use Rattle.std.specs.Prelude.{All, count_by, if◌then◌else◌}
 use Rattle.std.specs.List.{flat_map}
 use Rattle.std.proofs.lemmas.Bool.{le-leb}
-use Rattle.std.proofs.lemmas.List.{append-nil, map-append}
+use Rattle.std.proofs.lemmas.List.{append-nil, length-append, map-append}
 use Rattle.std.proofs.lemmas.Grind.{flat_map-append}
 use Rattle.std.proofs.lemmas.List.Elements.{All-pop}
 use Rattle.std.proofs.lemmas.List.Sums.{sum_by-append, sum_by_push}
@@ -157,6 +157,23 @@ parts_more P f ends earlier end seats before old seat sessions rest s is_ends is
 -- not all came back
 pub one_lacks : {E X : Type 0} (P : E → Type 0) (ends earlier : List E) (end : E) → ends ≡ earlier ++ end ∷ [] → (P end → ⊥) → All P ends → X
 one_lacks P ends earlier end is_ends none all = absurd (none (All-pop P ends earlier (Some end) is_ends all).1)
+
+-- ---- as many came back as have their writer
+
+pub seats_more : {E S : Type 0} (has : E → Bool) (ends earlier old_ends : List E) (end : E) (seats before old : List S) (seat : S) → ends ≡ earlier ++ end ∷ [] → seats ≡ before ++ seat ∷ []
+    → length before + count_by has old_ends ≡ length old + count_by has earlier → has end ≡ true → length seats + count_by has old_ends ≡ length old + count_by has ends
+seats_more has ends earlier old_ends end seats before old seat is_ends is_seats so told_yes =
+    let behind = ap length is_seats ∙ length-append before (seat ∷ []) in
+    let told = ap (count_by has) is_ends ∙ sum_by_push (λ x. cond (has x) 1 0) earlier end in
+    let one = ap {B = ℕ} (λ p. cond p 1 0) told_yes in
+    omega (arith, so, behind, told, one)
+
+pub seats_lack : {E : Type 0} (has : E → Bool) (ends earlier old_ends : List E) (end : E) (after before : ℕ) → ends ≡ earlier ++ end ∷ []
+    → after + count_by has old_ends ≡ before + count_by has earlier → has end ≡ false → after + count_by has old_ends ≡ before + count_by has ends
+seats_lack has ends earlier old_ends end after before is_ends so told_no =
+    let told = ap (count_by has) is_ends ∙ sum_by_push (λ x. cond (has x) 1 0) earlier end in
+    let none = ap {B = ℕ} (λ p. cond p 1 0) told_no in
+    omega (arith, so, told, none)
 
 -- ---- shares and receipts of several
 

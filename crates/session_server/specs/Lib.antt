@@ -2,6 +2,8 @@ pub mod BookStep
 pub mod Exchanged
 pub mod Finished
 pub mod LinkNames
+pub mod Mesh
 pub mod SeatStep
 pub mod Served
 pub mod Session
+pub mod Settled

@@ -17,6 +17,7 @@ mod seating;
 mod sending;
 mod serve;
 mod session;
+mod settling;
 mod site;
 mod sockets;
 mod talk_over;

@@ -1,10 +1,11 @@
 //! What went through the links between sites.
 
-ghost use Rattle.std.specs.Prelude.{◌≡◌, ◌++◌, IfOk, OnOk, map};
-ghost use Rattle.std.specs.List.{flat_map};
-ghost use Rattle.session_server.specs.LinkNames.{both, link_names, name_of};
+ghost use Rattle.std.specs.Prelude.{◌≡◌, ◌+◌, ◌++◌, All, IfOk, OnOk, length, map, vec_len};
+ghost use Rattle.session_server.specs.Mesh.{IsMesh, linkage_left, others_of};
+ghost use Rattle.session_server.specs.Settled.{AreTold, IsLeftOfNew, ends_to, link_end as link_end_of, link_ends as ends_between};
 
 use crate::peer::PeerEnd;
+use crate::settling::{Through, Went, settle_all};
 use crate::site::{LinkEnd, Site};
 use rights_lattice::SiteId;
 use sql_records::Keeper;
@@ -25,90 +26,70 @@ pub(crate) fn numbers<K: Keeper + Drop, R: Read + Drop, W: Write + Drop>(
     Ok(ids)
 }
 
-// The links between the sites with these numbers, with what the ends that they hand back tell.
+// The links between the sites with these numbers, settled: each tells what its two ends tell.
 pub(crate) fn link_ends(
     alloc: Global,
-    sites: &Vec<SiteId>,
-    peers: &Vec<Vec<PeerEnd>>,
+    sites: &[SiteId],
+    ends: Vec<Vec<PeerEnd>>,
 ) -> Result<Vec<LinkEnd>, AllocError>
-    ensures { IfOk result (λ links. map name_of links.items ≡ link_names sites.now.items) }
+    requires count { vec_len ends ≡ length sites.now }
+    requires mesh { IsMesh (map (λ row. map linkage_left row.items) ends.items) }
+    requires left { All (λ row. All IsLeftOfNew row) (map (λ row. row.items) ends.items) }
+    requires named { map (λ row. map (λ e. e.to) row.items) ends.items ≡ others_of sites.now }
+    ensures { IfOk result (λ links. AreTold sites.now links.items) }
 {
-    let mut links = unused(alloc, sites.as_slice())?;
-    for (me, with) in sites.iter().zip(peers.iter()) {
-        tell_site(&mut links, *me, with);
-    }
-    Ok(links)
+    let told = settle_all(alloc, ends)?;
+    links_told(alloc, sites, &told)
 }
 
-// The links between the sites, through which nothing went.
-fn unused(alloc: Global, sites: &[SiteId]) -> Result<Vec<LinkEnd>, AllocError>
-    ensures { IfOk result (λ links. map name_of links.items ≡ link_names sites.now) }
+// The links between the sites, with what went from each site to each other.
+fn links_told(
+    alloc: Global,
+    sites: &[SiteId],
+    told: &Vec<Vec<Went>>,
+) -> Result<Vec<LinkEnd>, AllocError>
+    requires sites { vec_len told.now ≡ length sites.now }
+    requires others { All (λ row. vec_len row + 1 ≡ length sites.now) told.now.items }
+    ensures { IfOk result (λ links. links.items ≡ ends_between sites.now (map (λ row. row.items) told.now.items)) }
 {
     let mut links = Vec::new(alloc);
     for k in 0..sites.len() {
-        add_links(&mut links, sites[k], &sites[..k])?;
-        add_links(&mut links, sites[k], &sites[k + 1..])?;
+        let by = sites[k];
+        let row = told[k].as_slice();
+        add_links(&mut links, by, &sites[..k], &row[..k])?;
+        add_links(&mut links, by, &sites[k + 1..], &row[k..])?;
     }
     Ok(links)
 }
 
 // Adds the links from one site to others.
-fn add_links(links: &mut Vec<LinkEnd>, by: SiteId, others: &[SiteId]) -> Result<(), AllocError>
-    ensures { OnOk result (map name_of links.new.items ≡ map name_of links.old.items ++ flat_map (both by) others.now) }
+fn add_links(
+    links: &mut Vec<LinkEnd>,
+    by: SiteId,
+    others: &[SiteId],
+    told: &[Went],
+) -> Result<(), AllocError>
+    requires { length told.now ≡ length others.now }
+    ensures { OnOk result (links.new.items ≡ links.old.items ++ ends_to by others.now told.now) }
 {
-    for to in others {
-        links.push(unused_link(by, *to, false))?;
-        links.push(unused_link(by, *to, true))?;
+    for k in 0..others.len() {
+        let to = others[k];
+        let went = told[k];
+        links.push(link_end(by, to, false, went.deltas))?;
+        links.push(link_end(by, to, true, went.acks))?;
     }
     Ok(())
 }
 
-fn unused_link(by: SiteId, to: SiteId, acks: bool) -> LinkEnd
-    ensures { name_of result ≡ record { by = by; to = to; acks = acks } }
+fn link_end(by: SiteId, to: SiteId, acks: bool, through: Through) -> LinkEnd
+    ensures { result ≡ link_end_of by to acks through }
 {
     LinkEnd {
         by,
         to,
         acks,
-        put: 0,
-        got: 0,
-        refused: 0,
-    }
-}
-
-// Adds what a site's ends tell.
-fn tell_site(links: &mut Vec<LinkEnd>, me: SiteId, with: &Vec<PeerEnd>)
-    ensures { map name_of links.new.items ≡ map name_of links.old.items }
-{
-    for peer in with {
-        tell(links, me, peer);
-    }
-}
-
-fn tell(links: &mut Vec<LinkEnd>, me: SiteId, peer: &PeerEnd)
-    ensures { map name_of links.new.items ≡ map name_of links.old.items }
-{
-    for k in 0..links.len() {
-        tell_link(&mut links[k], me, peer);
-    }
-}
-
-// Adds what a site's end tells, where it is of this link.
-fn tell_link(link: &mut LinkEnd, me: SiteId, peer: &PeerEnd)
-    ensures { name_of link.new ≡ name_of link.old }
-{
-    if link.by == me && link.to == peer.to {
-        link.put = if link.acks {
-            peer.ack_tx.put()
-        } else {
-            peer.delta_tx.put()
-        };
-    }
-    if link.by == peer.to && link.to == me {
-        (link.got, link.refused) = if link.acks {
-            (peer.ack_rx.got(), peer.acks_refused)
-        } else {
-            (peer.delta_rx.got(), peer.deltas_refused)
-        };
+        put: through.put,
+        got: through.got,
+        refused: through.refused,
     }
 }

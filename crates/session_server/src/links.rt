@@ -1,6 +1,7 @@
 //! The links between all sites of a process.
 
-ghost use Rattle.std.specs.Prelude.{◌≡◌, ◌<◌, IfOk, OnOk, map};
+ghost use Rattle.std.specs.Prelude.{◌≡◌, ◌++◌, ◌∷◌, [], ◌<◌, All, IfOk, map};
+ghost use Rattle.session_server.specs.Mesh.{AreJoined, CameTo, GotPeer, IsMesh, IsNew, each_with, linkage_of, others_of};
 
 use crate::peer::Peer;
 use crate::site::Site;
@@ -25,6 +26,9 @@ fn pair(
     other: SiteId,
 ) -> Result<(Peer, Peer), AllocError>
     requires { 0 < capacity }
+    ensures joined { IfOk result (λ r. AreJoined (linkage_of r.0, linkage_of r.1)) }
+    ensures new { IfOk result (λ r. IsNew r.0 × IsNew r.1) }
+    ensures named { IfOk result (λ r. (r.0.to ≡ other) × (r.1.to ≡ one)) }
 {
     let (there_delta_tx, there_delta_rx) = link(alloc, capacity)?;
     let (there_ack_tx, there_ack_rx) = link(alloc, capacity)?;
@@ -48,39 +52,67 @@ fn pair(
     ))
 }
 
-// Each site with a link of each kind to each other site. A new site is linked with each before it.
+// Each site with a link of each kind to each other site.
 pub(crate) fn link_all<K: Keeper + Drop, R: Read + Drop, W: Write + Drop>(
     alloc: Global,
     sites: Vec<Site<K, R, W>>,
     capacity: usize,
 ) -> Result<Vec<Linked<K, R, W>>, AllocError>
     requires { 0 < capacity }
-    ensures { IfOk result (λ linked. map (λ l. l.site) linked.items ≡ sites.items) }
+    ensures sites { IfOk result (λ linked. map (λ l. l.site) linked.items ≡ sites.items) }
+    ensures mesh { IfOk result (λ linked. IsMesh (map (λ l. map linkage_of l.peers.items) linked.items)) }
+    ensures new { IfOk result (λ linked. All (λ l. All IsNew l.peers.items) linked.items) }
+    ensures named { IfOk result (λ linked. map (λ l. map (λ p. p.to) l.peers.items) linked.items ≡ others_of (map (λ l. l.site.book.book.office.me) linked.items)) }
 {
     let mut linked: Vec<Linked<K, R, W>> = Vec::new(alloc);
     for site in sites {
-        let peers = linked_with(alloc, capacity, site.book.book().me(), &mut linked)?;
-        linked.push(Linked { site, peers })?;
+        linked = with_site(alloc, capacity, linked, site)?;
     }
     Ok(linked)
 }
 
-// Links the site with each of these.
+// Links a new site with each before it.
+fn with_site<K: Keeper + Drop, R: Read + Drop, W: Write + Drop>(
+    alloc: Global,
+    capacity: usize,
+    earlier: Vec<Linked<K, R, W>>,
+    site: Site<K, R, W>,
+) -> Result<Vec<Linked<K, R, W>>, AllocError>
+    requires capacity { 0 < capacity }
+    requires mesh { IsMesh (map (λ l. map linkage_of l.peers.items) earlier.items) }
+    requires new { All (λ l. All IsNew l.peers.items) earlier.items }
+    requires named { map (λ l. map (λ p. p.to) l.peers.items) earlier.items ≡ others_of (map (λ l. l.site.book.book.office.me) earlier.items) }
+    ensures sites { IfOk result (λ linked. map (λ l. l.site) linked.items ≡ map (λ l. l.site) earlier.items ++ site ∷ []) }
+    ensures mesh { IfOk result (λ linked. IsMesh (map (λ l. map linkage_of l.peers.items) linked.items)) }
+    ensures new { IfOk result (λ linked. All (λ l. All IsNew l.peers.items) linked.items) }
+    ensures named { IfOk result (λ linked. map (λ l. map (λ p. p.to) l.peers.items) linked.items ≡ others_of (map (λ l. l.site.book.book.office.me) linked.items)) }
+{
+    let (mut linked, peers) = linked_with(alloc, capacity, site.book.book().me(), earlier)?;
+    linked.push(Linked { site, peers })?;
+    Ok(linked)
+}
+
+// Links the site with each of these, which get its other ends.
 fn linked_with<K: Keeper + Drop, R: Read + Drop, W: Write + Drop>(
     alloc: Global,
     capacity: usize,
     me: SiteId,
-    earlier: &mut Vec<Linked<K, R, W>>,
-) -> Result<Vec<Peer>, AllocError>
+    earlier: Vec<Linked<K, R, W>>,
+) -> Result<(Vec<Linked<K, R, W>>, Vec<Peer>), AllocError>
     requires { 0 < capacity }
-    ensures { OnOk result (map (λ l. l.site) earlier.new.items ≡ map (λ l. l.site) earlier.old.items) }
+    ensures sites { IfOk result (λ r. map (λ l. l.site) r.0.items ≡ map (λ l. l.site) earlier.items) }
+    ensures came { IfOk result (λ r. CameTo (map (λ l. map linkage_of l.peers.items) earlier.items) (map (λ l. map linkage_of l.peers.items) r.0.items) (map linkage_of r.1.items)) }
+    ensures named { IfOk result (λ r. (map (λ l. map (λ p. p.to) l.peers.items) r.0.items ≡ each_with (map (λ l. map (λ p. p.to) l.peers.items) earlier.items) (map (λ l. me) earlier.items)) × (map (λ p. p.to) r.1.items ≡ map (λ l. l.site.book.book.office.me) earlier.items)) }
+    ensures new { IfOk result (λ r. All IsNew r.1.items × (All (λ l. All IsNew l.peers.items) earlier.items → All (λ l. All IsNew l.peers.items) r.0.items)) }
 {
+    let mut linked = Vec::new(alloc);
     let mut peers = Vec::new(alloc);
-    for k in 0..earlier.len() {
-        let here = link_with(alloc, capacity, me, &mut earlier[k])?;
+    for one in earlier {
+        let (other, here) = link_with(alloc, capacity, me, one)?;
+        linked.push(other)?;
         peers.push(here)?;
     }
-    Ok(peers)
+    Ok((linked, peers))
 }
 
 // Links the site with another, which gets its ends.
@@ -88,12 +120,15 @@ fn link_with<K: Keeper + Drop, R: Read + Drop, W: Write + Drop>(
     alloc: Global,
     capacity: usize,
     me: SiteId,
-    other: &mut Linked<K, R, W>,
-) -> Result<Peer, AllocError>
+    other: Linked<K, R, W>,
+) -> Result<(Linked<K, R, W>, Peer), AllocError>
     requires { 0 < capacity }
-    ensures { other.new.site ≡ other.old.site }
+    ensures site { IfOk result (λ r. r.0.site ≡ other.site) }
+    ensures peers { IfOk result (λ r. GotPeer other.peers.items r.0.peers.items r.1) }
+    ensures named { IfOk result (λ r. (map (λ p. p.to) r.0.peers.items ≡ map (λ p. p.to) other.peers.items ++ me ∷ []) × (r.1.to ≡ other.site.book.book.office.me)) }
 {
-    let (there, here) = pair(alloc, capacity, other.site.book.book().me(), me)?;
-    other.peers.push(there)?;
-    Ok(here)
+    let Linked { site, mut peers } = other;
+    let (there, here) = pair(alloc, capacity, site.book.book().me(), me)?;
+    peers.push(there)?;
+    Ok((Linked { site, peers }, here))
 }

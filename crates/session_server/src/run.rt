@@ -5,6 +5,7 @@ ghost use Rattle.std.specs.List.{AllZip, flat_map};
 ghost use Rattle.session_server.specs.Exchanged.{Exchanged};
 ghost use Rattle.session_server.specs.Finished.{IsLeftOf};
 ghost use Rattle.session_server.specs.LinkNames.{link_names, name_of};
+ghost use Rattle.session_server.specs.Settled.{AreTold, IsCounted};
 
 use crate::exchange::ExchangeFault;
 use crate::link_ends::{link_ends, numbers};
@@ -40,7 +41,14 @@ impl<K: Keeper + Drop, R: Read + Drop, W: Write + Drop> Promise<
 /// each with the ends of its sessions and a book of its site, of its count of sites and its limit, whose history goes on
 /// from the one that was handed in. What was found of its book is of all receipts and looks that its sessions were given.
 /// Seats are out only where a session's thread could not be started; unless they are, no more requests were newly entered
-/// than receipts were given of entries behind the history that was handed in. An error drops the books; what was entered stays in their records.
+/// than receipts were given of entries behind the history that was handed in.
+///
+/// The links come by the site that sends and then by the site that receives, one of deltas before one of
+/// acknowledgements. Each tells what its two ends tell: what was got is a prefix of what was put, and of that the
+/// receiving site refused no more than came.
+///
+/// The capacity is at least 1. `Memory`, or `NotStarted` where a thread of a site or of its exchange could not be started,
+/// drops the books; what was entered stays in their records.
 pub fn run_all<
     T: Threads + Wait + Sync,
     K: Keeper + Drop + Send,
@@ -61,6 +69,8 @@ pub fn run_all<
     ensures writers { IfOk result (λ r. map (λ e. map (λ x. x.writer_began.value) e.sessions.items) r.0.items ≡ map (λ s. map (λ v. v.writer) s.sessions.items) sites.items) }
     ensures left { IfOk result (λ r. AllZip (λ site end. IsLeftOf site.book.book end.book.book (All (λ x. IsSome x.writer) end.sessions.items) (flat_map (λ x. x.receipts.items) end.sessions.items) (flat_map (λ x. x.seen.items) end.sessions.items) end.finished) sites.items r.0.items) }
     ensures links { IfOk result (λ r. map name_of r.1.items ≡ link_names (map (λ s. s.book.book.office.me) sites.items)) }
+    ensures told { IfOk result (λ r. AreTold (map (λ s. s.book.book.office.me) sites.items) r.1.items) }
+    ensures counted { IfOk result (λ r. All IsCounted r.1.items) }
 {
     let ids = numbers(alloc, &sites)?;
     let linked = link_all(alloc, sites, capacity)?;
@@ -73,7 +83,7 @@ pub fn run_all<
     let mut ends = Vec::with_capacity(alloc, done.len())?;
     let mut peers = Vec::with_capacity(alloc, done.len())?;
     gathered(done, &mut ends, &mut peers);
-    let links = link_ends(alloc, &ids, &peers)?;
+    let links = link_ends(alloc, ids.as_slice(), peers)?;
     Ok((ends, links))
 }
 
@@ -106,6 +116,7 @@ fn gathered<K: Keeper + Drop, R: Read + Drop, W: Write + Drop>(
     requires empty { (ends.old.items ≡ []) × (peers.old.items ≡ []) }
     requires room { (vec_len done ≤ vec_capacity ends.old) × (vec_len done ≤ vec_capacity peers.old) }
     ensures ends { AllZip (λ left end. (end.book ≡ left.0) × (end.sessions ≡ left.1) × (end.finished ≡ left.2.0)) done.items ends.new.items }
+    ensures peers { AllZip (λ left with. with ≡ left.2.1) done.items peers.new.items }
     ensures room { (vec_len ends.new ≡ vec_len done) × (vec_len peers.new ≡ vec_len done) × (vec_capacity ends.new ≡ vec_capacity ends.old) × (vec_capacity peers.new ≡ vec_capacity peers.old) }
 {
     let Some((book, sessions, (finished, with))) = done.pop() else {

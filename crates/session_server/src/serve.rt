@@ -1,6 +1,6 @@
 //! Sessions in threads.
 
-ghost use Rattle.std.specs.Prelude.{◌≡◌, [], ◌≤◌, ◌+◌, ◌++◌, All, IsSome, None, length, map, vec_len, vec_capacity, IfOk};
+ghost use Rattle.std.specs.Prelude.{◌≡◌, [], ◌≤◌, ◌+◌, ◌++◌, All, IsSome, None, true, is_some, count_by, length, map, vec_len, vec_capacity, IfOk};
 ghost use Rattle.std.specs.List.{flat_map};
 ghost use Rattle.site_desk.specs.Seats.{parts_of, shares_of};
 ghost use Rattle.session_server.specs.Finished.{given_since};
@@ -28,6 +28,7 @@ fn serve<T: Wait, R: Read + Drop, W: Write + Drop, K: Keeper, L: Opens, G: Gate>
 ) -> (SessionEnd<R, W>, Seat<L>)
     ensures id { result.0.id ≡ session.id }
     ensures began { (result.0.reader_began.value ≡ session.reader) × (result.0.writer_began.value ≡ session.writer) }
+    ensures writer { is_some result.0.writer ≡ true }
     ensures parts { result.1.parts ≡ session.seat.parts }
     ensures share { result.1.count ≤ session.seat.count + given_since (length L.began) result.0.receipts.items }
 {
@@ -64,7 +65,7 @@ struct Begun<R: Read + Drop, W: Write + Drop, L: Opens> {
 
 impl<R: Read + Drop, W: Write + Drop, L: Opens> Promise<(SessionEnd<R, W>, Seat<L>)>
     for Begun<R, W, L> {
-    ghost kept_by = { λ p r. (r.0.id ≡ p.session.value.id) × (r.0.reader_began.value ≡ p.session.value.reader) × (r.0.writer_began.value ≡ p.session.value.writer) × (r.1.parts ≡ p.session.value.seat.parts) × (r.1.count ≤ p.session.value.seat.count + given_since (length L.began) r.0.receipts.items) };
+    ghost kept_by = { λ p r. (r.0.id ≡ p.session.value.id) × (r.0.reader_began.value ≡ p.session.value.reader) × (r.0.writer_began.value ≡ p.session.value.writer) × (is_some r.0.writer ≡ true) × (r.1.parts ≡ p.session.value.seat.parts) × (r.1.count ≤ p.session.value.seat.count + given_since (length L.began) r.0.receipts.items) };
 }
 
 // Starts the last session, then the others, and then waits for it.
@@ -93,6 +94,7 @@ fn serve_from<
     ensures readers { map (λ e. e.reader_began.value) ends.new.items ≡ map (λ e. e.reader_began.value) ends.old.items ++ map (λ s. s.reader) sessions.items }
     ensures writers { map (λ e. e.writer_began.value) ends.new.items ≡ map (λ e. e.writer_began.value) ends.old.items ++ map (λ s. s.writer) sessions.items }
     ensures parts { All (λ e. IsSome e.writer) ends.new.items → parts_of seats.new.items ≡ parts_of seats.old.items + parts_of (map (λ s. s.seat) sessions.items) }
+    ensures seats { length seats.new.items + count_by (λ e. is_some e.writer) ends.old.items ≡ length seats.old.items + count_by (λ e. is_some e.writer) ends.new.items }
     ensures shares { shares_of seats.new.items + given_since (length L.began) (flat_map (λ e. e.receipts.items) ends.old.items) ≤ shares_of seats.old.items + shares_of (map (λ s. s.seat) sessions.items) + given_since (length L.began) (flat_map (λ e. e.receipts.items) ends.new.items) }
     ensures room { (vec_len ends.new ≡ vec_len ends.old + vec_len sessions) × (vec_capacity ends.new ≡ vec_capacity ends.old) × (vec_len seats.new ≤ vec_len seats.old + vec_len sessions) × (vec_capacity seats.new ≡ vec_capacity seats.old) }
 {
@@ -164,6 +166,7 @@ pub fn serve_all<
     ensures readers { IfOk result (λ r. map (λ e. e.reader_began.value) r.0.items ≡ map (λ s. s.reader) sessions.items) }
     ensures writers { IfOk result (λ r. map (λ e. e.writer_began.value) r.0.items ≡ map (λ s. s.writer) sessions.items) }
     ensures parts { IfOk result (λ r. All (λ e. IsSome e.writer) r.0.items → parts_of r.1.items ≡ parts_of (map (λ s. s.seat) sessions.items)) }
+    ensures seats { IfOk result (λ r. length r.1.items ≡ count_by (λ e. is_some e.writer) r.0.items) }
     ensures shares { IfOk result (λ r. shares_of r.1.items ≤ shares_of (map (λ s. s.seat) sessions.items) + given_since (length L.began) (flat_map (λ e. e.receipts.items) r.0.items)) }
 {
     let mut ends = Vec::with_capacity(alloc, sessions.len())?;
@@ -173,7 +176,7 @@ pub fn serve_all<
         rt,
         move |scope| -> (Vec<SessionEnd<R, W>>, Vec<Seat<L>>)
             requires { (vec_len ends + vec_len sessions ≤ vec_capacity ends) × (vec_len seats + vec_len sessions ≤ vec_capacity seats) × (ends.items ≡ []) × (seats.items ≡ []) }
-            ensures { (map (λ e. e.id) result.0.items ≡ map (λ s. s.id) sessions.items) × (map (λ e. e.reader_began.value) result.0.items ≡ map (λ s. s.reader) sessions.items) × (map (λ e. e.writer_began.value) result.0.items ≡ map (λ s. s.writer) sessions.items) × (All (λ e. IsSome e.writer) result.0.items → parts_of result.1.items ≡ parts_of (map (λ s. s.seat) sessions.items)) × (shares_of result.1.items ≤ shares_of (map (λ s. s.seat) sessions.items) + given_since (length L.began) (flat_map (λ e. e.receipts.items) result.0.items)) }
+            ensures { (map (λ e. e.id) result.0.items ≡ map (λ s. s.id) sessions.items) × (map (λ e. e.reader_began.value) result.0.items ≡ map (λ s. s.reader) sessions.items) × (map (λ e. e.writer_began.value) result.0.items ≡ map (λ s. s.writer) sessions.items) × (All (λ e. IsSome e.writer) result.0.items → parts_of result.1.items ≡ parts_of (map (λ s. s.seat) sessions.items)) × (length result.1.items ≡ count_by (λ e. is_some e.writer) result.0.items) × (shares_of result.1.items ≤ shares_of (map (λ s. s.seat) sessions.items) + given_since (length L.began) (flat_map (λ e. e.receipts.items) result.0.items)) }
         {
             serve_from(
                 scope, rt, alloc, desk, gate, sessions, &mut ends, &mut seats,

@@ -31,7 +31,7 @@ pub struct SiteEnd<K: Keeper + Drop, R: Read + Drop, W: Write + Drop> {
 }
 
 /// What went through a link from one site to another, of acknowledgements or of deltas: how many messages were put in,
-/// how many came out, and how many of those its receiver did not take.
+/// how many came out, and its receiver's count of those that it did not take.
 #[derive(Clone, Copy, PartialEq, Eq, Debug)]
 pub struct LinkEnd {
     pub by: SiteId,

@@ -1,12 +1,17 @@
-use Rattle.std.proofs.Common.{◌≡◌, ◌∙◌, List, ap, map, rules, subst, sym}
-use Rattle.std.specs.Prelude.{All, IfErr, IfOk, IsSome, slice_index_or, ◌≢◌}
+use Rattle.std.proofs.Common.{◌≡◌, ◌∙◌, List, ap, arith, length, map, rules, subst, sym}
+use Rattle.std.proofs.lemmas.List.{length-map}
+use Rattle.std.specs.Prelude.{All, IfOk, IsSome, slice_index_or}
 use Rattle.std.specs.List.{AllZip, flat_map}
 use Rattle.book_core.specs.BookView.{BookView}
 use Rattle.session_server.specs.declared.peer.Peer.{Peer}
 use Rattle.session_server.specs.declared.session.SessionEnd.{SessionEnd}
 use Rattle.session_server.specs.Exchanged.{Exchanged}
 use Rattle.session_server.specs.Finished.{IsLeftOf}
-use Rattle.session_server.proofs.Sites.{if_ok_then, pairs_through, renamed, same_through, with_first}
+use Rattle.session_server.specs.Mesh.{IsMesh, linkage_left, linkage_of, others_of}
+use Rattle.session_server.specs.Settled.{AreTold}
+use Rattle.session_server.proofs.Exchanges.{rows_left, rows_linked, rows_named}
+use Rattle.session_server.proofs.Settles.{all_counted, all_named}
+use Rattle.session_server.proofs.Sites.{if_ok_then, map_after, pairs_through, renamed, same_through, through, with_first}
 use Rattle.session_server.proofs.run.run_all.Goals as goal
 
 pub work_all-requires-clause-keeps : goal.work_all-requires-clause-keeps
@@ -26,17 +31,17 @@ work_all-requires-clause-keeps g c κs within = λ k d lt left post.
 pub returns-clause-ids : goal.returns-clause-ids
 returns-clause-ids g c =
     same_through _ _ _ c.in_ok-linked.linked.items c.begun.new.jobs.items c.in_ok-done.done.items c.gathered.new.ends.items c.args.sites.items (λ l. l.site) _ _
-    (λ one job left end r s t. ap (λ v. map (λ x. x.id) v.items) t.1 ∙ s.0 ∙ ap (λ l. map (λ v. v.id) l.site.sessions.items) r.1) c.begun.ensures.begun c.in_ok-done.ensures c.gathered.ensures.ends c.in_ok-linked.ensures
+    (λ one job left end r s t. ap (λ v. map (λ x. x.id) v.items) t.1 ∙ s.0 ∙ ap (λ l. map (λ v. v.id) l.site.sessions.items) r.1) c.begun.ensures.begun c.in_ok-done.ensures c.gathered.ensures.ends c.in_ok-linked.ensures.sites
 
 pub returns-clause-readers : goal.returns-clause-readers
 returns-clause-readers g c =
     same_through _ _ _ c.in_ok-linked.linked.items c.begun.new.jobs.items c.in_ok-done.done.items c.gathered.new.ends.items c.args.sites.items (λ l. l.site) _ _
-    (λ one job left end r s t. ap (λ v. map (λ x. x.reader_began.value) v.items) t.1 ∙ s.1 ∙ ap (λ l. map (λ v. v.reader) l.site.sessions.items) r.1) c.begun.ensures.begun c.in_ok-done.ensures c.gathered.ensures.ends c.in_ok-linked.ensures
+    (λ one job left end r s t. ap (λ v. map (λ x. x.reader_began.value) v.items) t.1 ∙ s.1 ∙ ap (λ l. map (λ v. v.reader) l.site.sessions.items) r.1) c.begun.ensures.begun c.in_ok-done.ensures c.gathered.ensures.ends c.in_ok-linked.ensures.sites
 
 pub returns-clause-writers : goal.returns-clause-writers
 returns-clause-writers g c =
     same_through _ _ _ c.in_ok-linked.linked.items c.begun.new.jobs.items c.in_ok-done.done.items c.gathered.new.ends.items c.args.sites.items (λ l. l.site) _ _
-    (λ one job left end r s t. ap (λ v. map (λ x. x.writer_began.value) v.items) t.1 ∙ s.2 ∙ ap (λ l. map (λ v. v.writer) l.site.sessions.items) r.1) c.begun.ensures.begun c.in_ok-done.ensures c.gathered.ensures.ends c.in_ok-linked.ensures
+    (λ one job left end r s t. ap (λ v. map (λ x. x.writer_began.value) v.items) t.1 ∙ s.2 ∙ ap (λ l. map (λ v. v.writer) l.site.sessions.items) r.1) c.begun.ensures.begun c.in_ok-done.ensures c.gathered.ensures.ends c.in_ok-linked.ensures.sites
 
 pub returns-clause-left : goal.returns-clause-left
 returns-clause-left g c =
@@ -45,4 +50,59 @@ returns-clause-left g c =
     (λ one job left end r s t.
     let of = subst (λ l. IsLeftOf l.site.book.book left.0.book (All {X = SessionEnd g.row.R.Denot g.row.W.Denot g.R.Read g.W.Write} (λ x. IsSome x.writer) left.1.items) (flat_map {X = SessionEnd g.row.R.Denot g.row.W.Denot g.R.Read g.W.Write} (λ x. x.receipts.items) left.1.items) (flat_map {X = SessionEnd g.row.R.Denot g.row.W.Denot g.R.Read g.W.Write} (λ x. x.seen.items) left.1.items) left.2.0) r.1 s.3 in
     renamed left.0 end.book left.1 end.sessions left.2.0 end.finished (λ book sessions finished. IsLeftOf one.site.book.book book.book (All {X = SessionEnd g.row.R.Denot g.row.W.Denot g.R.Read g.W.Write} (λ x. IsSome x.writer) sessions.items) (flat_map {X = SessionEnd g.row.R.Denot g.row.W.Denot g.R.Read g.W.Write} (λ x. x.receipts.items) sessions.items) (flat_map {X = SessionEnd g.row.R.Denot g.row.W.Denot g.R.Read g.W.Write} (λ x. x.seen.items) sessions.items) finished) t.0 t.1 t.2 of)
-    c.begun.ensures.begun c.in_ok-done.ensures c.gathered.ensures.ends c.in_ok-linked.ensures
+    c.begun.ensures.begun c.in_ok-done.ensures c.gathered.ensures.ends c.in_ok-linked.ensures.sites
+
+pub link_ends-requires-clause-count : goal.link_ends-requires-clause-count
+link_ends-requires-clause-count g c =
+    let rows : AllZip (λ one with. AllZip Exchanged one.peers.items with.items) c.in_ok-linked.linked.items c.gathered.new.peers.items =
+    through _ _ _ (λ one with. AllZip Exchanged one.peers.items with.items) _ _ _ _
+    (λ one job left with r s t. subst (λ l. AllZip Exchanged one.peers.items l.items) (sym t) (subst (λ l. AllZip Exchanged l.peers.items left.2.1.items) r.1 s.4))
+    c.begun.ensures.begun c.in_ok-done.ensures c.gathered.ensures.peers in
+    let same = ap length (rows_linked (λ one. one.peers.items) (λ with. with.items) c.in_ok-linked.linked.items c.gathered.new.peers.items rows) in
+    omega (
+      arith,
+      same,
+      length-map c.gathered.new.peers.items (λ with. map linkage_left with.items),
+      length-map c.in_ok-linked.linked.items (λ one. map linkage_of one.peers.items),
+      ap length c.in_ok-linked.ensures.sites,
+      length-map c.in_ok-linked.linked.items (λ one. one.site),
+      ap length c.in_ok-ids.ensures,
+      length-map c.args.sites.items (λ s. s.book.book.office.me),
+      ap length c.as_slice.ensures.value,
+      c.gathered.new.peers.ok.0,
+    )
+
+pub link_ends-requires-clause-mesh : goal.link_ends-requires-clause-mesh
+link_ends-requires-clause-mesh g c =
+    let rows : AllZip (λ one with. AllZip Exchanged one.peers.items with.items) c.in_ok-linked.linked.items c.gathered.new.peers.items =
+    through _ _ _ (λ one with. AllZip Exchanged one.peers.items with.items) _ _ _ _
+    (λ one job left with r s t. subst (λ l. AllZip Exchanged one.peers.items l.items) (sym t) (subst (λ l. AllZip Exchanged l.peers.items left.2.1.items) r.1 s.4))
+    c.begun.ensures.begun c.in_ok-done.ensures c.gathered.ensures.peers in
+    subst IsMesh (sym (rows_linked (λ one. one.peers.items) (λ with. with.items) c.in_ok-linked.linked.items c.gathered.new.peers.items rows)) c.in_ok-linked.ensures.mesh
+
+pub link_ends-requires-clause-left : goal.link_ends-requires-clause-left
+link_ends-requires-clause-left g c =
+    let rows : AllZip (λ one with. AllZip Exchanged one.peers.items with.items) c.in_ok-linked.linked.items c.gathered.new.peers.items =
+    through _ _ _ (λ one with. AllZip Exchanged one.peers.items with.items) _ _ _ _
+    (λ one job left with r s t. subst (λ l. AllZip Exchanged one.peers.items l.items) (sym t) (subst (λ l. AllZip Exchanged l.peers.items left.2.1.items) r.1 s.4))
+    c.begun.ensures.begun c.in_ok-done.ensures c.gathered.ensures.peers in
+    rows_left (λ one. one.peers.items) (λ with. with.items) c.in_ok-linked.linked.items c.gathered.new.peers.items c.in_ok-linked.ensures.new rows
+
+pub link_ends-requires-clause-named : goal.link_ends-requires-clause-named
+link_ends-requires-clause-named g c =
+    let rows : AllZip (λ one with. AllZip Exchanged one.peers.items with.items) c.in_ok-linked.linked.items c.gathered.new.peers.items =
+    through _ _ _ (λ one with. AllZip Exchanged one.peers.items with.items) _ _ _ _
+    (λ one job left with r s t. subst (λ l. AllZip Exchanged one.peers.items l.items) (sym t) (subst (λ l. AllZip Exchanged l.peers.items left.2.1.items) r.1 s.4))
+    c.begun.ensures.begun c.in_ok-done.ensures c.gathered.ensures.peers in
+    rows_named (λ one. one.peers.items) (λ with. with.items) c.in_ok-linked.linked.items c.gathered.new.peers.items rows
+    ∙ c.in_ok-linked.ensures.named
+    ∙ ap others_of (sym (map_after (λ one. one.site) (λ s. s.book.book.office.me) c.in_ok-linked.linked.items) ∙ ap (map (λ s. s.book.book.office.me)) c.in_ok-linked.ensures.sites ∙ sym c.in_ok-ids.ensures ∙ sym c.as_slice.ensures.value)
+
+pub returns-clause-links : goal.returns-clause-links
+returns-clause-links g c = all_named _ _ (subst (λ sites. AreTold sites c.in_ok-links.links.items) (c.as_slice.ensures.value ∙ c.in_ok-ids.ensures) c.in_ok-links.ensures)
+
+pub returns-clause-told : goal.returns-clause-told
+returns-clause-told g c = subst (λ sites. AreTold sites c.in_ok-links.links.items) (c.as_slice.ensures.value ∙ c.in_ok-ids.ensures) c.in_ok-links.ensures
+
+pub returns-clause-counted : goal.returns-clause-counted
+returns-clause-counted g c = all_counted _ _ c.in_ok-links.ensures

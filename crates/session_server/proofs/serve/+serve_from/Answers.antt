@@ -1,6 +1,6 @@
-use Rattle.std.proofs.Common.{length, rules, subst}
-use Rattle.std.specs.Prelude.{IsSome}
-use Rattle.session_server.proofs.Seats.{one_lacks, parts_more, shares_lack, shares_more}
+use Rattle.std.proofs.Common.{length, ap, rules, subst}
+use Rattle.std.specs.Prelude.{IsSome, is_some}
+use Rattle.session_server.proofs.Seats.{one_lacks, parts_more, seats_lack, seats_more, shares_lack, shares_more}
 use Rattle.session_server.proofs.serve.+serve_from.Goals as goal
 
 pub returns-in-Ok-clause-parts : goal.returns-in-Ok-clause-parts
@@ -18,3 +18,11 @@ returns-in-Ok-clause-shares g t c =
 pub returns-in-Err-clause-shares : goal.returns-in-Err-clause-shares
 returns-in-Err-clause-shares g t c =
     shares_lack (length g.L.Opens.began) (λ e. e.receipts.items) (λ s. s.seat) _ _ c.args.ends.now.items _ c.serve_from-in-Err.new.seats.items c.args.seats.now.items _ _ c.in-Some.session c.push_reserved-in-Err.ensures.items c.in-Some.ensures.items c.serve_from-in-Err.ensures.shares
+
+pub returns-in-Ok-clause-seats : goal.returns-in-Ok-clause-seats
+returns-in-Ok-clause-seats g t c =
+    seats_more (λ e. is_some e.writer) _ _ c.args.ends.now.items _ _ _ c.args.seats.now.items c.join-end.result.1 c.push_reserved.ensures.items c.push_reserved-in-Ok.ensures.items c.serve_from.ensures.seats (search rules)
+
+pub returns-in-Err-clause-seats : goal.returns-in-Err-clause-seats
+returns-in-Err-clause-seats g t c =
+    seats_lack (λ e. is_some e.writer) _ _ c.args.ends.now.items _ _ _ c.push_reserved-in-Err.ensures.items c.serve_from-in-Err.ensures.seats (ap (λ w. is_some w) c.not_started.ensures.writer)
