@@ -5,6 +5,7 @@ pub mod Dealing
 pub mod EndLaws
 pub mod ExchangeLaws
 pub mod Inputs
+pub mod MakeLaws
 pub mod MigrateLaws
 pub mod OpenedLaws
 pub mod PrintLaws

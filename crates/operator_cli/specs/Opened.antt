@@ -1,5 +1,5 @@
 -- Why the records of a database are not opened, and what is told of it. (Our own.)
-use Rattle.std.specs.Prelude.{◌≡◌, ◌⊎◌, ◌<◌, ⊤, ℕ, List, length, Option, true, false}
+use Rattle.std.specs.Prelude.{◌≡◌, ◌⊎◌, ◌<◌, ℕ, List, length, Option, true, false, IsTrue}
 use Rattle.std.specs.Io.KnownBytes.{Keeps}
 use Rattle.plain_words.specs.Writing.{AppendsFront}
 use Rattle.operator_cli.specs.declared.status.Status.{Status}
@@ -12,15 +12,16 @@ use Rattle.book_core.specs.Legal.{IsLegal}
 use Rattle.book_core.specs.Replay.{IsReplayFault}
 use Rattle.sql_records.specs.declared.fault.OpenFault.{OpenFault}
 use Rattle.sql_records.specs.declared.fault.OpenFault.TheVariants as opening
+use Rattle.sql_records.specs.declared.fault.InitFault.{InitFault}
 use Rattle.sql_records.specs.declared.fault.InitFault.TheVariants as making
 use Rattle.sql_records.specs.declared.fault.MigrateFault.TheVariants as migrating
 use Rattle.sql_records.specs.declared.meta.Meta.{Meta}
 use Rattle.sql_records.specs.Migrating.{IsAsBefore, IsMigrated, IsLegalFirst, IsMigrateFault}
 use Rattle.sql_records.specs.Faults.{HasDiskCause, IsUndoneForMemory}
 use Rattle.sql_records.specs.Making.{IsInitFault}
-use Rattle.sql_records.specs.Held.{MayLeaveIn, history_in}
+use Rattle.sql_records.specs.Held.{IsNew, MayLeaveIn, history_in}
 use Rattle.sql_records.specs.Keeping.{LeavesOnly}
-use Rattle.sql_records.specs.Layout.{HasMeta}
+use Rattle.sql_records.specs.Layout.{has_our_table, HasMeta}
 use Rattle.sql_records.specs.Lookups.{listed_in}
 use Rattle.sql_records.specs.Opening.{IsOpenFault}
 use Rattle.site_desk.specs.SiteView.{office_of}
@@ -29,15 +30,27 @@ use Rattle.operator_cli.specs.declared.store_fault.StoreFault.{StoreFault}
 use Rattle.operator_cli.specs.declared.store_fault.StoreFault.TheVariants as fault
 use Rattle.operator_cli.specs.Told.{of_open_fault, of_replay_fault, store_fault_line}
 
--- what ends making early: no records are made, or that is not written
-abbrev pub IsMakeEnd : {S : Type 0} → Ghosts S → Held S → Meta → StoreFault → Type 0
-IsMakeEnd g conn meta fault.Memory = IsInitFault g conn meta making.Memory
-IsMakeEnd g conn meta fault.Disk = IsInitFault g conn meta making.Disk
-IsMakeEnd g conn meta fault.Write = ⊤
-IsMakeEnd g conn meta _ = ⊥
+-- a site with a number below its count, and no table of ours
+abbrev pub MayBeMade : {S : Type 0} → Held S → Meta → Type 0
+MayBeMade conn meta = (meta.me < meta.sites) × (has_our_table conn.schema ≡ false)
 
--- What ends raising the version early. The records are as they were, save where what is told is not written: then they were
--- migrated, or had the version already.
+module _ {S : Type 0} (g : Ghosts S) (conn after : Held S) (meta : Meta) where
+  -- records that may be made are not, for this cause, and what an open connection has committed is what it had
+  pub record IsUnmade (cause : InitFault) : Type 0 where
+    pub free : MayBeMade conn meta
+    pub found : IsInitFault g conn meta cause
+    pub kept : IsTrue (state g after).is_open → (state g after).committed ≡ (state g conn).committed
+
+-- What ends making early: no records are made, or what is told is not written: then they were made, or may not be made and
+-- nothing was changed.
+abbrev pub IsMakeEnd : {S : Type 0} → Ghosts S → Held S → Held S → Meta → StoreFault → Type 0
+IsMakeEnd g conn after meta fault.Memory = IsUnmade g conn after meta making.Memory
+IsMakeEnd g conn after meta fault.Disk = IsUnmade g conn after meta making.Disk
+IsMakeEnd g conn after meta fault.Write = (MayBeMade conn meta × IsNew meta (state g after).now) ⊎ ((MayBeMade conn meta → ⊥) × (after ≡ conn))
+IsMakeEnd g conn after meta _ = ⊥
+
+-- What ends raising the version early. A connection that is still open shows the records as they were, save where what is
+-- told is not written: then they were migrated, or had the version already.
 abbrev pub IsMigrateEnd : {S : Type 0} → Ghosts S → Held S → Held S → StoreFault → Type 0
 IsMigrateEnd g conn after fault.NotOurs = IsAsBefore (state g conn) (state g after) × IsMigrateFault g conn after migrating.NotOurs
 IsMigrateEnd g conn after (fault.OtherSchema version) = IsAsBefore (state g conn) (state g after) × IsMigrateFault g conn after (migrating.OtherSchema version)

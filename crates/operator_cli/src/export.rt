@@ -29,14 +29,15 @@ use std::io::Write;
 
 fn write_next<K: Keeper, W: Write>(
     alloc: Global,
-    book: &SiteBook<K>,
+    book: &mut SiteBook<K>,
     to: SiteId,
     out: &mut W,
 ) -> Result<Status, StoreFault>
     ensures out { IfOk result (Printed IsSentText (W.contents out.old) (W.contents out.new)) }
-    ensures due { IfOk result (Printed (IsDueText book.now.book.office (site_of book.now) to)
+    ensures due { IfOk result (Printed (IsDueText book.old.book.office (site_of book.old) to)
         (W.contents out.old) (W.contents out.new)) }
-    ensures fault { IfErr result (IsNextEnd book.now.closed book.now.book.office (site_of book.now) to) }
+    ensures fault { IfErr result (IsNextEnd book.old.closed book.old.book.office (site_of book.old) to) }
+    ensures same { book.new ≡ book.old }
     ensures ends { IfOk result (λ status. status ≢ Failed) }
 {
     match book.next(alloc, to) {
@@ -82,8 +83,8 @@ pub fn export_store<S: Alter + Drop, W: Write, E: Write>(
     ensures lost { result.1 ≡ None → IsLost S.Store conn (W.contents out.old) (W.contents out.new) (E.contents err.old) (E.contents err.new) result.0 }
 {
     match open_book(alloc, conn) {
-        Ok(book) => {
-            let came = write_next(alloc, &book, to, out);
+        Ok(mut book) => {
+            let came = write_next(alloc, &mut book, to, out);
             close_book(came, book, out, err)
         }
         Err((fault, conn)) => (ended(Err(fault), out, err), conn),

@@ -1,9 +1,12 @@
 //! The command `migrate`: records of the first schema, made ones of the second.
 
-ghost use Rattle.std.specs.Prelude.{◌≡◌, ◌≢◌, false, IfOk, IfErr, OnOk, IsTrue};
+ghost use Rattle.std.specs.Prelude.{◌≡◌, ◌≢◌, false, length, IfOk, IfErr, OnOk, IsTrue};
 ghost use Rattle.sqlite.specs.State.{HasCleanDisk};
 ghost use Rattle.sqlite.specs.Held.{state};
-ghost use Rattle.sql_records.specs.Held.{MayLeaveIn, history_in};
+ghost use Rattle.sql_records.specs.declared.meta.Meta.{Meta};
+ghost use Rattle.sql_records.specs.declared.version.Version.TheVariants.{First};
+ghost use Rattle.sql_records.specs.Layout.{HasMetaAs};
+ghost use Rattle.sql_records.specs.Held.{IsAtRest, LeavesSite, MayLeaveIn, history_in};
 ghost use Rattle.sql_records.specs.Keeping.{LeavesOnly};
 ghost use Rattle.sql_records.specs.Migrating.{IsAsBefore, IsMigrated, IsLegalFirst, IsMigrateFault, LeavesAsBeforeOrMigrated, LeavesItOrMigrated};
 ghost use Rattle.sql_records.specs.declared.fault.MigrateFault.TheVariants.{Nothing};
@@ -43,6 +46,10 @@ fn migrate<S: Alter>(alloc: Global, conn: &mut Connection<S>) -> Result<Told, St
     ensures first { HasCleanDisk (state S.Store conn.new) → IfOk result (λ told. told_status told ≡ Done → IsLegalFirst (state S.Store conn.old).now.trees) }
     ensures leaves { HasCleanDisk (state S.Store conn.new) → IfOk result (λ told. told_status told ≡ Done
         → LeavesOnly (history_in (state S.Store conn.old).now.trees) (MayLeaveIn (state S.Store conn.new))) }
+    ensures rest { HasCleanDisk (state S.Store conn.new) → IfOk result (λ told. told_status told ≡ Done
+        → IsAtRest (state S.Store conn.new) (length (history_in (state S.Store conn.old).now.trees))) }
+    ensures site { HasCleanDisk (state S.Store conn.new) → IfOk result (λ told. told_status told ≡ Done
+        → (meta : Meta) → HasMetaAs First meta (state S.Store conn.old).now.trees → LeavesSite (state S.Store conn.new) meta) }
     ensures nothing { HasCleanDisk (state S.Store conn.new) → IfOk result (λ told. told_status told ≡ Refused → IsMigrateFault S.Store conn.old conn.new Nothing) }
     ensures kept { HasCleanDisk (state S.Store conn.new) → IfOk result (λ told. told_status told ≡ Refused → IsAsBefore (state S.Store conn.old) (state S.Store conn.new)) }
     ensures crash { HasCleanDisk (state S.Store conn.new) → LeavesAsBeforeOrMigrated (state S.Store conn.old) (state S.Store conn.new) }
@@ -67,6 +74,10 @@ fn write_migrated<S: Alter, W: Write>(
     ensures first { HasCleanDisk (state S.Store conn.new) → IfOk result (λ status. status ≡ Done → IsLegalFirst (state S.Store conn.old).now.trees) }
     ensures leaves { HasCleanDisk (state S.Store conn.new) → IfOk result (λ status. status ≡ Done
         → LeavesOnly (history_in (state S.Store conn.old).now.trees) (MayLeaveIn (state S.Store conn.new))) }
+    ensures rest { HasCleanDisk (state S.Store conn.new) → IfOk result (λ status. status ≡ Done
+        → IsAtRest (state S.Store conn.new) (length (history_in (state S.Store conn.old).now.trees))) }
+    ensures site { HasCleanDisk (state S.Store conn.new) → IfOk result (λ status. status ≡ Done
+        → (meta : Meta) → HasMetaAs First meta (state S.Store conn.old).now.trees → LeavesSite (state S.Store conn.new) meta) }
     ensures nothing { HasCleanDisk (state S.Store conn.new) → IfOk result (λ status. status ≡ Refused → IsMigrateFault S.Store conn.old conn.new Nothing) }
     ensures kept { HasCleanDisk (state S.Store conn.new) → IfOk result (λ status. status ≡ Refused → IsAsBefore (state S.Store conn.old) (state S.Store conn.new)) }
     ensures crash { HasCleanDisk (state S.Store conn.new) → LeavesAsBeforeOrMigrated (state S.Store conn.old) (state S.Store conn.new) }
@@ -87,8 +98,9 @@ fn write_migrated<S: Alter, W: Write>(
 /// Makes the records of a site in the first schema records of the second, and prints `migrated`; or `nothing` where they
 /// are of the second already, with status 1.
 ///
-/// Each other refusal is told on `err`, with status 3 and nothing printed: `not-ours`, `other-schema V`, `damaged K`, `memory` and `disk`. Only
-/// `migrated` changes the database, and of that the version alone; it is changed too where `migrated` could not be written. A stop
+/// Each other refusal is told on `err`, with status 3 and nothing printed: `not-ours`, `other-schema V`, `damaged K`, `memory` and `disk`. A
+/// connection that is still open then shows the records as they were, save where `migrated` could not be written; behind `disk`
+/// the file may have either version. `migrated` leaves the numbers under the new version and the rows of the entries. A stop
 /// leaves the database as it was, or migrated.
 pub fn migrate_store<S: Alter, W: Write, E: Write>(
     alloc: Global,
@@ -103,6 +115,10 @@ pub fn migrate_store<S: Alter, W: Write, E: Write>(
     ensures first { HasCleanDisk (state S.Store conn.new) → result ≡ Done → IsLegalFirst (state S.Store conn.old).now.trees }
     ensures leaves { HasCleanDisk (state S.Store conn.new) → result ≡ Done
         → LeavesOnly (history_in (state S.Store conn.old).now.trees) (MayLeaveIn (state S.Store conn.new)) }
+    ensures rest { HasCleanDisk (state S.Store conn.new) → result ≡ Done
+        → IsAtRest (state S.Store conn.new) (length (history_in (state S.Store conn.old).now.trees)) }
+    ensures site { HasCleanDisk (state S.Store conn.new) → result ≡ Done
+        → (meta : Meta) → HasMetaAs First meta (state S.Store conn.old).now.trees → LeavesSite (state S.Store conn.new) meta }
     ensures nothing { HasCleanDisk (state S.Store conn.new) → result ≡ Refused → IsMigrateFault S.Store conn.old conn.new Nothing }
     ensures kept { HasCleanDisk (state S.Store conn.new) → result ≡ Refused → IsAsBefore (state S.Store conn.old) (state S.Store conn.new) }
     ensures crash { HasCleanDisk (state S.Store conn.new) → LeavesAsBeforeOrMigrated (state S.Store conn.old) (state S.Store conn.new) }

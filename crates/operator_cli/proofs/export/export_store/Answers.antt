@@ -5,9 +5,9 @@ use Rattle.sqlite.specs.Held.{state}
 use Rattle.book_core.specs.declared.entry.Entry.{Entry}
 use Rattle.book_core.specs.Decision.{Office}
 use Rattle.site_exchange.specs.Exchange.{Site}
-use Rattle.sql_records.specs.Held.{IsTrusted}
+use Rattle.sql_records.specs.Held.{Kept, IsTrusted}
 use Rattle.sql_records.specs.Layout.{HasMeta}
-use Rattle.site_desk.specs.SiteView.{office_of, site_of}
+use Rattle.site_desk.specs.SiteView.{SiteView, office_of, site_of}
 use Rattle.operator_cli.specs.Exchanged.{IsDueText, site_in}
 use Rattle.operator_cli.specs.Printed.{Printed}
 use Rattle.operator_cli.specs.Printed.{IsSentText}
@@ -24,7 +24,7 @@ returns-in-Ok-clause-out g c =
 
 pub returns-in-Ok-clause-due : goal.returns-in-Ok-clause-due
 returns-in-Ok-clause-due g c =
-    if_some_is _ _ _ c.close_book.ensures.back (λ clean meta has.
+    if_some_is _ _ _ (c.close_book.ensures.back ∙ ap (λ (b : SiteView (Kept g.row.S.Denot)). Some b.keeper.conn) c.write_next-came.ensures.same) (λ clean meta has.
     let db = (state g.S.Store c.args.conn).now.trees in
     let a = g.W.Write.contents c.args.out.now in
     let b = g.W.Write.contents c.write_next-came.new.out in
@@ -37,7 +37,7 @@ returns-in-Ok-clause-due g c =
 
 pub returns-in-Ok-clause-same : goal.returns-in-Ok-clause-same
 returns-in-Ok-clause-same g c =
-    if_some_is _ _ _ c.close_book.ensures.back (λ clean.
+    if_some_is _ _ _ (c.close_book.ensures.back ∙ ap (λ (b : SiteView (Kept g.row.S.Denot)). Some b.keeper.conn) c.write_next-came.ensures.same) (λ clean.
     let trusted : IsTrusted g.S.Store c.in-Ok.book.keeper = clean in
     (c.in-Ok.ensures.same trusted, c.in-Ok.ensures.autocommit trusted ∙ sym c.in-Ok.ensures.settled))
 
@@ -64,15 +64,15 @@ returns-in-Err-clause-ours g c =
 
 pub returns-in-Ok-clause-ours : goal.returns-in-Ok-clause-ours
 returns-in-Ok-clause-ours g c =
-    if_some_is _ _ _ c.close_book.ensures.back (opened_ours g.S.Store c.args.conn c.in-Ok.book.keeper.conn c.in-Ok.book (book_back g.S.Store c.args.conn c.in-Ok.book.keeper.conn c.in-Ok.book c.in-Ok.book.keeper c.in-Ok.book.keeper refl (λ h. h) refl c.in-Ok.ensures.book))
+    if_some_is _ _ _ (c.close_book.ensures.back ∙ ap (λ (b : SiteView (Kept g.row.S.Denot)). Some b.keeper.conn) c.write_next-came.ensures.same) (opened_ours g.S.Store c.args.conn c.in-Ok.book.keeper.conn c.in-Ok.book (book_back g.S.Store c.args.conn c.in-Ok.book.keeper.conn c.in-Ok.book c.in-Ok.book.keeper c.in-Ok.book.keeper refl (λ h. h) refl c.in-Ok.ensures.book))
 
 pub returns-in-Ok-clause-illegal : goal.returns-in-Ok-clause-illegal
 returns-in-Ok-clause-illegal g c =
-    if_some_is _ _ _ c.close_book.ensures.back (opened_illegal g.S.Store c.args.conn c.in-Ok.book.keeper.conn c.in-Ok.book (book_back g.S.Store c.args.conn c.in-Ok.book.keeper.conn c.in-Ok.book c.in-Ok.book.keeper c.in-Ok.book.keeper refl (λ h. h) refl c.in-Ok.ensures.book) (g.W.Write.contents c.args.out.now) (g.W.Write.contents c.close_book.new.out) (g.E.Write.contents c.args.err.now) (g.E.Write.contents c.close_book.new.err) c.close_book.result.0)
+    if_some_is _ _ _ (c.close_book.ensures.back ∙ ap (λ (b : SiteView (Kept g.row.S.Denot)). Some b.keeper.conn) c.write_next-came.ensures.same) (opened_illegal g.S.Store c.args.conn c.in-Ok.book.keeper.conn c.in-Ok.book (book_back g.S.Store c.args.conn c.in-Ok.book.keeper.conn c.in-Ok.book c.in-Ok.book.keeper c.in-Ok.book.keeper refl (λ h. h) refl c.in-Ok.ensures.book) (g.W.Write.contents c.args.out.now) (g.W.Write.contents c.close_book.new.out) (g.E.Write.contents c.args.err.now) (g.E.Write.contents c.close_book.new.err) c.close_book.result.0)
 
 pub returns-in-Ok-clause-cause : goal.returns-in-Ok-clause-cause
 returns-in-Ok-clause-cause g c =
-    if_some_is _ _ _ c.close_book.ensures.back (λ clean.
+    if_some_is _ _ _ (c.close_book.ensures.back ∙ ap (λ (b : SiteView (Kept g.row.S.Denot)). Some b.keeper.conn) c.write_next-came.ensures.same) (λ clean.
     let opened = c.in-Ok.book.keeper.conn in
     let of = (book_back g.S.Store c.args.conn c.in-Ok.book.keeper.conn c.in-Ok.book c.in-Ok.book.keeper c.in-Ok.book.keeper refl (λ h. h) refl c.in-Ok.ensures.book) clean in
     let same = c.in-Ok.ensures.same clean in
@@ -85,7 +85,7 @@ returns-in-Ok-clause-cause g c =
 
 pub returns-in-Ok-clause-stopped : goal.returns-in-Ok-clause-stopped
 returns-in-Ok-clause-stopped g c =
-    if_some_is _ _ _ c.close_book.ensures.back (λ clean left may.
+    if_some_is _ _ _ (c.close_book.ensures.back ∙ ap (λ (b : SiteView (Kept g.row.S.Denot)). Some b.keeper.conn) c.write_next-came.ensures.same) (λ clean left may.
     let trusted : IsTrusted g.S.Store c.in-Ok.book.keeper = clean in
     (c.in-Ok.ensures.rests trusted).alone left may ∙ ap (λ (h : List Entry). Some h) (c.in-Ok.ensures.kept trusted))
 

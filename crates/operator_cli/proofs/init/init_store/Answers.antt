@@ -1,14 +1,16 @@
-use Rattle.std.proofs.Common.{◌≡◌}
+use Rattle.std.proofs.Common.{◌≡◌, []}
 use Rattle.sqlite.specs.Held.{state}
 use Rattle.sql_records.specs.declared.meta.Meta.{Meta}
-use Rattle.sql_records.specs.Held.{IsNew}
+use Rattle.sql_records.specs.Held.{IsAtRest, IsNew, LeavesSite, MayLeaveIn}
+use Rattle.sql_records.specs.Keeping.{LeavesOnly}
 use Rattle.operator_cli.specs.declared.status.Status.{Status}
 use Rattle.operator_cli.specs.declared.status.Status.TheVariants.{Done, Refused}
 use Rattle.sql_records.specs.Layout.{has_our_table}
-use Rattle.operator_cli.specs.Printed.{IsMadeText}
+use Rattle.operator_cli.specs.declared.store_fault.StoreFault.TheVariants as fault
+use Rattle.operator_cli.specs.Printed.{IsMadeText, Unsaid}
 use Rattle.operator_cli.specs.Opened.{IsMakeEnd}
-use Rattle.operator_cli.proofs.EndLaws.{always, fails_for}
-use Rattle.operator_cli.proofs.PrintLaws.{ends_printed, ends_as}
+use Rattle.operator_cli.proofs.EndLaws.{fails_for, weaker, on_ok_map}
+use Rattle.operator_cli.proofs.PrintLaws.{ends_printed, ends_as, unsaid_kept}
 use Rattle.operator_cli.proofs.init.init_store.Goals as goal
 
 pub returns-clause-out : goal.returns-clause-out
@@ -20,6 +22,19 @@ returns-clause-made g c clean =
     let numbers : Meta = record { me = c.args.me; sites = c.args.sites; limit = c.args.limit } in
     ends_as (λ (status : Status). status ≡ Done → IsNew numbers (state g.S.Store c.write_made-came.new.conn).now) c.write_made-came.result c.ended.result (c.write_made-came.ensures.made clean) (λ e. absurd (let is = e in cc)) c.ended.ensures.status
 
+pub returns-clause-rest : goal.returns-clause-rest
+returns-clause-rest g c clean =
+    ends_as (λ (status : Status). status ≡ Done → IsAtRest (state g.S.Store c.write_made-came.new.conn) 0) c.write_made-came.result c.ended.result (c.write_made-came.ensures.rest clean) (λ e. absurd (let is = e in cc)) c.ended.ensures.status
+
+pub returns-clause-leaves : goal.returns-clause-leaves
+returns-clause-leaves g c clean =
+    ends_as (λ (status : Status). status ≡ Done → LeavesOnly [] (MayLeaveIn (state g.S.Store c.write_made-came.new.conn))) c.write_made-came.result c.ended.result (c.write_made-came.ensures.leaves clean) (λ e. absurd (let is = e in cc)) c.ended.ensures.status
+
+pub returns-clause-site : goal.returns-clause-site
+returns-clause-site g c clean =
+    let numbers : Meta = record { me = c.args.me; sites = c.args.sites; limit = c.args.limit } in
+    ends_as (λ (status : Status). status ≡ Done → LeavesSite (state g.S.Store c.write_made-came.new.conn) numbers) c.write_made-came.result c.ended.result (c.write_made-came.ensures.site clean) (λ e. absurd (let is = e in cc)) c.ended.ensures.status
+
 pub returns-clause-kept : goal.returns-clause-kept
 returns-clause-kept g c =
     ends_as (λ (status : Status). status ≡ Refused → c.write_made-came.new.conn ≡ c.args.conn.now) c.write_made-came.result c.ended.result c.write_made-came.ensures.kept (λ e. absurd (let is = e in cc)) c.ended.ensures.status
@@ -27,5 +42,17 @@ returns-clause-kept g c =
 pub returns-clause-cause : goal.returns-clause-cause
 returns-clause-cause g c clean =
     let numbers : Meta = record { me = c.args.me; sites = c.args.sites; limit = c.args.limit } in
-    fails_for (IsMakeEnd g.S.Store c.args.conn.now numbers) (g.E.Write.contents c.args.err.now) (g.E.Write.contents c.ended.new.err) c.write_made-came.result c.ended.result (c.write_made-came.ensures.fault clean) (always c.write_made-came.result _ tt)
+    fails_for (IsMakeEnd g.S.Store c.args.conn.now c.write_made-came.new.conn numbers) (g.E.Write.contents c.args.err.now) (g.E.Write.contents c.ended.new.err) c.write_made-came.result c.ended.result (c.write_made-came.ensures.fault clean) (c.write_made-came.ensures.unsaid clean)
+    c.write_made-came.ensures.ends c.ended.ensures.line c.ended.ensures.flush
+
+pub returns-clause-silent : goal.returns-clause-silent
+returns-clause-silent g c =
+    let P = IsMadeText c.args.me c.args.sites (has_our_table c.args.conn.now.schema) in
+    let before = g.W.Write.contents c.args.out.now in
+    let between = g.W.Write.contents c.write_made-came.new.out in
+    let after = g.W.Write.contents c.ended.new.out in
+    let still = unsaid_kept P before between after c.ended.ensures.kept in
+    fails_for (Unsaid P before after) (g.E.Write.contents c.args.err.now) (g.E.Write.contents c.ended.new.err) c.write_made-came.result c.ended.result
+    (weaker (Unsaid P before between) (Unsaid P before after) c.write_made-came.result still c.write_made-came.ensures.silent)
+    (on_ok_map c.write_made-came.result (Unsaid P before between fault.Write) (Unsaid P before after fault.Write) (still fault.Write) c.write_made-came.ensures.begun)
     c.write_made-came.ensures.ends c.ended.ensures.line c.ended.ensures.flush

@@ -1,6 +1,9 @@
-use Rattle.std.proofs.Common.{◌≡◌, IfOk, IfErr, sym, subst}
+use Rattle.std.proofs.Common.{◌≡◌, length, IfOk, IfErr, sym, subst}
 use Rattle.sqlite.specs.Held.{state}
-use Rattle.sql_records.specs.Held.{MayLeaveIn, history_in}
+use Rattle.sql_records.specs.declared.meta.Meta.{Meta}
+use Rattle.sql_records.specs.declared.version.Version.TheVariants.{First}
+use Rattle.sql_records.specs.Layout.{HasMetaAs}
+use Rattle.sql_records.specs.Held.{IsAtRest, LeavesSite, MayLeaveIn, history_in}
 use Rattle.sql_records.specs.Keeping.{LeavesOnly}
 use Rattle.sql_records.specs.Migrating.{IsAsBefore, IsMigrated, IsLegalFirst, IsMigrateFault}
 use Rattle.sql_records.specs.declared.fault.MigrateFault.TheVariants.{Nothing}
@@ -27,6 +30,16 @@ returns-in-Err-clause-first g c clean =
 pub returns-in-Err-clause-leaves : goal.returns-in-Err-clause-leaves
 returns-in-Err-clause-leaves g c clean =
     let P = LeavesOnly (history_in (state g.S.Store c.args.conn.now).now.trees) (MayLeaveIn (state g.S.Store c.migrate.new.conn)) in
+    subst (λ r. IfOk r (λ told. told_status told ≡ Done → P)) (sym c.ended_by_migrate.ensures) (refusal_done P c.in-Err.fault)
+
+pub returns-in-Err-clause-rest : goal.returns-in-Err-clause-rest
+returns-in-Err-clause-rest g c clean =
+    let P = IsAtRest (state g.S.Store c.migrate.new.conn) (length (history_in (state g.S.Store c.args.conn.now).now.trees)) in
+    subst (λ r. IfOk r (λ told. told_status told ≡ Done → P)) (sym c.ended_by_migrate.ensures) (refusal_done P c.in-Err.fault)
+
+pub returns-in-Err-clause-site : goal.returns-in-Err-clause-site
+returns-in-Err-clause-site g c clean =
+    let P = (meta : Meta) → HasMetaAs First meta (state g.S.Store c.args.conn.now).now.trees → LeavesSite (state g.S.Store c.migrate.new.conn) meta in
     subst (λ r. IfOk r (λ told. told_status told ≡ Done → P)) (sym c.ended_by_migrate.ensures) (refusal_done P c.in-Err.fault)
 
 pub returns-in-Err-clause-nothing : goal.returns-in-Err-clause-nothing

@@ -1,6 +1,9 @@
-use Rattle.std.proofs.Common.{◌≡◌}
+use Rattle.std.proofs.Common.{◌≡◌, length}
 use Rattle.sqlite.specs.Held.{state}
-use Rattle.sql_records.specs.Held.{MayLeaveIn, history_in}
+use Rattle.sql_records.specs.declared.meta.Meta.{Meta}
+use Rattle.sql_records.specs.declared.version.Version.TheVariants.{First}
+use Rattle.sql_records.specs.Layout.{HasMetaAs}
+use Rattle.sql_records.specs.Held.{IsAtRest, LeavesSite, MayLeaveIn, history_in}
 use Rattle.sql_records.specs.Keeping.{LeavesOnly}
 use Rattle.sql_records.specs.Migrating.{IsAsBefore, IsMigrated, IsLegalFirst, IsMigrateFault}
 use Rattle.sql_records.specs.declared.fault.MigrateFault.TheVariants.{Nothing}
@@ -28,6 +31,14 @@ returns-clause-first g c clean =
 pub returns-clause-leaves : goal.returns-clause-leaves
 returns-clause-leaves g c clean =
     ends_as (λ (status : Status). status ≡ Done → LeavesOnly (history_in (state g.S.Store c.args.conn.now).now.trees) (MayLeaveIn (state g.S.Store c.write_migrated-came.new.conn))) c.write_migrated-came.result c.ended.result (c.write_migrated-came.ensures.leaves clean) (λ e. absurd (let is = e in cc)) c.ended.ensures.status
+
+pub returns-clause-rest : goal.returns-clause-rest
+returns-clause-rest g c clean =
+    ends_as (λ (status : Status). status ≡ Done → IsAtRest (state g.S.Store c.write_migrated-came.new.conn) (length (history_in (state g.S.Store c.args.conn.now).now.trees))) c.write_migrated-came.result c.ended.result (c.write_migrated-came.ensures.rest clean) (λ e. absurd (let is = e in cc)) c.ended.ensures.status
+
+pub returns-clause-site : goal.returns-clause-site
+returns-clause-site g c clean =
+    ends_as (λ (status : Status). status ≡ Done → (meta : Meta) → HasMetaAs First meta (state g.S.Store c.args.conn.now).now.trees → LeavesSite (state g.S.Store c.write_migrated-came.new.conn) meta) c.write_migrated-came.result c.ended.result (c.write_migrated-came.ensures.site clean) (λ e. absurd (let is = e in cc)) c.ended.ensures.status
 
 pub returns-clause-nothing : goal.returns-clause-nothing
 returns-clause-nothing g c clean =

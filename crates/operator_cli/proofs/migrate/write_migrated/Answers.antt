@@ -1,6 +1,9 @@
-use Rattle.std.proofs.Common.{◌≡◌, refl}
+use Rattle.std.proofs.Common.{◌≡◌, length, refl}
 use Rattle.sqlite.specs.Held.{state}
-use Rattle.sql_records.specs.Held.{MayLeaveIn, history_in}
+use Rattle.sql_records.specs.declared.meta.Meta.{Meta}
+use Rattle.sql_records.specs.declared.version.Version.TheVariants.{First}
+use Rattle.sql_records.specs.Layout.{HasMetaAs}
+use Rattle.sql_records.specs.Held.{IsAtRest, LeavesSite, MayLeaveIn, history_in}
 use Rattle.sql_records.specs.Keeping.{LeavesOnly}
 use Rattle.sql_records.specs.Migrating.{IsAsBefore, IsMigrated, IsLegalFirst, IsMigrateFault}
 use Rattle.sql_records.specs.declared.fault.MigrateFault.TheVariants as fault
@@ -29,6 +32,14 @@ returns-in-Ok-clause-first g c clean =
 pub returns-in-Ok-clause-leaves : goal.returns-in-Ok-clause-leaves
 returns-in-Ok-clause-leaves g c clean =
     told_ends (λ (status : Status). status ≡ Done → LeavesOnly (history_in (state g.S.Store c.args.conn.now).now.trees) (MayLeaveIn (state g.S.Store c.migrate.new.conn))) c.tell.result c.in-Ok.told c.tell.ensures.status (c.in-Ok.ensures.leaves clean)
+
+pub returns-in-Ok-clause-rest : goal.returns-in-Ok-clause-rest
+returns-in-Ok-clause-rest g c clean =
+    told_ends (λ (status : Status). status ≡ Done → IsAtRest (state g.S.Store c.migrate.new.conn) (length (history_in (state g.S.Store c.args.conn.now).now.trees))) c.tell.result c.in-Ok.told c.tell.ensures.status (c.in-Ok.ensures.rest clean)
+
+pub returns-in-Ok-clause-site : goal.returns-in-Ok-clause-site
+returns-in-Ok-clause-site g c clean =
+    told_ends (λ (status : Status). status ≡ Done → (meta : Meta) → HasMetaAs First meta (state g.S.Store c.args.conn.now).now.trees → LeavesSite (state g.S.Store c.migrate.new.conn) meta) c.tell.result c.in-Ok.told c.tell.ensures.status (c.in-Ok.ensures.site clean)
 
 pub returns-in-Ok-clause-nothing : goal.returns-in-Ok-clause-nothing
 returns-in-Ok-clause-nothing g c clean =
