@@ -1,17 +1,18 @@
--- Histories whose refunds name no part of their sales, and what a refund decides there. (Our own.)
-use Rattle.std.specs.Prelude.{◌≡◌, ℕ, ◌≤◌, Bool, false, ◌&&◌, ◌==◌, if◌then◌else◌, List, slice_get, Some, None}
+-- Histories whose refunds name no part of their sales: what a refund decides there, and which of them are legal. (Our own.)
+use Rattle.std.specs.Prelude.{◌≡◌, ◌↔◌, ℕ, ◌<◌, ◌≤◌, Bool, false, ◌&&◌, ◌==◌, if◌then◌else◌, List, length, take, slice_get, Option, Some, None}
 use Rattle.std.specs.List.{list_any}
-use Rattle.rights_lattice.specs.State.{State}
+use Rattle.rights_lattice.specs.State.{State, bottom}
 use Rattle.request_ledger.specs.declared.request.Request.{Request}
 use Rattle.request_ledger.specs.declared.request.Request.TheVariants.{Refund}
 use Rattle.request_ledger.specs.declared.reply.Reply.{Reply}
-use Rattle.request_ledger.specs.declared.reply.Reply.TheVariants.{Done, Refunded}
+use Rattle.request_ledger.specs.declared.reply.Reply.TheVariants.{Done, NoSale, Refunded}
 use Rattle.request_ledger.specs.declared.reply.SaleState.{SaleState}
 use Rattle.request_ledger.specs.Requests.{is_done}
 use Rattle.book_core.specs.declared.entry.Entry.{Entry}
 use Rattle.book_core.specs.declared.entry.Entry.TheVariants.{Asked}
-use Rattle.book_core.specs.Decision.{Office, Refunding, change_of, reply_to}
-use Rattle.book_core.specs.History.{asked, sale_of}
+use Rattle.book_core.specs.Decision.{Office, Change, Refunding, change_of, marked, reply_to}
+use Rattle.book_core.specs.History.{asked, kept, sale_of, state_of}
+use Rattle.book_core.specs.Legal.{IsNext, IsLegal}
 
 -- the request is no refund that names a part
 abbrev pub NamesNoPart : Request → Type 0
@@ -35,3 +36,43 @@ SalesAreRefundedWholeOnce = (office : Office) (h : List Entry) → HasNoParts h
     → (number : ℕ) (sale : SaleState) → sale_of h number ≡ Some sale → 1 ≤ sale.seats
     → (reply_to office h (Refund number None) ≡ (if was_refunded h number then Refunded else Done))
     × (was_refunded h number ≡ false → change_of h (Refund number None) ≡ Some (record { kind = Refunding; event = sale.event; amount = sale.seats }))
+
+-- ---- legality where each refund gives back all seats of its sale, once
+
+-- the reply to a refund of this sale, which was refunded or not
+abbrev pub whole_reply : Option SaleState → Bool → Reply
+whole_reply None was = NoSale
+whole_reply (Some sale) was = if was then Refunded else Done
+
+-- all seats of the sale
+abbrev pub whole_change : Option SaleState → Option Change
+whole_change None = None
+whole_change (Some sale) = Some (record { kind = Refunding; event = sale.event; amount = sale.seats })
+
+abbrev pub whole_delta : Office → List Entry → ℕ → Reply → State
+whole_delta office h sale reply = if is_done reply then marked office.me (state_of h).cells (whole_change (sale_of h sale)) else bottom
+
+-- a refund under a new number within the limit, with the reply and the delta that are due where it gives back all seats or none
+pub record IsNextWholeRefund (office : Office) (h : List Entry) (number sale : ℕ) (reply : Reply) (delta : State) : Type 0 where
+  pub room : length h < office.limit
+  pub new : kept h number ≡ None
+  pub answer : reply ≡ whole_reply (sale_of h sale) (was_refunded h sale)
+  pub change : delta ≡ whole_delta office h sale reply
+
+-- the entry is legal after this history: of refunds only one that names no part and is whole, and of all else what is legal anyhow
+abbrev pub IsNextWhole : Office → List Entry → Entry → Type 0
+IsNextWhole office h (Asked number (Refund sale None) reply delta) = IsNextWholeRefund office h number sale reply delta
+IsNextWhole office h (Asked number (Refund sale (Some part)) reply delta) = ⊥
+IsNextWhole office h entry = IsNext office h entry
+
+-- each entry is legal after those before it
+abbrev pub IsLegalWhole : Office → List Entry → Type 0
+IsLegalWhole office h = (k : ℕ) (entry : Entry) → slice_get h k ≡ Some entry → IsNextWhole office (take k h) entry
+
+-- each sale is of one seat at least
+abbrev pub SalesHaveSeats : List Entry → Type 0
+SalesHaveSeats h = (number : ℕ) (sale : SaleState) → sale_of h number ≡ Some sale → 1 ≤ sale.seats
+
+-- where no refund names a part, the two legalities are one
+abbrev pub LegalWithoutPartsIsWhole : Type 0
+LegalWithoutPartsIsWhole = (office : Office) (h : List Entry) → HasNoParts h → SalesHaveSeats h → (IsLegal office h ↔ IsLegalWhole office h)

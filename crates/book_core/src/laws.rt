@@ -1,7 +1,7 @@
 //! What holds of every legal history, and of the tests by which a peer's delta is judged, over the definitions alone.
 ghost use Rattle.book_core.specs.Laws.{RightsNeverNegative, EachReplyIsKept, NumbersAreKeptOnce, RefundsAreWithinSales, HistoryIsWithinLimit, RowTestIsTheOrder, SitesTestIsTheRange};
 ghost use Rattle.book_core.specs.Returned.{SalesAreReturnedWithinTheirSeats};
-ghost use Rattle.book_core.specs.WholeRefunds.{SalesAreRefundedWholeOnce};
+ghost use Rattle.book_core.specs.WholeRefunds.{LegalWithoutPartsIsWhole, SalesAreRefundedWholeOnce};
 
 /// A site whose history is legal never sold a seat that it had no right to sell (SRDS 2015), whatever deltas it
 /// joined, and never took more back than it sold: of no sale more than its seats, in however many parts.
@@ -22,6 +22,12 @@ pub fn legal_histories_keep_numbers_once()
 /// given back with all of its seats, and once.
 pub fn histories_without_parts_refund_whole_sales()
     ensures { SalesAreRefundedWholeOnce }
+{}
+
+/// Such a history, where each sale that was done is of one seat at least, is legal exactly where it was before refunds
+/// could name parts: where each refund gives back all seats of its sale, once, and names no part.
+pub fn histories_without_parts_are_legal_whole()
+    ensures { LegalWithoutPartsIsWhole }
 {}
 
 /// The tests of a peer's delta are the order on the own row and the range of the sites, both ways.
