@@ -20,7 +20,7 @@ use Rattle.sql_records.specs.Faults.{told}
 use Rattle.sql_records.specs.Layout.{IsOurs, HasOtherSchema}
 use Rattle.sql_records.specs.Held.{history_in}
 use Rattle.sql_records.specs.Opening.{IsForeignCauseAs, IsOurFault, IsReadFault}
-use Rattle.sql_records.specs.Migrating.{office_in, IsOfFirst, IsToldAs, of_replay, IsUnread, IsUnfit, IsMigrateFault}
+use Rattle.sql_records.specs.Migrating.{office_in, AreRecordsIn, IsToldAs, of_replay, IsUnread, IsUnfit, IsMigrateFault}
 use Rattle.sql_records.proofs.FaultLemmas.{told_either}
 
 -- what is at fault in records of ours is told as it is
@@ -48,7 +48,7 @@ unfit g conn after ours cause fault outside to from foreign found tells = elim (
 ]
 
 -- so is a history that is not legal
-pub no_history : (old new : State) (meta : Meta) (entries : List Entry) (cause : ReplayFault) (fault : MigrateFault) → IsUnchanged old new → IsOfFirst meta old.now.trees → entries ≡ history_in old.now.trees
+pub no_history : (old new : State) (meta : Meta) (entries : List Entry) (cause : ReplayFault) (fault : MigrateFault) → IsUnchanged old new → AreRecordsIn First meta old.now.trees → entries ≡ history_in old.now.trees
     → IsReplayFault (office_in meta) entries cause → fault ≡ of_replay cause → IsUnread old new fault
 no_history old new meta entries (IllegalAt place) fault same first is found told =
     subst (IsUnread old new) (sym told) (inr (record { meta = meta; first = first; found = subst (λ l. IsReplayFault (office_in meta) l (IllegalAt place)) is found }))

@@ -21,7 +21,7 @@ use Rattle.sql_records.specs.Keeping.{LeavesOnly, LeavesWithOrWithout, Keeps}
 use Rattle.sql_records.specs.declared.meta.Meta.{Meta}
 use Rattle.sql_records.specs.declared.version.Version.{Version}
 use Rattle.sql_records.specs.Layout.{IsOurs, HasGoodMeta, HasMeta, HasMetaAs, AreNumbers}
-use Rattle.sql_records.specs.Rows.{delta_in, delta_named, entry_of, entry_with, text_in, is_below, rows_below, rows_from_0, AreInOrder, AreWhole, IsEntryIn, AreWholeIn, IsFirstDamaged, IsDamagedAt, WantsForEntry}
+use Rattle.sql_records.specs.Rows.{delta_in, delta_named, entry_of, entry_with, text_in, is_below, rows_below, rows_from_0, AreInOrder, AreWhole, IsEntryIn, AreWholeIn, IsFirstDamaged, IsDamagedAt, IsOfVersion, WantsForEntry}
 use Rattle.sql_records.specs.Held.{IsAtRest, IsSiteIn, MayLeaveIn, LeavesSite, history_in, opened_in, rows_in}
 use Rattle.sql_records.specs.Opening.{AreRowsFault, IsMetaFault, IsOurFault, IsStoreFault, IsWantedAt}
 use Rattle.sql_records.specs.Faults.{HasDiskCause, IsUndoneForMemory}
@@ -48,16 +48,17 @@ entries_more rows i values entry low at reads = rw (take_more rows i values low,
 
 -- want of memory for a row, or the first row that is not the entry of its place
 abbrev pub StopsReading : Version → List Row → OpenFault → Type 0
-StopsReading read rows fault = ((fault ≡ Memory) × ((place : ℕ) × IsWantedAt place rows)) ⊎ ((place : ℕ) × (fault ≡ Damaged place) × IsFirstDamaged read place rows)
+StopsReading read rows fault = ((fault ≡ Memory) × ((place : ℕ) × IsWantedAt read place rows)) ⊎ ((place : ℕ) × (fault ≡ Damaged place) × IsFirstDamaged read place rows)
 
 -- memory is wanted for the row at a place, the rows before it being whole
-pub wanted_at : (rows : List Row) (i : ℕ) (values : Row) → i < length rows → values ≡ get_or rows i values → AreWhole 0 (take i rows) → column values 0 ≡ Int (pos i) → IsSome (entry_of values) ⊎ WantsForEntry values → IsWantedAt i rows
-wanted_at rows i values low at whole placed wants = record { before = whole; values = values; here = slice_get_read rows (length rows) i values refl low at; placed = placed; wants = wants }
+pub wanted_at : (read : Version) (rows : List Row) (i : ℕ) (values : Row) → i < length rows → values ≡ get_or rows i values → AreWholeIn read 0 (take i rows) → column values 0 ≡ Int (pos i) → IsOfVersion read values
+    → IsSome (entry_of values) ⊎ WantsForEntry values → IsWantedAt read i rows
+wanted_at read rows i values low at whole placed version wants = record { before = whole; values = values; here = slice_get_read rows (length rows) i values refl low at; placed = placed; version = version; wants = wants }
 
 -- the fault of that row
 pub fault_at : (read : Version) (rows : List Row) (i : ℕ) (values : Row) (fault : OpenFault) → i < length rows → values ≡ get_or rows i values → AreWholeIn read 0 (take i rows) → (fault ≡ Memory) ⊎ (fault ≡ Damaged i)
-    → (fault ≡ Damaged i → ¬ IsEntryIn read i values) → (fault ≡ Memory → (column values 0 ≡ Int (pos i)) × WantsForEntry values) → StopsReading read rows fault
-fault_at read rows i values fault low at whole (inl is) other wanted = let w = wanted is in inl (is, (i, wanted_at rows i values low at whole.0 w.0 (inr w.1)))
+    → (fault ≡ Damaged i → ¬ IsEntryIn read i values) → (fault ≡ Memory → (column values 0 ≡ Int (pos i)) × IsOfVersion read values × WantsForEntry values) → StopsReading read rows fault
+fault_at read rows i values fault low at whole (inl is) other wanted = let w = wanted is in inl (is, (i, wanted_at read rows i values low at whole w.0 w.1 (inr w.2)))
 fault_at read rows i values fault low at whole (inr is) other wanted = inr (i, is, (whole, (values, slice_get_read rows (length rows) i values refl low at, other is)))
 
 -- ---- rows in front of the place 0

@@ -1,5 +1,5 @@
 -- What the UPDATE makes of records at rest, and what a stop may leave.
-use Rattle.std.proofs.Common.{◌≡◌, ◌⊎◌, inl, inr, ℕ, List, [], length, map, Bool, true, false, None, Ok, Err, Result, IfErr, OnOk, IsTrue, Some, refl, sym, ap, subst, ◌∙◌, arith}
+use Rattle.std.proofs.Common.{◌≡◌, ◌⊎◌, inl, inr, ℕ, List, [], ◌∷◌, length, map, Bool, true, false, None, Ok, Err, Result, IfErr, OnOk, IsTrue, Some, refl, sym, ap, subst, ◌∙◌, arith}
 use Rattle.std.proofs.lemmas.Bool.{cases_Bool}
 use Rattle.sqlite.specs.declared.error.Error.{Error}
 use Rattle.sqlite.specs.Order.{Row}
@@ -12,12 +12,14 @@ use Rattle.sqlite.proofs.Callers.{statement_of, runs_as}
 use Rattle.sql_records.specs.declared.meta.Meta.{Meta}
 use Rattle.sql_records.specs.declared.version.Version.TheVariants.{First, Second}
 use Rattle.sql_records.specs.Texts.{update_text}
-use Rattle.sql_records.specs.Layout.{IsOurs, ours_and, meta_shown, HasMeta, HasMetaAs, HasGoodMeta, AreNumbers}
-use Rattle.sql_records.specs.Held.{IsAtRest, IsSiteIn, LeavesSite, MayLeaveIn, history_in, rows_in}
-use Rattle.sql_records.specs.Rows.{AreWhole, in_order, shown, history_of}
+use Rattle.sql_records.specs.Layout.{IsOurs, ours_and, meta_shown, HasMeta, HasMetaAs, AreNumbers}
+use Rattle.sql_records.specs.Held.{IsAtRest, IsSiteIn, LeavesSite, MayLeaveIn, history_in, opened_in, rows_in}
+use Rattle.std.specs.List.{AllByRecursion}
+use Rattle.sql_records.specs.Rows.{AreWhole, AreWholeIn, IsOfVersion, in_order, shown, history_of, entries_from}
 use Rattle.sql_records.specs.Keeping.{LeavesOnly}
-use Rattle.sql_records.specs.Migrating.{IsMigrated, LeavesAsBeforeOrMigrated}
+use Rattle.sql_records.specs.Migrating.{AreRecordsIn, IsLegalFirst, IsMigrated, LeavesAsBeforeOrMigrated, LeavesItOrMigrated, LeavesSameEntries}
 use Rattle.sql_records.proofs.AppendLemmas.{commits_as}
+use Rattle.sql_records.proofs.RowLemmas.{read_from}
 use Rattle.sql_records.proofs.OpeningLemmas.{leaves_only, leaves_site, one_meta}
 use Rattle.sql_records.proofs.UpdateLemmas.{update_command, update_is, update_plain, updates}
 
@@ -80,17 +82,17 @@ module _ (old new : State) (place : ℕ) (rest : IsAtRest old place) where
         ]
 
 -- over any statement that was run, as a function's clauses speak of it
-module _ (old new : State) (rest : HasCleanDisk old → (place : ℕ) × IsAtRest old place) (good : HasCleanDisk old → HasGoodMeta First old.now.trees) (survives : Survives old new (CommitsBy update_text [] old)) where
+module _ (old new : State) (rest : HasCleanDisk old → (place : ℕ) × IsAtRest old place) (good : HasCleanDisk old → IsLegalFirst old.now.trees) (survives : Survives old new (CommitsBy update_text [] old)) where
   pub was_clean : HasCleanDisk new → HasCleanDisk old
   was_clean clean = omega (arith, survives.clean, clean)
 
   pub leaves_either : HasCleanDisk new → LeavesAsBeforeOrMigrated old new
   leaves_either clean db left =
       let at_rest = rest (was_clean clean) in
-      let meta = good (was_clean clean) in
+      let legal = good (was_clean clean) in
       elim (survives.crash clean db left) [
         | inl before ↦ inl before
-        | inr commit ↦ inr (commits old new at_rest.0 at_rest.1 meta.0 meta.2 db commit)
+        | inr commit ↦ inr (legal, commits old new at_rest.0 at_rest.1 legal.meta legal.first.numbers db commit)
       ]
 
   pub stays_as : (e : Error) → Executes update_text [] old new (Err e) → HasCleanDisk new → IsTrue new.is_open → (new.now ≡ old.now) × (new.committed ≡ old.committed) × (new.in_transaction ≡ old.in_transaction)
@@ -98,13 +100,13 @@ module _ (old new : State) (rest : HasCleanDisk old → (place : ℕ) × IsAtRes
 
   module _ (count : ℕ) (runs : HasCleanDisk new → Executes update_text [] old new (Ok count)) (clean : HasCleanDisk new) where
     both : IsAtRest new (rest (was_clean clean)).0 × IsMigrated old.now.trees new.now.trees
-    both = let at_rest = rest (was_clean clean) in let meta = good (was_clean clean) in ok old new at_rest.0 at_rest.1 meta.0 meta.2 count (runs clean)
+    both = let at_rest = rest (was_clean clean) in let legal = good (was_clean clean) in ok old new at_rest.0 at_rest.1 legal.meta legal.first.numbers count (runs clean)
 
     pub migrated : IsMigrated old.now.trees new.now.trees
     migrated = both.1
 
     pub rests : (place : ℕ) → IsAtRest old place → IsAtRest new place
-    rests place at_rest = let meta = good (was_clean clean) in (ok old new place at_rest meta.0 meta.2 count (runs clean)).0
+    rests place at_rest = let legal = good (was_clean clean) in (ok old new place at_rest legal.meta legal.first.numbers count (runs clean)).0
 
     same_history : history_in new.now.trees ≡ history_in old.now.trees
     same_history = ap history_of both.1.entries
@@ -117,6 +119,28 @@ module _ (old new : State) (rest : HasCleanDisk old → (place : ℕ) × IsAtRes
       pub leaves_numbers : (meta : Meta) → HasMetaAs First meta old.now.trees → LeavesSite new meta
       leaves_numbers meta was =
           let had = good (was_clean clean) in
-          let same = one_meta First had.0 meta old.now.trees had.2 was in
+          let same = one_meta First had.meta meta old.now.trees had.first.numbers was in
           let also = one_meta First both.1.meta meta old.now.trees both.1.was was in
-          leaves_site new (rest (was_clean clean)).0 both.0 only meta (subst AreNumbers same had.1) (subst (λ m. HasMeta m new.now.trees) also both.1.is)
+          leaves_site new (rest (was_clean clean)).0 both.0 only meta (subst AreNumbers same had.first.within) (subst (λ m. HasMeta m new.now.trees) also both.1.is)
+
+-- ---- what is read of what a stop leaves
+
+-- each row of the second version is any
+any_rows : (rows : List Row) → AllByRecursion (IsOfVersion Second) rows
+any_rows [] = tt
+any_rows (values ∷ rows) = (tt, any_rows rows)
+
+pub same_entries : (trees : Trees) (s : State) → LeavesItOrMigrated trees s → LeavesSameEntries trees s
+same_entries trees s either meta first db left = elim (either db left) [
+  | inl same ↦ (
+      let is : db ≡ trees = same in
+      (inl (subst (AreRecordsIn First meta) (sym is) first), ap opened_in is ∙ read_from 0 (rows_in trees) first.whole.0))
+  | inr made ↦ (
+      let it = made.1 in
+      let rows : rows_in db ≡ rows_in trees = ap (λ t. in_order (map shown t)) it.entries in
+      let one = one_meta First it.meta meta trees it.was first.numbers in
+      let whole : AreWholeIn Second 0 (rows_in db) = (subst (AreWhole 0) (sym rows) first.whole.0, any_rows (rows_in db)) in (
+        inr (record { numbers = subst (λ m. HasMetaAs Second m db) one it.is; within = first.within; whole = whole }),
+        ap (entries_from 0) rows ∙ read_from 0 (rows_in trees) first.whole.0,
+      ))
+]

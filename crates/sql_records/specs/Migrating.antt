@@ -1,5 +1,5 @@
 -- What raising the version of the records leaves, and why it is not raised. (Our own.)
-use Rattle.std.specs.Prelude.{◌≡◌, ◌≢◌, ◌⊎◌, ℕ, pos, List, [], Bool, true, false, Err, IsTrue}
+use Rattle.std.specs.Prelude.{◌≡◌, ◌≢◌, ◌⊎◌, ℕ, pos, List, [], Bool, true, false, Some, Err, IsTrue}
 use Rattle.sqlite.specs.Store.{Ghosts}
 use Rattle.sqlite.specs.Tree.{Trees}
 use Rattle.sqlite.specs.State.{State, HasCleanDisk, Executes, IsUnchanged}
@@ -14,6 +14,7 @@ use Rattle.book_core.specs.Decision.{Office}
 use Rattle.book_core.specs.Legal.{IsLegal}
 use Rattle.book_core.specs.Replay.{IsReplayFault}
 use Rattle.sql_records.specs.declared.meta.Meta.{Meta}
+use Rattle.sql_records.specs.declared.version.Version.{Version}
 use Rattle.sql_records.specs.declared.version.Version.TheVariants.{First, Second}
 use Rattle.sql_records.specs.declared.fault.OpenFault.{OpenFault}
 use Rattle.sql_records.specs.declared.fault.OpenFault.TheVariants as opening
@@ -23,7 +24,7 @@ use Rattle.sql_records.specs.Texts.{update_text}
 use Rattle.sql_records.specs.Faults.{HasDiskCause, IsUndoneForMemory}
 use Rattle.sql_records.specs.Layout.{IsOurs, number_of, HasMetaAs, HasOtherSchema, HasNoMeta, AreNumbers}
 use Rattle.sql_records.specs.Rows.{AreWholeIn}
-use Rattle.sql_records.specs.Held.{entries_tree, rows_in, history_in}
+use Rattle.sql_records.specs.Held.{entries_tree, rows_in, history_in, opened_in}
 use Rattle.sql_records.specs.Opening.{IsEntriesFault, IsForeignCauseAs}
 
 -- ---- what is left
@@ -39,36 +40,44 @@ pub record IsMigrated (old new : Trees) : Type 0 where
   pub is : HasMetaAs Second meta new
   pub entries : new entries_tree ≡ old entries_tree
 
--- each database that a stop may leave is one that it could leave before, or the migrated one
-abbrev pub LeavesAsBeforeOrMigrated : State → State → Type 0
-LeavesAsBeforeOrMigrated old new = (db : Trees) → new.may_leave db → old.may_leave db ⊎ IsMigrated old.now.trees db
-
--- each database that a stop may leave is this one, or this one migrated
-abbrev pub LeavesItOrMigrated : Trees → State → Type 0
-LeavesItOrMigrated trees s = (db : Trees) → s.may_leave db → (db ≡ trees) ⊎ IsMigrated trees db
-
 -- ---- what may be migrated
 
 abbrev pub office_in : Meta → Office
 office_in meta = record { me = meta.me; sites = meta.sites; limit = meta.limit }
 
--- the records of a site in the first version, of which each row reads
-pub record IsOfFirst (meta : Meta) (db : Trees) : Type 0 where
-  pub numbers : HasMetaAs First meta db
+-- the records of a site in this version, of which each row reads
+pub record AreRecordsIn (version : Version) (meta : Meta) (db : Trees) : Type 0 where
+  pub numbers : HasMetaAs version meta db
   pub within : AreNumbers meta
-  pub whole : AreWholeIn First 0 (rows_in db)
+  pub whole : AreWholeIn version 0 (rows_in db)
 
--- so are these, and their history is legal
+-- they are of the first version, and their history is legal
 pub record IsLegalFirst (db : Trees) : Type 0 where
   pub meta : Meta
-  pub first : IsOfFirst meta db
+  pub first : AreRecordsIn First meta db
   pub legal : IsLegal (office_in meta) (history_in db)
 
--- so are these, but their history is not legal, or memory was wanted for it
+-- they are of the first version, but their history is not legal, or memory was wanted for it
 pub record IsNoHistory (db : Trees) (fault : ReplayFault) : Type 0 where
   pub meta : Meta
-  pub first : IsOfFirst meta db
+  pub first : AreRecordsIn First meta db
   pub found : IsReplayFault (office_in meta) (history_in db) fault
+
+-- ---- what a stop leaves
+
+-- each database that a stop may leave is one that it could leave before, or, where the history is legal, the migrated one
+abbrev pub LeavesAsBeforeOrMigrated : State → State → Type 0
+LeavesAsBeforeOrMigrated old new = (db : Trees) → new.may_leave db → old.may_leave db ⊎ (IsLegalFirst old.now.trees × IsMigrated old.now.trees db)
+
+-- each database that a stop may leave is this one, or, where its history is legal, this one migrated
+abbrev pub LeavesItOrMigrated : Trees → State → Type 0
+LeavesItOrMigrated trees s = (db : Trees) → s.may_leave db → (db ≡ trees) ⊎ (IsLegalFirst trees × IsMigrated trees db)
+
+-- Each database that a stop may leave has the records of the first version that were there, in that version or in the
+-- second, and of either the same entries are read.
+abbrev pub LeavesSameEntries : Trees → State → Type 0
+LeavesSameEntries trees s = (meta : Meta) → AreRecordsIn First meta trees
+    → (db : Trees) → s.may_leave db → (AreRecordsIn First meta db ⊎ AreRecordsIn Second meta db) × (opened_in db ≡ Some (history_in trees))
 
 -- ---- why nothing is migrated
 

@@ -17,7 +17,7 @@ use Rattle.book_core.specs.Limits.{greatest_limit}
 use Rattle.sql_records.specs.declared.meta.Meta.{Meta}
 use Rattle.sql_records.specs.declared.fault.OpenFault.{OpenFault}
 use Rattle.sql_records.specs.declared.fault.OpenFault.TheVariants.{NotOurs, OtherSchema, Damaged, Memory, Disk}
-use Rattle.sql_records.specs.Rows.{number_within, site_in, entry_of, rows_from_0, AreInOrder, AreWhole, IsDamagedAt, WantsForEntry}
+use Rattle.sql_records.specs.Rows.{number_within, site_in, entry_of, rows_from_0, AreInOrder, AreWholeIn, IsDamagedAt, IsOfVersion, WantsForEntry}
 use Rattle.sql_records.specs.declared.version.Version.{Version}
 use Rattle.sql_records.specs.declared.version.Version.TheVariants.{Second}
 use Rattle.sql_records.specs.Layout.{IsOurs, our_kind, number_of, HasOtherSchema, HasGoodMeta, HasNoMeta}
@@ -77,12 +77,13 @@ IsMetaFault read old new (Damaged place) = ⊥
 IsMetaFault read old new Memory = IsUndoneForMemory old new
 IsMetaFault read old new Disk = HasDiskCause old new
 
--- memory may be wanted for the row at this place: it has its place, and is an entry or may want memory for its delta; those before it are the entries of theirs
-pub record IsWantedAt (place : ℕ) (rows : List Row) : Type 0 where
-  pub before : AreWhole 0 (take place rows)
+-- memory may be wanted for the row at this place: it has its place, has the columns of this version, and is an entry or may want memory for its delta; those before it are the entries of theirs in this version
+pub record IsWantedAt (read : Version) (place : ℕ) (rows : List Row) : Type 0 where
+  pub before : AreWholeIn read 0 (take place rows)
   pub values : Row
   pub here : slice_get rows place ≡ Some values
   pub placed : column values 0 ≡ Int (pos place)
+  pub version : IsOfVersion read values
   pub wants : IsSome (entry_of values) ⊎ WantsForEntry values
 
 -- what is at fault in rows of entries, which are in an order of their places
@@ -90,7 +91,7 @@ abbrev pub AreRowsFault : Version → List Row → OpenFault → Type 0
 AreRowsFault read rows NotOurs = ⊥
 AreRowsFault read rows (OtherSchema version) = ⊥
 AreRowsFault read rows (Damaged place) = IsDamagedAt read place rows
-AreRowsFault read rows Memory = (place : ℕ) × IsWantedAt place (rows_from_0 rows)
+AreRowsFault read rows Memory = (place : ℕ) × IsWantedAt read place (rows_from_0 rows)
 AreRowsFault read rows Disk = ⊥
 
 -- the rows are one, of our kind and of this other version

@@ -1,17 +1,17 @@
 //! Records of the first version, made ones of the second.
-ghost use Rattle.std.specs.Prelude.{◌≡◌, ◌<◌, ℕ, true, false, length, Err, OnOk, OnErr, IfErr, IsTrue, []};
+ghost use Rattle.std.specs.Prelude.{◌≡◌, ◌≢◌, ◌<◌, ℕ, true, false, length, Err, OnOk, OnErr, IfErr, IsTrue, []};
 ghost use Rattle.sqlite.specs.State.{HasCleanDisk, Executes, IsUnchanged};
 ghost use Rattle.sqlite.specs.Held.{state};
 ghost use Rattle.sql_records.specs.declared.meta.Meta.{Meta as Numbers};
 ghost use Rattle.sql_records.specs.declared.version.Version.TheVariants.{First};
-ghost use Rattle.sql_records.specs.Layout.{IsOurs, HasMetaAs, HasGoodMeta};
+ghost use Rattle.sql_records.specs.Layout.{IsOurs, HasMetaAs};
 ghost use Rattle.book_core.specs.declared.plan.ReplayFault.{ReplayFault as Illegal};
 ghost use Rattle.book_core.specs.Legal.{IsLegal};
 ghost use Rattle.book_core.specs.Replay.{IsReplayFault};
 ghost use Rattle.sql_records.specs.Opening.{IsLeftOrUndone};
 ghost use Rattle.sql_records.specs.Held.{IsAtRest, LeavesNoMore, LeavesSite, MayLeaveIn, history_in};
 ghost use Rattle.sql_records.specs.Keeping.{LeavesOnly};
-ghost use Rattle.sql_records.specs.Migrating.{IsAsBefore, IsMigrated, LeavesAsBeforeOrMigrated, LeavesItOrMigrated, office_in, IsLegalFirst, IsToldAs, of_replay, IsUnfit, IsMigrateFault};
+ghost use Rattle.sql_records.specs.Migrating.{IsAsBefore, IsMigrated, LeavesAsBeforeOrMigrated, LeavesItOrMigrated, LeavesSameEntries, office_in, IsLegalFirst, IsToldAs, of_replay, IsUnfit, IsMigrateFault};
 
 use crate::fault::{MigrateFault, OpenFault};
 use crate::meta::Meta;
@@ -28,7 +28,7 @@ const UPDATE: &str = "UPDATE meta SET version = 2";
 // Raises the version to the second, in one transaction of its own.
 fn set_version<S: Alter>(conn: &mut Connection<S>) -> Result<(), Error>
     requires rest { HasCleanDisk (state S.Store conn.old) → (place : ℕ) × IsAtRest (state S.Store conn.old) place }
-    requires first { HasCleanDisk (state S.Store conn.old) → HasGoodMeta First (state S.Store conn.old).now.trees }
+    requires legal { HasCleanDisk (state S.Store conn.old) → IsLegalFirst (state S.Store conn.old).now.trees }
     ensures rest { HasCleanDisk (state S.Store conn.new) → OnOk result ((place : ℕ) → IsAtRest (state S.Store conn.old) place → IsAtRest (state S.Store conn.new) place) }
     ensures set { HasCleanDisk (state S.Store conn.new) → OnOk result (IsMigrated (state S.Store conn.old).now.trees (state S.Store conn.new).now.trees) }
     ensures leaves { HasCleanDisk (state S.Store conn.new) → OnOk result (LeavesOnly (history_in (state S.Store conn.old).now.trees) (MayLeaveIn (state S.Store conn.new))) }
@@ -117,10 +117,10 @@ impl<S: Alter> Records<S> {
     /// Makes the records of a site in the first version records of the second, in one transaction. The numbers and the
     /// entries are as they were.
     ///
-    /// A stop leaves what was there, or that with the new version alone; an error leaves what was there to a connection that is still
-    /// open. The faults come in the order of their names, `Memory` and `Disk` at the call that fails: `Nothing` where
-    /// the version is the second already, whatever else the records hold. `Disk` too where a transaction is open,
-    /// which changes nothing.
+    /// A stop leaves what was there, or the numbers under the new version and the rows of the entries; an error leaves what was
+    /// there to a connection that is still open. The faults come in the order of their names, `Memory` and `Disk` at the
+    /// call that fails: `Nothing` where the version is the second already, whatever else the records hold. `Disk` too where
+    /// a transaction is open, which changes nothing.
     pub fn migrate(alloc: Global, conn: &mut Connection<S>) -> Result<(), MigrateFault>
         ensures busy { conn.old.in_transaction ≡ true → (result ≡ Err MigrateFault.Disk) × (conn.new ≡ conn.old) }
         ensures schema { OnOk result (IsOurs conn.old.schema) }
@@ -132,6 +132,10 @@ impl<S: Alter> Records<S> {
         ensures crash { HasCleanDisk (state S.Store conn.new) → LeavesAsBeforeOrMigrated (state S.Store conn.old) (state S.Store conn.new) }
         ensures either { conn.old.in_transaction ≡ false → IsTrue (state S.Store conn.old).is_open → HasCleanDisk (state S.Store conn.new)
             → LeavesItOrMigrated (state S.Store conn.old).now.trees (state S.Store conn.new) }
+        ensures reads { conn.old.in_transaction ≡ false → IsTrue (state S.Store conn.old).is_open → HasCleanDisk (state S.Store conn.new)
+            → LeavesSameEntries (state S.Store conn.old).now.trees (state S.Store conn.new) }
+        ensures refused { HasCleanDisk (state S.Store conn.new) → IfErr result (λ fault. fault ≢ MigrateFault.Memory → fault ≢ MigrateFault.Disk
+            → LeavesNoMore (state S.Store conn.old) (state S.Store conn.new)) }
         ensures as_before { HasCleanDisk (state S.Store conn.new) → OnErr result (IsAsBefore (state S.Store conn.old) (state S.Store conn.new)) }
         ensures fault { HasCleanDisk (state S.Store conn.new) → IfErr result (IsMigrateFault S.Store conn.old conn.new) }
         ensures limit { conn.new.step_limit ≡ conn.old.step_limit }

@@ -64,7 +64,7 @@ fn read_next(alloc: Global, read: Version, place: u64, row: &Row) -> Result<Entr
     ensures version { OnOk result (IsOfVersion read row.now) }
     ensures named { IfErr result (λ fault. (fault ≡ OpenFault.Memory) ⊎ (fault ≡ OpenFault.Damaged place)) }
     ensures damaged { result ≡ Err (OpenFault.Damaged place) → ¬ IsEntryIn read place row.now }
-    ensures memory { result ≡ Err OpenFault.Memory → (column row.now 0 ≡ Int (pos place)) × WantsForEntry row.now }
+    ensures memory { result ≡ Err OpenFault.Memory → (column row.now 0 ≡ Int (pos place)) × IsOfVersion read row.now × WantsForEntry row.now }
 {
     if !is_at(place, value_at(row, 0)) || !is_of_version(read, row) {
         return Err(OpenFault::Damaged { place });
@@ -79,7 +79,7 @@ fn read_next(alloc: Global, read: Version, place: u64, row: &Row) -> Result<Entr
 fn read_entries(alloc: Global, read: Version, rows: &[Row]) -> Result<Vec<Entry>, OpenFault>
     ensures whole { OnOk result (AreWholeIn read 0 rows.now) }
     ensures entries { IfOk result (λ entries. entries.items ≡ filter_map entry_of rows.now) }
-    ensures fault { IfErr result (λ fault. ((fault ≡ OpenFault.Memory) × ((place : ℕ) × IsWantedAt place rows.now)) ⊎ ((place : ℕ) × (fault ≡ OpenFault.Damaged place) × IsFirstDamaged read place rows.now)) }
+    ensures fault { IfErr result (λ fault. ((fault ≡ OpenFault.Memory) × ((place : ℕ) × IsWantedAt read place rows.now)) ⊎ ((place : ℕ) × (fault ≡ OpenFault.Damaged place) × IsFirstDamaged read place rows.now)) }
 {
     let mut entries = Vec::new(alloc);
     'rows: for (place, row) in rows.iter().enumerate() {

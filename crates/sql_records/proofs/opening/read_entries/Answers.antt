@@ -14,7 +14,7 @@ returns-in_err-push-clause-fault c =
     let low : c.rows.place < length c.args.rows.now = omega arith in
     let is = c.in_ok-entry.ensures in
     if_err c.from_residual-in_err-push.result (StopsReading c.args.read c.args.rows.now) _ c.from_residual-in_err-push.ensures.1
-    (λ f e. inl (e, (c.rows.place, wanted_at c.args.rows.now c.rows.place _ low c.index-rows-place.is c.rows.invariant.whole.0 is.placed (inl (subst IsSome (sym is.reads) refl)))))
+    (λ f e. inl (e, (c.rows.place, wanted_at c.args.read c.args.rows.now c.rows.place _ low c.index-rows-place.is c.rows.invariant.whole is.placed is.version (inl (subst IsSome (sym is.reads) refl)))))
 
 pub rows-preserved : goal.rows-preserved
 rows-preserved c =
