@@ -1,12 +1,11 @@
 //! The commands over the records of a site, in memory.
 
-use crate::values::{gala, number, seats, site};
+use crate::values::{number, site};
 use book_core::Limit;
 use operator_cli::{
     Status, ask_store, audit_stores, export_store, find_store, import_store, init_store,
     list_store, open_store,
 };
-use request_ledger::{Reply, Request};
 use rights_lattice::Sites;
 use site_desk::SiteBook;
 use sql_records::Records;
@@ -35,39 +34,6 @@ pub(crate) fn init<S: Alter>(
     assert!(rt; err.is_empty());
 }
 
-// The book of the records.
-fn open<S: Alter + Drop>(
-    rt: &impl Abort,
-    alloc: Global,
-    conn: Connection<S>,
-) -> SiteBook<Records<S>> {
-    let (records, entries, meta) = match Records::open(alloc, conn) {
-        Ok(opened) => opened,
-        Err(_) => panic!(rt; "the records can be opened"),
-    };
-    match SiteBook::start(alloc, records, entries, meta) {
-        Ok(book) => book,
-        Err(_) => panic!(rt; "the history is legal"),
-    }
-}
-
-// Asks requests, each under its number.
-fn ask<S: Alter + Drop>(
-    rt: &impl Abort,
-    alloc: Global,
-    conn: Connection<S>,
-    asked: &[(u64, Request, Reply)],
-) -> Connection<S> {
-    let mut book = open(rt, alloc, conn);
-    for (asked, request, reply) in asked {
-        match book.ask(alloc, number(rt, *asked), request) {
-            Ok(answer) => assert_eq!(rt; answer.reply, *reply),
-            Err(_) => panic!(rt; "the request is answered"),
-        }
-    }
-    book.into_keeper().close()
-}
-
 // Imports a text.
 pub(crate) fn import<S: Alter + Drop>(
     rt: &impl Abort,
@@ -88,40 +54,13 @@ pub(crate) fn import<S: Alter + Drop>(
 
 // Site 1 of two has 50 seats and sold 8 of them.
 pub(crate) fn sold_eight<S: Alter + Drop>(
-    rt: &impl Abort,
+    rt: &(impl Abort + Wait),
     alloc: Global,
     mut conn: Connection<S>,
 ) -> Connection<S> {
     init(rt, alloc, &mut conn, 1, b"done\n", Status::Done);
-    let event = gala(rt);
-    let asked = [
-        (1, Request::Announce { event }, Reply::Done),
-        (
-            2,
-            Request::Release {
-                event,
-                amount: seats(rt, 50),
-            },
-            Reply::Done,
-        ),
-        (
-            3,
-            Request::Sell {
-                event,
-                amount: seats(rt, 8),
-            },
-            Reply::Done,
-        ),
-        (
-            4,
-            Request::Sell {
-                event,
-                amount: seats(rt, 100),
-            },
-            Reply::Short { left: 42 },
-        ),
-    ];
-    ask(rt, alloc, conn, &asked)
+    let lines = b"announce 1 gala\nrelease 2 gala 50\nsell 3 gala 8\nsell 4 gala 100\n";
+    session(rt, alloc, conn, lines, b"done\ndone\ndone\nshort 42\n")
 }
 
 #[test]
@@ -152,9 +91,7 @@ fn records_meet_forged_messages(rt: HostRuntime) -> Result<(), Fail> {
         b"acked\n",
         Status::Done,
     );
-    let book = open(&rt, rt.alloc(), conn);
-    let seen = book.look(gala(&rt))?;
-    assert_eq!(rt; seen.left, 42);
+    let _ = session(&rt, rt.alloc(), conn, b"left gala\n", b"left 42\n");
     Ok(())
 }
 
