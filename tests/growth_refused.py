@@ -2,20 +2,29 @@
 """Runs the built program, and tests that bear it, with one request for memory refused: the first, the second, and so on
 until nothing is refused.
 
-Usage: tests/growth_refused.py [PROGRAM [TESTS]]
+Usage: tests/growth_refused.py [PROGRAM [TESTS]] [--full]
     (PROGRAM: crates/boxoffice/out/boxoffice; TESTS: crates/acceptance/out/acceptance_tests, where `rt ci` and `rt test` leave it)
 
 A script ends with all that it prints, or with a front of it and `memory`. The tests judge themselves. The C library's
 malloc is called through a library of a few lines, which a C compiler makes here: `cc`, or the one that `rt` builds with.
-Says what differs and ends with status 1 where anything does.
+Of two sessions of `serve` one request of many is refused, by `--full` each of them. Says what differs and ends with status
+1 where anything does.
 """
 
+import concurrent.futures
+import contextlib
 import os
+import re
 import shutil
+import socket
 import subprocess
 import sys
+import time
 
-from trial import HERE, PROGRAM, SECONDS, same, try_each
+FULL = "--full" in sys.argv
+sys.argv = [word for word in sys.argv if not word.startswith("--")]
+
+from trial import HERE, PROGRAM, SECONDS, call, same, try_each
 
 TESTS = os.path.abspath(
     sys.argv[2] if len(sys.argv) > 2 else os.path.join(HERE, "..", "crates", "acceptance", "out", "acceptance_tests")
@@ -27,12 +36,14 @@ MANY = 100_000
 REFUSER = r"""
 extern void *__libc_malloc(unsigned long), *__libc_calloc(unsigned long, unsigned long), *__libc_realloc(void *, unsigned long);
 extern char *getenv(const char *);
+extern int *__errno_location(void);
 extern long strtol(const char *, char **, int), write(int, const void *, unsigned long);
 static long asked, refused = -1;
 static int is_refused(void) {
     if (refused < 0) refused = strtol(getenv("REFUSED"), 0, 10);
     if (__atomic_add_fetch(&asked, 1, __ATOMIC_SEQ_CST) != refused) return 0;
     write(strtol(getenv("REFUSALS"), 0, 10), "x", 1);
+    *__errno_location() = 12; /* ENOMEM, which the C library asks for where it starts a thread */
     return 1;
 }
 void *malloc(unsigned long size) { return is_refused() ? 0 : __libc_malloc(size); }
@@ -59,6 +70,22 @@ RESTARTED = (
 )
 
 
+# Two sessions of one site that has released 100 seats, and what each may write: nothing where its thread or its buffer was
+# refused, else a line for each line.
+SESSIONS = [b"sell 10 gala 3\nleft gala\n", b"sell 20 gala 4\nleft gala\n"]
+SALES = [("10", 3), ("20", 4)]
+REPLIES = rb"|(done|memory|store|closed)\n(left (100|97|96|93)|memory|closed)\n"
+SERVE_WORDS = [b"memory\n", b"disk\n", b"not-started\n", b"accept\n", b"bind\n", b"closed 0\n"]
+# One of so many requests of `serve` is refused: most of them are made while its file is opened.
+STEP = 1 if FULL else 41
+
+
+def free_port():
+    with contextlib.closing(socket.socket()) as probe:
+        probe.bind(("127.0.0.1", 0))
+        return probe.getsockname()[1]
+
+
 def compiler():
     """A C compiler, with what else it has to be told."""
     if shutil.which("cc"):
@@ -74,35 +101,40 @@ def make_refuser(folder):
     return refuser
 
 
-def run(refuser, number, words, given):
-    """Whether the request with this number came and was refused, and how the run ended."""
-    read, written = os.pipe()
+def begun(refuser, number, words, folder):
+    """The run in which the request with this number is refused, and where it is told that it was."""
+    told, teller = os.pipe()
     try:
-        done = subprocess.run(
+        program = subprocess.Popen(
             words,
-            input=given,
-            capture_output=True,
-            timeout=SECONDS,
-            check=False,
-            pass_fds=(written,),
-            env={"LD_PRELOAD": refuser, "REFUSED": str(number), "REFUSALS": str(written)},
+            stdin=subprocess.PIPE,
+            stdout=subprocess.PIPE,
+            stderr=subprocess.PIPE,
+            cwd=folder,
+            pass_fds=(teller,),
+            env={"LD_PRELOAD": refuser, "REFUSED": str(number), "REFUSALS": str(teller)},
         )
-        os.close(written)
-        written = None
-        return os.read(read, 1) != b"", done
     finally:
-        for end in (read, written):
-            if end is not None:
-                os.close(end)
+        os.close(teller)
+    return program, told
 
 
-def refuse_each(what, refuser, words, given, judge):
-    """Judges a run for each request, and one in which none was refused."""
-    for number in range(1, MANY):
-        was_refused, done = run(refuser, number, words, given)
-        judge(f"{what}: request {number}", was_refused, done)
-        if not was_refused:
-            print(f"{what}: {number - 1} requests refused")
+def ended(program, told, given=b""):
+    """Whether the request came and was refused, and the status, standard output and standard error."""
+    try:
+        out, err = program.communicate(given, timeout=SECONDS)
+    finally:
+        program.kill()
+        with os.fdopen(told, "rb") as refusals:
+            was_refused = refusals.read() != b""
+    return was_refused, (program.returncode, out, err)
+
+
+def refuse_each(what, run, step=1):
+    """Runs with each request refused, or with one of so many, until none is; `run` judges, and tells whether it was."""
+    for number in range(1, MANY, step):
+        if not run(f"{what}: request {number}", number):
+            print(f"{what}: {number - 1} requests, of which one of {step} was refused")
             return
     same(f"{what}: requests end", False, True)
 
@@ -111,26 +143,79 @@ def scripts(folder):
     refuser = make_refuser(folder)
     for what, script, printed in [("selling", SELLING, SOLD), ("ceding", CEDING, CEDED), ("restarting", RESTARTING, RESTARTED)]:
 
-        def judge(which, was_refused, done):
-            ended = (done.returncode, done.stdout, done.stderr)
-            if not was_refused or done.returncode == 0:
-                same(which, ended, (0, printed, b""))
+        def run(which, number):
+            was_refused, (status, out, err) = ended(*begun(refuser, number, [PROGRAM, "world"], folder), script)
+            if status == 3 and was_refused:
+                same(which, (printed.startswith(out), err), (True, b"memory\n"))
             else:
-                same(which, (done.returncode, printed.startswith(done.stdout), done.stderr), (3, True, b"memory\n"))
+                same(which, (status, out, err), (0, printed, b""))
+            return was_refused
 
-        refuse_each(what, refuser, [PROGRAM, "world"], script, judge)
+        refuse_each(what, run)
 
 
 def tests(folder):
-    def judge(which, _, done):
-        same(which, (done.returncode, done.stderr), (0, b""))
-
     refuser = make_refuser(folder)
     listed = subprocess.run([TESTS, "--list"], capture_output=True, timeout=SECONDS, check=True).stdout.decode()
     names = [line.removesuffix(": test") for line in listed.splitlines() if line.startswith(MODULES)]
     same("tests that may be refused memory", len(names) > 0, True)
     for name in names:
-        refuse_each(name, refuser, [TESTS, name], b"", judge)
+
+        def run(which, number):
+            was_refused, (status, _, err) = ended(*begun(refuser, number, [TESTS, name], folder))
+            same(which, (status, err), (0, b""))
+            return was_refused
+
+        refuse_each(name, run)
 
 
-sys.exit(try_each([scripts, tests], "no answer stands in the place of a refusal"))
+def talked(program, port, lines):
+    """What a session of `serve` wrote, or None where the program ended before it listened."""
+    while program.poll() is None:
+        try:
+            with socket.create_connection(("127.0.0.1", port), timeout=SECONDS) as stream:
+                stream.sendall(lines)
+                stream.shutdown(socket.SHUT_WR)
+                return stream.makefile("rb").read()
+        except OSError:
+            time.sleep(0.001)
+    return None
+
+
+def served(refuser, folder, which, number):
+    """Sells from two connections of `serve`, and asks for the same again behind it."""
+    shutil.copyfile(os.path.join(folder, "first.db"), os.path.join(folder, "site.db"))
+    with contextlib.suppress(FileNotFoundError):
+        os.remove(os.path.join(folder, "site.db-wal"))
+    port = free_port()
+    program, told = begun(refuser, number, [PROGRAM, "serve", str(port), "2", "0", "site.db"], folder)
+    with concurrent.futures.ThreadPoolExecutor(len(SESSIONS)) as pool:
+        replies = list(pool.map(lambda lines: talked(program, port, lines), SESSIONS))
+        was_refused, (status, out, err) = ended(program, told)
+    sold = 0
+    for seats, reply in zip((3, 4), replies):
+        same(f"{which}: replies {reply!r}", reply is None or re.fullmatch(REPLIES, reply) is not None, True)
+        sold += seats if (reply or b"").startswith(b"done\n") else 0
+    line = b"gala released 100 sold %d refunded 0 outstanding %d\n" % (sold, sold)
+    if status == 3 and was_refused:
+        same(f"{which}: {err!r}", (out in (b"", line), err in SERVE_WORDS), (True, True))
+    else:
+        same(which, (status, out, err), (0, line, b""))
+    for (request, seats), reply in zip(SALES, replies):
+        if (reply or b"").startswith(b"done\n"):
+            found = call(folder, ["find", "site.db", request])
+            same(f"{which}: request {request} is in the file", (found[0], found[1].endswith(" done\n")), (0, True))
+    again = b"".join(SESSIONS).decode()
+    asked = call(folder, ["ask", "site.db"], again)
+    same(f"{which}: asked again", (asked[0], asked[1].splitlines()[::2], asked[1].splitlines()[-1]), (0, ["done", "done"], "left 93"))
+    return was_refused
+
+
+def sessions(folder):
+    refuser = make_refuser(folder)
+    same("init", call(folder, ["init", "first.db", "0", "1", "1000"]), (0, "done\n", ""))
+    same("ask", call(folder, ["ask", "first.db"], "announce 1 gala\nrelease 2 gala 100\n"), (0, "done\ndone\n", ""))
+    refuse_each("two sessions", lambda which, number: served(refuser, folder, which, number), STEP)
+
+
+sys.exit(try_each([scripts, tests, sessions], "no answer stands in the place of a refusal"))

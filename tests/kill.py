@@ -1,6 +1,6 @@
 #!/usr/bin/env python3
-"""Kills the built program (SIGKILL) at random moments of `ask`, `import`, `init` and `serve`. What it had answered has
-to be in the files as C SQLite reads them, with little more, and asked again it has to answer the same.
+"""Kills the built program (SIGKILL) at random moments of `ask`, `import`, `init`, `migrate` and `serve`. What it had
+answered has to be in the files as C SQLite reads them, with little more, and asked again it has to answer the same.
 
 Usage: tests/kill.py [PROGRAM] [--full] [--seed=N]     (PROGRAM: crates/boxoffice/out/boxoffice)
 
@@ -27,16 +27,16 @@ import time
 FLAGS = [word for word in sys.argv[1:] if word.startswith("--")]
 sys.argv = [word for word in sys.argv if not word.startswith("--")]
 
-from trial import PROGRAM, SECONDS, call, opened
+from trial import PROGRAM, SECONDS, call, change, opened
 
 FULL = "--full" in FLAGS
 MEMORY = "/dev/shm" if os.path.isdir("/dev/shm") else None
 PROCESSES = 2
 # How many trials there are of each kind, and how often each kills.
 TRIALS = (
-    {"ask": (30, 10), "import": (30, 3), "init": (30, 3), "serve": (30, 1)}
+    {"ask": (30, 10), "import": (30, 3), "init": (30, 3), "migrate": (30, 3), "serve": (30, 1)}
     if FULL
-    else {"ask": (6, 10), "import": (6, 2), "init": (10, 2), "serve": (6, 1)}
+    else {"ask": (6, 10), "import": (6, 2), "init": (10, 2), "migrate": (6, 2), "serve": (6, 1)}
 )
 LINES_A_KILL = 60
 EVENTS = 2000 if FULL else 400
@@ -299,6 +299,43 @@ def kill_making(trial, folder, chance, kills):
     trial.same("the entries", len(rows_kept(trial, folder, "site.db")), len(asked))
 
 
+# Records of the first schema.
+
+
+def version_kept(folder):
+    """The version that C SQLite finds in a copy."""
+    with opened(copied(folder, ["site.db"], "read"), "site.db") as db:
+        return db.execute("SELECT version FROM meta").fetchone()[0]
+
+
+def kill_migrating(trial, folder, chance, kills):
+    lines = requests(chance, EVENTS)
+    trial.same("init", call(folder, ["init", "site.db", "0", "2", "1000000"]), (0, "done\n", ""))
+    asked = call(folder, ["ask", "site.db"], text_of(lines))
+    trial.same("ask", (asked[0], asked[2]), (0, ""))
+    # No refund here is of a part, so these are a history of the first schema too.
+    to_first = ["UPDATE meta SET version = 1"]
+    change(folder, "site.db", to_first)
+    rows = rows_kept(trial, folder, "site.db")
+    twin = copied(folder, ["site.db"], "twin")
+    begun = time.monotonic()
+    trial.same("the twin", call(twin, ["migrate", "site.db"]), (0, "migrated\n", ""))
+    taken = time.monotonic() - begun
+    while trial.killed.total() < kills and trial.step < 5 * kills:
+        trial.step += 1
+        program = started(folder, ["migrate", "site.db"], stdin=subprocess.DEVNULL)
+        time.sleep(chance.uniform(chance.choice([0, 0.7]), 1.1) * taken)
+        told = put_down(trial, program, "migrate")
+        version = version_kept(folder)
+        trial.same("told", told, ["migrated"] if told else [])
+        trial.same(f"version {version}, where {told} was told", version in ([2] if told else [1, 2]), True)
+        trial.same("the entries", rows_kept(trial, folder, "site.db"), rows)
+        if version == 2:
+            change(folder, "site.db", to_first)
+    trial.same("migrated in the end", call(folder, ["migrate", "site.db"]), (0, "migrated\n", ""))
+    trial.same("asked again", call(folder, ["ask", "site.db"], text_of(lines)), asked)
+
+
 # Two sites and eight callers.
 
 
@@ -398,7 +435,13 @@ def kill_serving(trial, folder, chance, _kills):
         trial.same(f"{file} asked again", found, (0, text_of(told.values()), ""))
 
 
-KINDS = {"ask": kill_asking, "import": kill_importing, "init": kill_making, "serve": kill_serving}
+KINDS = {
+    "ask": kill_asking,
+    "import": kill_importing,
+    "init": kill_making,
+    "migrate": kill_migrating,
+    "serve": kill_serving,
+}
 
 
 def tried(seed, kind, number, kills):

@@ -19,12 +19,15 @@ SECONDS = 60
 # A message that no site sent: it tells the second of two sites that the first released more seats than it did.
 FORGED = "delta 0 1 1\nname gala\ngave gala 0 0 1000\nend\n"
 
+passes = 0
 failures = 0
 
 
 def same(what, found, wanted):
-    global failures
-    if found != wanted:
+    global passes, failures
+    if found == wanted:
+        passes += 1
+    else:
         failures += 1
         print(f"{what}: found {found!r}, wanted {wanted!r}")
 
@@ -64,4 +67,5 @@ def try_each(trials, well, badly="{} differences"):
         with tempfile.TemporaryDirectory() as folder:
             trial(folder)
     print(badly.format(failures) if failures else well)
+    print(f"{passes} passed, {failures} failed")
     return 1 if failures else 0
