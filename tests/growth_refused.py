@@ -3,7 +3,7 @@
 until nothing is refused.
 
 Usage: tests/growth_refused.py [PROGRAM [TESTS]] [--full]
-    (PROGRAM: crates/boxoffice/out/boxoffice; TESTS: crates/acceptance/out/acceptance_tests, where `rt ci` and `rt test` leave it)
+    (PROGRAM: crates/boxoffice/out/boxoffice; TESTS: crates/session_tests/out/session_tests_tests, where `rt ci` and `rt test` leave it)
 
 A script ends with all that it prints, or with a front of it and `memory`. The tests judge themselves. The C library's
 malloc is called through a library of a few lines, which a C compiler makes here: `cc`, or the one that `rt` builds with.
@@ -27,7 +27,7 @@ sys.argv = [word for word in sys.argv if not word.startswith("--")]
 from trial import HERE, PROGRAM, SECONDS, call, same, try_each
 
 TESTS = os.path.abspath(
-    sys.argv[2] if len(sys.argv) > 2 else os.path.join(HERE, "..", "crates", "acceptance", "out", "acceptance_tests")
+    sys.argv[2] if len(sys.argv) > 2 else os.path.join(HERE, "..", "crates", "session_tests", "out", "session_tests_tests")
 )
 # The modules whose tests may be refused memory anywhere.
 MODULES = ("growth::", "refused_memory::")
