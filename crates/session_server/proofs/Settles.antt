@@ -10,7 +10,7 @@ use Rattle.session_server.specs.declared.settling.Went.{Went}
 use Rattle.session_server.specs.declared.site.LinkEnd.{LinkEnd}
 use Rattle.session_server.specs.LinkNames.{both, first_links, link_names, name_of}
 use Rattle.session_server.specs.Mesh.{AreInTurn, AreJoined, CameTo, IsMesh, each_with, linkage_left, others_of, rows_of}
-use Rattle.session_server.specs.Settled.{AreInOrder, AreSettled, AreTold, EndsJoined, IsCounted, IsLeftOfNew, IsSettledWith, both_went, ends_to, first_ends, link_end, link_ends, went}
+use Rattle.session_server.specs.Settled.{AreAcknowledged, AreInOrder, AreSettled, AreTold, EndsJoined, IsAcknowledged, IsCounted, IsLeftOfNew, IsSettledWith, both_went, ends_to, first_ends, link_end, link_ends, went}
 use Rattle.session_server.proofs.Meshes.{Undone, images, left_before, undone}
 use Rattle.session_server.proofs.Rows.{All-pushed, all_before, all_each, each_push, full_rows, length_rows, mapped_push}
 
@@ -211,6 +211,44 @@ all_counted sites links a =
     let told = rows_of (map (map both_went) a.came) in
     let count : length told ≡ length sites = length_rows (map (map both_went) a.came) ∙ length-map a.came (map both_went) ∙ a.count in
     All-same IsCounted links (link_ends sites told) a.links_are (counted_first sites told (length sites) (omega (arith, count)) (rows_counted a.came a.in_turn a.left a.in_order))
+
+-- a site sent back no more than it got and did not refuse
+acknowledged_within : (end : PeerEnd) → IsLeftOfNew end → length end.ack_tx.messages + end.deltas_refused ≤ length end.delta_rx.messages
+acknowledged_within end h =
+    let a = h.2.acknowledged in
+    omega (
+      arith,
+      a.counted,
+      ap length a.more_came,
+      length-append h.0.delta_rx.messages a.got,
+      ap length a.more_sent,
+      length-append h.0.ack_tx.messages a.put,
+      ap length h.1.1,
+    )
+
+pairs_acknowledged : (pairs : List (PeerEnd × PeerEnd)) → All IsLeftOfNew (map (λ p. p.0) pairs) → All IsLeftOfNew (map (λ p. p.1) pairs) → All IsAcknowledged (map both_went pairs)
+pairs_acknowledged [] h k = All-nil IsAcknowledged
+pairs_acknowledged (p ∷ pairs) h k =
+    All-cons IsAcknowledged (both_went p) (map both_went pairs)
+    (acknowledged_within p.1 (All-head IsLeftOfNew p.1 (map (λ p. p.1) pairs) k), acknowledged_within p.0 (All-head IsLeftOfNew p.0 (map (λ p. p.0) pairs) h))
+    (pairs_acknowledged pairs (All-tail IsLeftOfNew p.0 (map (λ p. p.0) pairs) h) (All-tail IsLeftOfNew p.1 (map (λ p. p.1) pairs) k))
+
+each_acknowledged : (came : List (List (PeerEnd × PeerEnd))) → AreInTurn came → All (λ row. All IsLeftOfNew row) (rows_of came) → All (λ pairs. All IsAcknowledged pairs) (map (map both_went) came)
+each_acknowledged [] t h = All-nil (λ pairs. All IsAcknowledged pairs)
+each_acknowledged (c ∷ earlier) t h =
+    let split = All-pushed (λ row. All IsLeftOfNew row) (each_with (rows_of earlier) (map (λ p. p.0) c)) (map (λ p. p.1) c) h in
+    let each = all_before IsLeftOfNew (rows_of earlier) (map (λ p. p.0) c) (length-map c (λ p. p.0) ∙ t.0 ∙ sym (length_rows earlier)) split.0 in
+    All-cons (λ pairs. All IsAcknowledged pairs) (map both_went c) (map (map both_went) earlier) (pairs_acknowledged c each.1 split.1) (each_acknowledged earlier t.1 each.0)
+
+-- of what the sites got, they acknowledged no more than they did not refuse
+pub all_acknowledged : (sites : List ℕ) (links : List LinkEnd) → AreTold sites links → AreAcknowledged sites links
+all_acknowledged sites links a = record {
+  came = map (map both_went) a.came;
+  count = length-map a.came (map both_went) ∙ a.count;
+  in_turn = turns both_went a.came a.in_turn;
+  acknowledged = each_acknowledged a.came a.in_turn a.left;
+  links_are = a.links_are;
+}
 
 -- the links have their names
 pub all_named : (sites : List ℕ) (links : List LinkEnd) → AreTold sites links → map name_of links ≡ link_names sites

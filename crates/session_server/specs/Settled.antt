@@ -72,6 +72,18 @@ link_ends sites told = first_ends sites told (length sites)
 abbrev pub IsCounted : LinkEnd → Type 0
 IsCounted link = (link.refused ≤ link.got) × (link.got ≤ link.put)
 
+-- of what each of two sites got from the other, it acknowledged no more than it did not refuse
+abbrev pub IsAcknowledged : Went × Went → Type 0
+IsAcknowledged p = (p.1.acks.put + p.0.deltas.refused ≤ p.0.deltas.got) × (p.0.acks.put + p.1.deltas.refused ≤ p.1.deltas.got)
+
+-- The links tell what went between each two of the sites, and no site acknowledged more than it got and did not refuse.
+pub record AreAcknowledged (sites : List ℕ) (links : List LinkEnd) : Type 0 where
+  pub came : List (List (Went × Went))
+  pub count : length came ≡ length sites
+  pub in_turn : AreInTurn came
+  pub acknowledged : All (λ pairs. All IsAcknowledged pairs) came
+  pub links_are : links ≡ link_ends sites (rows_of came)
+
 -- an exchange left this end of links through which nothing had gone
 abbrev pub IsLeftOfNew : PeerEnd → Type 0
 IsLeftOfNew end = (peer : Peer) × IsNew peer × Exchanged peer end

@@ -5,7 +5,7 @@ ghost use Rattle.std.specs.List.{AllZip, flat_map};
 ghost use Rattle.session_server.specs.Exchanged.{Exchanged};
 ghost use Rattle.session_server.specs.Finished.{IsLeftOf};
 ghost use Rattle.session_server.specs.LinkNames.{link_names, name_of};
-ghost use Rattle.session_server.specs.Settled.{AreTold, IsCounted};
+ghost use Rattle.session_server.specs.Settled.{AreAcknowledged, AreTold, IsCounted};
 
 use crate::exchange::ExchangeFault;
 use crate::link_ends::{link_ends, numbers};
@@ -45,7 +45,8 @@ impl<K: Keeper + Drop, R: Read + Drop, W: Write + Drop> Promise<
 ///
 /// The links come by the site that sends and then by the site that receives, one of deltas before one of
 /// acknowledgements. Each tells what its two ends tell: what was got is a prefix of what was put, and of that the
-/// receiving site refused no more than came.
+/// receiving site refused no more than came. A site acknowledged no more of the deltas of another than it got and did not
+/// refuse.
 ///
 /// The capacity is at least 1. `Memory`, or `NotStarted` where a thread of a site or of its exchange could not be started,
 /// drops the books; what was entered stays in their records.
@@ -71,6 +72,7 @@ pub fn run_all<
     ensures links { IfOk result (λ r. map name_of r.1.items ≡ link_names (map (λ s. s.book.book.office.me) sites.items)) }
     ensures told { IfOk result (λ r. AreTold (map (λ s. s.book.book.office.me) sites.items) r.1.items) }
     ensures counted { IfOk result (λ r. All IsCounted r.1.items) }
+    ensures acknowledged { IfOk result (λ r. AreAcknowledged (map (λ s. s.book.book.office.me) sites.items) r.1.items) }
 {
     let ids = numbers(alloc, &sites)?;
     let linked = link_all(alloc, sites, capacity)?;

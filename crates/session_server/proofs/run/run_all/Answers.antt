@@ -10,7 +10,7 @@ use Rattle.session_server.specs.Finished.{IsLeftOf}
 use Rattle.session_server.specs.Mesh.{IsMesh, linkage_left, linkage_of, others_of}
 use Rattle.session_server.specs.Settled.{AreTold}
 use Rattle.session_server.proofs.Exchanges.{rows_left, rows_linked, rows_named}
-use Rattle.session_server.proofs.Settles.{all_counted, all_named}
+use Rattle.session_server.proofs.Settles.{all_acknowledged, all_counted, all_named}
 use Rattle.session_server.proofs.Sites.{if_ok_then, map_after, pairs_through, renamed, same_through, through, with_first}
 use Rattle.session_server.proofs.run.run_all.Goals as goal
 
@@ -106,3 +106,6 @@ returns-clause-told g c = subst (λ sites. AreTold sites c.in_ok-links.links.ite
 
 pub returns-clause-counted : goal.returns-clause-counted
 returns-clause-counted g c = all_counted _ _ c.in_ok-links.ensures
+
+pub returns-clause-acknowledged : goal.returns-clause-acknowledged
+returns-clause-acknowledged g c = all_acknowledged _ _ (subst (λ sites. AreTold sites c.in_ok-links.links.items) (c.as_slice.ensures.value ∙ c.in_ok-ids.ensures) c.in_ok-links.ensures)
