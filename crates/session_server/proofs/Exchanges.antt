@@ -1,8 +1,8 @@
 -- An exchange, message by message and peer by peer.
-use Rattle.std.proofs.Common.{◌≡◌, ℕ, zero, suc, ◌+◌, ◌≤◌, get_or, set, List, [], ◌∷◌, ◌++◌, length, inl, inr, Some, refl, sym, ap, ◌∙◌, subst, arith}
+use Rattle.std.proofs.Common.{◌≡◌, ℕ, zero, suc, ◌+◌, ◌<◌, ◌≤◌, get_or, set, List, [], ◌∷◌, ◌++◌, length, inl, inr, Some, refl, sym, ap, ◌∙◌, subst, arith}
 use Rattle.std.specs.Prelude.{All, MatchResult, map}
 use Rattle.std.proofs.Common.{Result, Ok, Err}
-use Rattle.std.proofs.lemmas.List.{append-nil, length_push}
+use Rattle.std.proofs.lemmas.List.{append-nil, length-append, length_push}
 use Rattle.std.specs.List.{filter_map, AllZip, cons_option}
 use Rattle.std.proofs.lemmas.List.Elements.{All-append, All-cons, All-head, All-nil, All-tail, filter_map-append}
 use Rattle.link_queue.specs.End.{End, end_of}
@@ -79,68 +79,89 @@ sent_or_back came sent came1 came2 tx tx2 refused m a (Ok done) h is p q = (ap (
 sent_or_back came sent came1 came2 tx tx2 refused m a (Err back) h is p q = (ap (λ e. e.link) q.1, came_more came sent came1 tx.messages came2 tx2.messages refused refused m h p (ap (λ e. e.messages) q.1) (omega (arith)))
 
 -- nothing more was sent
-pub sent_nothing : (to : ℕ) (sent : List Message) → SentTo to sent sent
-sent_nothing to sent = record { put = []; more_sent = sym (append-nil sent); for_it = All-nil (λ m. receiver m ≡ to) }
+sent_nothing : (to most : ℕ) (sent : List Message) → SentTo to most sent sent
+sent_nothing to most sent = record { put = []; more_sent = sym (append-nil sent); for_it = All-nil (λ m. receiver m ≡ to); few = omega (arith) }
 
-sent_one : (to : ℕ) (sent sent_now : List Message) (m : Message) → receiver m ≡ to → sent_now ≡ sent ++ m ∷ [] → SentTo to sent sent_now
-sent_one to sent sent_now m is p = record { put = m ∷ []; more_sent = p; for_it = All-cons (λ x. receiver x ≡ to) m [] is (All-nil (λ x. receiver x ≡ to)) }
+sent_one : (to : ℕ) (sent sent_now : List Message) (m : Message) → receiver m ≡ to → sent_now ≡ sent ++ m ∷ [] → SentTo to 1 sent sent_now
+sent_one to sent sent_now m is p = record { put = m ∷ []; more_sent = p; for_it = All-cons (λ x. receiver x ≡ to) m [] is (All-nil (λ x. receiver x ≡ to)); few = omega (arith) }
 
-sent_then : (to : ℕ) (a b c : List Message) → SentTo to a b → SentTo to b c → SentTo to a c
-sent_then to a b c h k = record {
+sent_then : (to m n : ℕ) (a b c : List Message) → SentTo to m a b → SentTo to n b c → SentTo to (m + n) a c
+sent_then to m n a b c h k = record {
   put = h.put ++ k.put;
   more_sent = k.more_sent ∙ ap (λ l. l ++ k.put) h.more_sent ∙ associative a h.put k.put;
   for_it = All-append (λ m. receiver m ≡ to) h.put k.put h.for_it k.for_it;
+  few = omega (arith, h.few, k.few, length-append h.put k.put);
 }
 
 -- the message went out, or it came back
 pub sent_or_not : (out now : Outgoing) (m : Message) (result : Result (Unit {0}) Message) → receiver m ≡ out.to → now.to ≡ out.to
-    → MatchResult result (λ _. now.tx ≡ end_of out.tx.link (out.tx.messages ++ m ∷ [])) (λ back. (back ≡ m) × (now.tx ≡ out.tx)) → SentMore out now
+    → MatchResult result (λ _. now.tx ≡ end_of out.tx.link (out.tx.messages ++ m ∷ [])) (λ back. (back ≡ m) × (now.tx ≡ out.tx)) → SentMore 1 out now
 sent_or_not out now m (Ok done) is to p = record { to = to; link = ap (λ e. e.link) p; put = sent_one out.to out.tx.messages now.tx.messages m is (ap (λ e. e.messages) p) }
-sent_or_not out now m (Err back) is to p = record { to = to; link = ap (λ e. e.link) p.1; put = subst (SentTo out.to out.tx.messages) (sym (ap (λ (e : End). e.messages) p.1)) (sent_nothing out.to out.tx.messages) }
+sent_or_not out now m (Err back) is to p = record { to = to; link = ap (λ e. e.link) p.1; put = subst (SentTo out.to 1 out.tx.messages) (sym (ap (λ (e : End). e.messages) p.1)) (sent_nothing out.to 1 out.tx.messages) }
 
-pub not_sent : (out : Outgoing) → SentMore out out
-not_sent out = record { to = refl; link = refl; put = sent_nothing out.to out.tx.messages }
+pub not_sent : (most : ℕ) (out : Outgoing) → SentMore most out out
+not_sent most out = record { to = refl; link = refl; put = sent_nothing out.to most out.tx.messages }
 
-more_then : (x y z : Outgoing) → SentMore x y → SentMore y z → SentMore x z
-more_then x y z h k = record {
+more_then : (m n : ℕ) (x y z : Outgoing) → SentMore m x y → SentMore n y z → SentMore (m + n) x z
+more_then m n x y z h k = record {
   to = k.to ∙ h.to;
   link = k.link ∙ h.link;
-  put = sent_then x.to x.tx.messages y.tx.messages z.tx.messages h.put (subst (λ to. SentTo to y.tx.messages z.tx.messages) h.to k.put);
+  put = sent_then x.to m n x.tx.messages y.tx.messages z.tx.messages h.put (subst (λ to. SentTo to n y.tx.messages z.tx.messages) h.to k.put);
 }
 
-pub none_sent : (xs : List Outgoing) → AllZip SentMore xs xs
-none_sent [] = tt
-none_sent (x ∷ xs) = (not_sent x, none_sent xs)
+pub none_sent : (most : ℕ) (xs : List Outgoing) → AllZip (SentMore most) xs xs
+none_sent most [] = tt
+none_sent most (x ∷ xs) = (not_sent most x, none_sent most xs)
 
-pub all_then : (xs ys zs : List Outgoing) → AllZip SentMore xs ys → AllZip SentMore ys zs → AllZip SentMore xs zs
-all_then [] [] zs h k = k
-all_then [] (y ∷ ys) zs h k = absurd h
-all_then (x ∷ xs) [] zs h k = absurd h
-all_then (x ∷ xs) (y ∷ ys) [] h k = absurd k
-all_then (x ∷ xs) (y ∷ ys) (z ∷ zs) h k = (more_then x y z h.0 k.0, all_then xs ys zs h.1 k.1)
+pub all_then : (m n : ℕ) (xs ys zs : List Outgoing) → AllZip (SentMore m) xs ys → AllZip (SentMore n) ys zs → AllZip (SentMore (m + n)) xs zs
+all_then m n [] [] [] h k = tt
+all_then m n [] [] (z ∷ zs) h k = absurd k
+all_then m n [] (y ∷ ys) zs h k = absurd h
+all_then m n (x ∷ xs) [] zs h k = absurd h
+all_then m n (x ∷ xs) (y ∷ ys) [] h k = absurd k
+all_then m n (x ∷ xs) (y ∷ ys) (z ∷ zs) h k = (more_then m n x y z h.0 k.0, all_then m n xs ys zs h.1 k.1)
+
+-- on the first so many links one message was sent at most, on the others none
+abbrev pub FirstSent : ℕ → List Outgoing → List Outgoing → Type 0
+FirstSent zero xs ys = ys ≡ xs
+FirstSent (suc k) [] ys = ys ≡ []
+FirstSent (suc k) (x ∷ xs) [] = ⊥
+FirstSent (suc k) (x ∷ xs) (y ∷ ys) = SentMore 1 x y × FirstSent k xs ys
+
+one_more_sent : (k : ℕ) (xs ys : List Outgoing) (x y : Outgoing) → k < length xs → FirstSent k xs ys → x ≡ get_or ys k x → SentMore 1 x y → FirstSent (suc k) xs (set ys k y)
+one_more_sent k [] ys x y lt h is s = absurd (omega (arith, lt))
+one_more_sent zero (z ∷ xs) ys x y lt h is s =
+    subst (λ l. FirstSent (suc zero) (z ∷ xs) (set l zero y)) (sym h) (subst (λ a. SentMore 1 a y) (is ∙ ap (λ l. get_or l zero x) h) s, refl)
+one_more_sent (suc k) (z ∷ xs) [] x y lt h is s = absurd h
+one_more_sent (suc k) (z ∷ xs) (w ∷ ys) x y lt h is s = (h.0, one_more_sent k xs ys x y (omega (arith, lt)) h.1 is s)
 
 -- one of the links was sent on
-pub one_sent : (xs : List Outgoing) (k : ℕ) (x y : Outgoing) → x ≡ get_or xs k x → SentMore x y → AllZip SentMore xs (set xs k y)
-one_sent [] k x y is h = tt
-one_sent (z ∷ xs) zero x y is h = (subst (λ a. SentMore a y) is h, none_sent xs)
-one_sent (z ∷ xs) (suc k) x y is h = (not_sent z, one_sent xs k x y is h)
+pub next_sent : (k : ℕ) (xs ys : List Outgoing) (x y : Outgoing) → k < length xs → FirstSent k xs ys → x ≡ get_or ys k x → SentMore 1 x y → FirstSent (k + 1) xs (set ys k y)
+next_sent k xs ys x y lt h is s =
+    let next : suc k ≡ k + 1 = omega (arith) in
+    subst (λ n. FirstSent n xs (set ys k y)) next (one_more_sent k xs ys x y lt h is s)
 
-pub sent_from : (xs ys : List Outgoing) (es : List OutgoingEnd) → AllZip SentMore xs ys → AllZip IsEndOf ys es → AllZip Sent xs es
-sent_from [] [] es h k = all_ended es k
+-- all of them were
+pub all_sent : (k : ℕ) (xs ys : List Outgoing) → length xs ≤ k → FirstSent k xs ys → AllZip (SentMore 1) xs ys
+all_sent zero [] ys le h = subst (AllZip (SentMore 1) []) (sym h) tt
+all_sent (suc k) [] ys le h = subst (AllZip (SentMore 1) []) (sym h) tt
+all_sent zero (x ∷ xs) ys le h = absurd (omega (arith, le))
+all_sent (suc k) (x ∷ xs) [] le h = absurd h
+all_sent (suc k) (x ∷ xs) (y ∷ ys) le h = (h.0, all_sent k xs ys (omega (arith, le)) h.1)
+
+pub sent_from : (most : ℕ) (xs ys : List Outgoing) (es : List OutgoingEnd) → AllZip (SentMore most) xs ys → AllZip IsEndOf ys es → AllZip (Sent most) xs es
+sent_from most [] [] [] h k = tt
+sent_from most [] [] (e ∷ es) h k = absurd k
+sent_from most [] (y ∷ ys) es h k = absurd h
+sent_from most (x ∷ xs) [] es h k = absurd h
+sent_from most (x ∷ xs) (y ∷ ys) [] h k = absurd k
+sent_from most (x ∷ xs) (y ∷ ys) (e ∷ es) h k = (ended x y e h.0 k.0, sent_from most xs ys es h.1 k.1)
   where
-    all_ended : (es : List OutgoingEnd) → AllZip IsEndOf [] es → AllZip Sent [] es
-    all_ended [] k = tt
-    all_ended (e ∷ es) k = absurd k
-sent_from [] (y ∷ ys) es h k = absurd h
-sent_from (x ∷ xs) [] es h k = absurd h
-sent_from (x ∷ xs) (y ∷ ys) [] h k = absurd k
-sent_from (x ∷ xs) (y ∷ ys) (e ∷ es) h k = (ended x y e h.0 k.0, sent_from xs ys es h.1 k.1)
-  where
-    ended : (x y : Outgoing) (e : OutgoingEnd) → SentMore x y → IsEndOf y e → Sent x e
+    ended : (x y : Outgoing) (e : OutgoingEnd) → SentMore most x y → IsEndOf y e → Sent most x e
     ended x y e h k = record {
       to = k.to ∙ h.to;
       link = ap (λ (t : End). t.link) k.tx ∙ h.link;
-      put = subst (SentTo x.to x.tx.messages) (sym (ap (λ (t : End). t.messages) k.tx)) h.put;
+      put = subst (SentTo x.to most x.tx.messages) (sym (ap (λ (t : End). t.messages) k.tx)) h.put;
     }
 
 -- the same by other names
@@ -150,71 +171,75 @@ told came sent n n2 rx rx2 tx tx2 a b c h =
     (subst (λ (r : End). Acknowledges came sent n r.messages tx2.messages) (sym b)
     (subst (λ (t : End). Acknowledges came sent n rx.messages t.messages) (sym c) h))
 
-pub exchanged : (ps : List Peer) (os : List OutgoingEnd) (is : List IncomingEnd) (es : List PeerEnd)
-    → AllZip Sent (map outgoing ps) os → AllZip Received (map incoming ps) is → AllZip HasSent os es → AllZip HasReceived is es → AllZip Exchanged ps es
-exchanged [] [] [] [] s r hs hr = tt
-exchanged [] [] [] (e ∷ es) s r hs hr = absurd hs
-exchanged [] [] (i ∷ is) es s r hs hr = absurd r
-exchanged [] (o ∷ os) is es s r hs hr = absurd s
-exchanged (p ∷ ps) [] is es s r hs hr = absurd s
-exchanged (p ∷ ps) (o ∷ os) [] es s r hs hr = absurd r
-exchanged (p ∷ ps) (o ∷ os) (i ∷ is) [] s r hs hr = absurd hs
-exchanged (p ∷ ps) (o ∷ os) (i ∷ is) (e ∷ es) s r hs hr = (one p o i e s.0 r.0 hs.0 hr.0, exchanged ps os is es s.1 r.1 hs.1 hr.1)
+pub exchanged : (rounds : ℕ) (ps : List Peer) (os : List OutgoingEnd) (is : List IncomingEnd) (es : List PeerEnd)
+    → AllZip (Sent rounds) (map outgoing ps) os → AllZip Received (map incoming ps) is → AllZip HasSent os es → AllZip HasReceived is es → AllZip (Exchanged rounds) ps es
+exchanged rounds [] [] [] [] s r hs hr = tt
+exchanged rounds [] [] [] (e ∷ es) s r hs hr = absurd hs
+exchanged rounds [] [] (i ∷ is) es s r hs hr = absurd r
+exchanged rounds [] (o ∷ os) is es s r hs hr = absurd s
+exchanged rounds (p ∷ ps) [] is es s r hs hr = absurd s
+exchanged rounds (p ∷ ps) (o ∷ os) [] es s r hs hr = absurd r
+exchanged rounds (p ∷ ps) (o ∷ os) (i ∷ is) [] s r hs hr = absurd hs
+exchanged rounds (p ∷ ps) (o ∷ os) (i ∷ is) (e ∷ es) s r hs hr = (one p o i e s.0 r.0 hs.0 hr.0, exchanged rounds ps os is es s.1 r.1 hs.1 hr.1)
   where
-    one : (p : Peer) (o : OutgoingEnd) (i : IncomingEnd) (e : PeerEnd) → Sent (outgoing p) o → Received (incoming p) i → HasSent o e → HasReceived i e → Exchanged p e
+    one : (p : Peer) (o : OutgoingEnd) (i : IncomingEnd) (e : PeerEnd) → Sent rounds (outgoing p) o → Received (incoming p) i → HasSent o e → HasReceived i e → Exchanged rounds p e
     one p o i e s r hs hr = record {
       to = hs.to ∙ s.to;
       delta_tx = ap (λ t. t.link) hs.delta_tx ∙ s.link;
       ack_tx = ap (λ t. t.link) hr.ack_tx ∙ r.ack_tx;
       delta_rx = ap (λ t. t.link) hr.delta_rx ∙ r.delta_rx;
       ack_rx = ap (λ t. t.link) hr.ack_rx ∙ r.ack_rx;
-      sent = subst (SentTo p.to p.delta_tx.messages) (sym (ap (λ (t : End). t.messages) hs.delta_tx)) s.put;
+      sent = subst (SentTo p.to rounds p.delta_tx.messages) (sym (ap (λ (t : End). t.messages) hs.delta_tx)) s.put;
       acks_counted = omega (arith, r.acks_counted, hr.acks_refused, ap (λ (t : End). length t.messages) hr.ack_rx);
       acknowledged = told _ _ _ _ _ _ _ _ hr.refused hr.delta_rx hr.ack_tx r.acknowledged;
     }
+
+-- the same by other names
+pub exchanged_as : (n rounds : ℕ) (ps qs : List Peer) (es fs : List PeerEnd) → n ≡ rounds → ps ≡ qs → fs ≡ es → AllZip (Exchanged n) ps es → AllZip (Exchanged rounds) qs fs
+exchanged_as n rounds ps qs es fs same of by h = subst (λ l. AllZip (Exchanged rounds) qs l) (sym by) (subst (λ l. AllZip (Exchanged rounds) l es) of (subst (λ m. AllZip (Exchanged m) ps es) same h))
 
 -- one pair more at the ends of two lists
 pub paired : {A B : Type 0} (R : A → B → Type 0) (xs xs' : List A) (ys ys' : List B) (x : A) (y : B) → xs ≡ xs' ++ x ∷ [] → ys ≡ ys' ++ y ∷ [] → AllZip R xs' ys' → R x y → AllZip R xs ys
 paired R xs xs' ys ys' x y p q h r = subst (λ l. AllZip R l ys) (sym p) (subst (λ l. AllZip R (xs' ++ x ∷ []) l) (sym q) (all_zip_push R xs' ys' x y h r))
 
 -- the ends are of the links of what was handed in
-pub same_links : (ps : List Peer) (es : List PeerEnd) → AllZip Exchanged ps es → map linkage_left es ≡ map linkage_of ps
-same_links [] [] h = refl
-same_links [] (e ∷ es) h = absurd h
-same_links (p ∷ ps) [] h = absurd h
-same_links (p ∷ ps) (e ∷ es) h = λ i. record { delta_tx = h.0.delta_tx i; ack_tx = h.0.ack_tx i; delta_rx = h.0.delta_rx i; ack_rx = h.0.ack_rx i } ∷ same_links ps es h.1 i
+pub same_links : (rounds : ℕ) (ps : List Peer) (es : List PeerEnd) → AllZip (Exchanged rounds) ps es → map linkage_left es ≡ map linkage_of ps
+same_links rounds [] [] h = refl
+same_links rounds [] (e ∷ es) h = absurd h
+same_links rounds (p ∷ ps) [] h = absurd h
+same_links rounds (p ∷ ps) (e ∷ es) h = λ i. record { delta_tx = h.0.delta_tx i; ack_tx = h.0.ack_tx i; delta_rx = h.0.delta_rx i; ack_rx = h.0.ack_rx i } ∷ same_links rounds ps es h.1 i
 
 -- each site's ends are of its links
-pub rows_linked : {A B : Type 0} (peers : A → List Peer) (ends : B → List PeerEnd) (xs : List A) (ys : List B) → AllZip (λ x y. AllZip Exchanged (peers x) (ends y)) xs ys → map (λ y. map linkage_left (ends y)) ys ≡ map (λ x. map linkage_of (peers x)) xs
-rows_linked peers ends [] [] h = refl
-rows_linked peers ends [] (y ∷ ys) h = absurd h
-rows_linked peers ends (x ∷ xs) [] h = absurd h
-rows_linked peers ends (x ∷ xs) (y ∷ ys) h = λ i. same_links (peers x) (ends y) h.0 i ∷ rows_linked peers ends xs ys h.1 i
+pub rows_linked : {A B : Type 0} (rounds : ℕ) (peers : A → List Peer) (ends : B → List PeerEnd) (xs : List A) (ys : List B) → AllZip (λ x y. AllZip (Exchanged rounds) (peers x) (ends y)) xs ys → map (λ y. map linkage_left (ends y)) ys ≡ map (λ x. map linkage_of (peers x)) xs
+rows_linked rounds peers ends [] [] h = refl
+rows_linked rounds peers ends [] (y ∷ ys) h = absurd h
+rows_linked rounds peers ends (x ∷ xs) [] h = absurd h
+rows_linked rounds peers ends (x ∷ xs) (y ∷ ys) h = λ i. same_links rounds (peers x) (ends y) h.0 i ∷ rows_linked rounds peers ends xs ys h.1 i
 
-same_names : (ps : List Peer) (es : List PeerEnd) → AllZip Exchanged ps es → map (λ e. e.to) es ≡ map (λ p. p.to) ps
-same_names [] [] h = refl
-same_names [] (e ∷ es) h = absurd h
-same_names (p ∷ ps) [] h = absurd h
-same_names (p ∷ ps) (e ∷ es) h = λ i. h.0.to i ∷ same_names ps es h.1 i
+same_names : (rounds : ℕ) (ps : List Peer) (es : List PeerEnd) → AllZip (Exchanged rounds) ps es → map (λ e. e.to) es ≡ map (λ p. p.to) ps
+same_names rounds [] [] h = refl
+same_names rounds [] (e ∷ es) h = absurd h
+same_names rounds (p ∷ ps) [] h = absurd h
+same_names rounds (p ∷ ps) (e ∷ es) h = λ i. h.0.to i ∷ same_names rounds ps es h.1 i
 
 -- and has the names that were handed in
-pub rows_named : {A B : Type 0} (peers : A → List Peer) (ends : B → List PeerEnd) (xs : List A) (ys : List B) → AllZip (λ x y. AllZip Exchanged (peers x) (ends y)) xs ys → map (λ y. map (λ e. e.to) (ends y)) ys ≡ map (λ x. map (λ p. p.to) (peers x)) xs
-rows_named peers ends [] [] h = refl
-rows_named peers ends [] (y ∷ ys) h = absurd h
-rows_named peers ends (x ∷ xs) [] h = absurd h
-rows_named peers ends (x ∷ xs) (y ∷ ys) h = λ i. same_names (peers x) (ends y) h.0 i ∷ rows_named peers ends xs ys h.1 i
+pub rows_named : {A B : Type 0} (rounds : ℕ) (peers : A → List Peer) (ends : B → List PeerEnd) (xs : List A) (ys : List B) → AllZip (λ x y. AllZip (Exchanged rounds) (peers x) (ends y)) xs ys → map (λ y. map (λ e. e.to) (ends y)) ys ≡ map (λ x. map (λ p. p.to) (peers x)) xs
+rows_named rounds peers ends [] [] h = refl
+rows_named rounds peers ends [] (y ∷ ys) h = absurd h
+rows_named rounds peers ends (x ∷ xs) [] h = absurd h
+rows_named rounds peers ends (x ∷ xs) (y ∷ ys) h = λ i. same_names rounds (peers x) (ends y) h.0 i ∷ rows_named rounds peers ends xs ys h.1 i
 
-left_of_new : (ps : List Peer) (es : List PeerEnd) → All IsNew ps → AllZip Exchanged ps es → All IsLeftOfNew es
-left_of_new [] [] n h = All-nil IsLeftOfNew
-left_of_new [] (e ∷ es) n h = absurd h
-left_of_new (p ∷ ps) [] n h = absurd h
-left_of_new (p ∷ ps) (e ∷ es) n h = All-cons IsLeftOfNew e es (p, All-head IsNew p ps n, h.0) (left_of_new ps es (All-tail IsNew p ps n) h.1)
+left_of_new : (rounds : ℕ) (ps : List Peer) (es : List PeerEnd) → All IsNew ps → AllZip (Exchanged rounds) ps es → All (IsLeftOfNew rounds) es
+left_of_new rounds [] [] n h = All-nil (IsLeftOfNew rounds)
+left_of_new rounds [] (e ∷ es) n h = absurd h
+left_of_new rounds (p ∷ ps) [] n h = absurd h
+left_of_new rounds (p ∷ ps) (e ∷ es) n h = All-cons (IsLeftOfNew rounds) e es (p, All-head IsNew p ps n, h.0) (left_of_new rounds ps es (All-tail IsNew p ps n) h.1)
 
 -- and each was left by an exchange of new links
-pub rows_left : {A B : Type 0} (peers : A → List Peer) (ends : B → List PeerEnd) (xs : List A) (ys : List B) → All (λ x. All IsNew (peers x)) xs → AllZip (λ x y. AllZip Exchanged (peers x) (ends y)) xs ys → All (λ row. All IsLeftOfNew row) (map ends ys)
-rows_left peers ends [] [] n h = All-nil (λ row. All IsLeftOfNew row)
-rows_left peers ends [] (y ∷ ys) n h = absurd h
-rows_left peers ends (x ∷ xs) [] n h = absurd h
-rows_left peers ends (x ∷ xs) (y ∷ ys) n h =
-    All-cons (λ row. All IsLeftOfNew row) (ends y) (map ends ys) (left_of_new (peers x) (ends y) (All-head (λ x. All IsNew (peers x)) x xs n) h.0)
-    (rows_left peers ends xs ys (All-tail (λ x. All IsNew (peers x)) x xs n) h.1)
+pub rows_left : {A B : Type 0} (rounds : ℕ) (peers : A → List Peer) (ends : B → List PeerEnd) (xs : List A) (ys : List B) → All (λ x. All IsNew (peers x)) xs → AllZip (λ x y. AllZip (Exchanged rounds) (peers x) (ends y)) xs ys → All (λ row. All (IsLeftOfNew rounds) row) (map ends ys)
+rows_left rounds peers ends [] [] n h = All-nil (λ row. All (IsLeftOfNew rounds) row)
+rows_left rounds peers ends [] (y ∷ ys) n h = absurd h
+rows_left rounds peers ends (x ∷ xs) [] n h = absurd h
+rows_left rounds peers ends (x ∷ xs) (y ∷ ys) n h =
+    All-cons (λ row. All (IsLeftOfNew rounds) row) (ends y) (map ends ys) (left_of_new rounds (peers x) (ends y) (All-head (λ x. All IsNew (peers x)) x xs n) h.0)
+    (rows_left rounds peers ends xs ys (All-tail (λ x. All IsNew (peers x)) x xs n) h.1)

@@ -6,17 +6,25 @@ use Rattle.std.specs.List.{flat_map}
 use Rattle.std.proofs.lemmas.List.{length_push, length-map, map-append, length-append, length-drop, take-append-drop, length-take-le, same_from_push}
 use Rattle.std.proofs.lemmas.List.Elements.{All-append, All-cons, All-nil, All-head, All-tail, All-push, All-same, All-weaker, All-get_or}
 use Rattle.session_server.specs.declared.peer.PeerEnd.{PeerEnd}
+use Rattle.session_server.specs.declared.settling.Through.{Through}
 use Rattle.session_server.specs.declared.settling.Went.{Went}
 use Rattle.session_server.specs.declared.site.LinkEnd.{LinkEnd}
 use Rattle.session_server.specs.LinkNames.{both, first_links, link_names, name_of}
 use Rattle.session_server.specs.Mesh.{AreInTurn, AreJoined, CameTo, IsMesh, each_with, linkage_left, others_of, rows_of}
-use Rattle.session_server.specs.Settled.{AreAcknowledged, AreInOrder, AreSettled, AreTold, EndsJoined, IsAcknowledged, IsCounted, IsLeftOfNew, IsSettledWith, both_went, ends_to, first_ends, link_end, link_ends, went}
+use Rattle.session_server.specs.Settled.{AreAcknowledged, AreInOrder, AreSettled, AreTold, EndsJoined, GotFirst, IsAcknowledged, IsCounted, IsLeftOfNew, IsSettledWith, both_went, ends_to, first_ends, link_end, link_ends, went}
 use Rattle.session_server.proofs.Meshes.{Undone, images, left_before, undone}
 use Rattle.session_server.proofs.Rows.{All-pushed, all_before, all_each, each_push, full_rows, length_rows, mapped_push}
 
--- of both links no more was refused than was got, and no more got than put
-abbrev WentCounted : Went → Type 0
-WentCounted w = ((w.deltas.refused ≤ w.deltas.got) × (w.deltas.got ≤ w.deltas.put)) × ((w.acks.refused ≤ w.acks.got) × (w.acks.got ≤ w.acks.put))
+-- of a link no more was refused than was got, no more got than put, and no more put than there were rounds
+abbrev IsBounded : ℕ → LinkEnd → Type 0
+IsBounded rounds link = IsCounted link × (link.put ≤ rounds)
+
+abbrev ThroughBounded : ℕ → Through → Type 0
+ThroughBounded rounds t = ((t.refused ≤ t.got) × (t.got ≤ t.put)) × (t.put ≤ rounds)
+
+-- the same of both links from a site to another
+abbrev WentBounded : ℕ → Went → Type 0
+WentBounded rounds w = ThroughBounded rounds w.deltas × ThroughBounded rounds w.acks
 
 -- the last row, and the mesh of those before it
 pub last_undone : {R : Type 0} (items : R → List PeerEnd) (ends rest : List R) (last : R) → ends ≡ rest ++ last ∷ [] → IsMesh (map (λ r. map linkage_left (items r)) ends)
@@ -158,101 +166,121 @@ names_first sites told (suc k) le len full =
 names_told : (sites : List ℕ) (told : List (List Went)) → length told ≡ length sites → All (λ row. length row + 1 ≡ length sites) told → map name_of (link_ends sites told) ≡ link_names sites
 names_told sites told len full = names_first sites told (length sites) (omega (arith)) len full
 
-counted_to : (by : ℕ) (others : List ℕ) (told : List Went) → All WentCounted told → All IsCounted (ends_to by others told)
-counted_to by [] told h = All-nil IsCounted
-counted_to by (o ∷ others) [] h = All-nil IsCounted
-counted_to by (o ∷ others) (w ∷ told) h =
-    let one = All-head WentCounted w told h in
-    All-cons IsCounted (link_end by o false w.deltas) (link_end by o true w.acks ∷ ends_to by others told) one.0
-    (All-cons IsCounted (link_end by o true w.acks) (ends_to by others told) one.1 (counted_to by others told (All-tail WentCounted w told h)))
+bounded_to : (rounds by : ℕ) (others : List ℕ) (told : List Went) → All (WentBounded rounds) told → All (IsBounded rounds) (ends_to by others told)
+bounded_to rounds by [] told h = All-nil (IsBounded rounds)
+bounded_to rounds by (o ∷ others) [] h = All-nil (IsBounded rounds)
+bounded_to rounds by (o ∷ others) (w ∷ told) h =
+    let one = All-head (WentBounded rounds) w told h in
+    All-cons (IsBounded rounds) (link_end by o false w.deltas) (link_end by o true w.acks ∷ ends_to by others told) one.0
+    (All-cons (IsBounded rounds) (link_end by o true w.acks) (ends_to by others told) one.1 (bounded_to rounds by others told (All-tail (WentBounded rounds) w told h)))
 
-counted_first : (sites : List ℕ) (told : List (List Went)) (k : ℕ) → k ≤ length told → All (λ row. All WentCounted row) told → All IsCounted (first_ends sites told k)
-counted_first sites told zero le h = All-nil IsCounted
-counted_first sites told (suc k) le h =
-    All-append IsCounted (first_ends sites told k) (ends_to (slice_index sites k) (take k sites ++ drop (k + 1) sites) (slice_index_or told k []))
-    (counted_first sites told k (omega (arith, le)) h)
-    (counted_to (slice_index sites k) (take k sites ++ drop (k + 1) sites) (slice_index_or told k []) (All-get_or (λ row. All WentCounted row) told k [] (omega (arith, le)) h))
+bounded_first : (rounds : ℕ) (sites : List ℕ) (told : List (List Went)) (k : ℕ) → k ≤ length told → All (λ row. All (WentBounded rounds) row) told → All (IsBounded rounds) (first_ends sites told k)
+bounded_first rounds sites told zero le h = All-nil (IsBounded rounds)
+bounded_first rounds sites told (suc k) le h =
+    All-append (IsBounded rounds) (first_ends sites told k) (ends_to (slice_index sites k) (take k sites ++ drop (k + 1) sites) (slice_index_or told k []))
+    (bounded_first rounds sites told k (omega (arith, le)) h)
+    (bounded_to rounds (slice_index sites k) (take k sites ++ drop (k + 1) sites) (slice_index_or told k []) (All-get_or (λ row. All (WentBounded rounds) row) told k [] (omega (arith, le)) h))
 
 shorter : {X : Type 0} (xs ys : List X) → IsPrefix xs ys → length xs ≤ length ys
 shorter xs ys h = omega (arith, ap length h.1, length-append xs h.0)
 
--- no more was refused by a site than came to it
-refused_within : (end : PeerEnd) → IsLeftOfNew end → (end.deltas_refused ≤ length end.delta_rx.messages) × (end.acks_refused ≤ length end.ack_rx.messages)
-refused_within end h =
-    let e = h.2 in
-    (omega (arith, e.acknowledged.counted, ap length e.acknowledged.more_came, length-append h.0.delta_rx.messages e.acknowledged.got), omega (arith, e.acks_counted))
+-- what an exchange of new links left: no more deltas were sent than rounds, no more sent back than came and was not refused, and no more refused than came
+pub record LeftWithin (rounds : ℕ) (end : PeerEnd) : Type 0 where
+  pub sent : length end.delta_tx.messages ≤ rounds
+  pub acknowledged : length end.ack_tx.messages + end.deltas_refused ≤ length end.delta_rx.messages
+  pub acks_refused : end.acks_refused ≤ length end.ack_rx.messages
 
-pair_counted : (p : PeerEnd × PeerEnd) → IsLeftOfNew p.0 → IsLeftOfNew p.1 → AreInOrder p → WentCounted (went p.0 p.1) × WentCounted (went p.1 p.0)
-pair_counted p a b o =
-    let x = refused_within p.0 a in
-    let y = refused_within p.1 b in
-    (((y.0, shorter _ _ o.0.0), (y.1, shorter _ _ o.0.1)), ((x.0, shorter _ _ o.1.0), (x.1, shorter _ _ o.1.1)))
-
-pairs_counted : (pairs : List (PeerEnd × PeerEnd)) → All IsLeftOfNew (map (λ p. p.0) pairs) → All IsLeftOfNew (map (λ p. p.1) pairs) → All AreInOrder pairs → All WentCounted (map (λ p. p.0) (map both_went pairs)) × All WentCounted (map (λ p. p.1) (map both_went pairs))
-pairs_counted [] h k o = (All-nil WentCounted, All-nil WentCounted)
-pairs_counted (p ∷ pairs) h k o =
-    let one = pair_counted p (All-head IsLeftOfNew p.0 (map (λ p. p.0) pairs) h) (All-head IsLeftOfNew p.1 (map (λ p. p.1) pairs) k) (All-head AreInOrder p pairs o) in
-    let rest = pairs_counted pairs (All-tail IsLeftOfNew p.0 (map (λ p. p.0) pairs) h) (All-tail IsLeftOfNew p.1 (map (λ p. p.1) pairs) k) (All-tail AreInOrder p pairs o) in
-    (All-cons WentCounted (went p.0 p.1) (map (λ p. p.0) (map both_went pairs)) one.0 rest.0, All-cons WentCounted (went p.1 p.0) (map (λ p. p.1) (map both_went pairs)) one.1 rest.1)
-
-rows_counted : (came : List (List (PeerEnd × PeerEnd))) → AreInTurn came → All (λ row. All IsLeftOfNew row) (rows_of came) → All (λ pairs. All AreInOrder pairs) came → All (λ row. All WentCounted row) (rows_of (map (map both_went) came))
-rows_counted [] t h o = All-nil (λ row. All WentCounted row)
-rows_counted (c ∷ earlier) t h o =
-    let split = All-pushed (λ row. All IsLeftOfNew row) (each_with (rows_of earlier) (map (λ p. p.0) c)) (map (λ p. p.1) c) h in
-    let each = all_before IsLeftOfNew (rows_of earlier) (map (λ p. p.0) c) (length-map c (λ p. p.0) ∙ t.0 ∙ sym (length_rows earlier)) split.0 in
-    let counted = pairs_counted c each.1 split.1 (All-head (λ pairs. All AreInOrder pairs) c earlier o) in
-    let before = rows_counted earlier t.1 each.0 (All-tail (λ pairs. All AreInOrder pairs) c earlier o) in
-    All-push (λ row. All WentCounted row) (each_with (rows_of (map (map both_went) earlier)) (map (λ p. p.0) (map both_went c))) (map (λ p. p.1) (map both_went c))
-    (all_each WentCounted (rows_of (map (map both_went) earlier)) (map (λ p. p.0) (map both_went c)) before counted.0) counted.1
-
--- of each link no more was refused than was got, and no more got than put
-pub all_counted : (sites : List ℕ) (links : List LinkEnd) → AreTold sites links → All IsCounted links
-all_counted sites links a =
-    let told = rows_of (map (map both_went) a.came) in
-    let count : length told ≡ length sites = length_rows (map (map both_went) a.came) ∙ length-map a.came (map both_went) ∙ a.count in
-    All-same IsCounted links (link_ends sites told) a.links_are (counted_first sites told (length sites) (omega (arith, count)) (rows_counted a.came a.in_turn a.left a.in_order))
-
--- a site sent back no more than it got and did not refuse
-acknowledged_within : (end : PeerEnd) → IsLeftOfNew end → length end.ack_tx.messages + end.deltas_refused ≤ length end.delta_rx.messages
-acknowledged_within end h =
+left_within : (rounds : ℕ) (end : PeerEnd) → IsLeftOfNew rounds end → LeftWithin rounds end
+left_within rounds end h =
+    let peer = h.0 in
+    let sent = h.2.sent in
     let a = h.2.acknowledged in
-    omega (
-      arith,
-      a.counted,
-      ap length a.more_came,
-      length-append h.0.delta_rx.messages a.got,
-      ap length a.more_sent,
-      length-append h.0.ack_tx.messages a.put,
-      ap length h.1.1,
+    record {
+      sent = omega (arith, sent.few, ap length sent.more_sent, length-append peer.delta_tx.messages sent.put, ap length h.1.0);
+      acknowledged = omega (
+        arith,
+        a.counted,
+        ap length a.more_came,
+        length-append peer.delta_rx.messages a.got,
+        ap length a.more_sent,
+        length-append peer.ack_tx.messages a.put,
+        ap length h.1.1,
+      );
+      acks_refused = omega (arith, h.2.acks_counted);
+    }
+
+-- what went from a site to another, by the ends of both
+went_bounded : (rounds : ℕ) (one other : PeerEnd) → LeftWithin rounds one → LeftWithin rounds other → GotFirst one other → GotFirst other one → WentBounded rounds (went one other)
+went_bounded rounds one other a b there back =
+    let deltas = shorter other.delta_rx.messages one.delta_tx.messages there.0 in
+    let acks = shorter other.ack_rx.messages one.ack_tx.messages there.1 in
+    let came = shorter one.delta_rx.messages other.delta_tx.messages back.0 in
+    (((omega (arith, b.acknowledged), deltas), a.sent), ((b.acks_refused, acks), omega (arith, a.acknowledged, came, b.sent)))
+
+pairs_bounded : (rounds : ℕ) (pairs : List (PeerEnd × PeerEnd)) → All (IsLeftOfNew rounds) (map (λ p. p.0) pairs) → All (IsLeftOfNew rounds) (map (λ p. p.1) pairs) → All AreInOrder pairs
+    → All (WentBounded rounds) (map (λ p. p.0) (map both_went pairs)) × All (WentBounded rounds) (map (λ p. p.1) (map both_went pairs))
+pairs_bounded rounds [] h k o = (All-nil (WentBounded rounds), All-nil (WentBounded rounds))
+pairs_bounded rounds (p ∷ pairs) h k o =
+    let a = left_within rounds p.0 (All-head (IsLeftOfNew rounds) p.0 (map (λ p. p.0) pairs) h) in
+    let b = left_within rounds p.1 (All-head (IsLeftOfNew rounds) p.1 (map (λ p. p.1) pairs) k) in
+    let order = All-head AreInOrder p pairs o in
+    let rest = pairs_bounded rounds pairs (All-tail (IsLeftOfNew rounds) p.0 (map (λ p. p.0) pairs) h) (All-tail (IsLeftOfNew rounds) p.1 (map (λ p. p.1) pairs) k) (All-tail AreInOrder p pairs o) in (
+      All-cons (WentBounded rounds) (went p.0 p.1) (map (λ p. p.0) (map both_went pairs)) (went_bounded rounds p.0 p.1 a b order.0 order.1) rest.0,
+      All-cons (WentBounded rounds) (went p.1 p.0) (map (λ p. p.1) (map both_went pairs)) (went_bounded rounds p.1 p.0 b a order.1 order.0) rest.1,
     )
 
-pairs_acknowledged : (pairs : List (PeerEnd × PeerEnd)) → All IsLeftOfNew (map (λ p. p.0) pairs) → All IsLeftOfNew (map (λ p. p.1) pairs) → All IsAcknowledged (map both_went pairs)
-pairs_acknowledged [] h k = All-nil IsAcknowledged
-pairs_acknowledged (p ∷ pairs) h k =
-    All-cons IsAcknowledged (both_went p) (map both_went pairs)
-    (acknowledged_within p.1 (All-head IsLeftOfNew p.1 (map (λ p. p.1) pairs) k), acknowledged_within p.0 (All-head IsLeftOfNew p.0 (map (λ p. p.0) pairs) h))
-    (pairs_acknowledged pairs (All-tail IsLeftOfNew p.0 (map (λ p. p.0) pairs) h) (All-tail IsLeftOfNew p.1 (map (λ p. p.1) pairs) k))
+rows_bounded : (rounds : ℕ) (came : List (List (PeerEnd × PeerEnd))) → AreInTurn came → All (λ row. All (IsLeftOfNew rounds) row) (rows_of came) → All (λ pairs. All AreInOrder pairs) came → All (λ row. All (WentBounded rounds) row) (rows_of (map (map both_went) came))
+rows_bounded rounds [] t h o = All-nil (λ row. All (WentBounded rounds) row)
+rows_bounded rounds (c ∷ earlier) t h o =
+    let split = All-pushed (λ row. All (IsLeftOfNew rounds) row) (each_with (rows_of earlier) (map (λ p. p.0) c)) (map (λ p. p.1) c) h in
+    let each = all_before (IsLeftOfNew rounds) (rows_of earlier) (map (λ p. p.0) c) (length-map c (λ p. p.0) ∙ t.0 ∙ sym (length_rows earlier)) split.0 in
+    let bounded = pairs_bounded rounds c each.1 split.1 (All-head (λ pairs. All AreInOrder pairs) c earlier o) in
+    let before = rows_bounded rounds earlier t.1 each.0 (All-tail (λ pairs. All AreInOrder pairs) c earlier o) in
+    All-push (λ row. All (WentBounded rounds) row) (each_with (rows_of (map (map both_went) earlier)) (map (λ p. p.0) (map both_went c))) (map (λ p. p.1) (map both_went c))
+    (all_each (WentBounded rounds) (rows_of (map (map both_went) earlier)) (map (λ p. p.0) (map both_went c)) before bounded.0) bounded.1
 
-each_acknowledged : (came : List (List (PeerEnd × PeerEnd))) → AreInTurn came → All (λ row. All IsLeftOfNew row) (rows_of came) → All (λ pairs. All IsAcknowledged pairs) (map (map both_went) came)
-each_acknowledged [] t h = All-nil (λ pairs. All IsAcknowledged pairs)
-each_acknowledged (c ∷ earlier) t h =
-    let split = All-pushed (λ row. All IsLeftOfNew row) (each_with (rows_of earlier) (map (λ p. p.0) c)) (map (λ p. p.1) c) h in
-    let each = all_before IsLeftOfNew (rows_of earlier) (map (λ p. p.0) c) (length-map c (λ p. p.0) ∙ t.0 ∙ sym (length_rows earlier)) split.0 in
-    All-cons (λ pairs. All IsAcknowledged pairs) (map both_went c) (map (map both_went) earlier) (pairs_acknowledged c each.1 split.1) (each_acknowledged earlier t.1 each.0)
+all_bounded : (rounds : ℕ) (sites : List ℕ) (links : List LinkEnd) → AreTold rounds sites links → All (IsBounded rounds) links
+all_bounded rounds sites links a =
+    let told = rows_of (map (map both_went) a.came) in
+    let count : length told ≡ length sites = length_rows (map (map both_went) a.came) ∙ length-map a.came (map both_went) ∙ a.count in
+    All-same (IsBounded rounds) links (link_ends sites told) a.links_are (bounded_first rounds sites told (length sites) (omega (arith, count)) (rows_bounded rounds a.came a.in_turn a.left a.in_order))
+
+-- of each link no more was refused than was got, and no more got than put
+pub all_counted : (rounds : ℕ) (sites : List ℕ) (links : List LinkEnd) → AreTold rounds sites links → All IsCounted links
+all_counted rounds sites links a = All-weaker (IsBounded rounds) IsCounted (λ link h. h.0) links (all_bounded rounds sites links a)
+
+-- into each link no more was put than there were rounds
+pub all_within : (rounds : ℕ) (sites : List ℕ) (links : List LinkEnd) → AreTold rounds sites links → All (λ link. link.put ≤ rounds) links
+all_within rounds sites links a = All-weaker (IsBounded rounds) (λ link. link.put ≤ rounds) (λ link h. h.1) links (all_bounded rounds sites links a)
+
+pairs_acknowledged : (rounds : ℕ) (pairs : List (PeerEnd × PeerEnd)) → All (IsLeftOfNew rounds) (map (λ p. p.0) pairs) → All (IsLeftOfNew rounds) (map (λ p. p.1) pairs) → All IsAcknowledged (map both_went pairs)
+pairs_acknowledged rounds [] h k = All-nil IsAcknowledged
+pairs_acknowledged rounds (p ∷ pairs) h k =
+    let a = left_within rounds p.0 (All-head (IsLeftOfNew rounds) p.0 (map (λ p. p.0) pairs) h) in
+    let b = left_within rounds p.1 (All-head (IsLeftOfNew rounds) p.1 (map (λ p. p.1) pairs) k) in
+    All-cons IsAcknowledged (both_went p) (map both_went pairs) (b.acknowledged, a.acknowledged)
+    (pairs_acknowledged rounds pairs (All-tail (IsLeftOfNew rounds) p.0 (map (λ p. p.0) pairs) h) (All-tail (IsLeftOfNew rounds) p.1 (map (λ p. p.1) pairs) k))
+
+each_acknowledged : (rounds : ℕ) (came : List (List (PeerEnd × PeerEnd))) → AreInTurn came → All (λ row. All (IsLeftOfNew rounds) row) (rows_of came) → All (λ pairs. All IsAcknowledged pairs) (map (map both_went) came)
+each_acknowledged rounds [] t h = All-nil (λ pairs. All IsAcknowledged pairs)
+each_acknowledged rounds (c ∷ earlier) t h =
+    let split = All-pushed (λ row. All (IsLeftOfNew rounds) row) (each_with (rows_of earlier) (map (λ p. p.0) c)) (map (λ p. p.1) c) h in
+    let each = all_before (IsLeftOfNew rounds) (rows_of earlier) (map (λ p. p.0) c) (length-map c (λ p. p.0) ∙ t.0 ∙ sym (length_rows earlier)) split.0 in
+    All-cons (λ pairs. All IsAcknowledged pairs) (map both_went c) (map (map both_went) earlier) (pairs_acknowledged rounds c each.1 split.1) (each_acknowledged rounds earlier t.1 each.0)
 
 -- of what the sites got, they acknowledged no more than they did not refuse
-pub all_acknowledged : (sites : List ℕ) (links : List LinkEnd) → AreTold sites links → AreAcknowledged sites links
-all_acknowledged sites links a = record {
+pub all_acknowledged : (rounds : ℕ) (sites : List ℕ) (links : List LinkEnd) → AreTold rounds sites links → AreAcknowledged sites links
+all_acknowledged rounds sites links a = record {
   came = map (map both_went) a.came;
   count = length-map a.came (map both_went) ∙ a.count;
   in_turn = turns both_went a.came a.in_turn;
-  acknowledged = each_acknowledged a.came a.in_turn a.left;
+  acknowledged = each_acknowledged rounds a.came a.in_turn a.left;
   links_are = a.links_are;
 }
 
 -- the links have their names
-pub all_named : (sites : List ℕ) (links : List LinkEnd) → AreTold sites links → map name_of links ≡ link_names sites
-all_named sites links a =
+pub all_named : (rounds : ℕ) (sites : List ℕ) (links : List LinkEnd) → AreTold rounds sites links → map name_of links ≡ link_names sites
+all_named rounds sites links a =
     let came = map (map both_went) a.came in
     let told = rows_of came in
     let same : length came ≡ length sites = length-map a.came (map both_went) ∙ a.count in
@@ -261,12 +289,12 @@ all_named sites links a =
     (All-weaker (λ row. length row + 1 ≡ length came) (λ row. length row + 1 ≡ length sites) (λ row e. e ∙ same) told (full_rows came (turns both_went a.came a.in_turn)))
 
 -- what the ends tell is told
-pub all_told : (sites : List ℕ) (links : List LinkEnd) (ends : List (List PeerEnd)) (told : List (List Went)) → AreSettled ends told → length ends ≡ length sites → All (λ row. All IsLeftOfNew row) ends → map (map (λ e. e.to)) ends ≡ others_of sites → links ≡ link_ends sites told → AreTold sites links
-all_told sites links ends told a n left named e = record {
+pub all_told : (rounds : ℕ) (sites : List ℕ) (links : List LinkEnd) (ends : List (List PeerEnd)) (told : List (List Went)) → AreSettled ends told → length ends ≡ length sites → All (λ row. All (IsLeftOfNew rounds) row) ends → map (map (λ e. e.to)) ends ≡ others_of sites → links ≡ link_ends sites told → AreTold rounds sites links
+all_told rounds sites links ends told a n left named e = record {
   came = a.came;
   count = sym (ap length a.ends_are ∙ length_rows a.came) ∙ n;
   in_turn = a.in_turn;
-  left = All-same (λ row. All IsLeftOfNew row) (rows_of a.came) ends (sym a.ends_are) left;
+  left = All-same (λ row. All (IsLeftOfNew rounds) row) (rows_of a.came) ends (sym a.ends_are) left;
   named = ap (map (map (λ e. e.to))) (sym a.ends_are) ∙ named;
   in_order = a.in_order;
   links_are = e ∙ ap (link_ends sites) a.told_are;

@@ -26,21 +26,22 @@ pub record Acknowledges (came sent : List Message) (refused : ℕ) (came_now sen
   pub due : IsSubsequence put (filter_map ack_for got)
   pub counted : length put + refused ≤ length got
 
--- Since there were these messages, more were sent, each of them to this site.
-pub record SentTo (to : ℕ) (sent sent_now : List Message) : Type 0 where
+-- Since there were these messages, no more than so many were sent, each of them to this site.
+pub record SentTo (to most : ℕ) (sent sent_now : List Message) : Type 0 where
   pub put : List Message
   pub more_sent : sent_now ≡ sent ++ put
   pub for_it : All (λ m. receiver m ≡ to) put
+  pub few : length put ≤ most
 
--- The ends are those of the peer's links. What was sent is for the peer, what was sent back acknowledges what came, and
--- no more acknowledgements were refused than came.
-pub record Exchanged (peer : Peer) (end : PeerEnd) : Type 0 where
+-- The ends are those of the peer's links. What was sent is for the peer, no more than a message for each round; what was
+-- sent back acknowledges what came, and no more acknowledgements were refused than came.
+pub record Exchanged (rounds : ℕ) (peer : Peer) (end : PeerEnd) : Type 0 where
   pub to : end.to ≡ peer.to
   pub delta_tx : end.delta_tx.link ≡ peer.delta_tx.link
   pub ack_tx : end.ack_tx.link ≡ peer.ack_tx.link
   pub delta_rx : end.delta_rx.link ≡ peer.delta_rx.link
   pub ack_rx : end.ack_rx.link ≡ peer.ack_rx.link
-  pub sent : SentTo peer.to peer.delta_tx.messages end.delta_tx.messages
+  pub sent : SentTo peer.to rounds peer.delta_tx.messages end.delta_tx.messages
   pub acks_counted : length peer.ack_rx.messages + end.acks_refused ≤ length end.ack_rx.messages
   pub acknowledged : Acknowledges peer.delta_rx.messages peer.ack_tx.messages end.deltas_refused end.delta_rx.messages end.ack_tx.messages
 
@@ -51,22 +52,22 @@ outgoing peer = record { to = peer.to; tx = peer.delta_tx }
 abbrev pub incoming : Peer → Incoming
 incoming peer = record { delta_rx = peer.delta_rx; ack_tx = peer.ack_tx; ack_rx = peer.ack_rx }
 
--- a link that was sent on, with what is for its peer
-pub record SentMore (before after : Outgoing) : Type 0 where
+-- a link on which no more than so many messages were sent, each for its peer
+pub record SentMore (most : ℕ) (before after : Outgoing) : Type 0 where
   pub to : after.to ≡ before.to
   pub link : after.tx.link ≡ before.tx.link
-  pub put : SentTo before.to before.tx.messages after.tx.messages
+  pub put : SentTo before.to most before.tx.messages after.tx.messages
 
 -- the end of a link, with what was sent on it
 pub record IsEndOf (out : Outgoing) (end : OutgoingEnd) : Type 0 where
   pub to : end.to ≡ out.to
   pub tx : end.tx ≡ out.tx
 
--- the end of a link that was sent on
-pub record Sent (out : Outgoing) (end : OutgoingEnd) : Type 0 where
+-- the end of a link on which no more than so many messages were sent
+pub record Sent (most : ℕ) (out : Outgoing) (end : OutgoingEnd) : Type 0 where
   pub to : end.to ≡ out.to
   pub link : end.tx.link ≡ out.tx.link
-  pub put : SentTo out.to out.tx.messages end.tx.messages
+  pub put : SentTo out.to most out.tx.messages end.tx.messages
 
 -- the ends of the links that were received on, with what was acknowledged
 pub record Received (before : Incoming) (after : IncomingEnd) : Type 0 where

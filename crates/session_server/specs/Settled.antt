@@ -84,16 +84,16 @@ pub record AreAcknowledged (sites : List ℕ) (links : List LinkEnd) : Type 0 wh
   pub acknowledged : All (λ pairs. All IsAcknowledged pairs) came
   pub links_are : links ≡ link_ends sites (rows_of came)
 
--- an exchange left this end of links through which nothing had gone
-abbrev pub IsLeftOfNew : PeerEnd → Type 0
-IsLeftOfNew end = (peer : Peer) × IsNew peer × Exchanged peer end
+-- an exchange for so many rounds left this end of links through which nothing had gone
+abbrev pub IsLeftOfNew : ℕ → PeerEnd → Type 0
+IsLeftOfNew rounds end = (peer : Peer) × IsNew peer × Exchanged rounds peer end
 
--- The links between these sites, each told of as its two ends tell it, which the exchanges of two sites left, each for the other by its number. What came out of each is a prefix of what was put into it.
-pub record AreTold (sites : List ℕ) (links : List LinkEnd) : Type 0 where
+-- The links between these sites, each told of as its two ends tell it, which the exchanges of two sites for so many rounds left, each for the other by its number. What came out of each is a prefix of what was put into it.
+pub record AreTold (rounds : ℕ) (sites : List ℕ) (links : List LinkEnd) : Type 0 where
   pub came : List (List (PeerEnd × PeerEnd))
   pub count : length came ≡ length sites
   pub in_turn : AreInTurn came
-  pub left : All (λ row. All IsLeftOfNew row) (rows_of came)
+  pub left : All (λ row. All (IsLeftOfNew rounds) row) (rows_of came)
   pub named : map (map (λ e. e.to)) (rows_of came) ≡ others_of sites
   pub in_order : All (λ pairs. All AreInOrder pairs) came
   pub links_are : links ≡ link_ends sites (rows_of (map (map both_went) came))

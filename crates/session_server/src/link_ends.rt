@@ -1,6 +1,6 @@
 //! What went through the links between sites.
 
-ghost use Rattle.std.specs.Prelude.{◌≡◌, ◌+◌, ◌++◌, All, IfOk, OnOk, length, map, vec_len};
+ghost use Rattle.std.specs.Prelude.{◌≡◌, ℕ, ◌+◌, ◌++◌, All, IfOk, OnOk, length, map, vec_len};
 ghost use Rattle.session_server.specs.Mesh.{IsMesh, linkage_left, others_of};
 ghost use Rattle.session_server.specs.Settled.{AreTold, IsLeftOfNew, ends_to, link_end as link_end_of, link_ends as ends_between};
 
@@ -26,7 +26,8 @@ pub(crate) fn numbers<K: Keeper + Drop, R: Read + Drop, W: Write + Drop>(
     Ok(ids)
 }
 
-// The links between the sites with these numbers, settled: each tells what its two ends tell.
+// The links between the sites with these numbers, settled: each tells what its two ends tell, which exchanges for any count
+// of rounds may have left.
 pub(crate) fn link_ends(
     alloc: Global,
     sites: &[SiteId],
@@ -34,9 +35,8 @@ pub(crate) fn link_ends(
 ) -> Result<Vec<LinkEnd>, AllocError>
     requires count { vec_len ends ≡ length sites.now }
     requires mesh { IsMesh (map (λ row. map linkage_left row.items) ends.items) }
-    requires left { All (λ row. All IsLeftOfNew row) (map (λ row. row.items) ends.items) }
     requires named { map (λ row. map (λ e. e.to) row.items) ends.items ≡ others_of sites.now }
-    ensures { IfOk result (λ links. AreTold sites.now links.items) }
+    ensures { IfOk result (λ links. (rounds : ℕ) → All (λ row. All (IsLeftOfNew rounds) row) (map (λ row. row.items) ends.items) → AreTold rounds sites.now links.items) }
 {
     let told = settle_all(alloc, ends)?;
     links_told(alloc, sites, &told)

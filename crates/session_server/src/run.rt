@@ -22,16 +22,17 @@ use std::snapshot::Snapshot;
 use std::sync::Wait;
 use std::thread::{Promise, Threads};
 
-// The site that a thread is begun with.
+// The site that a thread is begun with, and for how many rounds.
 #[derive(Drop)]
 struct SiteOf<K: Keeper + Drop, R: Read + Drop, W: Write + Drop> {
     linked: Snapshot<Linked<K, R, W>>,
+    rounds: u64,
 }
 
 impl<K: Keeper + Drop, R: Read + Drop, W: Write + Drop> Promise<
     Result<Left<K, R, W>, ExchangeFault>,
 > for SiteOf<K, R, W> {
-    ghost kept_by = { λ p r. IfOk r (λ left. (map (λ e. e.id) left.1.items ≡ map (λ v. v.id) p.linked.value.site.sessions.items) × (map (λ e. e.reader_began.value) left.1.items ≡ map (λ v. v.reader) p.linked.value.site.sessions.items) × (map (λ e. e.writer_began.value) left.1.items ≡ map (λ v. v.writer) p.linked.value.site.sessions.items) × IsLeftOf p.linked.value.site.book.book left.0.book (All (λ e. IsSome e.writer) left.1.items) (flat_map (λ e. e.receipts.items) left.1.items) (flat_map (λ e. e.seen.items) left.1.items) left.2.0 × AllZip Exchanged p.linked.value.peers.items left.2.1.items) };
+    ghost kept_by = { λ p r. IfOk r (λ left. (map (λ e. e.id) left.1.items ≡ map (λ v. v.id) p.linked.value.site.sessions.items) × (map (λ e. e.reader_began.value) left.1.items ≡ map (λ v. v.reader) p.linked.value.site.sessions.items) × (map (λ e. e.writer_began.value) left.1.items ≡ map (λ v. v.writer) p.linked.value.site.sessions.items) × IsLeftOf p.linked.value.site.book.book left.0.book (All (λ e. IsSome e.writer) left.1.items) (flat_map (λ e. e.receipts.items) left.1.items) (flat_map (λ e. e.seen.items) left.1.items) left.2.0 × AllZip (Exchanged p.rounds) p.linked.value.peers.items left.2.1.items) };
 }
 
 /// Runs all sites at once, each in a thread of its own, with a thread for each of its sessions and with links to all
@@ -45,8 +46,8 @@ impl<K: Keeper + Drop, R: Read + Drop, W: Write + Drop> Promise<
 ///
 /// The links come by the site that sends and then by the site that receives, one of deltas before one of
 /// acknowledgements. Each tells what its two ends tell: what was got is a prefix of what was put, and of that the
-/// receiving site refused no more than came. A site acknowledged no more of the deltas of another than it got and did not
-/// refuse.
+/// receiving site refused no more than came. Into none was more put than there were rounds. A site acknowledged no more
+/// of the deltas of another than it got and did not refuse.
 ///
 /// The capacity is at least 1. `Memory`, or `NotStarted` where a thread of a site or of its exchange could not be started,
 /// drops the books; what was entered stays in their records.
@@ -70,16 +71,17 @@ pub fn run_all<
     ensures writers { IfOk result (λ r. map (λ e. map (λ x. x.writer_began.value) e.sessions.items) r.0.items ≡ map (λ s. map (λ v. v.writer) s.sessions.items) sites.items) }
     ensures left { IfOk result (λ r. AllZip (λ site end. IsLeftOf site.book.book end.book.book (All (λ x. IsSome x.writer) end.sessions.items) (flat_map (λ x. x.receipts.items) end.sessions.items) (flat_map (λ x. x.seen.items) end.sessions.items) end.finished) sites.items r.0.items) }
     ensures links { IfOk result (λ r. map name_of r.1.items ≡ link_names (map (λ s. s.book.book.office.me) sites.items)) }
-    ensures told { IfOk result (λ r. AreTold (map (λ s. s.book.book.office.me) sites.items) r.1.items) }
+    ensures told { IfOk result (λ r. AreTold rounds (map (λ s. s.book.book.office.me) sites.items) r.1.items) }
     ensures counted { IfOk result (λ r. All IsCounted r.1.items) }
+    ensures within { IfOk result (λ r. All (λ link. link.put ≤ rounds) r.1.items) }
     ensures acknowledged { IfOk result (λ r. AreAcknowledged (map (λ s. s.book.book.office.me) sites.items) r.1.items) }
 {
     let ids = numbers(alloc, &sites)?;
     let linked = link_all(alloc, sites, capacity)?;
     let mut jobs = Vec::with_capacity(alloc, linked.len())?;
-    begun(linked, &mut jobs);
+    begun(linked, rounds, &mut jobs);
     let run = |one: Linked<K, R, W>| -> Result<Left<K, R, W>, ExchangeFault>
-        ensures { IfOk result (λ left. (map (λ e. e.id) left.1.items ≡ map (λ v. v.id) one.site.sessions.items) × (map (λ e. e.reader_began.value) left.1.items ≡ map (λ v. v.reader) one.site.sessions.items) × (map (λ e. e.writer_began.value) left.1.items ≡ map (λ v. v.writer) one.site.sessions.items) × IsLeftOf one.site.book.book left.0.book (All (λ e. IsSome e.writer) left.1.items) (flat_map (λ e. e.receipts.items) left.1.items) (flat_map (λ e. e.seen.items) left.1.items) left.2.0 × AllZip Exchanged one.peers.items left.2.1.items) }
+        ensures { IfOk result (λ left. (map (λ e. e.id) left.1.items ≡ map (λ v. v.id) one.site.sessions.items) × (map (λ e. e.reader_began.value) left.1.items ≡ map (λ v. v.reader) one.site.sessions.items) × (map (λ e. e.writer_began.value) left.1.items ≡ map (λ v. v.writer) one.site.sessions.items) × IsLeftOf one.site.book.book left.0.book (All (λ e. IsSome e.writer) left.1.items) (flat_map (λ e. e.receipts.items) left.1.items) (flat_map (λ e. e.seen.items) left.1.items) left.2.0 × AllZip (Exchanged rounds) one.peers.items left.2.1.items) }
     { run_site(rt, alloc, one, rounds, gate) };
     let done = work_all(rt, alloc, jobs, &run)?;
     let mut ends = Vec::with_capacity(alloc, done.len())?;
@@ -92,19 +94,21 @@ pub fn run_all<
 // Each site, with what its thread is to promise.
 fn begun<K: Keeper + Drop, R: Read + Drop, W: Write + Drop>(
     mut linked: Vec<Linked<K, R, W>>,
+    rounds: u64,
     jobs: &mut Vec<(Linked<K, R, W>, SiteOf<K, R, W>)>,
 )
     requires empty { jobs.old.items ≡ [] }
     requires room { vec_len linked ≤ vec_capacity jobs.old }
-    ensures begun { AllZip (λ one job. (job.0 ≡ one) × (job.1.linked.value ≡ one)) linked.items jobs.new.items }
+    ensures begun { AllZip (λ one job. (job.0 ≡ one) × (job.1.linked.value ≡ one) × (job.1.rounds ≡ rounds)) linked.items jobs.new.items }
     ensures room { (vec_len jobs.new ≡ vec_len linked) × (vec_capacity jobs.new ≡ vec_capacity jobs.old) }
 {
     let Some(one) = linked.pop() else {
         return;
     };
-    begun(linked, jobs);
+    begun(linked, rounds, jobs);
     let of = SiteOf {
         linked: Snapshot::of(&one),
+        rounds,
     };
     jobs.push_reserved((one, of));
 }

@@ -24,14 +24,15 @@ pub(crate) struct OutgoingEnd {
     pub(crate) tx: TxEnd,
 }
 
-// The links that the sending thread was begun with.
+// The links that the sending thread was begun with, and for how many rounds.
 #[derive(Drop)]
 pub(crate) struct LinksOf {
     pub(crate) outs: Snapshot<Vec<Outgoing>>,
+    pub(crate) rounds: u64,
 }
 
 impl Promise<Vec<OutgoingEnd>> for LinksOf {
-    ghost kept_by = { λ p r. AllZip Sent p.outs.value.items r.items × (vec_len r ≡ vec_len p.outs.value) };
+    ghost kept_by = { λ p r. AllZip (Sent p.rounds) p.outs.value.items r.items × (vec_len r ≡ vec_len p.outs.value) };
 }
 
 // Sends for so many rounds, and ends each link.
@@ -45,7 +46,7 @@ pub(crate) fn send_all<S: Replica, R: Wait>(
 ) -> Vec<OutgoingEnd>
     requires room { vec_len outs ≤ vec_capacity ends }
     requires empty { ends.items ≡ [] }
-    ensures sent { AllZip Sent outs.items result.items }
+    ensures sent { AllZip (Sent rounds) outs.items result.items }
     ensures len { vec_len result ≡ vec_len outs }
 {
     let mut outs = outs;
@@ -56,7 +57,7 @@ pub(crate) fn send_all<S: Replica, R: Wait>(
 }
 
 fn send_rounds<S: Replica, R: Wait>(rt: &R, replica: &S, outs: &mut Vec<Outgoing>, rounds: u64)
-    ensures sent { AllZip SentMore outs.old.items outs.new.items }
+    ensures sent { AllZip (SentMore rounds) outs.old.items outs.new.items }
     ensures len { vec_len outs.new ≡ vec_len outs.old }
 {
     for _ in 0..rounds {
@@ -66,7 +67,7 @@ fn send_rounds<S: Replica, R: Wait>(rt: &R, replica: &S, outs: &mut Vec<Outgoing
 
 // One round: what is next for each peer is sent.
 fn send_round<S: Replica, R: Wait>(rt: &R, replica: &S, outs: &mut Vec<Outgoing>)
-    ensures sent { AllZip SentMore outs.old.items outs.new.items }
+    ensures sent { AllZip (SentMore 1) outs.old.items outs.new.items }
     ensures len { vec_len outs.new ≡ vec_len outs.old }
 {
     for k in 0..outs.len() {
@@ -76,7 +77,7 @@ fn send_round<S: Replica, R: Wait>(rt: &R, replica: &S, outs: &mut Vec<Outgoing>
 
 // Sends what is next for one peer. A message that comes back is due again in the next round.
 fn send_next<S: Replica, R: Wait>(rt: &R, replica: &S, out: &mut Outgoing)
-    ensures { SentMore out.old out.new }
+    ensures { SentMore 1 out.old out.new }
 {
     if let Some(message) = replica.next(rt, out.to) {
         let _ = out.tx.send(rt, message);

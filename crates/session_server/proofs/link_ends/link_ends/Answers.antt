@@ -19,4 +19,4 @@ links_told-requires-clause-others c =
 pub returns : goal.returns
 returns c =
     let count : length (map (λ row. row.items) c.args.ends.items) ≡ length c.args.sites.now = omega (arith, length-map c.args.ends.items (λ row. row.items), c.requires.count, c.args.ends.ok.0) in
-    if_ok_then _ _ c.links_told.result (λ links e. all_told c.args.sites.now links.items _ _ c.in_ok-told.ensures count c.requires.left (images (λ row. row.items) (map (λ e. e.to)) c.args.ends.items ∙ c.requires.named) e) c.links_told.ensures
+    if_ok_then _ _ c.links_told.result (λ links e rounds left. all_told rounds c.args.sites.now links.items _ _ c.in_ok-told.ensures count left (images (λ row. row.items) (map (λ e. e.to)) c.args.ends.items ∙ c.requires.named) e) c.links_told.ensures

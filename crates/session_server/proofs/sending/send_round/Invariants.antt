@@ -1,10 +1,9 @@
 use Rattle.std.proofs.Common.{◌≡◌, length}
-use Rattle.std.specs.List.{AllZip}
-use Rattle.session_server.specs.Exchanged.{SentMore}
+use Rattle.session_server.proofs.Exchanges.{FirstSent}
 use Rattle.session_server.proofs.sending.send_round.Given as goal
 
 abbrev pub invariant-loop-k : goal.invariant-loop-k
 invariant-loop-k g l = record {
   len : length l.outs.items ≡ length l.initial.outs.items;
-  sent : AllZip SentMore l.initial.outs.items l.outs.items;
+  sent : FirstSent l.k l.initial.outs.items l.outs.items;
 }
