@@ -57,41 +57,50 @@ link_ends-requires g c =
           ∙ ap others_of (sym (map_after (λ one. one.site) (λ s. s.book.book.office.me) linked) ∙ ap (map (λ s. s.book.book.office.me)) c.in_ok-linked.ensures.sites ∙ sym c.in_ok-ids.ensures ∙ sym c.as_slice.ensures.value);
     }
 
--- what is left of each site is of what was handed in, and the links tell what the exchanges left of new ones
-pub returns : goal.returns
-returns g c =
-    let sites = c.args.sites.items in
+pub returns-clause-ids : goal.returns-clause-ids
+returns-clause-ids g c =
+    same_through _ _ _ c.in_ok-linked.linked.items c.begun.new.jobs.items c.in_ok-done.done.items c.gathered.new.ends.items c.args.sites.items (λ l. l.site) _ _
+    (λ one job left end r s t. ap (λ v. map (λ x. x.id) v.items) t.1 ∙ s.0 ∙ ap (λ l. map (λ v. v.id) l.site.sessions.items) r.1) c.begun.ensures.begun c.in_ok-done.ensures c.gathered.ensures.ends c.in_ok-linked.ensures.sites
+
+pub returns-clause-readers : goal.returns-clause-readers
+returns-clause-readers g c =
+    same_through _ _ _ c.in_ok-linked.linked.items c.begun.new.jobs.items c.in_ok-done.done.items c.gathered.new.ends.items c.args.sites.items (λ l. l.site) _ _
+    (λ one job left end r s t. ap (λ v. map (λ x. x.reader_began.value) v.items) t.1 ∙ s.1 ∙ ap (λ l. map (λ v. v.reader) l.site.sessions.items) r.1) c.begun.ensures.begun c.in_ok-done.ensures c.gathered.ensures.ends c.in_ok-linked.ensures.sites
+
+pub returns-clause-writers : goal.returns-clause-writers
+returns-clause-writers g c =
+    same_through _ _ _ c.in_ok-linked.linked.items c.begun.new.jobs.items c.in_ok-done.done.items c.gathered.new.ends.items c.args.sites.items (λ l. l.site) _ _
+    (λ one job left end r s t. ap (λ v. map (λ x. x.writer_began.value) v.items) t.1 ∙ s.2 ∙ ap (λ l. map (λ v. v.writer) l.site.sessions.items) r.1) c.begun.ensures.begun c.in_ok-done.ensures c.gathered.ensures.ends c.in_ok-linked.ensures.sites
+
+pub returns-clause-left : goal.returns-clause-left
+returns-clause-left g c =
+    pairs_through _ _ _ c.in_ok-linked.linked.items c.begun.new.jobs.items c.in_ok-done.done.items c.gathered.new.ends.items c.args.sites.items (λ l. l.site)
+    (λ site end. IsLeftOf site.book.book end.book.book (All {X = SessionEnd g.row.R.Denot g.row.W.Denot g.R.Read g.W.Write} (λ x. IsSome x.writer) end.sessions.items) (flat_map {X = SessionEnd g.row.R.Denot g.row.W.Denot g.R.Read g.W.Write} (λ x. x.receipts.items) end.sessions.items) (flat_map {X = SessionEnd g.row.R.Denot g.row.W.Denot g.R.Read g.W.Write} (λ x. x.seen.items) end.sessions.items) end.finished)
+    (λ one job left end r s t.
+    let of = subst (λ l. IsLeftOf l.site.book.book left.0.book (All {X = SessionEnd g.row.R.Denot g.row.W.Denot g.R.Read g.W.Write} (λ x. IsSome x.writer) left.1.items) (flat_map {X = SessionEnd g.row.R.Denot g.row.W.Denot g.R.Read g.W.Write} (λ x. x.receipts.items) left.1.items) (flat_map {X = SessionEnd g.row.R.Denot g.row.W.Denot g.R.Read g.W.Write} (λ x. x.seen.items) left.1.items) left.2.0) r.1 s.3 in
+    renamed left.0 end.book left.1 end.sessions left.2.0 end.finished (λ book sessions finished. IsLeftOf one.site.book.book book.book (All {X = SessionEnd g.row.R.Denot g.row.W.Denot g.R.Read g.W.Write} (λ x. IsSome x.writer) sessions.items) (flat_map {X = SessionEnd g.row.R.Denot g.row.W.Denot g.R.Read g.W.Write} (λ x. x.receipts.items) sessions.items) (flat_map {X = SessionEnd g.row.R.Denot g.row.W.Denot g.R.Read g.W.Write} (λ x. x.seen.items) sessions.items) finished) t.0 t.1 t.2 of)
+    c.begun.ensures.begun c.in_ok-done.ensures c.gathered.ensures.ends c.in_ok-linked.ensures.sites
+
+-- the links tell what the exchanges left of new ones
+pub returns-clause-told : goal.returns-clause-told
+returns-clause-told g c =
     let linked = c.in_ok-linked.linked.items in
-    let jobs = c.begun.new.jobs.items in
-    let done = c.in_ok-done.done.items in
-    let ends = c.gathered.new.ends.items in
-    let began = c.begun.ensures.begun in
-    let was = c.in_ok-done.ensures in
-    let gathered = c.gathered.ensures.ends in
-    let same = c.in_ok-linked.ensures.sites in
-    let rows : AllZip (λ one with. AllZip (Exchanged c.args.rounds) one.peers.items with.items) linked c.gathered.new.peers.items =
+    let peers = c.gathered.new.peers.items in
+    let rows : AllZip (λ one with. AllZip (Exchanged c.args.rounds) one.peers.items with.items) linked peers =
     through _ _ _ (λ one with. AllZip (Exchanged c.args.rounds) one.peers.items with.items) _ _ _ _
     (λ one job left with r s t. exchanged_as _ _ _ _ _ _ r.2 (ap (λ l. l.peers.items) r.1) (ap (λ v. v.items) t) s.4)
-    began was c.gathered.ensures.peers in
-    let new = rows_left c.args.rounds (λ one. one.peers.items) (λ with. with.items) linked c.gathered.new.peers.items c.in_ok-linked.ensures.new rows in
-    let told : AreTold c.args.rounds (map (λ s. s.book.book.office.me) sites) c.in_ok-links.links.items =
-    subst (λ ids. AreTold c.args.rounds ids c.in_ok-links.links.items) (c.as_slice.ensures.value ∙ c.in_ok-ids.ensures) (c.in_ok-links.ensures c.args.rounds new) in
-    record {
-      ids = same_through _ _ _ linked jobs done ends sites (λ l. l.site) _ _
-          (λ one job left end r s t. ap (λ v. map (λ x. x.id) v.items) t.1 ∙ s.0 ∙ ap (λ l. map (λ v. v.id) l.site.sessions.items) r.1) began was gathered same;
-      readers = same_through _ _ _ linked jobs done ends sites (λ l. l.site) _ _
-          (λ one job left end r s t. ap (λ v. map (λ x. x.reader_began.value) v.items) t.1 ∙ s.1 ∙ ap (λ l. map (λ v. v.reader) l.site.sessions.items) r.1) began was gathered same;
-      writers = same_through _ _ _ linked jobs done ends sites (λ l. l.site) _ _
-          (λ one job left end r s t. ap (λ v. map (λ x. x.writer_began.value) v.items) t.1 ∙ s.2 ∙ ap (λ l. map (λ v. v.writer) l.site.sessions.items) r.1) began was gathered same;
-      left = pairs_through _ _ _ linked jobs done ends sites (λ l. l.site)
-          (λ site end. IsLeftOf site.book.book end.book.book (All {X = SessionEnd g.row.R.Denot g.row.W.Denot g.R.Read g.W.Write} (λ x. IsSome x.writer) end.sessions.items) (flat_map {X = SessionEnd g.row.R.Denot g.row.W.Denot g.R.Read g.W.Write} (λ x. x.receipts.items) end.sessions.items) (flat_map {X = SessionEnd g.row.R.Denot g.row.W.Denot g.R.Read g.W.Write} (λ x. x.seen.items) end.sessions.items) end.finished)
-          (λ one job left end r s t.
-          let of = subst (λ l. IsLeftOf l.site.book.book left.0.book (All {X = SessionEnd g.row.R.Denot g.row.W.Denot g.R.Read g.W.Write} (λ x. IsSome x.writer) left.1.items) (flat_map {X = SessionEnd g.row.R.Denot g.row.W.Denot g.R.Read g.W.Write} (λ x. x.receipts.items) left.1.items) (flat_map {X = SessionEnd g.row.R.Denot g.row.W.Denot g.R.Read g.W.Write} (λ x. x.seen.items) left.1.items) left.2.0) r.1 s.3 in
-          renamed left.0 end.book left.1 end.sessions left.2.0 end.finished (λ book sessions finished. IsLeftOf one.site.book.book book.book (All {X = SessionEnd g.row.R.Denot g.row.W.Denot g.R.Read g.W.Write} (λ x. IsSome x.writer) sessions.items) (flat_map {X = SessionEnd g.row.R.Denot g.row.W.Denot g.R.Read g.W.Write} (λ x. x.receipts.items) sessions.items) (flat_map {X = SessionEnd g.row.R.Denot g.row.W.Denot g.R.Read g.W.Write} (λ x. x.seen.items) sessions.items) finished) t.0 t.1 t.2 of)
-          began was gathered same;
-      links = all_named _ _ _ told;
-      told = told;
-      counted = all_counted _ _ _ told;
-      within = all_within _ _ _ told;
-      acknowledged = all_acknowledged _ _ _ told;
-    }
+    c.begun.ensures.begun c.in_ok-done.ensures c.gathered.ensures.peers in
+    let new = rows_left c.args.rounds (λ one. one.peers.items) (λ with. with.items) linked peers c.in_ok-linked.ensures.new rows in
+    subst (λ ids. AreTold c.args.rounds ids c.in_ok-links.links.items) (c.as_slice.ensures.value ∙ c.in_ok-ids.ensures) (c.in_ok-links.ensures c.args.rounds new)
+
+pub returns-clause-links : goal.returns-clause-links
+returns-clause-links g c = all_named _ _ _ (returns-clause-told g c)
+
+pub returns-clause-counted : goal.returns-clause-counted
+returns-clause-counted g c = all_counted _ _ _ (returns-clause-told g c)
+
+pub returns-clause-within : goal.returns-clause-within
+returns-clause-within g c = all_within _ _ _ (returns-clause-told g c)
+
+pub returns-clause-acknowledged : goal.returns-clause-acknowledged
+returns-clause-acknowledged g c = all_acknowledged _ _ _ (returns-clause-told g c)
