@@ -2,7 +2,7 @@
 
 use crate::values::{book_of, event, gave, join, mark, site};
 use book_core::Book;
-use delta_buffer::interval;
+use delta_buffer::{Pending, interval};
 use delta_mutators::{Delta, Item, announce};
 use rights_lattice::{Event, Mark};
 use std::alloc::Global;
@@ -49,4 +49,26 @@ fn interval_of_three_entries(rt: HostRuntime) {
     is_interval(&rt, alloc, &items, (0, 3), &[gala], &[released, ceded]);
     is_interval(&rt, alloc, &items, (2, 3), &[], &[ceded]);
     is_interval(&rt, alloc, &items, (3, 3), &[], &[]);
+}
+
+// What is pending once two entries were added one by one.
+fn added(rt: &impl Abort, alloc: Global, book: &Book) -> Pending {
+    let mut pending = Pending::new(alloc);
+    let first = book.entry(0).expect(rt, "an entry");
+    assert!(rt; pending.add(alloc, first).is_ok());
+    let second = book.entry(1).expect(rt, "an entry");
+    assert!(rt; pending.add(alloc, second).is_ok());
+    pending
+}
+
+// What is added one by one is the interval from the first entry on.
+#[test]
+fn pending_of_two_entries(rt: HostRuntime) {
+    let alloc = rt.alloc();
+    let gala = event(&rt, b"gala");
+    let released = mark(&rt, gala, gave(&rt, 0, 0), 100);
+    let book = joined_book(&rt, alloc, &[announce(gala), Item::Cell(released)]);
+    let pending = added(&rt, alloc, &book);
+    assert!(rt; pending.delta().names() == [gala].as_slice());
+    assert!(rt; pending.delta().marks() == [released].as_slice());
 }
