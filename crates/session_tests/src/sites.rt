@@ -7,7 +7,7 @@ ghost use Rattle.std.specs.Prelude.{◌≡◌, ◌<◌};
 use crate::books::{empty_book, failing_book};
 use crate::values::{event, gala, number, seats, site};
 use book_core::Limit;
-use link_queue::link;
+use link_queue::{Rx, link};
 use local_rights::Totals;
 use request_ledger::{Reply, Request};
 use rights_lattice::{Event, SiteId, Sites};
@@ -147,8 +147,27 @@ fn a_full_site_refuses_a_delta(rt: HostRuntime) {
     assert_eq!(rt; links[3], link_end(&rt, 1, 0, true, 0, 0));
 }
 
-// A site exchanges for so many rounds with a peer whose one message acknowledges nine entries: how many acknowledgements
-// and deltas it refused, and how many deltas it sent.
+// An acknowledgement of more entries than there are.
+fn stray(rt: &impl Abort, by: SiteId, to: SiteId) -> Message {
+    Message::Ack {
+        by,
+        to,
+        upto: Upto::of(9).expect(rt, "a length"),
+    }
+}
+
+// The end of a link through which two such acknowledgements come.
+fn two_strays<R: Wait + Abort>(rt: &R, alloc: Global, by: SiteId, to: SiteId) -> Rx {
+    // The end of a link takes room too.
+    let (mut tx, rx) = link(alloc, 3).expect(rt, "memory");
+    assert!(rt; tx.send(rt, stray(rt, by, to)).is_ok());
+    assert!(rt; tx.send(rt, stray(rt, by, to)).is_ok());
+    let _ = tx.end(rt);
+    rx
+}
+
+// A site exchanges for so many rounds with a peer from which such acknowledgements come, where deltas should too: how many
+// acknowledgements and deltas it refused, and how many deltas it sent.
 fn met_by_a_stray<R: Threads + Wait + Abort + Sync, L: Opens + Send + Sync>(
     rt: &R,
     alloc: Global,
@@ -163,20 +182,12 @@ fn met_by_a_stray<R: Threads + Wait + Abort + Sync, L: Opens + Send + Sync>(
     requires began { L.began ≡ book.book.history }
     requires office { L.office ≡ book.book.office }
 {
-    let stray = Message::Ack {
-        by: to,
-        to: book.book().me(),
-        upto: Upto::of(9).expect(rt, "a length"),
-    };
+    let me = book.book().me();
     let (desk, _seat) = Desk::<ListKeeper, L>::new(book, blank);
-    // The end of a link takes room too.
     let (delta_tx, _deltas) = link(alloc, 2).expect(rt, "memory");
     let (ack_tx, _acks) = link(alloc, 1).expect(rt, "memory");
-    let (no_deltas, delta_rx) = link(alloc, 1).expect(rt, "memory");
-    let (mut stray_tx, ack_rx) = link(alloc, 2).expect(rt, "memory");
-    assert!(rt; stray_tx.send(rt, stray).is_ok());
-    let _ = stray_tx.end(rt);
-    let _ = no_deltas.end(rt);
+    let delta_rx = two_strays(rt, alloc, to, me);
+    let ack_rx = two_strays(rt, alloc, to, me);
     let mut peers = Vec::new(alloc);
     let peer = Peer {
         to,
@@ -203,11 +214,11 @@ fn meets_a_stray<R: Threads + Wait + Abort + Sync>(
 }
 
 #[test]
-fn a_stray_acknowledgement_is_counted(rt: HostRuntime) {
+fn each_stray_acknowledgement_is_counted(rt: HostRuntime) {
     let alloc = rt.alloc();
     let book = empty_book(&rt, alloc, 0, 2, 10);
     let came = meets_a_stray(&rt, alloc, book, site(&rt, 1), 0);
-    assert!(rt; came == (1, 0, 0));
+    assert!(rt; came == (2, 2, 0));
 }
 
 // Its one entry is due, and its keeper failed at the second.
@@ -225,7 +236,7 @@ fn a_closed_site_sends_and_takes_nothing(rt: HostRuntime) {
     let alloc = rt.alloc();
     let book = closed_book(&rt, alloc);
     let came = meets_a_stray(&rt, alloc, book, site(&rt, 0), 1);
-    assert!(rt; came == (1, 0, 0));
+    assert!(rt; came == (2, 2, 0));
 }
 
 // A site with no session.
