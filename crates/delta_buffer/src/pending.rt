@@ -13,7 +13,8 @@ use std::alloc::{AllocError, Global};
 use std::marker::Model;
 
 /// The delta-interval that is pending for one peer: from what the peer has acknowledged of a site's history up to the
-/// entries that were added (Almeida et al., JPDC 2018). Each entry is joined to it once.
+/// entries that were added (Almeida et al., JPDC 2018). Adding joins each entry once; an acknowledgement of a part joins
+/// anew what is left.
 #[derive(Drop)]
 pub struct Pending {
     from: usize,

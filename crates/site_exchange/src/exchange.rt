@@ -76,7 +76,8 @@ impl Exchange {
     }
 
     /// The message that is due to a peer: the delta-interval from what it has acknowledged to the end of the
-    /// history, and none where it has acknowledged all, which takes no memory. Each entry is joined for a peer once.
+    /// history, and none where it has acknowledged all, which takes no memory. What is pending is kept, so that no entry
+    /// that was added is added again.
     ///
     /// An error leaves the acknowledged numbers, and all messages given later, as they would have been.
     pub fn next(
