@@ -217,8 +217,7 @@ impl<K: Keeper> SiteBook<K> {
         }
     }
 
-    /// The message that is due to a peer, and none where it has acknowledged all, which takes no memory. Each entry is
-    /// joined for a peer once.
+    /// The message that is due to a peer, and none where it has acknowledged all, which takes no memory.
     pub fn next(&mut self, alloc: Global, to: SiteId) -> Result<Option<Message>, NextFault>
         ensures message { IfOk result (λ message. message ≡ next self.old.book.office.me (site_of self.old) to) }
         ensures closed { (result ≡ Err NextFault.Closed) ↔ (self.old.closed ≡ true) }
