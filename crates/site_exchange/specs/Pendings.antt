@@ -1,4 +1,4 @@
--- What each peer has acknowledged, and what is pending for it (JPDC 2018).
+-- What each peer has acknowledged (JPDC 2018), and what is pending for it (our own).
 use Rattle.std.specs.Prelude.{◌≡◌, ℕ, List, get_or, slice_get, Some, refl}
 use Rattle.std.specs.Coded.{Coded, code_by, coded_ℕ, coded_list, coded×}
 use Rattle.book_core.specs.declared.entry.Entry.{Entry}
