@@ -141,11 +141,23 @@ fn records_are_not_migrated_in_an_open_transaction(rt: HostRuntime) {
 
 type Fused = Fuse<Memory>;
 
-// Those records in files, where their log takes so many calls and fails each one after.
-fn in_files(rt: &impl Abort, alloc: Global, calls: u64) -> Option<Connection<FileStore<Fused>>> {
+// How many calls the log and the database take. Each one after fails.
+#[derive(Clone, Copy)]
+struct Calls {
+    log: u64,
+    db: u64,
+}
+
+const ALL: Calls = Calls {
+    log: u64::MAX,
+    db: u64::MAX,
+};
+
+// Those records in files that take so many calls.
+fn in_files(rt: &impl Abort, alloc: Global, calls: Calls) -> Option<Connection<FileStore<Fused>>> {
     let files = Files {
-        log: Fuse::new(Memory::new(alloc), calls),
-        db: Fuse::new(Memory::new(alloc), u64::MAX),
+        log: Fuse::new(Memory::new(alloc), calls.log),
+        db: Fuse::new(Memory::new(alloc), calls.db),
     };
     let Ok(mut conn) = Connection::open_files(alloc, files, Options::new(1)) else {
         return None;
@@ -168,9 +180,9 @@ fn stop<S: Alter + Reopen + Drop>(
     }
 }
 
-// The version that a stop behind so many calls of the log leaves, where the records were made by then. The rows are
-// those that were there under either version.
-fn left(rt: &impl Abort, alloc: Global, calls: u64) -> Option<i64> {
+// The version that a stop behind so many calls leaves, where the records were made by then. The rows are those that
+// were there under either version.
+fn left(rt: &impl Abort, alloc: Global, calls: Calls) -> Option<i64> {
     let mut conn = in_files(rt, alloc, calls)?;
     let is_done = Records::migrate(alloc, &mut conn).is_ok();
     let mut again = stop(rt, alloc, conn);
@@ -188,15 +200,28 @@ fn left(rt: &impl Abort, alloc: Global, calls: u64) -> Option<i64> {
 }
 
 #[test]
-fn stop_leaves_records_of_either_schema(rt: HostRuntime) {
+fn stop_of_the_log_leaves_records_of_either_schema(rt: HostRuntime) {
     let alloc = rt.alloc();
     let (mut saw_first, mut saw_second) = (false, false);
-    for calls in 0..100 {
-        match left(&rt, alloc, calls) {
+    for log in 0..100 {
+        match left(&rt, alloc, Calls { log, ..ALL }) {
             Some(1) => saw_first = true,
             Some(_) => saw_second = true,
             None => {}
         }
     }
     assert!(rt; saw_first && saw_second);
+}
+
+// A migration writes to the log alone.
+#[test]
+fn stop_of_the_database_leaves_what_the_log_has(rt: HostRuntime) {
+    let alloc = rt.alloc();
+    let mut saw_second = false;
+    for db in 0..100 {
+        if left(&rt, alloc, Calls { db, ..ALL }) == Some(2) {
+            saw_second = true;
+        }
+    }
+    assert!(rt; saw_second);
 }
