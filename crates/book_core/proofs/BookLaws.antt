@@ -18,12 +18,12 @@ use Rattle.request_ledger.specs.Requests.{is_done}
 use Rattle.request_ledger.specs.Ledger.{Keeping, kept_under, rest_of, amount_back, IsRefundable}
 use Rattle.event_catalogue.specs.Catalogue.{with_new}
 use Rattle.book_core.specs.declared.entry.Entry.{Entry}
-use Rattle.book_core.specs.declared.entry.Entry.TheVariants.{Asked, Joined}
-use Rattle.book_core.specs.History.{delta_of, state_of, asked, asked_from, sale_of}
-use Rattle.book_core.specs.Decision.{Office, Change, cell_of, change_of, refund_of, marked, addition_of, delta_for, refund_reply, reply_to}
+use Rattle.book_core.specs.declared.entry.Entry.TheVariants.{Asked, Joined, Grown}
+use Rattle.book_core.specs.History.{delta_of, state_of, asked, asked_from, sale_of, sites_after}
+use Rattle.book_core.specs.Decision.{Office, sites_of, Change, cell_of, change_of, refund_of, marked, addition_of, delta_for, refund_reply, reply_to}
 use Rattle.book_core.specs.Legal.{IsNext, IsLegal}
 use Rattle.book_core.specs.BookView.{MarksAreWithin, IsInOrder, IsUnkept, KeepsRefunds}
-use Rattle.book_core.proofs.Histories.{state_of-push, legal_push}
+use Rattle.book_core.proofs.Histories.{state_of-push, sites_of-push, legal_push}
 use Rattle.book_core.proofs.NameLaws.{names_of-push}
 use Rattle.book_core.proofs.Kept.{asked-push}
 use Rattle.book_core.proofs.Refunds.{refund_fits, done_within}
@@ -34,9 +34,9 @@ room_left true old new len i p q = omega arith
 room_left false old new len i p q = omega arith
 
 -- the cell of a change is of sites below the count
-abbrev IsOfSites : Office → Option Change → Type 0
-IsOfSites office None = Unit {0}
-IsOfSites office (Some c) = IsCellOf office.sites (cell_of office.me c.kind)
+abbrev IsOfSites : ℕ → ℕ → Option Change → Type 0
+IsOfSites me n None = Unit {0}
+IsOfSites me n (Some c) = IsCellOf n (cell_of me c.kind)
 
 past_sites : (unknown self past : Bool) (r : Reply) → is_done (cond unknown Unknown (cond self ToSelf (cond past NoSite r))) ≡ true → past ≡ false
 past_sites true self past r h = cc
@@ -44,67 +44,74 @@ past_sites false true past r h = cc
 past_sites false false true r h = cc
 past_sites false false false r h = refl
 
-done_of_sites : (office : Office) (h : List Entry) (request : Request) → office.me < office.sites → is_done (reply_to office h request) ≡ true → IsOfSites office (change_of h request)
+done_of_sites : (office : Office) (h : List Entry) (request : Request) → office.me < sites_of office h → is_done (reply_to office h request) ≡ true
+    → IsOfSites office.me (sites_of office h) (change_of h request)
 done_of_sites office h (Announce event) me e = tt
 done_of_sites office h (Release event n) me e = (me, me)
 done_of_sites office h (Sell event n) me e = me
 done_of_sites office h (Refund sale part) me e = of_sale (sale_of h sale)
   where
-    of_sale : (o : Option SaleState) → IsOfSites office (refund_of o part)
+    of_sale : (o : Option SaleState) → IsOfSites office.me (sites_of office h) (refund_of o part)
     of_sale None = tt
     of_sale (Some sale) = me
 done_of_sites office h (Cede event n to) me e =
-    (me, leb-false office.sites to (past_sites (not (knows (state_of h).names event)) (to == office.me) (nat_le office.sites to) _ e))
+    (me, leb-false (sites_of office h) to (past_sites (not (knows (state_of h).names event)) (to == office.me) (nat_le (sites_of office h) to) _ e))
 
-marked_within : (office : Office) (X : Cells) (o : Option Change) → IsOfSites office o → IsWithin office.sites (marked office.me X o).cells
-marked_within office X None of = within_zero office.sites
-marked_within office X (Some c) of = within_raise office.sites all_zero (mark_plus X c.event (cell_of office.me c.kind) c.amount) (within_zero office.sites) of
+marked_within : (me n : ℕ) (X : Cells) (o : Option Change) → IsOfSites me n o → IsWithin n (marked me X o).cells
+marked_within me n X None of = within_zero n
+marked_within me n X (Some c) of = within_raise n all_zero (mark_plus X c.event (cell_of me c.kind) c.amount) (within_zero n) of
 
-addition_within : (office : Office) (h : List Entry) (request : Request) → IsOfSites office (change_of h request) → IsWithin office.sites (addition_of office h request).cells
-addition_within office h (Announce event) of = within_zero office.sites
-addition_within office h (Release event n) of = marked_within office (state_of h).cells (change_of h (Release event n)) of
-addition_within office h (Sell event n) of = marked_within office (state_of h).cells (change_of h (Sell event n)) of
-addition_within office h (Refund sale part) of = marked_within office (state_of h).cells (refund_of (sale_of h sale) part) of
-addition_within office h (Cede event n to) of = marked_within office (state_of h).cells (change_of h (Cede event n to)) of
+addition_within : (office : Office) (n : ℕ) (h : List Entry) (request : Request) → IsOfSites office.me n (change_of h request) → IsWithin n (addition_of office h request).cells
+addition_within office n h (Announce event) of = within_zero n
+addition_within office n h (Release event m) of = marked_within office.me n (state_of h).cells (change_of h (Release event m)) of
+addition_within office n h (Sell event m) of = marked_within office.me n (state_of h).cells (change_of h (Sell event m)) of
+addition_within office n h (Refund sale part) of = marked_within office.me n (state_of h).cells (refund_of (sale_of h sale) part) of
+addition_within office n h (Cede event m to) of = marked_within office.me n (state_of h).cells (change_of h (Cede event m to)) of
 
-delta_within : (office : Office) (h : List Entry) (request : Request) (reply : Reply) → office.me < office.sites → reply ≡ reply_to office h request → IsWithin office.sites (delta_for office h request reply).cells
+delta_within : (office : Office) (h : List Entry) (request : Request) (reply : Reply) → office.me < sites_of office h → reply ≡ reply_to office h request
+    → IsWithin (sites_of office h) (delta_for office h request reply).cells
 delta_within office h request reply me answer = by_test (is_done reply) refl
   where
-    by_test : (b : Bool) → is_done reply ≡ b → IsWithin office.sites (cond b (addition_of office h request) bottom).cells
-    by_test true q = addition_within office h request (done_of_sites office h request me (ap is_done (sym answer) ∙ q))
-    by_test false q = within_zero office.sites
+    by_test : (b : Bool) → is_done reply ≡ b → IsWithin (sites_of office h) (cond b (addition_of office h request) bottom).cells
+    by_test true q = addition_within office (sites_of office h) h request (done_of_sites office h request me (ap is_done (sym answer) ∙ q))
+    by_test false q = within_zero (sites_of office h)
 
-next_within : (office : Office) (h : List Entry) (entry : Entry) → office.me < office.sites → IsNext office h entry → IsWithin office.sites (delta_of entry).cells
+-- what is legal next names sites below the count so far
+pub next_within : (office : Office) (h : List Entry) (entry : Entry) → office.me < sites_of office h → IsNext office h entry → IsWithin (sites_of office h) (delta_of entry).cells
 next_within office h (Asked number request reply delta) me next =
-    subst (λ (d : State). IsWithin office.sites d.cells) (sym next.change) (delta_within office h request reply me next.answer)
+    subst (λ (d : State). IsWithin (sites_of office h) d.cells) (sym next.change) (delta_within office h request reply me next.answer)
 next_within office h (Joined peer delta) me next = next.sites
+next_within office h (Grown sites) me next = within_zero (sites_of office h)
 
-pub marks_within : (office : Office) (h : List Entry) (entry : Entry) (ms : List Valued) → office.me < office.sites → IsNext office h entry → ms ≡ marks_of (delta_of entry).cells → MarksAreWithin office.sites ms
+pub marks_within : (office : Office) (h : List Entry) (entry : Entry) (ms : List Valued) → office.me < sites_of office h → IsNext office h entry → ms ≡ marks_of (delta_of entry).cells → MarksAreWithin (sites_of office h) ms
 marks_within office h entry ms me next is e c some =
     next_within office h entry me next e c
     (subst (λ (n : ℕ). 1 ≤ n) (ap (λ (l : List Valued). greatest l e c) is ∙ greatest-marks_of (delta_of entry).cells e c) some)
 
-pub entered : (office : Office) (h : List Entry) (entry : Entry) (X Y : Cells) (ns ms : List (List ℕ)) (kept_before kept_after : Keeping)
-    → IsInOrder office h X ns kept_before → IsNext office h entry
+pub entered : (office : Office) (h : List Entry) (entry : Entry) (n m : ℕ) (X Y : Cells) (ns ms : List (List ℕ)) (kept_before kept_after : Keeping)
+    → IsInOrder office h n X ns kept_before → IsNext office h entry
+    → m ≡ sites_after n entry
     → Y ≡ raise_all X (marks_of (delta_of entry).cells)
     → ms ≡ with_new ns (names_in_order (delta_of entry).names)
     → kept_after ≡ kept_before ++ asked_from (length h) (entry ∷ [])
-    → IsInOrder office (h ++ entry ∷ []) Y ms kept_after
-entered office h entry X Y ns ms kept_before kept_after before next Y_is ms_are kept_is = record {
+    → IsInOrder office (h ++ entry ∷ []) m Y ms kept_after
+entered office h entry n m X Y ns ms kept_before kept_after before next m_is Y_is ms_are kept_is = record {
   me_is_site = before.me_is_site;
   legal = legal_push office h entry before.legal next;
+  sites_are = m_is ∙ ap (λ k. sites_after k entry) before.sites_are ∙ sym (sites_of-push office h entry);
   cells_are = Y_is ∙ sym (join-marks X (delta_of entry).cells) ∙ ap (λ (Z : Cells). cells.join Z (delta_of entry).cells) before.cells_are ∙ sym (ap (λ (s : State). s.cells) (state_of-push h entry));
   names_are = ms_are ∙ ap (λ (known : List (List ℕ)). with_new known (names_in_order (delta_of entry).names)) before.names_are ∙ sym (names_of-push h entry);
   kept_are = kept_is ∙ ap (λ (es : Keeping). es ++ asked_from (length h) (entry ∷ [])) before.kept_are ∙ sym (asked-push h entry);
 }
 
-pub opening : (office : Office) (h : List Entry) (cells : Cells) (names : List (List ℕ)) (ledger : Keeping)
-    → office.me < office.sites → h ≡ [] → cells ≡ all_zero → names ≡ [] → ledger ≡ [] → IsInOrder office h cells names ledger
-opening office h cells names ledger me h_is cells_is names_is ledger_is =
-    subst (λ (x : List Entry). IsInOrder office x cells names ledger) (sym h_is)
+pub opening : (office : Office) (h : List Entry) (sites : ℕ) (cells : Cells) (names : List (List ℕ)) (ledger : Keeping)
+    → office.me < office.sites → h ≡ [] → sites ≡ office.sites → cells ≡ all_zero → names ≡ [] → ledger ≡ [] → IsInOrder office h sites cells names ledger
+opening office h sites cells names ledger me h_is sites_is cells_is names_is ledger_is =
+    subst (λ (x : List Entry). IsInOrder office x sites cells names ledger) (sym h_is)
     (record {
       me_is_site = me;
       legal = λ k entry found. cc;
+      sites_are = sites_is;
       cells_are = cells_is;
       names_are = names_is;
       kept_are = ledger_is;
@@ -114,6 +121,7 @@ opening office h cells names ledger me h_is cells_is names_is ledger_is =
 pub unkept : (office : Office) (h : List Entry) (entry : Entry) (es : Keeping) → es ≡ asked h → IsNext office h entry → IsUnkept es entry
 unkept office h (Asked number request reply delta) es is next = ap (λ (xs : Keeping). kept_under xs number) is ∙ next.new
 unkept office h (Joined peer delta) es is next = tt
+unkept office h (Grown sites) es is next = tt
 
 refundable : (h : List Entry) (request : Request) (reply : Reply) → (office : Office) → reply ≡ reply_to office h request → IsRefundable (asked h) request reply
 refundable h (Refund sale part) Done office answer = of_sale (sale_of h sale) answer
@@ -128,6 +136,7 @@ pub keeps_refunds : (office : Office) (h : List Entry) (entry : Entry) (es : Kee
 keeps_refunds office h (Asked number request reply delta) es is next =
     subst (λ (xs : Keeping). IsRefundable xs request reply) (sym is) (refundable h request reply office next.answer)
 keeps_refunds office h (Joined peer delta) es is next = tt
+keeps_refunds office h (Grown sites) es is next = tt
 
 -- a refund's mark is not above the greatest value
 pub refund_room : (office : Office) (h : List Entry) (number : ℕ) (sale : SaleState) (X : Cells) → IsLegal office h → sale_of h number ≡ Some sale → X ≡ (state_of h).cells

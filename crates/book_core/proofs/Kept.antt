@@ -3,7 +3,7 @@ use Rattle.std.proofs.Common.{◌≡◌, ℕ, suc, ◌+◌, List, [], ◌∷◌,
 use Rattle.request_ledger.specs.declared.reply.Kept.{Kept}
 use Rattle.request_ledger.specs.Ledger.{Keeping}
 use Rattle.book_core.specs.declared.entry.Entry.{Entry}
-use Rattle.book_core.specs.declared.entry.Entry.TheVariants.{Asked, Joined}
+use Rattle.book_core.specs.declared.entry.Entry.TheVariants.{Asked, Joined, Grown}
 use Rattle.book_core.specs.History.{asked, asked_from}
 
 later : (place : ℕ) (h : List Entry) (entry : Entry) → asked_from (place + 1 + length h) (entry ∷ []) ≡ asked_from (place + suc (length h)) (entry ∷ [])
@@ -12,6 +12,7 @@ later place h entry = ap (λ p. asked_from p (entry ∷ [])) (omega arith)
 pub asked_from-push : (place : ℕ) (h : List Entry) (entry : Entry) → asked_from place (h ++ entry ∷ []) ≡ asked_from place h ++ asked_from (place + length h) (entry ∷ [])
 asked_from-push place [] entry = ap (λ p. asked_from p (entry ∷ [])) (let e : place ≡ place + 0 = omega arith in e)
 asked_from-push place (Joined peer delta ∷ h) entry = asked_from-push (place + 1) h entry ∙ ap (λ (es : Keeping). asked_from (place + 1) h ++ es) (later place h entry)
+asked_from-push place (Grown sites ∷ h) entry = asked_from-push (place + 1) h entry ∙ ap (λ (es : Keeping). asked_from (place + 1) h ++ es) (later place h entry)
 asked_from-push place (Asked n request reply delta ∷ h) entry =
     let first : ℕ × Kept = (n, record { place = place; request = request; reply = reply }) in
     ap (λ (es : Keeping). first ∷ es) (asked_from-push (place + 1) h entry ∙ ap (λ (es : Keeping). asked_from (place + 1) h ++ es) (later place h entry))

@@ -8,7 +8,7 @@ use Rattle.request_ledger.specs.declared.reply.Kept.{Kept}
 use Rattle.request_ledger.specs.Ledger.{Keeping, kept_under}
 use Rattle.request_ledger.proofs.KeptLaws.{or_else, kept_under-push}
 use Rattle.book_core.specs.declared.entry.Entry.{Entry}
-use Rattle.book_core.specs.declared.entry.Entry.TheVariants.{Asked, Joined}
+use Rattle.book_core.specs.declared.entry.Entry.TheVariants.{Asked, Joined, Grown}
 use Rattle.book_core.specs.History.{asked, kept}
 use Rattle.book_core.specs.Laws.{EachReplyIsKept, NumbersAreKeptOnce}
 use Rattle.book_core.specs.Legal.{IsNext}
@@ -23,6 +23,8 @@ stays h (Asked n request reply delta) number k is =
     ∙ ap (λ o. or_else o (cond (nat_eq n number) (Some (record { place = length h; request = request; reply = reply })) None)) is
 stays h (Joined peer delta) number k is =
     ap (λ (es : Keeping). kept_under es number) (asked-push h (Joined peer delta) ∙ append-nil (asked h)) ∙ is
+stays h (Grown sites) number k is =
+    ap (λ (es : Keeping). kept_under es number) (asked-push h (Grown sites) ∙ append-nil (asked h)) ∙ is
 
 -- a new one is kept at the end
 comes : (h : List Entry) (number : ℕ) (request : Request) (reply : Reply) (delta : State) → kept h number ≡ None

@@ -18,7 +18,7 @@ use Rattle.book_core.specs.declared.plan.JoinFault.TheVariants as join_fault
 use Rattle.book_core.specs.declared.entry.Entry.{Entry}
 use Rattle.book_core.specs.declared.entry.Entry.TheVariants.{Asked, Joined}
 use Rattle.book_core.specs.History.{delta_of, state_of, kept, sale_of}
-use Rattle.book_core.specs.Decision.{Office, Change, cell_of, change_of, refund_of, marked, addition_of, delta_for, reply_to, decision_if, entry_if, entry_of_ask, Again, Reused, Full, Fresh}
+use Rattle.book_core.specs.Decision.{Office, office_after, Change, cell_of, change_of, refund_of, marked, addition_of, delta_for, reply_to, decision_if, entry_if, entry_of_ask, Again, Reused, Full, Fresh}
 use Rattle.book_core.specs.Joining.{foreign, is_of_sites, Joins, NothingNew, Refuses, join_if, join_decision, joined_if, entry_of_join}
 use Rattle.book_core.specs.Legal.{IsNext, IsNextJoined, IsNextAsked}
 use Rattle.book_core.proofs.OrderTests.{sites_test, row_test, is_new, passes}
@@ -78,9 +78,9 @@ ask_next office h number request entry e = by_kept (kept h number) refl e
 -- a delta that is joined passed each test
 pub join_next : (office : Office) (h : List Entry) (peer : ℕ) (delta : State) → join_decision office h peer delta ≡ Joins → IsNextJoined office h peer delta
 join_next office h peer delta e =
-    go (is_of_sites office peer delta) (foreign office.me (state_of h).cells (marks_of delta.cells)) (is_within delta (state_of h)) (nat_le office.limit (length h)) refl refl refl refl e
+    go (is_of_sites (office_after office h) peer delta) (foreign office.me (state_of h).cells (marks_of delta.cells)) (is_within delta (state_of h)) (nat_le office.limit (length h)) refl refl refl refl e
   where
-    go : (a : Bool) (f : Option Valued) (within full : Bool) → is_of_sites office peer delta ≡ a → foreign office.me (state_of h).cells (marks_of delta.cells) ≡ f
+    go : (a : Bool) (f : Option Valued) (within full : Bool) → is_of_sites (office_after office h) peer delta ≡ a → foreign office.me (state_of h).cells (marks_of delta.cells) ≡ f
         → is_within delta (state_of h) ≡ within → nat_le office.limit (length h) ≡ full
         → cond (not a) (Refuses join_fault.UnknownSite) (join_if f within full) ≡ Joins → IsNextJoined office h peer delta
     go false f within full q r s t found = cc
@@ -92,7 +92,7 @@ join_next office h peer delta e =
 -- a delta that holds nothing new is at or below the state
 pub nothing_new : (office : Office) (h : List Entry) (peer : ℕ) (delta : State) → join_decision office h peer delta ≡ NothingNew → is_within delta (state_of h) ≡ true
 nothing_new office h peer delta e =
-    go (is_of_sites office peer delta) (foreign office.me (state_of h).cells (marks_of delta.cells)) (is_within delta (state_of h)) (nat_le office.limit (length h)) e
+    go (is_of_sites (office_after office h) peer delta) (foreign office.me (state_of h).cells (marks_of delta.cells)) (is_within delta (state_of h)) (nat_le office.limit (length h)) e
   where
     go : (a : Bool) (f : Option Valued) (within full : Bool) → cond (not a) (Refuses join_fault.UnknownSite) (join_if f within full) ≡ NothingNew → within ≡ true
     go false f within full found = cc
@@ -113,7 +113,7 @@ asked_entry office h number request reply delta next =
 -- and the one that joining adds
 pub joined_entry : (office : Office) (h : List Entry) (peer : ℕ) (delta : State) → IsNextJoined office h peer delta → entry_of_join office h peer delta ≡ Some (Joined peer delta)
 joined_entry office h peer delta next =
-    ap (λ b. joined_if (cond (not b) (Refuses join_fault.UnknownSite) (join_if (foreign office.me (state_of h).cells (marks_of delta.cells)) (is_within delta (state_of h)) (nat_le office.limit (length h)))) peer delta) ((sites_test office peer delta).1 (next.from_peer, next.sites))
+    ap (λ b. joined_if (cond (not b) (Refuses join_fault.UnknownSite) (join_if (foreign office.me (state_of h).cells (marks_of delta.cells)) (is_within delta (state_of h)) (nat_le office.limit (length h)))) peer delta) ((sites_test (office_after office h) peer delta).1 (next.from_peer, next.sites))
     ∙ ap (λ o. joined_if (join_if o (is_within delta (state_of h)) (nat_le office.limit (length h))) peer delta) ((row_test office.me delta (state_of h)).1 next.own_row)
     ∙ ap (λ b. joined_if (join_if None b (nat_le office.limit (length h))) peer delta) (is_new delta (state_of h) next.news)
     ∙ ap (λ b. joined_if (join_if None false b) peer delta) (lt-leb office.limit (length h) next.room)

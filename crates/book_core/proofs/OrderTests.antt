@@ -13,7 +13,7 @@ use Rattle.rights_lattice.proofs.CellLaws.{of_same, value_in-same, greatest-mark
 use Rattle.rights_lattice.proofs.SpotLaws.{same_event_is, same_cell_is, value_in-tests, within_at_or_below, at_or_below_within}
 use Rattle.delta_mutators.proofs.EndLaws.{lists_of}
 use Rattle.book_core.specs.BookView.{MarksAreWithin}
-use Rattle.book_core.specs.Decision.{Office}
+use Rattle.book_core.specs.Decision.{Office, office_after}
 use Rattle.book_core.specs.Joining.{IsPeer, foreign, is_of_sites}
 use Rattle.book_core.specs.declared.entry.Entry.{Entry}
 use Rattle.book_core.specs.History.{state_of}
@@ -119,10 +119,10 @@ is_new D X new = by_test (is_within D X) refl
     by_test false q = refl
 
 -- a delta that passes each test is legal next
-pub passes : (office : Office) (h : List Entry) (peer : ℕ) (delta : State) → nat_le office.limit (length h) ≡ false → is_of_sites office peer delta ≡ true
+pub passes : (office : Office) (h : List Entry) (peer : ℕ) (delta : State) → nat_le office.limit (length h) ≡ false → is_of_sites (office_after office h) peer delta ≡ true
     → foreign office.me (state_of h).cells (marks_of delta.cells) ≡ None → is_within delta (state_of h) ≡ false → IsNextJoined office h peer delta
 passes office h peer delta room of_sites none new =
-    let sites = (sites_test office peer delta).0 of_sites in
+    let sites = (sites_test (office_after office h) peer delta).0 of_sites in
     record {
       room = leb-false office.limit (length h) room;
       from_peer = sites.0;
@@ -135,8 +135,8 @@ passes office h peer delta room of_sites none new =
 abbrev pub Tells : Bool → Office → List Entry → ℕ → State → Type 0
 Tells b office h peer delta = (IsTrue b → IsNextJoined office h peer delta) × (IsNextJoined office h peer delta → IsTrue b)
 
-pub strange : (office : Office) (h : List Entry) (peer : ℕ) (delta : State) → is_of_sites office peer delta ≡ false → Tells false office h peer delta
-strange office h peer delta out = (λ t. cc, λ next. let passed = (sites_test office peer delta).1 (next.from_peer, next.sites) in cc)
+pub strange : (office : Office) (h : List Entry) (peer : ℕ) (delta : State) → is_of_sites (office_after office h) peer delta ≡ false → Tells false office h peer delta
+strange office h peer delta out = (λ t. cc, λ next. let passed = (sites_test (office_after office h) peer delta).1 (next.from_peer, next.sites) in cc)
 
 pub above : (office : Office) (h : List Entry) (peer : ℕ) (delta : State) → IsSome (foreign office.me (state_of h).cells (marks_of delta.cells)) → Tells false office h peer delta
 above office h peer delta some = (
@@ -144,7 +144,7 @@ above office h peer delta some = (
   λ next. let none : IsSome {T = Valued} None = subst IsSome ((row_test office.me delta (state_of h)).1 next.own_row) some in cc,
 )
 
-pub fresh : (office : Office) (h : List Entry) (peer : ℕ) (delta : State) (b : Bool) → nat_le office.limit (length h) ≡ false → is_of_sites office peer delta ≡ true
+pub fresh : (office : Office) (h : List Entry) (peer : ℕ) (delta : State) (b : Bool) → nat_le office.limit (length h) ≡ false → is_of_sites (office_after office h) peer delta ≡ true
     → foreign office.me (state_of h).cells (marks_of delta.cells) ≡ None → b ≡ is_within delta (state_of h) → Tells (not b) office h peer delta
 fresh office h peer delta b room of_sites none test = (
   λ t. passes office h peer delta room of_sites none (sym test ∙ not-true b t),

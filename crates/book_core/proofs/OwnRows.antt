@@ -2,18 +2,19 @@
 use Rattle.std.proofs.Common.{◌≡◌, List, [], ◌∷◌, ◌++◌, ap, ◌∙◌, subst, sym}
 use Rattle.rights_lattice.specs.Cells.{value_at}
 use Rattle.book_core.specs.declared.entry.Entry.{Entry}
-use Rattle.book_core.specs.declared.entry.Entry.TheVariants.{Asked, Joined}
+use Rattle.book_core.specs.declared.entry.Entry.TheVariants.{Asked, Joined, Grown}
 use Rattle.book_core.specs.History.{state_of}
 use Rattle.book_core.specs.Legal.{IsNext, IsLegal}
 use Rattle.book_core.specs.BookView.{BookView}
 use Rattle.book_core.specs.OwnRow.{LeavesOwnRow, HasOwnRights}
-use Rattle.book_core.proofs.Rows.{joined_own, legal_rights}
+use Rattle.book_core.proofs.Rows.{joined_own, grown_at, legal_rights}
 
 -- a delta that is entered leaves the own row
 pub entered_own : (old new : BookView) (entry : Entry) → IsNext old.office old.history entry → new.history ≡ old.history ++ entry ∷ [] → LeavesOwnRow entry old new
 entered_own old new (Asked number request reply delta) next is = tt
 entered_own old new (Joined peer delta) next is = λ event cell own.
     ap (λ (h : List Entry). value_at (state_of h).cells event cell) is ∙ joined_own old.office.me old.history peer delta next.own_row event cell own
+entered_own old new (Grown sites) next is = λ event cell. ap (λ (h : List Entry). value_at (state_of h).cells event cell) is ∙ grown_at old.history sites event cell
 
 -- a book whose history is legal has rights
 pub own_rights : (book : BookView) → IsLegal book.office book.history → HasOwnRights book

@@ -16,7 +16,7 @@ use Rattle.request_ledger.specs.declared.reply.Kept.{Kept}
 use Rattle.request_ledger.specs.declared.reply.SaleState.{SaleState}
 use Rattle.request_ledger.specs.Requests.{is_done}
 use Rattle.book_core.specs.declared.entry.Entry.{Entry}
-use Rattle.book_core.specs.declared.entry.Entry.TheVariants.{Asked, Joined}
+use Rattle.book_core.specs.declared.entry.Entry.TheVariants.{Asked, Joined, Grown}
 use Rattle.request_ledger.specs.Ledger.{Keeping, kept_under, sale_in, sale_if_kept, part_counted, given_back, rest_of, amount_back}
 use Rattle.book_core.specs.History.{state_of, asked, asked_from, kept, sale_of}
 use Rattle.book_core.proofs.Kept.{asked-push}
@@ -57,6 +57,13 @@ sales_found r q event le sale seats amount of less place (Joined peer delta ∷ 
       arith,
       sum_by-cons (sale_part r event) (Joined peer delta) h,
       sum_by-cons (sale_part q event) (Joined peer delta) h,
+      sales_found r q event le sale seats amount of less (place + 1) h k found asked done,
+    )
+sales_found r q event le sale seats amount of less place (Grown sites ∷ h) k found asked done =
+    omega (
+      arith,
+      sum_by-cons (sale_part r event) (Grown sites) h,
+      sum_by-cons (sale_part q event) (Grown sites) h,
       sales_found r q event le sale seats amount of less (place + 1) h k found asked done,
     )
 sales_found r q event le sale seats amount of less place (Asked m request reply delta ∷ h) k found asked done =
@@ -190,6 +197,15 @@ balanced_after office h (Joined peer delta) before next event =
       ap (total Selling event) (operations_push office.me h (Joined peer delta) ∙ append-nil (operations office.me h)),
       sum_by_push (sale_part (kept_seats (h ++ Joined peer delta ∷ [])) event) h (Joined peer delta),
       sales_le (kept_seats (h ++ Joined peer delta ∷ [])) (kept_seats h) event (kept_less h (Joined peer delta)) h,
+    )
+balanced_after office h (Grown sites) before next event =
+    omega (
+      arith,
+      before event,
+      ap (total Refunding event) (operations_push office.me h (Grown sites) ∙ append-nil (operations office.me h)),
+      ap (total Selling event) (operations_push office.me h (Grown sites) ∙ append-nil (operations office.me h)),
+      sum_by_push (sale_part (kept_seats (h ++ Grown sites ∷ [])) event) h (Grown sites),
+      sales_le (kept_seats (h ++ Grown sites ∷ [])) (kept_seats h) event (kept_less h (Grown sites)) h,
     )
 balanced_after office h (Asked number (Announce name) reply delta) before next event =
     balanced_push office.me h number (Announce name) reply delta event (before event)

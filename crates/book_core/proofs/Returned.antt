@@ -13,7 +13,7 @@ use Rattle.request_ledger.specs.GivenBack.{seats_under, seats_if_kept, seats_in}
 use Rattle.request_ledger.specs.Ledger.{Keeping, part_asked, part_counted, given_back, rest_of, amount_back}
 use Rattle.request_ledger.proofs.SumLaws.{Fits, one_more, seats_or_new}
 use Rattle.book_core.specs.declared.entry.Entry.{Entry}
-use Rattle.book_core.specs.declared.entry.Entry.TheVariants.{Asked, Joined}
+use Rattle.book_core.specs.declared.entry.Entry.TheVariants.{Asked, Joined, Grown}
 use Rattle.book_core.specs.Decision.{Office, refund_of, refund_reply, reply_to}
 use Rattle.book_core.specs.History.{asked, kept, sale_of}
 use Rattle.book_core.specs.Legal.{IsNext}
@@ -151,6 +151,11 @@ even_after office h (Joined peer delta) before next sale =
     let count : returned sale h ≡ returned sale (h ++ Joined peer delta ∷ []) = omega (arith, returned_push sale h (Joined peer delta)) in
     let kept_is : asked h ≡ asked (h ++ Joined peer delta ∷ []) = sym (asked-push h (Joined peer delta) ∙ append-nil (asked h)) in
     subst (λ (es : Keeping). Even (returned sale (h ++ Joined peer delta ∷ [])) es sale (seats_under es sale)) kept_is
+    (subst (λ m. Even m (asked h) sale (seats_under (asked h) sale)) count (before sale))
+even_after office h (Grown sites) before next sale =
+    let count : returned sale h ≡ returned sale (h ++ Grown sites ∷ []) = omega (arith, returned_push sale h (Grown sites)) in
+    let kept_is : asked h ≡ asked (h ++ Grown sites ∷ []) = sym (asked-push h (Grown sites) ∙ append-nil (asked h)) in
+    subst (λ (es : Keeping). Even (returned sale (h ++ Grown sites ∷ [])) es sale (seats_under es sale)) kept_is
     (subst (λ m. Even m (asked h) sale (seats_under (asked h) sale)) count (before sale))
 even_after office h (Asked n q r d) before next sale =
     let k : Kept = record { place = length h; request = q; reply = r } in

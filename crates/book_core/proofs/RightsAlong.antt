@@ -16,7 +16,7 @@ use Rattle.request_ledger.specs.declared.request.Request.TheVariants.{Announce, 
 use Rattle.request_ledger.specs.declared.reply.Reply.{Reply}
 use Rattle.request_ledger.specs.Requests.{is_done}
 use Rattle.book_core.specs.declared.entry.Entry.{Entry}
-use Rattle.book_core.specs.declared.entry.Entry.TheVariants.{Asked, Joined}
+use Rattle.book_core.specs.declared.entry.Entry.TheVariants.{Asked, Joined, Grown}
 use Rattle.book_core.specs.History.{delta_of, state_of, sale_of}
 use Rattle.book_core.specs.Decision.{Office, Change, cell_of, change_of, refund_of, marked, addition_of, delta_for}
 use Rattle.book_core.specs.Legal.{IsNext, IsLegal}
@@ -83,6 +83,7 @@ along : (office : Office) (h : List Entry) (entry : Entry) → IsLegal office h 
 along office h (Asked number request reply delta) legal next count event =
     asked_along office h (Asked number request reply delta) count event legal next (subst (λ (d : State). length (marks_of d.cells) ≤ 1) (sym next.change) (delta_few office h request reply))
 along office h (Joined peer delta) legal next count event = joined_along office h peer delta count event legal next
+along office h (Grown sites) legal next count event = asked_along office h (Grown sites) count event legal next none_at_most
 
 pub rights_along : (office : Office) (h : List Entry) (entry : Entry) (ms : List Valued) (X : Cells) → IsLegal office h → IsNext office h entry → X ≡ (state_of h).cells → ms ≡ marks_of (delta_of entry).cells → KeepRights office.me X ms
 rights_along office h entry ms X legal next X_is is =

@@ -21,7 +21,7 @@ use Rattle.request_ledger.specs.declared.reply.Reply.TheVariants.{Unknown, Short
 use Rattle.request_ledger.specs.declared.reply.SaleState.{SaleState}
 use Rattle.request_ledger.specs.Requests.{is_done}
 use Rattle.book_core.specs.declared.entry.Entry.{Entry}
-use Rattle.book_core.specs.declared.entry.Entry.TheVariants.{Asked, Joined}
+use Rattle.book_core.specs.declared.entry.Entry.TheVariants.{Asked, Joined, Grown}
 use Rattle.book_core.specs.History.{state_of, sale_of}
 use Rattle.book_core.specs.Decision.{Office, Kind, Releasing, Selling, Refunding, Ceding, Change, cell_of, change_of, refund_of, marked, addition_of, delta_for, reply_to, own_left}
 use Rattle.book_core.specs.Joining.{RowAtMost}
@@ -239,6 +239,10 @@ pub joined_own : (me : ℕ) (h : List Entry) (peer : ℕ) (delta : State) → Ro
     → (value_at (state_of (h ++ Joined peer delta ∷ [])).cells event cell) ≡ (value_at (state_of h).cells event cell)
 joined_own me h peer delta row event cell own = omega (arith, at-push h (Joined peer delta) (At event cell), row event cell own)
 
+-- a growth leaves each cell
+pub grown_at : (h : List Entry) (sites : ℕ) (event : List ℕ) (cell : Cell) → value_at (state_of (h ++ Grown sites ∷ [])).cells event cell ≡ value_at (state_of h).cells event cell
+grown_at h sites event cell = omega (arith, at-push h (Grown sites) (At event cell), value_at-all_zero event cell)
+
 zero_le : (b : Bool) (v : ℕ) → v ≡ 0 → cond b 0 v ≤ 0
 zero_le true v h = omega arith
 zero_le false v h = omega (arith, h)
@@ -263,6 +267,8 @@ legal_rights office = legal_along office (λ h. (event : List ℕ) → spent (st
               (λ j ne. omega (arith, joined_own office.me h peer delta next.own_row event (Gave office.me j) refl)),
           gained_le (state_of h).cells (state_of (h ++ Joined peer delta ∷ [])).cells event office.me (λ cell. omega (arith, at-push h (Joined peer delta) (At event cell))),
         )
+    more h (Grown sites) before next event =
+        rights_same office.me (state_of h).cells (state_of (h ++ Grown sites ∷ [])).cells event (grown_at h sites event) (before event)
 
 -- a site cedes to others only
 abbrev pub IsProper : ℕ → Kind → Type 0
@@ -326,3 +332,7 @@ legal_cells office = legal_along office (λ h. (k : Kind) → IsProper office.me
         joined_own office.me h peer delta next.own_row event (cell_of office.me k) (own_cell office.me k)
         ∙ before k p event
         ∙ sym (ap (total k event) (operations_push office.me h (Joined peer delta) ∙ append-nil (operations office.me h)))
+    more h (Grown sites) before next k p event =
+        grown_at h sites event (cell_of office.me k)
+        ∙ before k p event
+        ∙ sym (ap (total k event) (operations_push office.me h (Grown sites) ∙ append-nil (operations office.me h)))

@@ -10,7 +10,7 @@ use Rattle.request_ledger.specs.declared.reply.SaleState.{SaleState}
 use Rattle.request_ledger.specs.Requests.{is_done}
 use Rattle.request_ledger.specs.Ledger.{kept_under, sale_in, sale_if_kept, given_back}
 use Rattle.book_core.specs.declared.entry.Entry.{Entry}
-use Rattle.book_core.specs.declared.entry.Entry.TheVariants.{Asked, Joined}
+use Rattle.book_core.specs.declared.entry.Entry.TheVariants.{Asked, Joined, Grown}
 use Rattle.book_core.specs.Decision.{Office, Change, change_of, delta_for, marked, refund_of, refund_reply, reply_to}
 use Rattle.book_core.specs.History.{asked, asked_from, kept, sale_of, state_of}
 use Rattle.book_core.specs.Legal.{IsNext}
@@ -24,6 +24,7 @@ kept_later : (place k : ℕ) (h : List Entry) (number : ℕ) (e : Kept) → kept
 kept_later place zero h number e found = cc
 kept_later place (suc k) [] number e found = cc
 kept_later place (suc k) (Joined peer delta ∷ h) number e found = kept_later (place + 1) k h number e found
+kept_later place (suc k) (Grown sites ∷ h) number e found = kept_later (place + 1) k h number e found
 kept_later place (suc k) (Asked m request reply delta ∷ h) number e found = by_test (m == number) found (kept_later (place + 1) k h number e)
   where
     by_test : (b : Bool) → cond b (Some (record { place = place; request = request; reply = reply })) (kept_under (asked_from (place + 1) (take k h)) number) ≡ Some e
@@ -79,6 +80,7 @@ next_alike office h (Asked number (Release event n) reply delta) whole seats nam
 next_alike office h (Asked number (Sell event n) reply delta) whole seats named = (λ next. next, λ next. next)
 next_alike office h (Asked number (Cede event n to) reply delta) whole seats named = (λ next. next, λ next. next)
 next_alike office h (Joined peer delta) whole seats named = (λ next. next, λ next. next)
+next_alike office h (Grown sites) whole seats named = (λ next. next, λ next. next)
 
 pub legal_is_whole : LegalWithoutPartsIsWhole
 legal_is_whole office h whole seats = (λ legal k entry found. (alike k entry found).0 (legal k entry found), λ legal k entry found. (alike k entry found).1 (legal k entry found))

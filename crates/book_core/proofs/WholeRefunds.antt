@@ -13,7 +13,7 @@ use Rattle.request_ledger.specs.declared.reply.SaleState.{SaleState}
 use Rattle.request_ledger.specs.Requests.{is_done}
 use Rattle.request_ledger.specs.Ledger.{part_counted, rest_of}
 use Rattle.book_core.specs.declared.entry.Entry.{Entry}
-use Rattle.book_core.specs.declared.entry.Entry.TheVariants.{Asked, Joined}
+use Rattle.book_core.specs.declared.entry.Entry.TheVariants.{Asked, Joined, Grown}
 use Rattle.book_core.specs.Decision.{Office, Refunding, change_of, refund_of, refund_reply, reply_to}
 use Rattle.book_core.specs.History.{asked_from, kept, sale_of}
 use Rattle.book_core.specs.WholeRefunds.{NamesNoPart, HasNoParts, is_refund_of, was_refunded, SalesAreRefundedWholeOnce}
@@ -51,6 +51,7 @@ All sale seats place h =
 all : (sale seats place : ℕ) (h : List Entry) → HasNoParts h → All sale seats place h
 all sale seats place [] whole = inr (refl, refl)
 all sale seats place (Joined peer delta ∷ h) whole = all sale seats (place + 1) h (λ k n q r d found. whole (suc k) n q r d found)
+all sale seats place (Grown sites ∷ h) whole = all sale seats (place + 1) h (λ k n q r d found. whole (suc k) n q r d found)
 all sale seats place (Asked n q r d ∷ h) whole =
     by_rest (all sale seats (place + 1) h (λ k m p s e found. whole (suc k) m p s e found)) (one sale seats n place q r (whole zero n q r d refl))
   where

@@ -7,8 +7,8 @@ use Rattle.rights_lattice.specs.declared.cell.Cell.{Cell}
 use Rattle.rights_lattice.specs.State.{names_in_order}
 use Rattle.local_rights.specs.Rights.{HasRights}
 use Rattle.book_core.specs.declared.entry.Entry.{Entry}
-use Rattle.book_core.specs.declared.entry.Entry.TheVariants.{Asked, Joined}
-use Rattle.book_core.specs.Decision.{Office}
+use Rattle.book_core.specs.declared.entry.Entry.TheVariants.{Asked, Joined, Grown}
+use Rattle.book_core.specs.Decision.{Office, sites_of}
 use Rattle.book_core.specs.History.{delta_of, state_of, names_of, asked}
 use Rattle.book_core.specs.Legal.{IsLegal}
 
@@ -32,6 +32,7 @@ SeesWithin viewer owner = RowAtOrBelow owner.office.me (state_of viewer.history)
 abbrev pub numbers_in : Entry → ℕ
 numbers_in (Asked number request reply delta) = 1
 numbers_in (Joined peer delta) = 0
+numbers_in (Grown sites) = 0
 
 -- the entry can be added without more memory
 pub record HasRoomFor (room : Room) (entry : Entry) : Type 0 where
@@ -62,11 +63,13 @@ pub record Spends (entry : Entry) (old new : Room) : Type 0 where
 abbrev pub IsUnkept : Keeping → Entry → Type 0
 IsUnkept es (Asked number request reply delta) = kept_under es number ≡ None
 IsUnkept es (Joined peer delta) = Unit {0}
+IsUnkept es (Grown sites) = Unit {0}
 
 -- the entry, if it is a refund that was done, is of a sale that is kept and gives back no more than is left of it
 abbrev pub KeepsRefunds : Keeping → Entry → Type 0
 KeepsRefunds es (Asked number request reply delta) = IsRefundable es request reply
 KeepsRefunds es (Joined peer delta) = Unit {0}
+KeepsRefunds es (Grown sites) = Unit {0}
 
 -- the rights of a site are not negative after any of the marks
 abbrev pub KeepRights : ℕ → Cells → List Valued → Type 0
@@ -76,10 +79,11 @@ KeepRights me X marks = (count : ℕ) (event : List ℕ) → HasRights (raise_al
 abbrev pub MarksAreWithin : ℕ → List Valued → Type 0
 MarksAreWithin sites marks = (event : List ℕ) (cell : Cell) → 1 ≤ greatest marks event cell → IsCellOf sites cell
 
--- the kept cells, names and numbers are those of the history, which is legal
-pub record IsInOrder (office : Office) (history : List Entry) (cells : Cells) (names : List (List ℕ)) (ledger : Keeping) : Type 0 where
+-- the kept count of sites, cells, names and numbers are those of the history, which is legal
+pub record IsInOrder (office : Office) (history : List Entry) (sites : ℕ) (cells : Cells) (names : List (List ℕ)) (ledger : Keeping) : Type 0 where
   pub me_is_site : office.me < office.sites
   pub legal : IsLegal office history
+  pub sites_are : sites ≡ sites_of office history
   pub cells_are : cells ≡ (state_of history).cells
   pub names_are : names ≡ names_of history
   pub kept_are : ledger ≡ asked history

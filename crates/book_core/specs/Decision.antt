@@ -1,5 +1,6 @@
 -- The decision on a request, and the delta of an accepted one. (The delta: JPDC 2018; the decision: our own.)
 use Rattle.std.specs.Prelude.{ℕ, ◌+◌, Bool, Option, Some, None, if◌then◌else◌, not, ◌==◌, nat_lt, nat_le, List, length}
+use Rattle.std.specs.List.{fold}
 use Rattle.rights_lattice.specs.declared.cell.Cell.{Cell}
 use Rattle.rights_lattice.specs.declared.cell.Cell.TheVariants.{Gave, Used, Back}
 use Rattle.rights_lattice.specs.Cells.{Cells, value_at, max_value}
@@ -19,13 +20,21 @@ use Rattle.request_ledger.specs.Requests.{is_done, same_request}
 use Rattle.request_ledger.specs.Ledger.{rest_of, amount_back}
 use Rattle.book_core.specs.declared.entry.Entry.{Entry}
 use Rattle.book_core.specs.declared.entry.Entry.TheVariants.{Asked}
-use Rattle.book_core.specs.History.{state_of, kept, sale_of}
+use Rattle.book_core.specs.History.{state_of, kept, sale_of, sites_after}
 
--- a site, the count of sites, and the greatest length of a history
+-- a site, the count of sites with which its history begins, and the greatest length of the history
 pub record Office : Type 0 where
   pub me : ℕ
   pub sites : ℕ
   pub limit : ℕ
+
+-- the count of sites after a history
+abbrev pub sites_of : Office → List Entry → ℕ
+sites_of office h = fold sites_after office.sites h
+
+-- the same office, with the count of sites after a history
+abbrev pub office_after : Office → List Entry → Office
+office_after office h = record office { sites = sites_of office h }
 
 -- what an accepted request adds to, and how much
 pub data Kind : Type 0 where
@@ -107,7 +116,7 @@ reply_to office h (Refund sale part) = refund_reply (sale_of h sale) part
 reply_to office h (Cede event n to) =
     if not (knows (state_of h).names event) then Unknown
     else if to == office.me then ToSelf
-    else if nat_le office.sites to then NoSite
+    else if nat_le (sites_of office h) to then NoSite
     else if nat_lt (own_left office h event) n then Short (own_left office h event)
     else if is_full (state_of h).cells event (Gave office.me to) n then CellFull
     else Done

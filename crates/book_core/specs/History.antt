@@ -7,12 +7,13 @@ use Rattle.request_ledger.specs.declared.reply.SaleState.{SaleState}
 use Rattle.request_ledger.specs.Ledger.{Keeping, kept_under, sale_under}
 use Rattle.event_catalogue.specs.Catalogue.{with_new}
 use Rattle.book_core.specs.declared.entry.Entry.{Entry}
-use Rattle.book_core.specs.declared.entry.Entry.TheVariants.{Asked, Joined}
+use Rattle.book_core.specs.declared.entry.Entry.TheVariants.{Asked, Joined, Grown}
 
 -- the delta of an entry
 abbrev pub delta_of : Entry → State
 delta_of (Asked number request reply delta) = delta
 delta_of (Joined peer delta) = delta
+delta_of (Grown sites) = bottom
 
 -- the join of the deltas
 abbrev pub state_of : List Entry → State
@@ -29,6 +30,7 @@ asked_from place [] = []
 asked_from place (Asked number request reply delta ∷ entries) =
     (number, record { place = place; request = request; reply = reply }) ∷ asked_from (place + 1) entries
 asked_from place (Joined peer delta ∷ entries) = asked_from (place + 1) entries
+asked_from place (Grown sites ∷ entries) = asked_from (place + 1) entries
 
 abbrev pub asked : List Entry → Keeping
 asked h = asked_from 0 h
@@ -40,6 +42,12 @@ kept h number = kept_under (asked h) number
 -- the sale under a number that was done
 abbrev pub sale_of : List Entry → ℕ → Option SaleState
 sale_of h number = sale_under (asked h) number
+
+-- the count of sites after an entry
+abbrev pub sites_after : ℕ → Entry → ℕ
+sites_after before (Asked number request reply delta) = before
+sites_after before (Joined peer delta) = before
+sites_after before (Grown sites) = sites
 
 -- the names of a history, by first appearance
 abbrev pub names_of : List Entry → List (List ℕ)

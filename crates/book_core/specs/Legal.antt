@@ -1,12 +1,13 @@
 -- Legal histories. (That a site alone changes its row: SRDS 2015; the order: RR-7506; the rest: our own.)
-use Rattle.std.specs.Prelude.{◌≡◌, ℕ, ◌<◌, List, length, take, slice_get, Some, None}
+use Rattle.std.specs.Prelude.{◌≡◌, ℕ, ◌<◌, ◌≤◌, List, length, take, slice_get, Some, None}
+use Rattle.rights_lattice.specs.Limits.{most_sites}
 use Rattle.rights_lattice.specs.RightsView.{IsWithin}
 use Rattle.rights_lattice.specs.State.{State, AtOrBelow}
 use Rattle.request_ledger.specs.declared.request.Request.{Request}
 use Rattle.request_ledger.specs.declared.reply.Reply.{Reply}
 use Rattle.book_core.specs.declared.entry.Entry.{Entry}
-use Rattle.book_core.specs.declared.entry.Entry.TheVariants.{Asked, Joined}
-use Rattle.book_core.specs.Decision.{Office, delta_for, reply_to}
+use Rattle.book_core.specs.declared.entry.Entry.TheVariants.{Asked, Joined, Grown}
+use Rattle.book_core.specs.Decision.{Office, delta_for, office_after, reply_to, sites_of}
 use Rattle.book_core.specs.History.{state_of, kept}
 use Rattle.book_core.specs.Joining.{IsPeer, RowAtMost}
 
@@ -20,15 +21,22 @@ pub record IsNextAsked (office : Office) (h : List Entry) (number : ℕ) (reques
 -- a peer's delta within the limit, of the book's sites, with nothing new on the own row and something new elsewhere
 pub record IsNextJoined (office : Office) (h : List Entry) (peer : ℕ) (delta : State) : Type 0 where
   pub room : length h < office.limit
-  pub from_peer : IsPeer office peer
-  pub sites : IsWithin office.sites delta.cells
+  pub from_peer : IsPeer (office_after office h) peer
+  pub sites : IsWithin (sites_of office h) delta.cells
   pub own_row : RowAtMost office.me delta (state_of h)
   pub news : AtOrBelow delta (state_of h) → ⊥
+
+-- more sites than before, and no more than there can be, within the limit
+pub record IsNextGrown (office : Office) (h : List Entry) (sites : ℕ) : Type 0 where
+  pub room : length h < office.limit
+  pub more : sites_of office h < sites
+  pub few : sites ≤ most_sites
 
 -- the entry is legal after this history
 abbrev pub IsNext : Office → List Entry → Entry → Type 0
 IsNext office h (Asked number request reply delta) = IsNextAsked office h number request reply delta
 IsNext office h (Joined peer delta) = IsNextJoined office h peer delta
+IsNext office h (Grown sites) = IsNextGrown office h sites
 
 -- each entry is legal after those before it
 abbrev pub IsLegal : Office → List Entry → Type 0

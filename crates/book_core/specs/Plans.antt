@@ -2,7 +2,7 @@
 use Rattle.std.specs.Prelude.{◌≡◌, ℕ, false}
 use Rattle.request_ledger.specs.Requests.{is_done}
 use Rattle.book_core.specs.declared.entry.Entry.{Entry}
-use Rattle.book_core.specs.declared.entry.Entry.TheVariants.{Asked, Joined}
+use Rattle.book_core.specs.declared.entry.Entry.TheVariants.{Asked, Joined, Grown}
 use Rattle.request_ledger.specs.declared.request.Request.{Request}
 use Rattle.request_ledger.specs.declared.reply.Reply.{Reply}
 use Rattle.book_core.specs.declared.plan.Plan.{Plan}
@@ -14,7 +14,11 @@ use Rattle.book_core.specs.declared.plan.JoinPlan.{JoinPlan}
 use Rattle.book_core.specs.declared.plan.JoinPlan.TheVariants as join_plan
 use Rattle.book_core.specs.declared.plan.JoinFault.{JoinFault}
 use Rattle.book_core.specs.declared.plan.JoinFault.TheVariants as join_fault
+use Rattle.book_core.specs.declared.plan.GrowFault.{GrowFault}
+use Rattle.book_core.specs.declared.plan.GrowFault.TheVariants as grow_fault
 use Rattle.rights_lattice.specs.State.{State}
+use Rattle.book_core.specs.Growing as grow
+use Rattle.book_core.specs.Growing.{grow_decision}
 use Rattle.book_core.specs.Joining as join
 use Rattle.book_core.specs.Joining.{join_decision}
 use Rattle.book_core.specs.Legal.{IsNext}
@@ -24,16 +28,19 @@ use Rattle.book_core.specs.BookView.{BookView, HasRoomFor, KeepsRoom}
 abbrev pub IsEntryOf : ℕ → Request → Entry → Type 0
 IsEntryOf number request (Asked n q reply delta) = (n ≡ number) × (q ≡ request)
 IsEntryOf number request (Joined peer delta) = ⊥
+IsEntryOf number request (Grown sites) = ⊥
 
 -- the entry is of a request
 abbrev pub IsAsked : Entry → Type 0
 IsAsked (Asked number request reply delta) = Unit {0}
 IsAsked (Joined peer delta) = ⊥
+IsAsked (Grown sites) = ⊥
 
 -- the entry is of a request that has this reply
 abbrev pub HasReply : Entry → Reply → Type 0
 HasReply (Asked number request reply delta) r = r ≡ reply
 HasReply (Joined peer delta) r = ⊥
+HasReply (Grown sites) r = ⊥
 
 -- the entry may follow the book's history, and the book has room for it
 pub record IsReady (book : BookView) (entry : Entry) : Type 0 where
@@ -83,3 +90,21 @@ LeavesJoinRoom _ old new = new ≡ old
 abbrev pub IsJoinFault : BookView → ℕ → State → JoinFault → Type 0
 IsJoinFault book peer delta join_fault.Memory = join_decision book.office book.history peer delta ≡ join.Joins
 IsJoinFault book peer delta fault = join_decision book.office book.history peer delta ≡ join.Refuses fault
+
+-- the plan is the decision on the count of sites
+pub record IsGrowPlan (book : BookView) (sites : ℕ) (entry : Entry) : Type 0 where
+  pub grows : grow_decision book.office book.history sites ≡ grow.Grows
+  pub is_growth : entry ≡ Grown sites
+  pub ready : IsReady book entry
+
+-- where nothing grows the book stays wholly as it is, its room too; for an entry no room is lost
+abbrev pub LeavesGrowRoom : grow.GrowDecision → BookView → BookView → Type 0
+LeavesGrowRoom grow.Grows old new = KeepsRoom old.room new.room
+LeavesGrowRoom _ old new = new ≡ old
+
+-- the fault is the decision on the count, or memory was refused to a growth
+abbrev pub IsGrowFault : BookView → ℕ → GrowFault → Type 0
+IsGrowFault book sites grow_fault.NotMore = grow_decision book.office book.history sites ≡ grow.NotMore
+IsGrowFault book sites grow_fault.Full = grow_decision book.office book.history sites ≡ grow.Full
+IsGrowFault book sites grow_fault.Memory = grow_decision book.office book.history sites ≡ grow.Grows
+IsGrowFault book sites _ = ⊥

@@ -5,7 +5,7 @@ use Rattle.request_ledger.specs.declared.request.Request.TheVariants.{Refund}
 use Rattle.request_ledger.specs.declared.reply.SaleState.{SaleState}
 use Rattle.request_ledger.specs.Requests.{is_done}
 use Rattle.book_core.specs.declared.entry.Entry.{Entry}
-use Rattle.book_core.specs.declared.entry.Entry.TheVariants.{Asked, Joined}
+use Rattle.book_core.specs.declared.entry.Entry.TheVariants.{Asked, Joined, Grown}
 use Rattle.book_core.specs.Decision.{Office, Change, change_of}
 use Rattle.book_core.specs.History.{sale_of}
 use Rattle.book_core.specs.Legal.{IsLegal}
@@ -22,6 +22,7 @@ returned_in sale before _ = 0
 abbrev pub returned_by : ℕ → List Entry → Entry → ℕ
 returned_by sale before (Asked number request reply delta) = if is_done reply then returned_in sale before request else 0
 returned_by sale before (Joined peer delta) = 0
+returned_by sale before (Grown sites) = 0
 
 abbrev pub returned_from : ℕ → List Entry → List Entry → ℕ
 returned_from sale before [] = 0

@@ -5,8 +5,8 @@ ghost use Rattle.rights_lattice.specs.Cells.{value_at, raise_all, max_value};
 ghost use Rattle.rights_lattice.specs.State.{knows};
 ghost use Rattle.local_rights.specs.Rights.{HasRights, released_in, sold_in, refunded_in};
 ghost use Rattle.request_ledger.specs.Ledger.{kept_under, IsRefundable};
-ghost use Rattle.book_core.specs.History.{state_of, kept, sale_of, names_of, asked_from};
-ghost use Rattle.book_core.specs.Decision.{own_left};
+ghost use Rattle.book_core.specs.History.{state_of, kept, sale_of, names_of, asked_from, sites_after};
+ghost use Rattle.book_core.specs.Decision.{own_left, sites_of};
 ghost use Rattle.book_core.specs.Legal.{IsLegal};
 ghost use Rattle.book_core.specs.BookView.{HasRoomFor, KeepsRoom, IsUnkept, KeepsRefunds, MakesNoRoom, Spends, KeepRights, MarksAreWithin, SeesWithin, numbers_in};
 ghost use Rattle.book_core.specs.OwnRow.{HasOwnRights, LeavesOwnRow};
@@ -24,6 +24,7 @@ use std::alloc::{AllocError, Global};
 use std::marker::Model;
 
 mod deciding;
+mod growing;
 mod joining;
 mod replaying;
 
@@ -31,6 +32,8 @@ mod replaying;
 #[derive(Drop)]
 pub struct Book {
     limit: Limit,
+    /// The count of sites that the history began with.
+    first: Sites,
     history: Vec<Entry>,
     rights: Counted,
     names: Catalogue,
@@ -47,7 +50,7 @@ impl Model for Book {
     ghost coded = { coded_book };
 
     ghost view = { λ b. record {
-      office = record { me = b.rights.me; sites = b.rights.sites; limit = b.limit };
+      office = record { me = b.rights.me; sites = b.first; limit = b.limit };
       history = b.history.items;
       room = record {
         entries = vec_capacity b.history - vec_len b.history;
@@ -57,7 +60,7 @@ impl Model for Book {
       };
     } };
 
-    ghost invariant = { λ b. IsInOrder (record { me = b.rights.me; sites = b.rights.sites; limit = b.limit }) b.history.items b.rights.cells b.names.names b.ledger.entries };
+    ghost invariant = { λ b. IsInOrder (record { me = b.rights.me; sites = b.first; limit = b.limit }) b.history.items b.rights.sites b.rights.cells b.names.names b.ledger.entries };
 }
 
 impl Book {
@@ -70,6 +73,7 @@ impl Book {
     {
         Book {
             limit,
+            first: sites,
             history: Vec::new(alloc),
             rights: Counted::new(alloc, me, sites),
             names: Catalogue::new(alloc),
@@ -85,9 +89,9 @@ impl Book {
         self.rights.me()
     }
 
-    /// The count of sites.
+    /// The count of sites so far: that of the last growth, or that with which the history began.
     pub fn sites(&self) -> Sites
-        ensures { result ≡ self.now.office.sites }
+        ensures { result ≡ sites_of self.now.office self.now.history }
     {
         self.rights.rights().sites()
     }
@@ -187,8 +191,8 @@ impl Book {
 
     /// Adds a planned entry to the history.
     ///
-    /// A delta that is joined changes no cell of the own row, and the own rights are never negative,
-    /// whatever deltas come, forged ones too.
+    /// A delta that is joined changes no cell of the own row, a growth none at all, and the own rights are never
+    /// negative, whatever deltas come, forged ones too.
     pub fn enter(&mut self, planned: Planned)
         requires { IsReady self.old planned }
         ensures office { self.new.office ≡ self.old.office }
@@ -202,6 +206,7 @@ impl Book {
         raise_marks(&mut self.rights, entry.delta().marks());
         self.names.join(entry.delta().names());
         keep(&mut self.ledger, self.history.len(), &entry);
+        widen(&mut self.rights, &entry);
         self.history.push_reserved(entry);
     }
 
@@ -261,6 +266,19 @@ fn keep(ledger: &mut Ledger, place: usize, entry: &Entry)
             reply,
             ..
         } => ledger.keep(*number, place, *request, *reply),
-        Entry::Joined { .. } => {}
+        Entry::Joined { .. } | Entry::Grown { .. } => {}
+    }
+}
+
+// Counts the sites of an entry that grows; of others the count stays.
+fn widen(rights: &mut Counted, entry: &Entry)
+    requires { rights.old.sites ≤ sites_after rights.old.sites entry.now }
+    ensures sites { rights.new.sites ≡ sites_after rights.old.sites entry.now }
+    ensures cells { rights.new.cells ≡ rights.old.cells }
+    ensures me { rights.new.me ≡ rights.old.me }
+    ensures room { rights.new.room ≡ rights.old.room }
+{
+    if let Entry::Grown { sites } = entry {
+        rights.grow(sites.sites());
     }
 }

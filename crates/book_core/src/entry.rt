@@ -1,12 +1,13 @@
 //! Entries of a history.
 ghost use Rattle.std.specs.Prelude.{◌≡◌, IfOk};
 
+use crate::growth::Growth;
 use delta_mutators::Delta;
 use request_ledger::{Reply, Request, RequestNumber};
 use rights_lattice::SiteId;
 use std::alloc::{AllocError, Global};
 
-/// One entry of a site's history: a request that was decided, or a delta of a peer that was joined.
+/// One entry of a site's history: a request that was decided, a delta of a peer that was joined, or more sites.
 #[derive(Debug, Drop)]
 pub enum Entry {
     /// A request with its reply; the delta is empty unless the reply is `Done`.
@@ -21,6 +22,10 @@ pub enum Entry {
         peer: SiteId,
         delta: Delta,
     },
+    /// The site counts more sites from here on.
+    Grown {
+        sites: Growth,
+    },
 }
 
 impl Entry {
@@ -33,6 +38,7 @@ impl Entry {
         match self {
             Entry::Asked { delta, .. } => delta,
             Entry::Joined { delta, .. } => delta,
+            Entry::Grown { sites } => sites.delta(),
         }
     }
 
@@ -55,6 +61,9 @@ impl Entry {
             Entry::Joined { peer, delta } => Ok(Entry::Joined {
                 peer: *peer,
                 delta: delta.copy(alloc)?,
+            }),
+            Entry::Grown { sites } => Ok(Entry::Grown {
+                sites: Growth::to(alloc, sites.sites()),
             }),
         }
     }

@@ -3,11 +3,15 @@
 
 pub mod book;
 pub mod entry;
+pub mod growth;
 pub mod laws;
 pub mod limit;
 pub mod plan;
 
 pub use book::Book;
 pub use entry::Entry;
+pub use growth::Growth;
 pub use limit::Limit;
-pub use plan::{JoinDecision, JoinFault, JoinPlan, Plan, PlanFault, Planned, ReplayFault};
+pub use plan::{
+    GrowFault, JoinDecision, JoinFault, JoinPlan, Plan, PlanFault, Planned, ReplayFault,
+};

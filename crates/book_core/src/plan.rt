@@ -40,7 +40,7 @@ impl Planned {
     {
         match &self.entry {
             Entry::Asked { reply, .. } => *reply,
-            Entry::Joined { .. } => unreachable!(),
+            Entry::Joined { .. } | Entry::Grown { .. } => unreachable!(),
         }
     }
 }
@@ -101,6 +101,25 @@ pub enum JoinFault {
     Full,
     #[error("out of memory")]
     Memory,
+}
+
+/// Why a site does not count more sites. A plan tells the second to the fourth; the others are of a book and its keeper.
+#[derive(Clone, Copy, PartialEq, Eq, Debug, Error)]
+pub enum GrowFault {
+    /// The keeper failed before, and the book answers no more.
+    #[error("the book is closed")]
+    Closed,
+    /// The count is no more than the count so far.
+    #[error("the count is no more than before")]
+    NotMore,
+    /// The history is as long as it may become.
+    #[error("the history is full")]
+    Full,
+    #[error("out of memory")]
+    Memory,
+    /// The keeper failed.
+    #[error("the entry could not be stored")]
+    Store,
 }
 
 /// Why a list of entries is no history of a book.

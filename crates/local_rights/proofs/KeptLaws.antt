@@ -53,6 +53,17 @@ kept_new kept n m me X empty same all lt few =
       are_all = λ e c some. absurd (omega (arith, some, at e c));
     }
 
+-- over more sites the same is kept
+pub kept_grown : (kept : List (List ℕ × ℕ)) (n m me : ℕ) (X Y : Cells) → AreKept kept n me X → n ≤ m → m ≤ most_sites → Y ≡ X → AreKept kept m me Y
+kept_grown kept n m me X Y h more few same =
+    subst (AreKept kept m me) (sym same) (record {
+      me_is_site = omega (arith, h.me_is_site, more);
+      are_few = few;
+      are_values = h.are_values;
+      are_left = h.are_left;
+      are_all = h.are_all;
+    })
+
 -- what is kept of an event is what is left of it
 pub kept_left : (kept : List (List ℕ × ℕ)) (n me : ℕ) (X : Cells) (e : List ℕ) → AreKept kept n me X → (left_in kept e ≡ gained X e me - spent X e me) × HasRights X e me
 kept_left kept n me X e h = (omega (arith, h.are_left e), omega (arith, h.are_left e))

@@ -59,6 +59,17 @@ impl Counted {
         }
     }
 
+    /// Counts so many sites, and no fewer than before. Each cell and what the site has left stay as they are.
+    pub fn grow(&mut self, sites: Sites)
+        requires not_fewer { self.old.sites ≤ sites }
+        ensures sites { self.new.sites ≡ sites }
+        ensures me { self.new.me ≡ self.old.me }
+        ensures cells { self.new.cells ≡ self.old.cells }
+        ensures room { self.new.room ≡ self.old.room }
+    {
+        self.rights.grow(sites);
+    }
+
     /// The state of rights.
     pub fn rights(&self) -> &Rights
         ensures cells { result.now.cells ≡ self.now.cells }

@@ -13,7 +13,7 @@ use Rattle.rights_lattice.specs.Cell.{same_cell, same_event}
 use Rattle.rights_lattice.specs.Cells.{Key, Cells, Valued, value_at, all_zero, raise, raise_all, greatest, value_in, is_of, max_value}
 use Rattle.rights_lattice.specs.RightsView.{RightsView, IsCellOf, IsWithin, missing}
 use Rattle.rights_lattice.specs.Spots.{same_spot, marks_in, cells_in, IsValued, AreSpots}
-use Rattle.rights_lattice.proofs.CellLaws.{same_cells, value_at-raise, of_same, is_of-same, value_in-same}
+use Rattle.rights_lattice.proofs.CellLaws.{same_cells, value_at-raise, of_same, value_in-same}
 use Rattle.rights_lattice.proofs.RightsLaws.{value_at-marks}
 use Rattle.rights_lattice.proofs.MissingLaws.{missing-raise}
 use Rattle.rights_lattice.proofs.SpotLaws.{is_of-tests}
@@ -128,6 +128,18 @@ valued-set n (e ∷ es) test w h low high = by_test (test e.0) (valued-set n es 
     by_test : (b : Bool) → All (IsValued n) (set_value test es w) → All (IsValued n) (cond b ((e.0, w) ∷ es) (e ∷ set_value test es w))
     by_test true rest = first_and n (e.0, w) es (low, high, (h 0 e (omega arith)).2) (tail_of n e es h)
     by_test false rest = first_and n e (set_value test es w) (h 0 e (omega arith)) rest
+
+-- over more sites the same table is kept
+of_more : (n m : ℕ) (c : Cell) → n ≤ m → IsCellOf n c → IsCellOf m c
+of_more n m (Gave by to) le of = (omega (arith, of.0, le), omega (arith, of.1, le))
+of_more n m (Used by) le of = omega (arith, of, le)
+of_more n m (Back by) le of = omega (arith, of, le)
+
+pub valued-grown : (n m : ℕ) (es : List (Key × ℕ)) → n ≤ m → All (IsValued n) es → All (IsValued m) es
+valued-grown n m es le h k d lt = let v = h k d lt in (v.0, v.1, of_more n m _ le v.2)
+
+pub spots-grown : (n m : ℕ) (es : List (Key × ℕ)) → n ≤ m → AreSpots n es → AreSpots m es
+spots-grown n m es le h = record { valued = valued-grown n m es le h.valued; once = h.once }
 
 -- what is found is within its limit
 at_most : (es : List (Key × ℕ)) (n : ℕ) (test : Key → Bool) → All (IsValued n) es → unwrap_or (lookup test es) 0 ≤ max_value

@@ -15,7 +15,7 @@ site_numbers = greatest_site + 1
 
 -- the greatest count of sites of a world
 abbrev pub most_sites : ℕ
-most_sites = 16
+most_sites = 64
 
 -- the most bytes of an event's name
 abbrev pub longest_name : ℕ

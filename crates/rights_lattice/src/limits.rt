@@ -7,7 +7,7 @@ pub const GREATEST_SITE: u64 = 63;
 pub const SITE_NUMBERS: usize = GREATEST_SITE as usize + 1;
 
 /// The greatest count of sites of a world.
-pub const MOST_SITES: u64 = 16;
+pub const MOST_SITES: u64 = 64;
 
 /// The most bytes of an event's name.
 pub const LONGEST_NAME: usize = 32;

@@ -61,6 +61,16 @@ impl Rights {
         self.sites
     }
 
+    /// Counts so many sites, and no fewer than before. Each cell stays as it is, which is 0 where it is of a new site.
+    pub fn grow(&mut self, sites: Sites)
+        requires not_fewer { self.old.sites ≤ sites }
+        ensures sites { self.new.sites ≡ sites }
+        ensures cells { self.new.cells ≡ self.old.cells }
+        ensures room { self.new.room ≡ self.old.room }
+    {
+        self.sites = sites;
+    }
+
     /// The value of a cell, which is 0 where the cell names a site past the count.
     pub fn get(&self, event: Event, cell: Cell) -> u64
         ensures value { result ≡ value_at self.now.cells event cell }
@@ -106,9 +116,9 @@ impl Rights {
         }
     }
 
-    /// Raises each cell to the greater of the two states.
+    /// Raises each cell to the greater of the two states, of which the other counts no more sites.
     pub fn join(&mut self, other: &Rights)
-        requires sites { other.now.sites ≡ self.old.sites }
+        requires sites { other.now.sites ≤ self.old.sites }
         requires room { missing self.old.cells other.now.cells ≤ self.old.room }
         ensures cells { self.new.cells ≡ join self.old.cells other.now.cells }
         ensures sites { self.new.sites ≡ self.old.sites }

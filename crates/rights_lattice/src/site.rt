@@ -48,7 +48,7 @@ impl SiteId {
     }
 }
 
-/// A count of sites, 1 to 16.
+/// A count of sites, 1 to 64.
 #[derive(Clone, Copy, PartialEq, Eq, Debug)]
 pub struct Sites {
     count: u8,
@@ -68,7 +68,7 @@ impl Model for Sites {
 }
 
 impl Sites {
-    /// The count, where it is 1 to 16.
+    /// The count, where it is 1 to 64.
     pub fn of(count: u64) -> Option<Sites>
         ensures in_range { IsSome result ↔ ((1 ≤ count) × (count ≤ most_sites)) }
         ensures same { IfSome result (λ sites. sites ≡ count) }
@@ -80,7 +80,7 @@ impl Sites {
         }
     }
 
-    /// The count, 1 to 16.
+    /// The count, 1 to 64.
     pub fn count(self) -> u64
         ensures count { result ≡ self }
         ensures at_least_one { 1 ≤ result }

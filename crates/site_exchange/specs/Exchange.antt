@@ -7,7 +7,7 @@ use Rattle.book_core.specs.declared.entry.Entry.{Entry}
 use Rattle.book_core.specs.declared.entry.Entry.TheVariants.{Joined}
 use Rattle.book_core.specs.declared.plan.JoinFault.{JoinFault}
 use Rattle.book_core.specs.declared.plan.JoinFault.TheVariants as join_fault
-use Rattle.book_core.specs.Decision.{Office}
+use Rattle.book_core.specs.Decision.{Office, office_after}
 use Rattle.book_core.specs.History.{interval}
 use Rattle.book_core.specs.Joining as join
 use Rattle.site_exchange.specs.declared.message.Message.{Message}
@@ -42,7 +42,7 @@ abbrev pub receiver : Message → ℕ
 receiver (Delta by to upto delta) = to
 receiver (Ack by to upto) = to
 
--- the message is for this site, from another site of the book
+-- the message is for this site, from another of the sites that it counts
 abbrev pub addressed : Office → ℕ → ℕ → Option CheckFault
 addressed office by to =
     if not (to == office.me) || (by == office.me) then Some check_fault.NotForMe
@@ -55,8 +55,8 @@ or_stray None upto len = if nat_lt len upto then Some (check_fault.StrayAck len)
 
 -- why a message is not looked at, if it isn't
 abbrev pub check : Office → List Entry → Message → Option CheckFault
-check office h (Delta by to upto delta) = addressed office by to
-check office h (Ack by to upto) = or_stray (addressed office by to) upto (length h)
+check office h (Delta by to upto delta) = addressed (office_after office h) by to
+check office h (Ack by to upto) = or_stray (addressed (office_after office h) by to) upto (length h)
 
 -- what a site does with a message
 pub data Verdict : Type 0 where

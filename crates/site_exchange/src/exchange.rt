@@ -1,6 +1,7 @@
 //! What each peer has acknowledged, what is pending for it, and the message that is due to it.
 ghost use Rattle.std.specs.Prelude.{◌≡◌, ◌≢◌, ◌<◌, ◌≤◌, [], ℕ, List, max, set, get_or, length, IfOk, IsSome, OnOk, OnErr};
 ghost use Rattle.book_core.specs.declared.entry.Entry.{Entry as Entered};
+ghost use Rattle.book_core.specs.Decision.{sites_of};
 ghost use Rattle.book_core.specs.History.{interval};
 ghost use Rattle.delta_buffer.specs.Pending.{IsPendingOf};
 ghost use Rattle.site_exchange.specs.Exchange.{next, zeros};
@@ -86,7 +87,7 @@ impl Exchange {
         book: &Book,
         to: SiteId,
     ) -> Result<Option<Message>, AllocError>
-        requires site { to < book.now.office.sites }
+        requires site { to < sites_of book.now.office book.now.history }
         requires other { to ≢ book.now.office.me }
         requires acked { get_or self.old.acked to 0 ≤ length book.now.history }
         requires pending { IsPendingIn book.now.history self.old.pendings to }

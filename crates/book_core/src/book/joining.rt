@@ -5,6 +5,7 @@ ghost use Rattle.rights_lattice.specs.Cells.{value_at};
 ghost use Rattle.rights_lattice.specs.State.{is_within, knows};
 ghost use Rattle.rights_lattice.specs.RightsView.{are_within, is_cell_of};
 ghost use Rattle.book_core.specs.History.{state_of, delta_of};
+ghost use Rattle.book_core.specs.Decision.{office_after};
 ghost use Rattle.book_core.specs.Joining.{decision_told, foreign, is_foreign, is_of_sites, join_decision};
 ghost use Rattle.book_core.specs.OwnRow.{HasOwnRights, KeepsOwnRow};
 ghost use Rattle.book_core.specs.Plans.{IsJoinPlan, IsJoinFault, LeavesJoinRoom};
@@ -69,7 +70,7 @@ impl Book {
     }
 
     pub(super) fn is_of_sites(&self, peer: SiteId, delta: &Delta) -> bool
-        ensures { result ≡ is_of_sites self.now.office peer delta.now }
+        ensures { result ≡ is_of_sites (office_after self.now.office self.now.history) peer delta.now }
     {
         let sites = self.sites();
         peer.number() < sites.count() && peer != self.me() && are_within(sites, delta.marks())
@@ -103,6 +104,7 @@ fn delta_in(entry: Entry) -> Delta
     match entry {
         Entry::Asked { delta, .. } => delta,
         Entry::Joined { delta, .. } => delta,
+        Entry::Grown { sites } => sites.into_delta(),
     }
 }
 

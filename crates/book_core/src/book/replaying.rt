@@ -2,7 +2,7 @@
 ghost use Rattle.std.specs.Prelude.{IfOk, IfErr, OnOk, IsTrue, ◌↔◌, ◌≡◌, ◌<◌};
 ghost use Rattle.delta_mutators.specs.Items.{state_of};
 ghost use Rattle.book_core.specs.Decision.{state_of_item};
-ghost use Rattle.book_core.specs.Legal.{IsLegal, IsNext, IsNextAsked, IsNextJoined};
+ghost use Rattle.book_core.specs.Legal.{IsLegal, IsNext, IsNextAsked, IsNextGrown, IsNextJoined};
 ghost use Rattle.book_core.specs.OwnRow.{HasOwnRights};
 ghost use Rattle.book_core.specs.Replay.{HasLists, IsReplayFault};
 
@@ -59,6 +59,7 @@ impl Book {
                 delta,
             } => self.is_next_asked(*number, request, *reply, delta),
             Entry::Joined { peer, delta } => self.is_next_joined(*peer, delta),
+            Entry::Grown { sites } => self.is_next_grown(sites.sites()),
         }
     }
 
@@ -94,6 +95,15 @@ impl Book {
             return false;
         }
         !self.has_all_of(delta)
+    }
+
+    fn is_next_grown(&self, sites: Sites) -> bool
+        ensures { IsTrue result ↔ IsNextGrown self.now.office self.now.history sites }
+    {
+        if self.is_full() {
+            return false;
+        }
+        self.sites().count() < sites.count()
     }
 }
 

@@ -10,7 +10,7 @@ use Rattle.book_core.proofs.book.Book.refund.Goals as goal
 pub unreachable-requires : goal.unreachable-requires
 unreachable-requires c =
     let fields = c.self.inside in
-    let office : Office = record { me = fields.rights.me; sites = fields.rights.sites; limit = fields.limit } in
+    let office : Office = record { me = fields.rights.me; sites = fields.first; limit = fields.limit } in
     let found : sale_of fields.history.items c.args.number ≡ Some c.in-Some.sale =
     subst (λ (b : BookView). sale_of b.history c.args.number ≡ Some c.in-Some.sale) (sym c.self.view_is) (sym c.sale.ensures ∙ c.in-Some.is) in
     let same : c.me-me.result ≡ fields.rights.me = c.me-me.ensures.me ∙ sym (ap (λ (b : BookView). b.office.me) c.self.view_is) in

@@ -7,7 +7,7 @@ use Rattle.rights_lattice.specs.Spots.{marks_in, IsValued}
 use Rattle.rights_lattice.proofs.CellLaws.{same_cells, value_at-join}
 use Rattle.rights_lattice.proofs.RightsLaws.{value_at-marks}
 use Rattle.rights_lattice.proofs.TestLaws.{one_if_zero}
-use Rattle.rights_lattice.proofs.TableLaws.{first_of}
+use Rattle.rights_lattice.proofs.TableLaws.{first_of, valued-grown}
 use Rattle.rights_lattice.proofs.rights.Rights.join.Goals as goal
 
 pub loop-event-init : goal.loop-event-init
@@ -18,7 +18,8 @@ loop-event-init c =
     let shown : (e : List ℕ) (d : Cell) → greatest (marks_in es) e d ≡ value_at c.args.other.now.cells e d =
     λ e d. ap (λ (l : List (Key × ℕ)). greatest (marks_in l) e d) same ∙ sym (value_at-marks (marks_in o.values.entries) e d) ∙ ap (λ (v : RightsView). value_at v.cells e d) c.other.view_is in
     record {
-      valued = subst (All (IsValued c.args.self.now.sites)) (sym same) (subst (λ n. All (IsValued n) o.values.entries) (ap (λ (v : RightsView). v.sites) c.other.view_is ∙ c.requires.sites) c.other.invariant.0.valued);
+      valued = subst (All (IsValued c.args.self.now.sites)) (sym same)
+          (valued-grown o.sites c.args.self.now.sites o.values.entries (omega (arith, ap (λ (v : RightsView). v.sites) c.other.view_is, c.requires.sites)) c.other.invariant.0.valued);
       below = λ e d. omega (arith, shown e d);
       so_far = λ e d. omega (arith, shown e d);
       same_sites = refl;
