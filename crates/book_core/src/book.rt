@@ -3,7 +3,8 @@ ghost use Rattle.std.specs.Prelude.{vec_len, vec_capacity, nat_le, IsTrue, ◌�
 ghost use Rattle.std.specs.Option.{option_copied};
 ghost use Rattle.rights_lattice.specs.Cells.{value_at, raise_all, max_value};
 ghost use Rattle.rights_lattice.specs.State.{knows};
-ghost use Rattle.local_rights.specs.Rights.{HasRights, released_in, sold_in, refunded_in};
+ghost use Rattle.local_rights.specs.OpenSeats.{view_in};
+ghost use Rattle.local_rights.specs.Rights.{HasRights};
 ghost use Rattle.request_ledger.specs.Ledger.{kept_under, IsRefundable};
 ghost use Rattle.book_core.specs.History.{state_of, kept, sale_of, names_of, asked_from, sites_after};
 ghost use Rattle.book_core.specs.Decision.{own_left, sites_of};
@@ -17,7 +18,7 @@ use crate::entry::Entry;
 use crate::limit::Limit;
 use crate::plan::Planned;
 use event_catalogue::Catalogue;
-use local_rights::{Counted, Totals, totals};
+use local_rights::{Counted, ViewTotals, open_seats, totals};
 use request_ledger::{Kept, Ledger, RequestNumber, SaleState};
 use rights_lattice::{Cell, Event, Mark, SiteId, Sites};
 use std::alloc::{AllocError, Global};
@@ -156,13 +157,18 @@ impl Book {
         self.rights.left(event)
     }
 
-    /// What all sites released, sold and took back of an event, by this site's view.
-    pub fn totals(&self, event: Event) -> Totals
-        ensures released { result.released ≡ released_in (state_of self.now.history).cells event }
-        ensures sold { result.sold ≡ sold_in (state_of self.now.history).cells event }
-        ensures refunded { result.refunded ≡ refunded_in (state_of self.now.history).cells event }
+    /// What all sites released, sold and took back of an event, and the seats that are open, by this site's view.
+    pub fn totals(&self, event: Event) -> ViewTotals
+        ensures { result ≡ view_in (state_of self.now.history).cells event }
     {
-        totals(self.rights.rights(), event)
+        let view = self.rights.rights();
+        let sums = totals(view, event);
+        ViewTotals {
+            released: sums.released,
+            sold: sums.sold,
+            refunded: sums.refunded,
+            open_seats: open_seats(view, event),
+        }
     }
 
     /// Whether what this book shows of the owner's row is at most what the owner's own book shows of it, as it is in

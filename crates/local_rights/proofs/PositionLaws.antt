@@ -1,5 +1,5 @@
 -- Positions, by the test and by their meaning, and the seats that are open by one.
-use Rattle.std.proofs.Common.{◌≡◌, inl, inr, ℕ, zero, suc, ◌+◌, ◌-◌, ◌<◌, ◌≤◌, ◌&&◌, Bool, true, false, cond, List, Option, Some, None, refl, sym, ap, ◌∙◌, subst, arith}
+use Rattle.std.proofs.Common.{◌≡◌, inl, inr, ℕ, zero, suc, ◌+◌, ◌-◌, ◌<◌, ◌≤◌, ◌&&◌, Bool, true, false, cond, List, Option, Some, None, refl, sym, ap, ◌∙◌, subst, arith, add-one}
 use Rattle.std.specs.Prelude.{◌↔◌, nat_le, pos, IsSome, IfSome}
 use Rattle.std.proofs.lemmas.Bool.{cases_eq, and_parts}
 use Rattle.std.proofs.lemmas.Bool.Decides.{nat_tests}
@@ -14,7 +14,7 @@ use Rattle.local_rights.proofs.Sums.{balance, sum_below-add}
 use Rattle.local_rights.proofs.Within.{position_below}
 
 -- a test of all numbers below n is a test of each
-each_of_all : (n : ℕ) (test : ℕ → Bool) → all_below n test ≡ true → (i : ℕ) → i < n → test i ≡ true
+pub each_of_all : (n : ℕ) (test : ℕ → Bool) → all_below n test ≡ true → (i : ℕ) → i < n → test i ≡ true
 each_of_all zero test all i l = absurd (omega arith)
 each_of_all (suc n) test all i l =
     let parts = and_parts (all_below n test) (test n) all in
@@ -31,10 +31,22 @@ all_of_each : (n : ℕ) (test : ℕ → Bool) → ((i : ℕ) → i < n → test 
 all_of_each zero test each = refl
 all_of_each (suc n) test each = both (all_below n test) (test n) (all_of_each n test (λ i l. each i (omega arith))) (each n (omega arith))
 
+-- one number of which the test does not hold
+pub not_all : (n : ℕ) (test : ℕ → Bool) (i : ℕ) → i < n → test i ≡ false → all_below n test ≡ false
+not_all n test i l fails = by_all (all_below n test) refl
+  where
+    by_all : (b : Bool) → all_below n test ≡ b → all_below n test ≡ false
+    by_all true t = let clash : true ≡ false = sym (each_of_all n test t i l) ∙ fails in cc
+    by_all false f = f
+
+-- one number more
+pub all_more : (n : ℕ) (test : ℕ → Bool) → all_below n test ≡ true → test n ≡ true → all_below (n + 1) test ≡ true
+all_more n test all here = rw add-one (both (all_below n test) (test n) all here)
+
 tested : (a b : ℕ) → nat_le a b ≡ true → a ≤ b
 tested a b h = grind (arith, nat_tests)
 
-holds : (a b : ℕ) → a ≤ b → nat_le a b ≡ true
+pub holds : (a b : ℕ) → a ≤ b → nat_le a b ≡ true
 holds a b h = grind (arith, nat_tests)
 
 pub position_of_test : (sites : ℕ) (X : Cells) (e : List ℕ) → sites ≤ max_sites → IsWithin sites X → is_position X e ≡ true → IsPosition X e

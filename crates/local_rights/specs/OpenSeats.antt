@@ -3,6 +3,7 @@ use Rattle.std.specs.Prelude.{◌≡◌, ◌↔◌, ℕ, zero, suc, ◌+◌, ◌
 use Rattle.rights_lattice.specs.Cells.{Cells}
 use Rattle.rights_lattice.specs.RightsView.{IsWithin}
 use Rattle.rights_lattice.specs.Sums.{max_sites}
+use Rattle.local_rights.specs.declared.report.ViewTotals.{ViewTotals}
 use Rattle.local_rights.specs.Rights.{gained, spent, IsPosition, released_in, sold_in, refunded_in, paper_value}
 
 -- the test holds of 0 .. n - 1
@@ -17,6 +18,15 @@ is_position X event = all_below max_sites (λ i. nat_le (spent X event i) (gaine
 -- what was created less what was consumed, where the view is a position
 abbrev pub open_seats_in : Cells → List ℕ → Option ℕ
 open_seats_in X event = if is_position X event then Some (released_in X event + refunded_in X event - sold_in X event) else None
+
+-- what a view shows of an event
+abbrev pub view_in : Cells → List ℕ → ViewTotals
+view_in X event = record {
+  released = released_in X event;
+  sold = sold_in X event;
+  refunded = refunded_in X event;
+  open_seats = open_seats_in X event;
+}
 
 -- over any count of sites, the open seats are the counter's value where the view is a position, and none where it is not
 abbrev pub OpenSeatsAreTheCounters : Type 0

@@ -4,7 +4,6 @@ use Rattle.std.specs.Prelude.{ℕ, ◌+◌, ◌-◌, ◌≤◌, if◌then◌else
 use Rattle.rights_lattice.specs.declared.cell.Cell.TheVariants.{Gave, Used, Back}
 use Rattle.rights_lattice.specs.Cells.{Cells, value_at}
 use Rattle.rights_lattice.specs.Sums.{max_sites, sum_below}
-use Rattle.local_rights.specs.declared.report.Totals.{Totals}
 
 -- what site i gave to another site j
 abbrev pub ceded : Cells → List ℕ → ℕ → ℕ → ℕ
@@ -43,9 +42,6 @@ sold_in X event = sum_below max_sites (λ i. value_at X event (Used i))
 
 abbrev pub refunded_in : Cells → List ℕ → ℕ
 refunded_in X event = sum_below max_sites (λ i. value_at X event (Back i))
-
-abbrev pub sums_in : Cells → List ℕ → Totals
-sums_in X event = record { released = released_in X event; sold = sold_in X event; refunded = refunded_in X event }
 
 -- the counter's value: what was created less what was consumed
 abbrev pub paper_value : Cells → List ℕ → ℤ

@@ -13,5 +13,5 @@ pub mod rights;
 
 pub use counted::Counted;
 pub use position::open_seats;
-pub use report::Totals;
+pub use report::{Totals, ViewTotals};
 pub use rights::{left, paper_value, totals};

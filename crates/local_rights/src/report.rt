@@ -7,3 +7,13 @@ pub struct Totals {
     pub sold: u64,
     pub refunded: u64,
 }
+
+/// What a view shows of an event: the same sums over the cells that it knows, and the seats that are open by it, which
+/// are none where the view is no position, as after a forged delta.
+#[derive(Clone, Copy, PartialEq, Eq, Debug)]
+pub struct ViewTotals {
+    pub released: u64,
+    pub sold: u64,
+    pub refunded: u64,
+    pub open_seats: Option<u64>,
+}
