@@ -16,6 +16,5 @@ coded_pending = code_by ((ℕ × ℕ) × State) (coded× (coded× coded_ℕ code
 
 -- it is an interval of this history
 pub record IsPendingOf (h : List Entry) (p : PendingView) : Type 0 where
-  pub order : p.from ≤ p.upto
   pub within : p.upto ≤ length h
   pub delta : p.delta ≡ interval h p.from p.upto

@@ -29,7 +29,11 @@ impl Model for Pending {
 
     ghost coded = { coded_pending };
 
+    ghost use Rattle.std.specs.Prelude.{◌≤◌};
+
     ghost view = { λ p. record { from = p.from; upto = p.upto; delta = p.delta } };
+
+    ghost invariant = { λ p. p.from ≤ p.upto };
 }
 
 impl Pending {

@@ -1,13 +1,14 @@
 -- What an exchange keeps for its peers: of one peer more, of a peer that was caught up, and of a longer history.
-use Rattle.std.proofs.Common.{◌≡◌, ◌≢◌, ◌⊎◌, inl, inr, ℕ, zero, suc, ◌+◌, ◌<◌, ◌≤◌, List, [], ◌∷◌, ◌++◌, length, get_or, set, Option, Some, None, refl, sym, ap, ◌∙◌, subst, arith, get_or-set_same, get_or-set_other}
+use Rattle.std.proofs.Common.{◌≡◌, ◌≢◌, ◌⊎◌, inl, inr, ℕ, zero, suc, ◌<◌, ◌≤◌, List, [], ◌∷◌, ◌++◌, length, get_or, set, Option, Some, None, refl, sym, ap, ◌∙◌, subst, arith, get_or-set_same, get_or-set_other}
 use Rattle.std.specs.Prelude.{Result, Ok, Err, OnOk, OnErr, slice_get}
+use Rattle.std.proofs.lemmas.Bool.{cases_eq}
 use Rattle.rights_lattice.specs.State.{bottom}
 use Rattle.book_core.specs.declared.entry.Entry.{Entry}
 use Rattle.book_core.proofs.Histories.{get_push}
 use Rattle.delta_buffer.specs.Pending.{PendingView, IsPendingOf}
 use Rattle.delta_buffer.proofs.PendingLaws.{none_pending, still_pending}
 use Rattle.site_exchange.specs.Taking.{extended}
-use Rattle.site_exchange.specs.Pendings.{ArePending, BeginAtAcked, ExchangeView, IsPendingIn}
+use Rattle.site_exchange.specs.Pendings.{ArePending, BeginAtAcked, ExchangeView, IsPendingIn, KeepAdded}
 
 -- nothing was added behind what a peer has acknowledged
 abbrev pub nothing_behind : ℕ → PendingView
@@ -49,6 +50,46 @@ begins_raised acked ps i n new l begins from peer p found = elim (at_set ps i pe
   | inl here ↦ ap (λ (v : PendingView). v.from) (sym here.1) ∙ from ∙ sym (ap (λ k. get_or (set acked i n) k 0) here.0 ∙ get_or-set_same acked i n 0 l)
   | inr there ↦ begins peer p there.1 ∙ sym (get_or-set_other acked i peer n 0 there.0)
 ]
+
+-- an element that is there with more behind it
+still_there : {A : Type 0} (xs ys : List A) (k : ℕ) (a : A) → slice_get xs k ≡ Some a → slice_get (xs ++ ys) k ≡ Some a
+still_there [] ys k a found = cc
+still_there (x ∷ xs) ys zero a found = found
+still_there (x ∷ xs) ys (suc k) a found = still_there xs ys k a found
+
+pub added_same : (ps : List PendingView) → KeepAdded ps ps
+added_same ps peer p found = (p, found, omega arith)
+
+pub added_more : (ps qs : List PendingView) (new : PendingView) → KeepAdded ps qs → KeepAdded ps (qs ++ new ∷ [])
+added_more ps qs new kept peer p found = let old = kept peer p found in (old.0, still_there qs (new ∷ []) peer old.0 old.1, old.2)
+
+-- the element that was set
+set_there : {A : Type 0} (xs : List A) (i : ℕ) (old new : A) → slice_get xs i ≡ Some old → slice_get (set xs i new) i ≡ Some new
+set_there [] i old new found = cc
+set_there (x ∷ xs) zero old new found = refl
+set_there (x ∷ xs) (suc i) old new found = set_there xs i old new found
+
+set_elsewhere : {A : Type 0} (xs : List A) (i k : ℕ) (new a : A) → k ≢ i → slice_get xs k ≡ Some a → slice_get (set xs i new) k ≡ Some a
+set_elsewhere [] i k new a other found = cc
+set_elsewhere (x ∷ xs) zero zero new a other found = absurd (other refl)
+set_elsewhere (x ∷ xs) zero (suc k) new a other found = found
+set_elsewhere (x ∷ xs) (suc i) zero new a other found = found
+set_elsewhere (x ∷ xs) (suc i) (suc k) new a other found = set_elsewhere xs i k new a (λ e. other (ap suc e)) found
+
+pub added_set : (ps : List PendingView) (i : ℕ) (old new : PendingView) → slice_get ps i ≡ Some old → old.upto ≤ new.upto → KeepAdded ps (set ps i new)
+added_set ps i old new there le peer p found = elim (cases_eq peer i) [
+  | inl e ↦
+      let same : Some old ≡ Some p = sym there ∙ sym (ap (slice_get ps) e) ∙ found in
+      let is : old ≡ p = cc in
+      (new, subst (λ k. slice_get (set ps i new) k ≡ Some new) (sym e) (set_there ps i old new there), omega (arith, le, ap (λ (v : PendingView). v.upto) is))
+  | inr other ↦ (p, set_elsewhere ps i peer new p other found, omega arith)
+]
+
+pub added_then : (ps qs rs : List PendingView) → KeepAdded ps qs → KeepAdded qs rs → KeepAdded ps rs
+added_then ps qs rs first then peer p found =
+    let old = first peer p found in
+    let new = then peer old.0 old.1 in
+    (new.0, new.1, omega (arith, old.2, new.2))
 
 -- ---- for callers
 

@@ -5,7 +5,7 @@ ghost use Rattle.book_core.specs.Decision.{sites_of};
 ghost use Rattle.book_core.specs.History.{interval};
 ghost use Rattle.delta_buffer.specs.Pending.{IsPendingOf};
 ghost use Rattle.site_exchange.specs.Exchange.{next, zeros};
-ghost use Rattle.site_exchange.specs.Pendings.{BeginAtAcked, IsPendingIn};
+ghost use Rattle.site_exchange.specs.Pendings.{BeginAtAcked, IsPendingIn, KeepAdded};
 
 use crate::message::Message;
 use crate::upto::Upto;
@@ -65,6 +65,7 @@ impl Exchange {
         requires pending { IsPendingIn book.now.history self.old.pendings peer }
         ensures acked { OnOk result (self.new.acked ≡ set self.old.acked peer (max (get_or self.old.acked peer 0) upto)) }
         ensures pending { OnOk result ((other : ℕ) → IsPendingIn book.now.history self.old.pendings other → IsPendingIn book.now.history self.new.pendings other) }
+        ensures added { OnOk result (KeepAdded self.old.pendings self.new.pendings) }
         ensures unchanged { OnErr result (self.new ≡ self.old) }
         // It wants memory only where it raises the number.
         ensures memory { OnErr result (get_or self.old.acked peer 0 < upto) }
@@ -95,6 +96,7 @@ impl Exchange {
         ensures memory { OnErr result (IsSome (next book.now.office.me (record { history = book.now.history; acked = self.old.acked }) to)) }
         ensures acked { self.new.acked ≡ self.old.acked }
         ensures pending { (peer : ℕ) → get_or self.old.acked peer 0 ≤ length book.now.history → IsPendingIn book.now.history self.old.pendings peer → IsPendingIn book.now.history self.new.pendings peer }
+        ensures added { KeepAdded self.old.pendings self.new.pendings }
     {
         let len = book.len();
         if self.acked(to) as usize == len {
@@ -129,6 +131,7 @@ fn forget(
     requires pending { IsPendingIn book.now.history pendings.old.items place }
     ensures begins { (acked : List ℕ) → place < length acked → BeginAtAcked acked pendings.old.items → OnOk result (BeginAtAcked (set acked place (max (get_or acked place 0) n)) pendings.new.items) }
     ensures pending { OnOk result ((peer : ℕ) → IsPendingIn book.now.history pendings.old.items peer → IsPendingIn book.now.history pendings.new.items peer) }
+    ensures added { OnOk result (KeepAdded pendings.old.items pendings.new.items) }
     ensures unchanged { OnErr result (pendings.new.items ≡ pendings.old.items) }
     ensures memory { (acked : List ℕ) → BeginAtAcked acked pendings.old.items → OnErr result (get_or acked place 0 < n) }
 {
@@ -150,6 +153,7 @@ fn reach(
     ensures reached { OnOk result (place < length pendings.new.items) }
     ensures begins { BeginAtAcked acked.now pendings.old.items → BeginAtAcked acked.now pendings.new.items }
     ensures pending { (h : List Entered) (peer : ℕ) → get_or acked.now peer 0 ≤ length h → IsPendingIn h pendings.old.items peer → IsPendingIn h pendings.new.items peer }
+    ensures added { KeepAdded pendings.old.items pendings.new.items }
 {
     for peer in pendings.len()..place + 1 {
         pendings.push(Pending::behind(alloc, acked[peer] as usize))?;
@@ -169,6 +173,7 @@ fn due(
     ensures delta { (acked : List ℕ) → BeginAtAcked acked pendings.old.items → IfOk result (λ delta. delta ≡ interval book.now.history (get_or acked place 0) (length book.now.history)) }
     ensures begins { (acked : List ℕ) → BeginAtAcked acked pendings.old.items → BeginAtAcked acked pendings.new.items }
     ensures pending { (peer : ℕ) → IsPendingIn book.now.history pendings.old.items peer → IsPendingIn book.now.history pendings.new.items peer }
+    ensures added { KeepAdded pendings.old.items pendings.new.items }
 {
     caught_up(alloc, &mut pendings[place], book)
 }
@@ -179,6 +184,7 @@ fn caught_up(alloc: Global, pending: &mut Pending, book: &Book) -> Result<Delta,
     ensures delta { IfOk result (λ delta. delta ≡ interval book.now.history pending.old.from (length book.now.history)) }
     ensures from { pending.new.from ≡ pending.old.from }
     ensures pending { IsPendingOf book.now.history pending.new }
+    ensures added { pending.old.upto ≤ pending.new.upto }
 {
     pending.catch_up(alloc, book)?;
     pending.delta().copy(alloc)

@@ -1,7 +1,7 @@
 use Rattle.std.proofs.Common.{◌≡◌, length, Some, max, refl, ap, ◌∙◌, arith}
 use Rattle.std.specs.Prelude.{Result, Ok, Err, OnErr, slice_get}
 use Rattle.std.proofs.lemmas.Option.{slice_get_read}
-use Rattle.site_exchange.proofs.PendingLaws.{begins_raised, pending_set}
+use Rattle.site_exchange.proofs.PendingLaws.{added_set, begins_raised, pending_set}
 use Rattle.site_exchange.proofs.exchange.forget.Goals as goal
 
 err_for : {A E : Type 0} (r : Result A E) (P : Type 0) → P → OnErr r P
@@ -23,3 +23,8 @@ pub returns-in_err-acked-clause-memory : goal.returns-in_err-acked-clause-memory
 returns-in_err-acked-clause-memory c acked begins =
     let found : slice_get c.args.pendings.now.items c.args.place ≡ Some c.index_mut.result.now = slice_get_read c.args.pendings.now.items (length c.args.pendings.now.items) c.args.place c.index_mut.result.now refl (omega (arith, c.if-place-len.false, c.len.ensures)) c.index_mut.ensures.value in
     err_for c.from_residual.result _ (omega (arith, c.in_err-acked.ensures.memory.0, begins c.args.place c.index_mut.result.now found))
+
+pub returns-clause-added : goal.returns-clause-added
+returns-clause-added c =
+    let found : slice_get c.args.pendings.now.items c.args.place ≡ Some c.index_mut.result.now = slice_get_read c.args.pendings.now.items (length c.args.pendings.now.items) c.args.place c.index_mut.result.now refl (omega (arith, c.if-place-len.false, c.len.ensures)) c.index_mut.ensures.value in
+    added_set c.args.pendings.now.items c.args.place c.index_mut.result.now c.acked.new.self found (omega (arith, c.in_ok-acked.ensures.upto))

@@ -15,6 +15,6 @@ returns-clause-added c =
     let joined : c.in_ok-self-inside.field-0 ≡ interval h c.args.self.now.from (length h) =
     c.in_ok-self-inside.ensures
     ∙ ap (join p.delta) (c.in_ok-missing.ensures.delta ∙ ap (interval h p.upto) all)
-    ∙ caught_up h p (length h) was was.within
+    ∙ caught_up h p (length h) c.self.invariant was was.within
     ∙ ap (λ a. interval h a (length h)) from in
     λ k. record { from = from k; upto = all k; delta = joined k }

@@ -1,5 +1,6 @@
-use Rattle.std.proofs.Common.{◌≡◌, ◌≤◌, length, get_or, sym, subst}
-use Rattle.site_exchange.specs.Pendings.{ExchangeView, IsPendingIn}
+use Rattle.std.proofs.Common.{◌≤◌, length, get_or, sym, subst}
+use Rattle.site_exchange.specs.Pendings.{ExchangeView, IsPendingIn, KeepAdded}
+use Rattle.site_exchange.proofs.PendingLaws.{added_then}
 use Rattle.site_exchange.proofs.exchange.Exchange.next.Goals as goal
 
 pub returns-in_err-reach-clause-pending : goal.returns-in_err-reach-clause-pending
@@ -24,3 +25,16 @@ returns-clause-pending c peer le old =
     let h = c.args.book.now.history in
     c.due.ensures.pending peer
     (c.reach.ensures.pending h peer (subst (λ (e : ExchangeView). get_or e.acked peer 0 ≤ length h) (sym c.self.view_is) le) (subst (λ (e : ExchangeView). IsPendingIn h e.pendings peer) (sym c.self.view_is) old))
+
+pub returns-in_err-reach-clause-added : goal.returns-in_err-reach-clause-added
+returns-in_err-reach-clause-added c = subst (λ (e : ExchangeView). KeepAdded e.pendings c.reach.new.pendings.items) c.self.view_is c.reach.ensures.added
+
+pub returns-in_err-delta-clause-added : goal.returns-in_err-delta-clause-added
+returns-in_err-delta-clause-added c =
+    subst (λ (e : ExchangeView). KeepAdded e.pendings c.due.new.pendings.items) c.self.view_is
+    (added_then c.self.inside.pendings.items c.reach.new.pendings.items c.due.new.pendings.items c.reach.ensures.added c.due.ensures.added)
+
+pub returns-clause-added : goal.returns-clause-added
+returns-clause-added c =
+    subst (λ (e : ExchangeView). KeepAdded e.pendings c.due.new.pendings.items) c.self.view_is
+    (added_then c.self.inside.pendings.items c.reach.new.pendings.items c.due.new.pendings.items c.reach.ensures.added c.due.ensures.added)
