@@ -4,7 +4,7 @@ use Rattle.std.specs.Str.{bytes_eq}
 use Rattle.std.specs.Fmt.{decimal}
 use Rattle.std.proofs.lemmas.Bool.{cases_Bool}
 use Rattle.std.proofs.lemmas.Slice.Eq.{bytes_eq-Decides}
-use Rattle.rights_lattice.specs.Limits.{greatest_site, IsSite}
+use Rattle.rights_lattice.specs.Limits.{greatest_site, most_sites, IsSite}
 use Rattle.request_ledger.specs.declared.verb.Verb.{Verb}
 use Rattle.request_ledger.specs.declared.verb.Verb.TheVariants as verb
 use Rattle.request_ledger.specs.Words.{verb_word, request_verb}
@@ -21,9 +21,9 @@ use Rattle.desk_lines.specs.declared.script_line.ScriptLine.{ScriptLine}
 use Rattle.desk_lines.specs.declared.script_line.ScriptLine.TheVariants.{Make}
 use Rattle.desk_lines.specs.declared.commands.Command.{Command}
 use Rattle.desk_lines.specs.declared.commands.Command.TheVariants as command
-use Rattle.desk_lines.specs.Grammar.{greatest_index, input_words, stored_text, script_words, IsIndex, IsInput, IsScriptLine}
+use Rattle.desk_lines.specs.Grammar.{greatest_index, input_words, stored_text, script_words, IsIndex, IsInput, IsScriptLine, IsSites}
 use Rattle.desk_lines.specs.Requests.{request_from}
-use Rattle.desk_lines.specs.Commands.{command_text, command_of, index_at, stored_of, stored_at, take_at, request_input_of, input_at, send_at, deliver_at, restart_at, stop_at, after_command, commanded}
+use Rattle.desk_lines.specs.Commands.{command_text, command_of, index_at, count_at, stored_of, stored_at, take_at, grow_input_at, request_input_of, input_at, send_at, deliver_at, restart_at, grow_at, stop_at, after_command, commanded}
 use Rattle.desk_lines.proofs.RequestLaws.{request_from_found, request_from_again, LackSpaces, request_lacks}
 
 -- ---- commands
@@ -40,6 +40,7 @@ unfolding command_of
 command_again command.Send = refl
 command_again command.Deliver = refl
 command_again command.Restart = refl
+command_again command.Grow = refl
 command_again command.Stop = refl
 
 -- no command is a number
@@ -48,12 +49,13 @@ unfolding number_of
 command_is_no_number command.Send = refl
 command_is_no_number command.Deliver = refl
 command_is_no_number command.Restart = refl
+command_is_no_number command.Grow = refl
 command_is_no_number command.Stop = refl
 
 command_found : (w : List ℕ) (c : Command) → command_of w ≡ Some c → w ≡ command_text c
 unfolding command_of
 command_found w c e =
-    test_found command_text w command.Send c _ (test_found command_text w command.Deliver c _ (test_found command_text w command.Restart c _ (test_found command_text w command.Stop c None (λ n. absurd cc)))) e
+    test_found command_text w command.Send c _ (test_found command_text w command.Deliver c _ (test_found command_text w command.Restart c _ (test_found command_text w command.Grow c _ (test_found command_text w command.Stop c None (λ n. absurd cc))))) e
 
 stored_again : (b : Bool) → stored_of (stored_text b) ≡ Some b
 unfolding stored_of
@@ -83,6 +85,14 @@ take_found words x e =
     let z = ended_found (input.Take a.0.0) x a.0.1 a.2 in
     subst (SpellsInput (codes "deliver" ∷ words)) z.1 (ap (λ (t : List (List ℕ)). codes "deliver" ∷ t) (p.0 ∙ ap (λ (t : List (List ℕ)). decimal a.0.0 ∷ t) z.0), p.2)
 
+grow_input_found : (words : List (List ℕ)) (x : Input) → grow_input_at words ≡ Some x → SpellsInput (codes "grow" ∷ words) x
+unfolding grow_input_at
+grow_input_found words x e =
+    let a = bind_some (count_at words) (λ n. ended (input.Grow n.0) n.1) x e in
+    let p = number_at_found 1 most_sites words a.0 (lit< tt) a.1 in
+    let z = ended_found (input.Grow a.0.0) x a.0.1 a.2 in
+    subst (SpellsInput (codes "grow" ∷ words)) z.1 (ap (λ (t : List (List ℕ)). codes "grow" ∷ t) (p.0 ∙ ap (λ (t : List (List ℕ)). decimal a.0.0 ∷ t) z.0), (p.1, p.2))
+
 request_input_found : (word : List ℕ) (words : List (List ℕ)) (x : Input) → request_input_of word words ≡ Some x → SpellsInput (word ∷ words) x
 unfolding request_input_of
 request_input_found word words x e =
@@ -93,13 +103,25 @@ request_input_found word words x e =
 input_found : (words : List (List ℕ)) (x : Input) → input_at words ≡ Some x → SpellsInput words x
 unfolding input_at
 input_found words x e =
-    let a = bind_some (first_word words) (λ w. cond (bytes_eq w.0 (codes "deliver")) (take_at w.1) (request_input_of w.0 w.1)) x e in
-    subst (λ (ws : List (List ℕ)). SpellsInput ws x) (sym (word_found words a.0 a.1)) (either a.0.0 a.0.1 a.2)
+    let a = bind_some (first_word words) (λ w. input_behind w.0 w.1) x e in
+    subst (λ (ws : List (List ℕ)). SpellsInput ws x) (sym (word_found words a.0 a.1)) (which a.0.0 a.0.1 a.2)
   where
-    either : (w : List ℕ) (ws : List (List ℕ)) → cond (bytes_eq w (codes "deliver")) (take_at ws) (request_input_of w ws) ≡ Some x → SpellsInput (w ∷ ws) x
-    either w ws h = elim (cases_Bool (bytes_eq w (codes "deliver"))) [
-      | inl same ↦ let chosen : take_at ws ≡ Some x = rw same at h in subst (λ (v : List ℕ). SpellsInput (v ∷ ws) x) (sym ((bytes_eq-Decides w (codes "deliver")).0 same)) (take_found ws x chosen)
+    grown_or_asked : List ℕ → List (List ℕ) → Option Input
+    grown_or_asked w ws = cond (bytes_eq w (codes "grow")) (grow_input_at ws) (request_input_of w ws)
+
+    input_behind : List ℕ → List (List ℕ) → Option Input
+    input_behind w ws = cond (bytes_eq w (codes "deliver")) (take_at ws) (grown_or_asked w ws)
+
+    grows_or_asks : (w : List ℕ) (ws : List (List ℕ)) → grown_or_asked w ws ≡ Some x → SpellsInput (w ∷ ws) x
+    grows_or_asks w ws h = elim (cases_Bool (bytes_eq w (codes "grow"))) [
+      | inl same ↦ let chosen : grow_input_at ws ≡ Some x = rw same at h in subst (λ (v : List ℕ). SpellsInput (v ∷ ws) x) (sym ((bytes_eq-Decides w (codes "grow")).0 same)) (grow_input_found ws x chosen)
       | inr other ↦ let chosen : request_input_of w ws ≡ Some x = rw other at h in request_input_found w ws x chosen
+    ]
+
+    which : (w : List ℕ) (ws : List (List ℕ)) → input_behind w ws ≡ Some x → SpellsInput (w ∷ ws) x
+    which w ws h = elim (cases_Bool (bytes_eq w (codes "deliver"))) [
+      | inl same ↦ let chosen : take_at ws ≡ Some x = rw same at h in subst (λ (v : List ℕ). SpellsInput (v ∷ ws) x) (sym ((bytes_eq-Decides w (codes "deliver")).0 same)) (take_found ws x chosen)
+      | inr other ↦ let chosen : grown_or_asked w ws ≡ Some x = rw other at h in grows_or_asks w ws chosen
     ]
 
 -- ---- lines that begin with a command
@@ -135,6 +157,17 @@ restart_found words l e =
     let z = ended_found (Make (step.Restart a.0.0)) l a.0.1 a.2 in
     subst (SpellsWhole (codes "restart" ∷ words)) z.1 (ap (λ (t : List (List ℕ)). codes "restart" ∷ t) (p.0 ∙ ap (λ (t : List (List ℕ)). decimal a.0.0 ∷ t) z.0), p.1)
 
+grow_found : (words : List (List ℕ)) (l : ScriptLine) → grow_at words ≡ Some l → SpellsWhole (codes "grow" ∷ words) l
+unfolding grow_at
+grow_found words l e =
+    let a = bind_some (site_at words) (λ i. count_at i.1 >>= λ n. ended (Make (step.Grow i.0 n.0)) n.1) l e in
+    let b = bind_some (count_at a.0.1) (λ n. ended (Make (step.Grow a.0.0 n.0)) n.1) l a.2 in
+    let p = site_at_found words a.0 a.1 in
+    let q = number_at_found 1 most_sites a.0.1 b.0 (lit< tt) b.1 in
+    let z = ended_found (Make (step.Grow a.0.0 b.0.0)) l b.0.1 b.2 in
+    subst (SpellsWhole (codes "grow" ∷ words)) z.1
+    (ap (λ (t : List (List ℕ)). codes "grow" ∷ t) (p.0 ∙ ap (λ (t : List (List ℕ)). decimal a.0.0 ∷ t) (q.0 ∙ ap (λ (t : List (List ℕ)). decimal b.0.0 ∷ t) z.0)), (p.1, (q.1, q.2)))
+
 stop_found : (words : List (List ℕ)) (l : ScriptLine) → stop_at words ≡ Some l → SpellsWhole (codes "stop" ∷ words) l
 unfolding stop_at
 stop_found words l e =
@@ -151,6 +184,7 @@ after_command_found : (c : Command) (words : List (List ℕ)) (l : ScriptLine) �
 after_command_found command.Send words l e = send_found words l e
 after_command_found command.Deliver words l e = deliver_found words l e
 after_command_found command.Restart words l e = restart_found words l e
+after_command_found command.Grow words l e = grow_found words l e
 after_command_found command.Stop words l e = stop_found words l e
 
 pub commanded_found : (word : List ℕ) (words : List (List ℕ)) (l : ScriptLine) → commanded word words ≡ Some l → SpellsWhole (word ∷ words) l
@@ -165,7 +199,10 @@ commanded_found word words l e =
 pub index_again : (k : ℕ) (ws : List (List ℕ)) → IsIndex k → index_at (decimal k ∷ ws) ≡ Some (k, ws)
 index_again k ws h = number_at_again 0 greatest_index k ws (lit< tt) (omega arith) h
 
--- no verb of a request is `deliver`
+pub count_again : (n : ℕ) (ws : List (List ℕ)) → IsSites n → count_at (decimal n ∷ ws) ≡ Some (n, ws)
+count_again n ws h = number_at_again 1 most_sites n ws (lit< tt) h.0 h.1
+
+-- no verb of a request is `deliver` or `grow`
 verb_is_no_deliver : (v : Verb) → bytes_eq (verb_word v) (codes "deliver") ≡ false
 verb_is_no_deliver verb.Announce = refl
 verb_is_no_deliver verb.Release = refl
@@ -173,10 +210,18 @@ verb_is_no_deliver verb.Sell = refl
 verb_is_no_deliver verb.Refund = refl
 verb_is_no_deliver verb.Cede = refl
 
+verb_is_no_grow : (v : Verb) → bytes_eq (verb_word v) (codes "grow") ≡ false
+verb_is_no_grow verb.Announce = refl
+verb_is_no_grow verb.Release = refl
+verb_is_no_grow verb.Sell = refl
+verb_is_no_grow verb.Refund = refl
+verb_is_no_grow verb.Cede = refl
+
 input_again : (x : Input) → IsInput x → input_at (input_words x) ≡ Some x
-unfolding input_at take_at request_input_of
+unfolding input_at take_at grow_input_at request_input_of
 input_again (input.Take k) h = rw (index_again k [] h) refl
-input_again (input.Request n q) h = rw (verb_is_no_deliver (request_verb q), request_from_again n q h.0 h.1) refl
+input_again (input.Grow n) h = rw (count_again n [] h) refl
+input_again (input.Request n q) h = rw (verb_is_no_deliver (request_verb q), verb_is_no_grow (request_verb q), request_from_again n q h.0 h.1) refl
 
 stored_at_again : (b : Bool) (ws : List (List ℕ)) → stored_at (stored_text b ∷ ws) ≡ Some (b, ws)
 unfolding stored_at
@@ -189,6 +234,9 @@ stop_again i x b h g = rw (site_again i (stored_text b ∷ input_words x) h, sto
 pub index_lacks : (k : ℕ) → IsIndex k → lacks_space (decimal k) ≡ true
 index_lacks k h = decimal_lacks_space k (omega arith)
 
+pub count_lacks : (n : ℕ) → IsSites n → lacks_space (decimal n) ≡ true
+count_lacks n h = decimal_lacks_space n (omega (arith, h.1))
+
 pub stored_lacks : (b : Bool) → lacks_space (stored_text b) ≡ true
 stored_lacks true = refl
 stored_lacks false = refl
@@ -196,3 +244,4 @@ stored_lacks false = refl
 pub input_lacks : (x : Input) → IsInput x → LackSpaces (input_words x)
 input_lacks (input.Request n q) h = request_lacks n q h.0 h.1
 input_lacks (input.Take k) h = (refl, (index_lacks k h, tt))
+input_lacks (input.Grow n) h = (refl, (count_lacks n h, tt))

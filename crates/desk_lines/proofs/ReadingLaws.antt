@@ -21,11 +21,11 @@ use Rattle.desk_lines.specs.declared.line.Line.TheVariants as line
 use Rattle.desk_lines.specs.declared.commands.Command.{Command}
 use Rattle.desk_lines.specs.declared.commands.Command.TheVariants as command
 use Rattle.desk_lines.specs.Grammar.{request_words, session_words, input_words, stored_text, script_words, script_text, IsSessionLine, IsScriptLine}
-use Rattle.desk_lines.specs.Commands.{command_text, send_at, deliver_at, restart_at, after_command, commanded}
+use Rattle.desk_lines.specs.Commands.{command_text, send_at, deliver_at, restart_at, grow_at, after_command, commanded}
 use Rattle.desk_lines.specs.Reading.{asked_in, at_a_site, at_site, after_first, line_of_words, line_of, named_number}
 use Rattle.desk_lines.proofs.RequestLaws.{request_lacks}
 use Rattle.desk_lines.proofs.SessionLaws.{asked_found, ask_again, left_again, totals_again}
-use Rattle.desk_lines.proofs.CommandLaws.{SpellsWhole, command_again, command_is_no_number, commanded_found, index_again, stop_again, index_lacks, stored_lacks, input_lacks}
+use Rattle.desk_lines.proofs.CommandLaws.{SpellsWhole, command_again, command_is_no_number, commanded_found, index_again, count_again, stop_again, index_lacks, count_lacks, stored_lacks, input_lacks}
 
 -- ---- lines to a site
 
@@ -78,11 +78,12 @@ unfolding line_of_words commanded
 command_line_again c words = rw (command_is_no_number c, command_again c) refl
 
 line_again : (l : ScriptLine) → IsScriptLine l → line_of_words (script_words l) ≡ Some l
-unfolding line_of_words at_site send_at deliver_at restart_at
+unfolding line_of_words at_site send_at deliver_at restart_at grow_at
 line_again (Make (step.Ask i n q)) h = rw (first_again i h.0, ask_again n q h.1 h.2) refl
 line_again (Make (step.Send i j)) h = command_line_again command.Send (decimal i ∷ decimal j ∷ []) ∙ rw (site_again i (decimal j ∷ []) h.0, site_again j [] h.1) refl
 line_again (Make (step.Deliver k)) h = command_line_again command.Deliver (decimal k ∷ []) ∙ rw (index_again k [] h) refl
 line_again (Make (step.Restart i)) h = command_line_again command.Restart (decimal i ∷ []) ∙ rw (site_again i [] h) refl
+line_again (Make (step.Grow i n)) h = command_line_again command.Grow (decimal i ∷ decimal n ∷ []) ∙ rw (site_again i (decimal n ∷ []) h.0, count_again n [] h.1) refl
 line_again (Make (step.Stop i x b)) h = command_line_again command.Stop (decimal i ∷ stored_text b ∷ input_words x) ∙ stop_again i x b h.0 h.1
 line_again (Left i e) h = rw (first_again i h.0, left_again e h.1) refl
 line_again (Totals i e) h = rw (first_again i h.0, totals_again e h.1) refl
@@ -92,6 +93,7 @@ line_splits (Make (step.Ask i n q)) h = split_join _ (request_words n q) (site_l
 line_splits (Make (step.Send i j)) h = split_join _ (decimal i ∷ decimal j ∷ []) refl (site_lacks_space i h.0, (site_lacks_space j h.1, tt))
 line_splits (Make (step.Deliver k)) h = split_join _ (decimal k ∷ []) refl (index_lacks k h, tt)
 line_splits (Make (step.Restart i)) h = split_join _ (decimal i ∷ []) refl (site_lacks_space i h, tt)
+line_splits (Make (step.Grow i n)) h = split_join _ (decimal i ∷ decimal n ∷ []) refl (site_lacks_space i h.0, (count_lacks n h.1, tt))
 line_splits (Make (step.Stop i x b)) h = split_join _ (decimal i ∷ stored_text b ∷ input_words x) refl (site_lacks_space i h.0, (stored_lacks b, input_lacks x h.1))
 line_splits (Left i e) h = split_join _ (codes "left" ∷ e ∷ []) (site_lacks_space i h.0) (refl, (name_lacks_space e h.1, tt))
 line_splits (Totals i e) h = split_join _ (codes "totals" ∷ e ∷ []) (site_lacks_space i h.0) (refl, (name_lacks_space e h.1, tt))

@@ -13,7 +13,7 @@ use Rattle.book_core.specs.Limits.{greatest_limit}
 use Rattle.world_steps.specs.declared.step.Input.{Input}
 use Rattle.world_steps.specs.declared.step.Input.TheVariants as input
 use Rattle.world_steps.specs.declared.step.Step.{Step}
-use Rattle.world_steps.specs.declared.step.Step.TheVariants.{Ask, Send, Deliver, Restart, Stop}
+use Rattle.world_steps.specs.declared.step.Step.TheVariants.{Ask, Send, Deliver, Restart, Grow, Stop}
 use Rattle.desk_lines.specs.declared.line.Line.{Line}
 use Rattle.desk_lines.specs.declared.line.Line.TheVariants as line
 use Rattle.desk_lines.specs.declared.script_line.ScriptLine.{ScriptLine}
@@ -55,6 +55,7 @@ request_line n q = session_text (line.Ask n q)
 abbrev pub input_words : Input → List (List ℕ)
 input_words (input.Request n q) = request_words n q
 input_words (input.Take k) = codes "deliver" ∷ decimal k ∷ []
+input_words (input.Grow n) = codes "grow" ∷ decimal n ∷ []
 
 -- whether it was stored
 abbrev pub stored_text : Bool → List ℕ
@@ -67,6 +68,7 @@ step_words (Ask i n q) = decimal i ∷ request_words n q
 step_words (Send i j) = codes "send" ∷ decimal i ∷ decimal j ∷ []
 step_words (Deliver k) = codes "deliver" ∷ decimal k ∷ []
 step_words (Restart i) = codes "restart" ∷ decimal i ∷ []
+step_words (Grow i n) = codes "grow" ∷ decimal i ∷ decimal n ∷ []
 step_words (Stop i x stored) = codes "stop" ∷ decimal i ∷ stored_text stored ∷ input_words x
 
 -- the words of a line of a script
@@ -105,25 +107,27 @@ greatest_index = 1000000000
 abbrev pub IsIndex : ℕ → Type 0
 IsIndex k = k ≤ greatest_index
 
+-- a count of sites
+abbrev pub IsSites : ℕ → Type 0
+IsSites n = (1 ≤ n) × (n ≤ most_sites)
+
 abbrev pub IsInput : Input → Type 0
 IsInput (input.Request n q) = IsValue n × IsRequest q
 IsInput (input.Take k) = IsIndex k
+IsInput (input.Grow n) = IsSites n
 
 abbrev pub IsStep : Step → Type 0
 IsStep (Ask i n q) = IsSite i × IsValue n × IsRequest q
 IsStep (Send i j) = IsSite i × IsSite j
 IsStep (Deliver k) = IsIndex k
 IsStep (Restart i) = IsSite i
+IsStep (Grow i n) = IsSite i × IsSites n
 IsStep (Stop i x stored) = IsSite i × IsInput x
 
 abbrev pub IsScriptLine : ScriptLine → Type 0
 IsScriptLine (Make s) = IsStep s
 IsScriptLine (Left i e) = IsSite i × IsEventName e
 IsScriptLine (Totals i e) = IsSite i × IsEventName e
-
--- a count of sites
-abbrev pub IsSites : ℕ → Type 0
-IsSites n = (1 ≤ n) × (n ≤ most_sites)
 
 -- a limit of a history
 abbrev pub IsLimit : ℕ → Type 0

@@ -3,11 +3,13 @@ use Rattle.std.specs.Prelude.{ℕ, List, [], ◌∷◌, ◌++◌, Option, Some, 
 use Rattle.std.specs.Fmt.{decimal}
 use Rattle.request_ledger.specs.declared.reply.Reply.{Reply}
 use Rattle.request_ledger.specs.Words.{reply_word, reply_number}
+use Rattle.book_core.specs.declared.plan.GrowFault.{GrowFault}
+use Rattle.book_core.specs.declared.plan.GrowFault.TheVariants as grow
 use Rattle.site_desk.specs.declared.fault.AskFault.{AskFault}
 use Rattle.site_desk.specs.declared.fault.AskFault.TheVariants as ask
 use Rattle.site_exchange.specs.declared.message.TakeFault.{TakeFault}
 use Rattle.site_exchange.specs.declared.message.TakeFault.TheVariants as take
-use Rattle.local_rights.specs.declared.report.Totals.{Totals}
+use Rattle.local_rights.specs.declared.report.ViewTotals.{ViewTotals}
 use Rattle.desk_lines.specs.declared.answered.Answered.{Answered}
 use Rattle.desk_lines.specs.declared.answered.Answered.TheVariants.{Kept, LeftIs, TotalsAre, NotKnown, Refused, Unread}
 
@@ -38,8 +40,21 @@ take_fault_text take.Memory = codes "memory"
 take_fault_text take.Closed = codes "closed"
 take_fault_text take.Store = codes "store"
 
-abbrev pub totals_text : Totals → List ℕ
-totals_text t = codes "totals released " ++ decimal t.released ++ codes " sold " ++ decimal t.sold ++ codes " refunded " ++ decimal t.refunded
+-- why a site does not count more sites
+abbrev pub grow_fault_text : GrowFault → List ℕ
+grow_fault_text grow.NotMore = codes "not-more"
+grow_fault_text grow.Full = codes "history-full"
+grow_fault_text grow.Memory = codes "memory"
+grow_fault_text grow.Closed = codes "closed"
+grow_fault_text grow.Store = codes "store"
+
+-- the seats that are open by a view, or that it is one by which none are told
+abbrev pub open_text : Option ℕ → List ℕ
+open_text None = codes "none"
+open_text (Some seats) = decimal seats
+
+abbrev pub totals_text : ViewTotals → List ℕ
+totals_text t = codes "totals released " ++ decimal t.released ++ codes " sold " ++ decimal t.sold ++ codes " refunded " ++ decimal t.refunded ++ codes " open " ++ open_text t.open_seats
 
 abbrev pub answered_text : Answered → List ℕ
 answered_text (Kept reply) = reply_text reply

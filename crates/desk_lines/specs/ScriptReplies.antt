@@ -5,11 +5,11 @@ use Rattle.book_core.specs.declared.plan.PlanFault.{PlanFault}
 use Rattle.book_core.specs.declared.plan.PlanFault.TheVariants.{Reused, Full, Memory}
 use Rattle.site_desk.specs.declared.fault.AskFault.TheVariants as ask
 use Rattle.world_steps.specs.declared.step.Outcome.{Outcome}
-use Rattle.world_steps.specs.declared.step.Outcome.TheVariants.{Answered, Refused, Sent, NothingToSend, Joined, NothingNew, Acked, NotTaken, Restarted, Stopped}
+use Rattle.world_steps.specs.declared.step.Outcome.TheVariants.{Answered, Refused, Sent, NothingToSend, Joined, NothingNew, Acked, NotTaken, Restarted, Grown, NotGrown, Stopped}
 use Rattle.desk_lines.specs.declared.answered.Answered.TheVariants as session
 use Rattle.desk_lines.specs.declared.script_answer.ScriptAnswer.{ScriptAnswer}
 use Rattle.desk_lines.specs.declared.script_answer.ScriptAnswer.TheVariants.{Made, LeftIs, TotalsAre, NotKnown, NoSuchSite, NoSuchMessage, Unread}
-use Rattle.desk_lines.specs.Replies.{reply_text, ask_fault_text, take_fault_text, answered_text}
+use Rattle.desk_lines.specs.Replies.{reply_text, ask_fault_text, take_fault_text, grow_fault_text, answered_text}
 
 abbrev pub refusal_text : PlanFault → List ℕ
 refusal_text (Reused place) = ask_fault_text (ask.Reused place)
@@ -26,6 +26,8 @@ outcome_text (NothingNew ack) = codes "nothing-new message " ++ decimal ack
 outcome_text Acked = codes "acked"
 outcome_text (NotTaken fault) = take_fault_text fault
 outcome_text Restarted = codes "restarted"
+outcome_text Grown = codes "grown"
+outcome_text (NotGrown fault) = grow_fault_text fault
 outcome_text Stopped = codes "stopped"
 
 abbrev pub answer_text : ScriptAnswer → List ℕ

@@ -7,7 +7,7 @@ ghost use Rattle.plain_words.specs.Writing.{Writes};
 ghost use Rattle.desk_lines.specs.Replies.{answered_text, reply_line};
 
 use crate::texts::{ask_fault_text, reply_text, totals_text};
-use local_rights::Totals;
+use local_rights::ViewTotals;
 use plain_words::{Text, WriteFault, numbered, put, word, write_bytes};
 use request_ledger::Reply;
 use site_desk::AskFault;
@@ -21,7 +21,7 @@ pub enum Answered {
     /// The seats that the site may still sell.
     LeftIs(u64),
     /// The totals by the site's view.
-    TotalsAre(Totals),
+    TotalsAre(ViewTotals),
     /// The site does not know the event.
     NotKnown,
     /// The request is not answered, and neither is a look at a closed book.

@@ -2,12 +2,13 @@
 
 ghost use Rattle.std.specs.Prelude.{◌≡◌};
 ghost use Rattle.std.specs.Option.{option_map};
-ghost use Rattle.desk_lines.specs.Commands.{command_of, index_at, stored_of, stored_at, take_at, request_input_of, input_at, send_at, deliver_at, restart_at, stop_at, after_command, commanded};
+ghost use Rattle.desk_lines.specs.Commands.{command_of, index_at, count_at, stored_of, stored_at, take_at, grow_input_at, request_input_of, input_at, send_at, deliver_at, restart_at, grow_at, stop_at, after_command, commanded};
 
 use crate::requests::request_from;
 use crate::script_line::ScriptLine;
 use delta_wire::site_at;
 use plain_words::{Words, number_at};
+use rights_lattice::{MOST_SITES, Sites};
 use world_steps::{Input, Step};
 
 // The greatest index of a message that a line can name.
@@ -19,6 +20,7 @@ enum Command {
     Send,
     Deliver,
     Restart,
+    Grow,
     Stop,
 }
 
@@ -32,6 +34,8 @@ fn command_of(word: &[u8]) -> Option<Command>
         Some(Command::Deliver)
     } else if word == b"restart".as_slice() {
         Some(Command::Restart)
+    } else if word == b"grow".as_slice() {
+        Some(Command::Grow)
     } else if word == b"stop".as_slice() {
         Some(Command::Stop)
     } else {
@@ -44,6 +48,14 @@ fn index_at(words: &mut Words<'_>) -> Option<usize>
 {
     let index = number_at(words, 0, GREATEST_INDEX)?;
     Some(index as usize)
+}
+
+fn count_at(words: &mut Words<'_>) -> Option<Sites>
+    ensures { option_map (λ n. (n, words.new)) result ≡ count_at words.old }
+{
+    let count = number_at(words, 1, MOST_SITES)?;
+    let sites = Sites::of(count)?;
+    Some(sites)
 }
 
 #[tactic(auto, unfolding(crate::specs::Commands::stored_of))]
@@ -80,6 +92,18 @@ fn take_at(words: &mut Words<'_>) -> Option<Input>
     }
 }
 
+#[tactic(auto, unfolding(crate::specs::Commands::grow_input_at))]
+fn grow_input_at(words: &mut Words<'_>) -> Option<Input>
+    ensures { result ≡ grow_input_at words.old }
+{
+    let sites = count_at(words)?;
+    if words.is_empty() {
+        Some(Input::Grow { sites })
+    } else {
+        None
+    }
+}
+
 #[tactic(auto, unfolding(crate::specs::Commands::request_input_of))]
 fn request_input_of(word: &[u8], words: &mut Words<'_>) -> Option<Input>
     ensures { result ≡ request_input_of word.now words.old }
@@ -95,6 +119,8 @@ fn input_at(words: &mut Words<'_>) -> Option<Input>
     let word = words.next()?;
     if word == b"deliver".as_slice() {
         take_at(words)
+    } else if word == b"grow".as_slice() {
+        grow_input_at(words)
     } else {
         request_input_of(word, words)
     }
@@ -137,6 +163,19 @@ fn restart_at(words: &mut Words<'_>) -> Option<ScriptLine>
     }
 }
 
+#[tactic(auto, unfolding(crate::specs::Commands::grow_at))]
+fn grow_at(words: &mut Words<'_>) -> Option<ScriptLine>
+    ensures { result ≡ grow_at words.old }
+{
+    let site = site_at(words)?;
+    let sites = count_at(words)?;
+    if words.is_empty() {
+        Some(ScriptLine::Make(Step::Grow { site, sites }))
+    } else {
+        None
+    }
+}
+
 #[tactic(auto, unfolding(crate::specs::Commands::stop_at))]
 fn stop_at(words: &mut Words<'_>) -> Option<ScriptLine>
     ensures { result ≡ stop_at words.old }
@@ -158,6 +197,7 @@ fn after_command(command: Command, words: &mut Words<'_>) -> Option<ScriptLine>
         Command::Send => send_at(words),
         Command::Deliver => deliver_at(words),
         Command::Restart => restart_at(words),
+        Command::Grow => grow_at(words),
         Command::Stop => stop_at(words),
     }
 }

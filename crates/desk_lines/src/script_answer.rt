@@ -7,9 +7,9 @@ ghost use Rattle.plain_words.specs.Writing.{Writes};
 ghost use Rattle.desk_lines.specs.ScriptReplies.{refusal_text, outcome_text, answer_text, reply_line};
 
 use crate::answered::{Answered, answered_text};
-use crate::texts::{ask_fault_text, reply_text, take_fault_text};
+use crate::texts::{ask_fault_text, grow_fault_text, reply_text, take_fault_text};
 use book_core::PlanFault;
-use local_rights::Totals;
+use local_rights::ViewTotals;
 use plain_words::{Text, WriteFault, numbered, put, word, write_bytes};
 use site_desk::AskFault;
 use std::io::Write;
@@ -23,7 +23,7 @@ pub enum ScriptAnswer {
     /// The seats that the site may still sell.
     LeftIs(u64),
     /// The totals by the site's view.
-    TotalsAre(Totals),
+    TotalsAre(ViewTotals),
     /// The site does not know the event.
     NotKnown,
     /// The site is not there, or would send to itself.
@@ -59,6 +59,8 @@ fn outcome_text(outcome: Outcome) -> Text
         Outcome::Acked => word(b"acked"),
         Outcome::NotTaken(fault) => take_fault_text(fault),
         Outcome::Restarted => word(b"restarted"),
+        Outcome::Grown => word(b"grown"),
+        Outcome::NotGrown(fault) => grow_fault_text(fault),
         Outcome::Stopped => word(b"stopped"),
     }
 }

@@ -1,11 +1,12 @@
 //! The texts that scripts and sessions share.
 
-ghost use Rattle.std.specs.Prelude.{◌≡◌, ◌≤◌};
+ghost use Rattle.std.specs.Prelude.{◌≡◌, ◌+◌, ◌++◌, ◌≤◌};
 ghost use Rattle.arrayvec.specs.ArrayVec.{array_vec_len};
 ghost use Rattle.plain_words.specs.Input.{longest_line};
-ghost use Rattle.desk_lines.specs.Replies.{reply_text, ask_fault_text, take_fault_text, totals_text};
+ghost use Rattle.desk_lines.specs.Replies.{grow_fault_text, open_text, reply_text, ask_fault_text, take_fault_text, totals_text};
 
-use local_rights::Totals;
+use book_core::GrowFault;
+use local_rights::ViewTotals;
 use plain_words::{Text, numbered, put, put_number, word};
 use request_ledger::Reply;
 use site_desk::AskFault;
@@ -55,8 +56,22 @@ pub fn take_fault_text(fault: TakeFault) -> Text
     }
 }
 
-/// The text of totals.
-pub(crate) fn totals_text(totals: Totals) -> Text
+/// The text of why a site does not count more sites, without a line break.
+pub fn grow_fault_text(fault: GrowFault) -> Text
+    ensures value { result.items ≡ grow_fault_text fault }
+    ensures len { array_vec_len result ≤ longest_line }
+{
+    match fault {
+        GrowFault::NotMore => word(b"not-more"),
+        GrowFault::Full => word(b"history-full"),
+        GrowFault::Memory => word(b"memory"),
+        GrowFault::Closed => word(b"closed"),
+        GrowFault::Store => word(b"store"),
+    }
+}
+
+/// The text of what a view shows of an event.
+pub(crate) fn totals_text(totals: ViewTotals) -> Text
     ensures value { result.items ≡ totals_text totals }
     ensures len { array_vec_len result ≤ longest_line }
 {
@@ -66,5 +81,19 @@ pub(crate) fn totals_text(totals: Totals) -> Text
     put_number(&mut text, totals.sold);
     put(&mut text, b" refunded ");
     put_number(&mut text, totals.refunded);
+    put(&mut text, b" open ");
+    put_open(&mut text, totals.open_seats);
     text
+}
+
+// Adds the seats that are open, or `none`.
+fn put_open(text: &mut Text, open_seats: Option<u64>)
+    requires { array_vec_len text.old + 20 ≤ 256 }
+    ensures items { text.new.items ≡ text.old.items ++ open_text open_seats }
+    ensures len { array_vec_len text.new ≤ array_vec_len text.old + 20 }
+{
+    match open_seats {
+        Some(seats) => put_number(text, seats),
+        None => put(text, b"none"),
+    }
 }
