@@ -1,6 +1,6 @@
 -- What a site's book answers over its keeper, and why it does not. (Our own.)
 use Rattle.std.specs.Prelude.{◌≡◌, ℕ, Bool, true, false, not, ◌&&◌, ◌==◌, nat_lt, List, take, Option, Some, None}
-use Rattle.local_rights.specs.Rights.{released_in, sold_in, refunded_in}
+use Rattle.local_rights.specs.OpenSeats.{view_in}
 use Rattle.book_core.specs.declared.entry.Entry.{Entry}
 use Rattle.book_core.specs.Decision as decided
 use Rattle.book_core.specs.declared.plan.GrowFault.{GrowFault}
@@ -79,6 +79,4 @@ is_peer office history to = nat_lt to (sites_of office history) && not (to == of
 pub record IsSeenAt (office : Office) (history : List Entry) (asked : List ℕ) (seen : Seen) : Type 0 where
   pub event : seen.event ≡ asked
   pub left : seen.left ≡ own_left office (take seen.at history) asked
-  pub released : seen.totals.released ≡ released_in (state_of (take seen.at history)).cells asked
-  pub sold : seen.totals.sold ≡ sold_in (state_of (take seen.at history)).cells asked
-  pub refunded : seen.totals.refunded ≡ refunded_in (state_of (take seen.at history)).cells asked
+  pub totals : seen.totals ≡ view_in (state_of (take seen.at history)).cells asked

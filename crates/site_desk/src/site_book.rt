@@ -219,7 +219,7 @@ impl<K: Keeper> SiteBook<K> {
         }
     }
 
-    /// Counts more sites from here on, up to so many: the growth is kept and then entered. It changes no cell.
+    /// Counts so many sites from here on: the growth is kept and then entered. It changes no cell.
     ///
     /// `NotMore` where the count is not above the count so far. Other errors are as for a request; neither `NotMore` nor
     /// a full history takes memory.
