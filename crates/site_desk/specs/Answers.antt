@@ -1,9 +1,13 @@
 -- What a site's book answers over its keeper, and why it does not. (Our own.)
 use Rattle.std.specs.Prelude.{◌≡◌, ℕ, Bool, true, false, not, ◌&&◌, ◌==◌, nat_lt, List, take, Option, Some, None}
-use Rattle.local_rights.specs.Rights.{released_in, sold_in, refunded_in}
+use Rattle.local_rights.specs.OpenSeats.{view_in}
 use Rattle.book_core.specs.declared.entry.Entry.{Entry}
 use Rattle.book_core.specs.Decision as decided
-use Rattle.book_core.specs.Decision.{Decision, Office, own_left}
+use Rattle.book_core.specs.declared.plan.GrowFault.{GrowFault}
+use Rattle.book_core.specs.declared.plan.GrowFault.TheVariants as grow_fault
+use Rattle.book_core.specs.Decision.{Decision, Office, own_left, sites_of}
+use Rattle.book_core.specs.Growing as grow
+use Rattle.book_core.specs.Growing.{GrowDecision}
 use Rattle.book_core.specs.History.{state_of}
 use Rattle.book_core.specs.Plans.{IsFresh}
 use Rattle.site_exchange.specs.declared.message.Message.{Message}
@@ -54,19 +58,25 @@ IsTakeFault closed verdict Wants before after take_fault.Memory = (closed ≡ fa
 IsTakeFault closed verdict Wants before after take_fault.Store = (closed ≡ false) × (verdict ≡ exchange.Joins) × (before ≡ 0) × (after ≡ 1)
 IsTakeFault closed verdict Wants before after fault = (closed ≡ false) × (verdict ≡ exchange.Refuses fault)
 
+-- as of a request: the fault is the decision on the count of sites, or memory or the store was refused to a growth
+abbrev pub IsGrowFault : Bool → GrowDecision → ℕ → ℕ → GrowFault → Type 0
+IsGrowFault closed decision before after grow_fault.Closed = closed ≡ true
+IsGrowFault closed decision before after grow_fault.NotMore = (closed ≡ false) × (decision ≡ grow.NotMore)
+IsGrowFault closed decision before after grow_fault.Full = (closed ≡ false) × (decision ≡ grow.Full)
+IsGrowFault closed decision before after grow_fault.Memory = (closed ≡ false) × (decision ≡ grow.Grows)
+IsGrowFault closed decision before after grow_fault.Store = (closed ≡ false) × (decision ≡ grow.Grows) × (before ≡ 0) × (after ≡ 1)
+
 -- there is an entry to add, and a stop leaves the list with it at the end or without it
 abbrev pub LeavesEither : List Entry → Option Entry → (Option (List Entry) → Type 0) → Type 0
 LeavesEither list None may_leave = ⊥
 LeavesEither list (Some entry) may_leave = LeavesWithOrWithout list entry may_leave
 
--- the site is another one of the book
-abbrev pub is_peer : Office → ℕ → Bool
-is_peer office to = nat_lt to office.sites && not (to == office.me)
+-- the site is another one of those that the book counts so far
+abbrev pub is_peer : Office → List Entry → ℕ → Bool
+is_peer office history to = nat_lt to (sites_of office history) && not (to == office.me)
 
 -- what a look shows of an event, by the first entries of a history
 pub record IsSeenAt (office : Office) (history : List Entry) (asked : List ℕ) (seen : Seen) : Type 0 where
   pub event : seen.event ≡ asked
   pub left : seen.left ≡ own_left office (take seen.at history) asked
-  pub released : seen.totals.released ≡ released_in (state_of (take seen.at history)).cells asked
-  pub sold : seen.totals.sold ≡ sold_in (state_of (take seen.at history)).cells asked
-  pub refunded : seen.totals.refunded ≡ refunded_in (state_of (take seen.at history)).cells asked
+  pub totals : seen.totals ≡ view_in (state_of (take seen.at history)).cells asked

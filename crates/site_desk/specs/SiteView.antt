@@ -6,6 +6,7 @@ use Rattle.book_core.specs.declared.entry.Entry.{Entry}
 use Rattle.book_core.specs.BookCode.{coded_book}
 use Rattle.book_core.specs.BookView.{BookView}
 use Rattle.book_core.specs.Decision.{Office, Decision, decision, entry_of_ask}
+use Rattle.book_core.specs.Growing.{GrowDecision, entry_of_grow, grow_decision}
 use Rattle.book_core.specs.OwnRow.{HasOwnRights}
 use Rattle.site_exchange.specs.declared.message.Message.{Message}
 use Rattle.site_exchange.specs.Exchange.{Site, Verdict, verdict}
@@ -48,6 +49,13 @@ decision_in book number request = decision book.office book.history number reque
 
 abbrev pub entry_in : BookView → ℕ → Request → Option Entry
 entry_in book number request = entry_of_ask book.office book.history number request
+
+-- what it does with a count of sites, and the entry that growing adds, if any
+abbrev pub grow_decision_in : BookView → ℕ → GrowDecision
+grow_decision_in book sites = grow_decision book.office book.history sites
+
+abbrev pub growth_in : BookView → ℕ → Option Entry
+growth_in book sites = entry_of_grow book.office book.history sites
 
 -- what the book does with a message
 abbrev pub verdict_in : BookView → Message → Verdict

@@ -1,5 +1,5 @@
 //! What a site's book answers.
-use local_rights::Totals;
+use local_rights::ViewTotals;
 use request_ledger::Reply;
 use rights_lattice::Event;
 use site_exchange::Message;
@@ -30,6 +30,6 @@ pub struct Seen {
     pub event: Event,
     /// The seats that this site may still sell.
     pub left: u64,
-    pub totals: Totals,
+    pub totals: ViewTotals,
     pub at: usize,
 }

@@ -1,5 +1,5 @@
 //! The cells of one event, without memory.
-ghost use Rattle.std.specs.Prelude.{◌≡◌, ℕ, List, length, take, ◌<◌, ◌≤◌, ◌↔◌, max, true, if◌then◌else◌, IfSome, IsSome};
+ghost use Rattle.std.specs.Prelude.{◌≡◌, ℕ, List, length, take, ◌*◌, ◌<◌, ◌≤◌, ◌↔◌, max, true, if◌then◌else◌, IfSome, IsSome};
 ghost use Rattle.std.specs.List.{list_any};
 ghost use Rattle.rights_lattice.specs.declared.cell.Cell.{Cell as TheCell};
 ghost use Rattle.rights_lattice.specs.Cell.{same_cell, same_event};
@@ -9,11 +9,12 @@ ghost use Rattle.rights_lattice.specs.RightsView.{IsCellOf};
 ghost use Rattle.rights_lattice.specs.Sums.{max_sites};
 ghost use Rattle.rights_lattice.specs.State.{knows};
 ghost use Rattle.book_core.specs.History.{state_of};
-ghost use Rattle.local_rights.specs.Rights.{left_of, released_in, sold_in, refunded_in};
+ghost use Rattle.local_rights.specs.OpenSeats.{is_position, view_in};
+ghost use Rattle.local_rights.specs.Rights.{gained, spent, left_of, released_in, sold_in, refunded_in};
 ghost use Rattle.site_desk.specs.EventCells.{offset_of, value_in_table, Shows};
 
 use book_core::Book;
-use local_rights::Totals;
+use local_rights::{Totals, ViewTotals};
 use rights_lattice::{Cell, Event, Mark, SITE_NUMBERS, SiteId};
 use std::marker::Model;
 
@@ -78,6 +79,50 @@ impl EventCells {
     pub fn left(&self, me: SiteId) -> u64
         ensures { (X : Cells) (event : List ℕ) → Shows self.now X event → result ≡ left_of X event me }
     {
+        let (gained, spent) = self.gained_and_spent(me);
+        gained.saturating_sub(spent)
+    }
+
+    /// What a look shows of the event: the seats that all sites released, sold and took back, and those that are open.
+    pub fn view(&self) -> ViewTotals
+        ensures { (X : Cells) (event : List ℕ) → Shows self.now X event → result ≡ view_in X event }
+    {
+        let Totals {
+            released,
+            sold,
+            refunded,
+        } = self.totals();
+        let open_seats = if self.is_position() {
+            Some((released + refunded).saturating_sub(sold))
+        } else {
+            None
+        };
+        ViewTotals {
+            released,
+            sold,
+            refunded,
+            open_seats,
+        }
+    }
+
+    // Whether no site spent more than it gained.
+    fn is_position(&self) -> bool
+        ensures { (X : Cells) (event : List ℕ) → Shows self.now X event → result ≡ is_position X event }
+    {
+        for number in 0..SITE_NUMBERS as u64 {
+            let (gained, spent) = self.gained_and_spent(site(number));
+            if spent > gained {
+                return false;
+            }
+        }
+        true
+    }
+
+    // What the site released, got from other sites and took back, and what it gave to them and sold.
+    fn gained_and_spent(&self, me: SiteId) -> (u64, u64)
+        ensures gained { (X : Cells) (event : List ℕ) → Shows self.now X event → result.0 ≡ gained X event me }
+        ensures spent { (X : Cells) (event : List ℕ) → Shows self.now X event → result.1 ≡ spent X event me }
+    {
         let mut gained = self.get(&Cell::Gave { by: me, to: me });
         gained += self.get(&Cell::Back { by: me });
         let mut spent = self.get(&Cell::Used { by: me });
@@ -88,14 +133,16 @@ impl EventCells {
                 spent += self.get(&Cell::Gave { by: me, to: other });
             }
         }
-        gained.saturating_sub(spent)
+        (gained, spent)
     }
 
-    /// The seats that all sites released, sold and took back.
-    pub fn totals(&self) -> Totals
+    // The seats that all sites released, sold and took back.
+    fn totals(&self) -> Totals
         ensures released { (X : Cells) (event : List ℕ) → Shows self.now X event → result.released ≡ released_in X event }
         ensures sold { (X : Cells) (event : List ℕ) → Shows self.now X event → result.sold ≡ sold_in X event }
         ensures refunded { (X : Cells) (event : List ℕ) → Shows self.now X event → result.refunded ≡ refunded_in X event }
+        ensures released_bound { result.released ≤ max_value * site_numbers }
+        ensures refunded_bound { result.refunded ≤ max_value * site_numbers }
     {
         let mut released = 0;
         let mut sold = 0;

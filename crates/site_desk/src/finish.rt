@@ -111,7 +111,7 @@ fn was_seen(book: &Book, seen: &Seen) -> bool
         return false;
     }
     match EventCells::by_first(book, seen.at, &seen.event) {
-        Some(cells) => seen.left == cells.left(book.me()) && seen.totals == cells.totals(),
+        Some(cells) => seen.left == cells.left(book.me()) && seen.totals == cells.view(),
         None => false,
     }
 }

@@ -12,6 +12,7 @@ mod event_cells;
 mod fault;
 mod finish;
 mod gate;
+mod growing;
 mod joining;
 mod locked;
 mod receipt;

@@ -161,7 +161,7 @@ impl<K: Keeper, L: Opens> Locked<K, L> {
     pub fn next(&mut self, alloc: Global, to: SiteId) -> Result<Option<Message>, NextFault>
         ensures message { IfOk result (λ message. message ≡ next self.old.book.office.me (site_of self.old) to) }
         ensures closed { (result ≡ Err NextFault.Closed) ↔ (self.old.closed ≡ true) }
-        ensures no_site { (result ≡ Err NextFault.NoSite) ↔ ((self.old.closed ≡ false) × (is_peer self.old.book.office to ≡ false)) }
+        ensures no_site { (result ≡ Err NextFault.NoSite) ↔ ((self.old.closed ≡ false) × (is_peer self.old.book.office self.old.book.history to ≡ false)) }
         ensures memory { result ≡ Err NextFault.Memory → IsSome (next self.old.book.office.me (site_of self.old) to) }
         ensures same { self.new ≡ self.old }
     {

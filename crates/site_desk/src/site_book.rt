@@ -1,8 +1,9 @@
 //! The book of a site over its keeper.
-ghost use Rattle.std.specs.Prelude.{◌≡◌, ◌≢◌, ◌<◌, ◌⊎◌, ◌↔◌, ℕ, List, Err, true, false, length, IfOk, IfErr, IsSome, OnOk, OnErr};
+ghost use Rattle.std.specs.Prelude.{◌≡◌, ◌≢◌, ◌<◌, ◌⊎◌, ◌↔◌, ℕ, List, Err, true, false, length, IfOk, IfErr, IsSome, Some, OnOk, OnErr};
 ghost use Rattle.rights_lattice.specs.declared.cell.Cell.{Cell};
 ghost use Rattle.rights_lattice.specs.Cell.{owner_of};
 ghost use Rattle.rights_lattice.specs.State.{knows};
+ghost use Rattle.book_core.specs.declared.entry.Entry.TheVariants.{Grown};
 ghost use Rattle.book_core.specs.History.{state_of};
 ghost use Rattle.book_core.specs.OwnRow.{HasOwnRights, cell_in};
 ghost use Rattle.book_core.specs.Legal.{IsLegal};
@@ -11,17 +12,18 @@ ghost use Rattle.site_exchange.specs.Exchange.{Joins, ack_for, entry_of_take, ne
 ghost use Rattle.site_exchange.specs.Taking.{MayTake, site_after, with_entry};
 ghost use Rattle.sql_records.specs.Keeping.{Keeps, LeavesOnly};
 ghost use Rattle.sql_records.specs.declared.meta.Meta.{Meta as Numbers};
-ghost use Rattle.site_desk.specs.Answers.{IsAnswer, IsAskFault, IsSeenAt, IsTakeFault, IsTaken, LeavesEither, is_peer};
+ghost use Rattle.site_desk.specs.Answers.{IsAnswer, IsAskFault, IsGrowFault, IsSeenAt, IsTakeFault, IsTaken, LeavesEither, is_peer};
 ghost use Rattle.site_desk.specs.Count.{Grows};
-ghost use Rattle.site_desk.specs.SiteView.{decision_in, entry_in, office_of, site_of, verdict_in};
+ghost use Rattle.site_desk.specs.SiteView.{decision_in, entry_in, grow_decision_in, growth_in, office_of, site_of, verdict_in};
 
 use crate::answer::{Answer, Seen, Taken};
 use crate::asking::answer;
 use crate::fault::{AskFault, LookFault, NextFault};
+use crate::growing::grow;
 use crate::joining::join;
-use book_core::{Book, Entry, ReplayFault};
+use book_core::{Book, Entry, GrowFault, ReplayFault};
 use request_ledger::{Request, RequestNumber};
-use rights_lattice::{Event, SiteId};
+use rights_lattice::{Event, SiteId, Sites};
 use site_exchange::{Exchange, Message, TakeFault, check};
 use sql_records::{Keeper, Meta};
 use std::alloc::Global;
@@ -217,11 +219,46 @@ impl<K: Keeper> SiteBook<K> {
         }
     }
 
+    /// Counts so many sites from here on: the growth is kept and then entered. It changes no cell.
+    ///
+    /// `NotMore` where the count is not above the count so far. Other errors are as for a request; neither `NotMore` nor
+    /// a full history takes memory.
+    pub fn grow(&mut self, alloc: Global, sites: Sites) -> Result<(), GrowFault>
+        ensures office { self.new.book.office ≡ self.old.book.office }
+        ensures growth { OnOk result (growth_in self.old.book sites ≡ Some (Grown sites)) }
+        ensures entered { OnOk result (site_of self.new ≡ with_entry (growth_in self.old.book sites) (site_of self.old)) }
+
+        // When each error comes, and what it leaves.
+        ensures closed { (result ≡ Err GrowFault.Closed) ↔ (self.old.closed ≡ true) }
+        ensures fault { IfErr result (IsGrowFault self.old.closed (grow_decision_in self.old.book sites) (K.failed self.old.keeper) (K.failed self.new.keeper)) }
+        ensures unchanged { OnErr result (site_of self.new ≡ site_of self.old) }
+        ensures untouched { IfErr result (λ fault. fault ≢ GrowFault.Store → self.new.keeper ≡ self.old.keeper) }
+        ensures closes { (self.new.closed ≡ true) ↔ ((self.old.closed ≡ true) ⊎ (result ≡ Err GrowFault.Store)) }
+
+        // What the keeper holds, and what a stop may leave of it.
+        ensures kept { OnOk result (K.is_trusted self.new.keeper → Keeps self.new.book.history (K.kept self.new.keeper) (K.may_leave self.new.keeper)) }
+        ensures stopped { result ≡ Err GrowFault.Store → K.is_trusted self.new.keeper → LeavesEither self.old.book.history (growth_in self.old.book sites) (K.may_leave self.new.keeper) }
+        ensures in_step { self.new.closed ≡ false → K.is_trusted self.new.keeper → self.new.book.history ≡ K.kept self.new.keeper }
+        ensures rests { self.new.closed ≡ false → K.is_trusted self.new.keeper → LeavesOnly self.new.book.history (K.may_leave self.new.keeper) }
+        ensures site { K.is_trusted self.new.keeper → (meta : Numbers) → K.is_of self.old.keeper meta → K.is_of self.new.keeper meta }
+        ensures trusted { K.is_trusted self.new.keeper → K.is_trusted self.old.keeper }
+
+        ensures cells { (event : List ℕ) (cell : Cell) → cell_in self.new.book event cell ≡ cell_in self.old.book event cell }
+        ensures has_rights { HasOwnRights self.new.book }
+    {
+        if self.is_closed {
+            return Err(GrowFault::Closed);
+        }
+        let grown = grow(&mut self.book, &mut self.keeper, alloc, sites);
+        self.is_closed = matches!(grown, Err(GrowFault::Store));
+        grown
+    }
+
     /// The message that is due to a peer, and none where it has acknowledged all, which takes no memory.
     pub fn next(&mut self, alloc: Global, to: SiteId) -> Result<Option<Message>, NextFault>
         ensures message { IfOk result (λ message. message ≡ next self.old.book.office.me (site_of self.old) to) }
         ensures closed { (result ≡ Err NextFault.Closed) ↔ (self.old.closed ≡ true) }
-        ensures no_site { (result ≡ Err NextFault.NoSite) ↔ ((self.old.closed ≡ false) × (is_peer self.old.book.office to ≡ false)) }
+        ensures no_site { (result ≡ Err NextFault.NoSite) ↔ ((self.old.closed ≡ false) × (is_peer self.old.book.office self.old.book.history to ≡ false)) }
         ensures memory { result ≡ Err NextFault.Memory → IsSome (next self.old.book.office.me (site_of self.old) to) }
         ensures same { self.new ≡ self.old }
     {

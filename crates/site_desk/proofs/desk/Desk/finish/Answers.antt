@@ -1,4 +1,4 @@
-use Rattle.std.proofs.Common.{All, length, ◌≡◌, ◌≢◌, ℕ, List, Result, Ok, Err, subst, sym}
+use Rattle.std.proofs.Common.{All, length, ◌≡◌, ◌≢◌, Result, Ok, Err, subst, sym}
 use Rattle.std.specs.Prelude.{IfOk, IfErr, OnOk}
 use Rattle.site_desk.specs.declared.finish.FinishFault.{FinishFault}
 use Rattle.site_desk.specs.declared.finish.FinishFault.TheVariants.{SeatsOut}

@@ -4,7 +4,7 @@ use Rattle.rights_lattice.specs.Cells.{Cells, max_value, value_at}
 use Rattle.rights_lattice.specs.Sums.{sum_below}
 use Rattle.local_rights.specs.Rights.{ceded}
 use Rattle.site_desk.specs.EventCells.{Shows}
-use Rattle.site_desk.proofs.event_cells.EventCells.left.Given as goal
+use Rattle.site_desk.proofs.event_cells.EventCells.gained_and_spent.Given as goal
 
 abbrev pub invariant-loop-number : goal.invariant-loop-number
 invariant-loop-number l = record {
