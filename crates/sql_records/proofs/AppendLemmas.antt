@@ -22,7 +22,7 @@ use Rattle.request_ledger.specs.declared.request.Request.TheVariants.{Announce, 
 use Rattle.request_ledger.specs.declared.reply.Reply.{Reply}
 use Rattle.request_ledger.specs.declared.reply.Reply.TheVariants.{Done, Known, Unknown, Short, CellFull, NoSale, Refunded, TooMany, ToSelf, NoSite}
 use Rattle.book_core.specs.declared.entry.Entry.{Entry}
-use Rattle.book_core.specs.declared.entry.Entry.TheVariants.{Asked, Joined}
+use Rattle.book_core.specs.declared.entry.Entry.TheVariants.{Asked, Joined, Grown}
 use Rattle.sql_records.specs.declared.meta.Meta.{Meta}
 use Rattle.sql_records.specs.Texts.{insert_text}
 use Rattle.sql_records.specs.Layout.{IsOurs, ours_and, HasMeta, meta_shown}
@@ -86,14 +86,18 @@ inserts_entry place (Asked number request reply delta) limit mode schema old aft
     refl (event_fits request) refl refl limit mode schema old after text tally has h
 inserts_entry place (Joined peer delta) limit mode schema old after text tally has h =
     inserts place (Int (pos peer)) Null Null Null Null Null Null Null _ (cast_int peer) cast_null cast_null cast_null cast_null refl refl refl refl limit mode schema old after text tally has h
+inserts_entry place (Grown sites) limit mode schema old after text tally has h =
+    inserts place Null Null _ Null Null (Int (pos sites)) Null Null _ cast_null cast_null cast_null (cast_int sites) cast_null refl refl refl refl limit mode schema old after text tally has h
 
 placed : (place : ℕ) (entry : Entry) → column (stored (columns_of place entry)) 0 ≡ Int (pos place)
 placed place (Asked number request reply delta) = refl
 placed place (Joined peer delta) = refl
+placed place (Grown sites) = refl
 
 shown_stored : (place : ℕ) (entry : Entry) → shown (stored (columns_of place entry)) ≡ columns_of place entry
 shown_stored place (Asked number request reply delta) = refl
 shown_stored place (Joined peer delta) = refl
+shown_stored place (Grown sites) = refl
 
 -- the database after it has the entry at the end of its history
 record Appended (place : ℕ) (entry : Entry) (old : Trees) (after : Database) : Type 0 where

@@ -1,11 +1,11 @@
 -- An entry is read back from its columns.
-use Rattle.std.proofs.Common.{◌≡◌, ℕ, ◌≤◌, ◌<◌, ◌^◌, pos, List, length, Option, Some, None, refl, ap, ◌∙◌, arith}
+use Rattle.std.proofs.Common.{◌≡◌, ℕ, ◌≤◌, ◌<◌, ◌^◌, pos, Bool, false, List, [], length, Option, Some, None, refl, ap, ◌∙◌, arith}
 use Rattle.std.specs.Prelude.{IfSome}
 use Rattle.std.specs.Result.{result_ok}
 use Rattle.std.proofs.lemmas.Bool.{and_from, le-leb, cond-true}
 use Rattle.sqlite.specs.declared.types.Value.TheVariants.{Int, Text}
 use Rattle.rights_lattice.specs.Cells.{max_value, IsValue}
-use Rattle.rights_lattice.specs.Limits.{greatest_site, IsSite}
+use Rattle.rights_lattice.specs.Limits.{greatest_site, most_sites, IsSite}
 use Rattle.rights_lattice.specs.State.{State}
 use Rattle.rights_lattice.specs.EventName.{IsEventName}
 use Rattle.request_ledger.specs.Ranges.{IsPart, IsRequest}
@@ -16,11 +16,12 @@ use Rattle.request_ledger.specs.declared.verb.Verb.TheVariants as verb
 use Rattle.request_ledger.specs.Words.{verb_word, request_verb, reply_word, reply_number}
 use Rattle.request_ledger.proofs.WordLaws.{verb_again, reply_again}
 use Rattle.book_core.specs.declared.entry.Entry.{Entry}
-use Rattle.book_core.specs.declared.entry.Entry.TheVariants.{Asked, Joined}
+use Rattle.book_core.specs.declared.entry.Entry.TheVariants.{Asked, Joined, Grown}
 use Rattle.delta_wire.specs.Grammar.{most_bytes, IsDelta, delta_text}
 use Rattle.rights_lattice.proofs.EventLaws.{name_of_again}
 use Rattle.delta_wire.proofs.Texts.{delta_again}
-use Rattle.sql_records.specs.Rows.{event_column, amount_column, target_column, number_column, rest_column, columns_of, HasReplyColumns, IsStorable, number_within, value_in, site_in, event_in, verb_in, announce_of, release_of, sell_of, part_in, refund_of, cede_of, request_in, rest_in, reply_in, delta_in, asked_of, joined_of, entry_of}
+use Rattle.delta_wire.specs.Wire.{state_from, items_from}
+use Rattle.sql_records.specs.Rows.{event_column, amount_column, target_column, number_column, rest_column, columns_of, HasReplyColumns, IsStorable, number_within, value_in, site_in, event_in, verb_in, announce_of, release_of, sell_of, part_in, refund_of, cede_of, request_in, rest_in, reply_in, delta_in, asked_of, joined_of, is_grow, grown_of, entry_of}
 
 pub within_back : (low high n : ℕ) → low ≤ n → n ≤ high → number_within low high (Int (pos n)) ≡ Some n
 within_back low high n p q = cond-true _ _ _ (and_from _ _ (le-leb _ _ p) (le-leb _ _ q))
@@ -61,8 +62,22 @@ delta_back : (S : State) → IsDelta S → length (delta_text S) ≤ most_bytes 
 unfolding delta_in
 delta_back S h short = cond-true _ _ _ (le-leb _ _ short) ∙ ap result_ok (delta_again S h)
 
+-- a growth has no delta
+none_back : delta_in (Text []) ≡ Some (state_from [] [])
+unfolding delta_in items_from
+none_back = refl
+
+-- the word of a request is not that of a growth
+asks : (r : Request) → is_grow (Text (verb_word (request_verb r))) ≡ false
+asks (Announce e) = refl
+asks (Release e n) = refl
+asks (Sell e n) = refl
+asks (Refund sale part) = refl
+asks (Cede e n to) = refl
+
 -- what was written for an entry is read as that entry
 pub entry_back : (at : ℕ) (entry : Entry) → IsStorable entry → entry_of (columns_of at entry) ≡ Some entry
-unfolding entry_of asked_of joined_of
-entry_back at (Asked number request reply delta) h = rw (delta_back delta h.3 h.4, value_back number h.0, request_back request h.1, reply_back reply h.2) refl
+unfolding entry_of asked_of joined_of grown_of
+entry_back at (Asked number request reply delta) h = rw (delta_back delta h.3 h.4, asks request, value_back number h.0, request_back request h.1, reply_back reply h.2) refl
 entry_back at (Joined peer delta) h = rw (delta_back delta h.1 h.2, site_back peer h.0) refl
+entry_back at (Grown sites) h = rw (none_back, within_back 1 most_sites sites h.0 h.1) refl

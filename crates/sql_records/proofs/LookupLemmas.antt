@@ -25,7 +25,7 @@ use Rattle.request_ledger.specs.declared.reply.Reply.{Reply}
 use Rattle.request_ledger.specs.declared.reply.Kept.{Kept}
 use Rattle.request_ledger.specs.Ledger.{Keeping, kept_under}
 use Rattle.book_core.specs.declared.entry.Entry.{Entry}
-use Rattle.book_core.specs.declared.entry.Entry.TheVariants.{Asked, Joined}
+use Rattle.book_core.specs.declared.entry.Entry.TheVariants.{Asked, Joined, Grown}
 use Rattle.book_core.specs.History.{asked_from}
 use Rattle.plain_words.specs.Words.{◌>>=◌}
 use Rattle.plain_words.proofs.WordLaws.{bind_some, some_is}
@@ -39,7 +39,7 @@ use Rattle.request_ledger.specs.declared.verb.Verb.{Verb}
 use Rattle.request_ledger.specs.declared.verb.Verb.TheVariants as verb
 use Rattle.sqlite.specs.State.{State as Store}
 use Rattle.sql_records.proofs.OpeningLemmas.{has_some}
-use Rattle.sql_records.specs.Rows.{is_null, text_in, number_within, value_in, site_in, event_in, verb_in, event_column, announce_of, release_of, sell_of, part_in, refund_of, cede_of, request_of, request_in, reply_in, delta_in, asks_nothing, asked_of, joined_of, entry_with, entry_of, AreWhole}
+use Rattle.sql_records.specs.Rows.{is_null, text_in, number_within, value_in, site_in, event_in, verb_in, event_column, announce_of, release_of, sell_of, part_in, refund_of, cede_of, request_of, request_in, reply_in, delta_in, asks_nothing, asked_of, joined_of, sites_in, is_grow, only_grows, grown_of, own_of, entry_with, entry_of, AreWhole}
 use Rattle.sql_records.specs.Lookups.{IsFirstUnread, IsListFault, IsQueryFault, ReadsSome, found_in, listed_in, names_event, listing, has_number, has_event, found_columns, listed_columns, found_of, listed_of, first_found}
 
 -- ---- what was read from a value
@@ -112,6 +112,7 @@ abbrev HasParts : Row → Entry → Type 0
 HasParts values (Asked number request reply delta) =
     (column values 2 ≡ Int (pos number)) × (value_in (column values 2) ≡ Some number) × (request_in (column values 3) (column values 4) (column values 5) (column values 6) ≡ Some request) × (reply_in (column values 7) (column values 8) ≡ Some reply)
 HasParts values (Joined peer delta) = (column values 2 ≡ Null) × (column values 4 ≡ Null)
+HasParts values (Grown sites) = (column values 2 ≡ Null) × (column values 4 ≡ Null)
 
 asked_parts : (values : Row) (delta : State) (e : Entry) → asked_of values delta ≡ Some e → HasParts values e
 unfolding asked_of
@@ -134,14 +135,32 @@ joined_parts values delta e h =
     let one = and_parts _ _ two.0 in
     subst (HasParts values) c.1 (null_found (column values 2) one.0, null_found (column values 4) two.1)
 
+grown_parts : (values : Row) (e : Entry) → grown_of values ≡ Some e → HasParts values e
+unfolding grown_of
+grown_parts values e h =
+    let n = bind_some (sites_in (column values 6)) (λ n. cond (only_grows values) (Some (Grown n)) None) e h in
+    let c = cond_is (only_grows values) (Grown n.0) e n.2 in
+    let five = (and_parts _ _ c.0).0 in
+    let four = (and_parts _ _ five).0 in
+    let three = (and_parts _ _ four).0 in
+    let two = and_parts _ _ (and_parts _ _ three).0 in
+    subst (HasParts values) c.1 (null_found (column values 2) two.0, null_found (column values 4) two.1)
+
+own_parts : (values : Row) (delta : State) (e : Entry) → own_of values delta ≡ Some e → HasParts values e
+own_parts values delta e h = go (is_grow (column values 3)) h
+  where
+    go : (b : Bool) → cond b (grown_of values) (asked_of values delta) ≡ Some e → HasParts values e
+    go true h = grown_parts values e h
+    go false h = asked_parts values delta e h
+
 parts : (values : Row) (e : Entry) → entry_of values ≡ Some e → HasParts values e
 unfolding entry_of
 parts values e h =
     let d = bind_some (delta_in (column values 9)) (λ delta. entry_with values delta) e h in
     go (is_null (column values 1)) d.0 d.2
   where
-    go : (b : Bool) (delta : State) → cond b (asked_of values delta) (joined_of values delta) ≡ Some e → HasParts values e
-    go true delta h = asked_parts values delta e h
+    go : (b : Bool) (delta : State) → cond b (own_of values delta) (joined_of values delta) ≡ Some e → HasParts values e
+    go true delta h = own_parts values delta e h
     go false delta h = joined_parts values delta e h
 
 -- ---- SQL's equality of numbers and of texts
@@ -184,6 +203,11 @@ found_reads : (from : ℕ) (values : Row) (reply : Reply) → column values 0 �
 unfolding found_of
 found_reads from values reply at is = rw (at, is) refl
 
+none_found : (n : ℕ) (values : Row) (rows : List Row) (keeping : Keeping) → column values 2 ≡ Null → IsFoundIn n rows keeping → IsFoundIn n (values ∷ rows) keeping
+none_found n values rows keeping null more =
+    let test : has_number n values ≡ false = ap (λ v. is_true (binary (Compare Eq Binary) v (Int (pos n)))) null ∙ no_number (Int (pos n)) in
+    ap (λ b. first_found (map found_columns (cond b (values ∷ filter (has_number n) rows) (filter (has_number n) rows)))) test ∙ more
+
 one_found : (n from : ℕ) (values : Row) (rows : List Row) (e : Entry) (es : List Entry) → column values 0 ≡ Int (pos from) → HasParts values e → IsFoundIn n rows (asked_from (from + 1) es) → IsFoundIn n (values ∷ rows) (asked_from from (e ∷ es))
 one_found n from values rows (Asked number request reply delta) es at h more =
     let test : has_number n values ≡ eqb number n = ap (λ v. is_true (binary (Compare Eq Binary) v (Int (pos n)))) h.0 ∙ same_number number n in
@@ -194,9 +218,8 @@ one_found n from values rows (Asked number request reply delta) es at h more =
       | false ↦ more
     ] in
     ap (λ b. first_found (map found_columns (cond b (values ∷ filter (has_number n) rows) (filter (has_number n) rows)))) test ∙ step (eqb number n)
-one_found n from values rows (Joined peer delta) es at h more =
-    let test : has_number n values ≡ false = ap (λ v. is_true (binary (Compare Eq Binary) v (Int (pos n)))) h.0 ∙ no_number (Int (pos n)) in
-    ap (λ b. first_found (map found_columns (cond b (values ∷ filter (has_number n) rows) (filter (has_number n) rows)))) test ∙ more
+one_found n from values rows (Joined peer delta) es at h more = none_found n values rows (asked_from (from + 1) es) h.0 more
+one_found n from values rows (Grown sites) es at h more = none_found n values rows (asked_from (from + 1) es) h.0 more
 
 entry_here : (o : Option Entry) → IsSome o → (e : Entry) × (o ≡ Some e)
 entry_here None some = absurd (let e = some in cc)
@@ -228,6 +251,11 @@ listed_reads : (from number : ℕ) (values : Row) (request : Request) (reply : R
 unfolding listed_of
 listed_reads from number values request reply at n q r = rw (at, n, q, r) refl
 
+none_listed : (name : List ℕ) (values : Row) (rows : List Row) (keeping : Keeping) → column values 4 ≡ Null → AreListedIn name rows keeping → AreListedIn name (values ∷ rows) keeping
+none_listed name values rows keeping null more =
+    let test : has_event name values ≡ false = ap (λ v. is_true (binary (Compare Eq Binary) v (Text name))) null ∙ no_number (Text name) in
+    ap (λ b. map listed_of (map listed_columns (cond b (values ∷ filter (has_event name) rows) (filter (has_event name) rows)))) test ∙ more
+
 one_listed : (name : List ℕ) (from : ℕ) (values : Row) (rows : List Row) (e : Entry) (es : List Entry) → column values 0 ≡ Int (pos from) → HasParts values e → AreListedIn name rows (asked_from (from + 1) es) → AreListedIn name (values ∷ rows) (asked_from from (e ∷ es))
 one_listed name from values rows (Asked number request reply delta) es at h more =
     let event = event_is (column values 3) (column values 4) (column values 5) (column values 6) request h.2 in
@@ -239,9 +267,8 @@ one_listed name from values rows (Asked number request reply delta) es at h more
       | false ↦ more
     ] in
     ap (λ b. map listed_of (map listed_columns (cond b (values ∷ filter (has_event name) rows) (filter (has_event name) rows)))) test ∙ step (names_event name request)
-one_listed name from values rows (Joined peer delta) es at h more =
-    let test : has_event name values ≡ false = ap (λ v. is_true (binary (Compare Eq Binary) v (Text name))) h.1 ∙ no_number (Text name) in
-    ap (λ b. map listed_of (map listed_columns (cond b (values ∷ filter (has_event name) rows) (filter (has_event name) rows)))) test ∙ more
+one_listed name from values rows (Joined peer delta) es at h more = none_listed name values rows (asked_from (from + 1) es) h.1 more
+one_listed name from values rows (Grown sites) es at h more = none_listed name values rows (asked_from (from + 1) es) h.1 more
 
 pub are_listed : (name : List ℕ) (from : ℕ) (rows : List Row) → AreWhole from rows → AreListedIn name rows (asked_from from (filter_map entry_of rows))
 are_listed name from [] whole = refl

@@ -12,12 +12,11 @@ use Rattle.sqlite.specs.declared.error.Error.{Error}
 use Rattle.sqlite.specs.declared.error.Error.TheVariants.{SqliteFailure}
 use Rattle.sqlite.specs.declared.error.ErrorCode.TheVariants.{OutOfMemory, SystemIoFailure, DatabaseCorrupt, DiskFull, Closed}
 use Rattle.plain_words.specs.Words.{◌>>=◌}
-use Rattle.rights_lattice.specs.Limits.{most_sites}
 use Rattle.book_core.specs.Limits.{greatest_limit}
 use Rattle.sql_records.specs.declared.meta.Meta.{Meta}
 use Rattle.sql_records.specs.declared.fault.OpenFault.{OpenFault}
 use Rattle.sql_records.specs.declared.fault.OpenFault.TheVariants.{NotOurs, OtherSchema, Damaged, Memory, Disk}
-use Rattle.sql_records.specs.Rows.{number_within, site_in, entry_of, rows_from_0, AreInOrder, AreWholeIn, IsDamagedAt, IsOfVersion, WantsForEntry}
+use Rattle.sql_records.specs.Rows.{number_within, site_in, sites_in, entry_of, rows_from_0, AreInOrder, AreWholeIn, IsDamagedAt, IsOfVersion, WantsForEntry}
 use Rattle.sql_records.specs.declared.version.Version.{Version}
 use Rattle.sql_records.specs.declared.version.Version.TheVariants.{Second}
 use Rattle.sql_records.specs.Layout.{IsOurs, our_kind, number_of, HasOtherSchema, HasGoodMeta, HasNoMeta}
@@ -33,7 +32,7 @@ int_in _ = None
 unfoldable pub numbers_in : Row → Option Meta
 numbers_in values = do
   me ← site_in (column values 3)
-  sites ← number_within 1 most_sites (column values 4)
+  sites ← sites_in (column values 4)
   limit ← number_within 1 greatest_limit (column values 5)
   if nat_lt me sites then Some (record { me = me; sites = sites; limit = limit }) else None
 

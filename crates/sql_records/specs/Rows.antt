@@ -1,6 +1,7 @@
 -- The rows of the entries: the ten columns of each, and the entry that a row stands for. (Our own.)
 use Rattle.std.specs.Prelude.{ℕ, ◌+◌, ◌≤◌, ◌<◌, ◌^◌, ◌≡◌, ◌≢◌, codes, nat_le, ◌&&◌, ◌==◌, if◌then◌else◌, Bool, true, false, List, [], ◌∷◌, ◌++◌, Option, Some, None, pos, negsuc, map, length, take, drop, slice_get, IsSome, IfSome, IsSorted, IsPermutation}
 use Rattle.std.specs.List.{AllByRecursion, filter_map, prefix_len, slice_split}
+use Rattle.std.specs.Str.{bytes_eq}
 use Rattle.std.specs.Option.{option_map}
 use Rattle.std.specs.Result.{result_ok}
 use Rattle.std.specs.declared.cmp.Ordering.{Ordering}
@@ -9,7 +10,7 @@ use Rattle.sqlite.specs.declared.types.Value.TheVariants.{Null, Int, Text}
 use Rattle.sqlite.specs.Order.{Row, column, value_cmp}
 use Rattle.sqlite_keyed.specs.Lists.{sort_by}
 use Rattle.rights_lattice.specs.Cells.{max_value, IsValue}
-use Rattle.rights_lattice.specs.Limits.{greatest_site, IsSite}
+use Rattle.rights_lattice.specs.Limits.{greatest_site, most_sites, IsSite}
 use Rattle.rights_lattice.specs.State.{State}
 use Rattle.rights_lattice.specs.EventName.{name_of}
 use Rattle.request_ledger.specs.declared.request.Request.{Request}
@@ -22,7 +23,7 @@ use Rattle.request_ledger.specs.Words.{verb_word, verb_of, request_verb, reply_w
 use Rattle.book_core.specs.declared.entry.Entry.{Entry}
 use Rattle.sql_records.specs.declared.version.Version.{Version}
 use Rattle.sql_records.specs.declared.version.Version.TheVariants.{First, Second}
-use Rattle.book_core.specs.declared.entry.Entry.TheVariants.{Asked, Joined}
+use Rattle.book_core.specs.declared.entry.Entry.TheVariants.{Asked, Joined, Grown}
 use Rattle.sql_records.specs.declared.reading.EntryHead.{EntryHead}
 use Rattle.sql_records.specs.declared.reading.EntryHead.TheVariants as head
 use Rattle.plain_words.specs.Input.{is_line_break}
@@ -70,11 +71,16 @@ request_columns request = Text (verb_word (request_verb request)) ∷ event_colu
 abbrev pub reply_columns : Reply → Row
 reply_columns reply = Text (reply_word reply) ∷ rest_column reply ∷ []
 
+-- the word of a growth, which no request has
+abbrev pub grow_word : List ℕ
+grow_word = codes "grow"
+
 -- the ten columns of an entry at a place: pos, peer, number, verb, event, amount, target, reply, rest, delta
 abbrev pub columns_of : ℕ → Entry → Row
 columns_of at (Asked number request reply delta) =
     Int (pos at) ∷ Null ∷ Int (pos number) ∷ (request_columns request ++ (reply_columns reply ++ Text (delta_text delta) ∷ []))
 columns_of at (Joined peer delta) = Int (pos at) ∷ Int (pos peer) ∷ Null ∷ Null ∷ Null ∷ Null ∷ Null ∷ Null ∷ Null ∷ Text (delta_text delta) ∷ []
+columns_of at (Grown sites) = Int (pos at) ∷ Null ∷ Null ∷ Text grow_word ∷ Null ∷ Null ∷ Int (pos sites) ∷ Null ∷ Null ∷ Text [] ∷ []
 
 -- the same as the table keeps them: the place is the rowid, and its own column is null
 abbrev pub stored : Row → Row
@@ -96,12 +102,14 @@ HasReplyColumns reply = IfSome (reply_number reply) (λ n. n < 2 ^ 63)
 abbrev pub HasRoom : Entry → ℕ → Type 0
 HasRoom (Asked number request reply delta) bytes = HasReplyColumns reply × (bytes ≤ most_bytes)
 HasRoom (Joined peer delta) bytes = bytes ≤ most_bytes
+HasRoom (Grown sites) bytes = Unit {0}
 
 -- the entry is read back from its columns
 abbrev pub IsStorable : Entry → Type 0
 IsStorable (Asked number request reply delta) =
     IsValue number × IsRequest request × HasReplyColumns reply × IsDelta delta × (length (delta_text delta) ≤ most_bytes)
 IsStorable (Joined peer delta) = IsSite peer × IsDelta delta × (length (delta_text delta) ≤ most_bytes)
+IsStorable (Grown sites) = (1 ≤ sites) × (sites ≤ most_sites)
 
 -- ---- what columns say
 
@@ -124,6 +132,9 @@ value_in v = number_within 1 max_value v
 
 abbrev pub site_in : Value → Option ℕ
 site_in v = number_within 0 greatest_site v
+
+abbrev pub sites_in : Value → Option ℕ
+sites_in v = number_within 1 most_sites v
 
 unfoldable pub event_in : Value → Option (List ℕ)
 event_in v = do
@@ -227,13 +238,36 @@ joined_of values delta = do
   peer ← site_in (column values 1)
   if asks_nothing values then Some (Joined peer delta) else None
 
+abbrev pub is_grow : Value → Bool
+is_grow (Text word) = bytes_eq word grow_word
+is_grow _ = false
+
+abbrev pub is_empty : Value → Bool
+is_empty (Text []) = true
+is_empty _ = false
+
+-- beside the place, the peer, the word and the count, the columns are null, and the delta's text is empty
+abbrev pub only_grows : Row → Bool
+only_grows values =
+    is_null (column values 2) && is_null (column values 4) && is_null (column values 5) && is_null (column values 7) && is_null (column values 8) && is_empty (column values 9)
+
+unfoldable pub grown_of : Row → Option Entry
+grown_of values = do
+  sites ← sites_in (column values 6)
+  if only_grows values then Some (Grown sites) else None
+
+-- the entry of a site's own, without a peer
+abbrev pub own_of : Row → State → Option Entry
+own_of values delta = if is_grow (column values 3) then grown_of values else asked_of values delta
+
 abbrev pub entry_with : Row → State → Option Entry
-entry_with values delta = if is_null (column values 1) then asked_of values delta else joined_of values delta
+entry_with values delta = if is_null (column values 1) then own_of values delta else joined_of values delta
 
 -- the entry with this delta
 abbrev pub with_delta : EntryHead → State → Entry
 with_delta (head.Asked number request reply) delta = Asked number request reply delta
 with_delta (head.Joined peer) delta = Joined peer delta
+with_delta (head.Grown sites) delta = Grown sites
 
 -- memory may be wanted for the entry that ten columns stand for: for its delta, the other columns being those of an entry
 pub record WantsForEntry (values : Row) : Type 0 where
@@ -291,7 +325,7 @@ abbrev pub AreWhole : ℕ → List Row → Type 0
 AreWhole from [] = Unit {0}
 AreWhole from (values ∷ rows) = IsEntryAt from values × AreWhole (from + 1) rows
 
--- what the first version does not have: a part of a sale that is asked back, and the reply that it is too many
+-- what the first version does not have: a part of a sale that is asked back, the reply that it is too many, and a growth
 abbrev pub too_many : List ℕ
 too_many = codes "too-many"
 
@@ -299,9 +333,9 @@ pub record HasPart (values : Row) : Type 0 where
   pub refund : verb_in (column values 3) ≡ Some verb.Refund
   pub part : is_null (column values 5) ≡ false
 
--- the columns of a request and its reply are those of this version
+-- the columns of a request and its reply, or of a growth, are those of this version
 abbrev pub IsOfVersion : Version → Row → Type 0
-IsOfVersion First values = (¬ HasPart values) × (column values 7 ≢ Text too_many)
+IsOfVersion First values = (¬ HasPart values) × (column values 7 ≢ Text too_many) × (is_grow (column values 3) ≡ false)
 IsOfVersion Second values = Unit {0}
 
 -- the row has this place and stands for an entry of this version

@@ -6,13 +6,20 @@ ghost use Rattle.request_ledger.specs.Ranges.{IsPart, IsRequest};
 ghost use Rattle.request_ledger.specs.Words.{verb_word, request_verb};
 ghost use Rattle.book_core.specs.History.{delta_of};
 ghost use Rattle.delta_wire.specs.Grammar.{IsDelta, delta_text};
-ghost use Rattle.sql_records.specs.Rows.{number_column, request_columns, reply_columns, columns_of, HasReplyColumns, HasRoom, IsStorable};
+ghost use Rattle.sql_records.specs.Rows.{grow_word, number_column, request_columns, reply_columns, columns_of, HasReplyColumns, HasRoom, IsStorable};
 
 use book_core::Entry;
 use delta_wire::MOST_BYTES;
 use request_ledger::{Reply, Request};
 use rights_lattice::Amount;
 use sqlite::types::ValueRef;
+
+/// The word of a growth, which no request has.
+pub fn grow_word() -> &'static [u8]
+    ensures { result.now ≡ grow_word }
+{
+    b"grow"
+}
 
 // The word of the request's verb.
 fn verb_word(request: &Request) -> &[u8]
@@ -94,6 +101,7 @@ pub fn fits(entry: &Entry, text: &str) -> bool
             number <= i64::MAX as u64 && text.len() <= MOST_BYTES
         }
         Entry::Joined { .. } => text.len() <= MOST_BYTES,
+        Entry::Grown { .. } => true,
     }
 }
 
@@ -135,6 +143,12 @@ pub fn columns<'a>(place: u64, entry: &'a Entry, text: &'a str) -> [ValueRef<'a>
             let peer = ValueRef::Int(peer.number() as i64);
             let none = ValueRef::Null;
             [at, peer, none, none, none, none, none, none, none, delta]
+        }
+        Entry::Grown { sites } => {
+            let none = ValueRef::Null;
+            let word = ValueRef::Text(grow_word());
+            let count = ValueRef::Int(sites.sites().count() as i64);
+            [at, none, none, word, none, none, count, none, none, delta]
         }
     }
 }

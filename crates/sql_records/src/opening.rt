@@ -6,7 +6,6 @@ ghost use Rattle.sqlite.specs.State.{HasCleanDisk, IsLive, IsUnchanged};
 ghost use Rattle.sqlite.specs.Held.{state};
 ghost use Rattle.sqlite.specs.Order.{column};
 ghost use Rattle.sqlite_value.specs.Value.{owned};
-ghost use Rattle.rights_lattice.specs.Limits.{most_sites};
 ghost use Rattle.book_core.specs.Limits.{greatest_limit};
 ghost use Rattle.sql_records.specs.Layout.{IsOurs, our_kind, number_of, HasMeta, HasMetaAs, AreNumbers};
 ghost use Rattle.sql_records.specs.Rows.{entry_of, is_below, rows_below, number_within, IsEntryIn, IsOfVersion, AreInOrder, AreWhole, AreWholeIn, IsFirstDamaged, WantsForEntry};
@@ -16,11 +15,10 @@ ghost use Rattle.sql_records.specs.Opening.{int_in, numbers_in, IsRowOf, IsRowFa
 
 use crate::fault::OpenFault;
 use crate::meta::Meta;
-use crate::reading::{is_of_version, number_within, read_entry, site_in, value_at};
+use crate::reading::{is_of_version, number_within, read_entry, site_in, sites_in, value_at};
 use crate::shape::is_ours;
 use crate::version::Version;
 use book_core::{Entry, Limit};
-use rights_lattice::{MOST_SITES, Sites};
 use sqlite::types::ValueRef;
 use sqlite::{Alter, Connection, Error, ErrorCode, Row};
 use std::alloc::Global;
@@ -143,13 +141,6 @@ fn int_in(value: ValueRef<'_>) -> Option<i64>
         ValueRef::Int(n) => Some(n),
         _ => None,
     }
-}
-
-fn sites_in(value: ValueRef<'_>) -> Option<Sites>
-    ensures { result ≡ number_within 1 most_sites (owned value.entry) }
-{
-    let count = number_within(1, MOST_SITES, value)?;
-    Sites::of(count)
 }
 
 fn limit_in(value: ValueRef<'_>) -> Option<Limit>

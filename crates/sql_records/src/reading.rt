@@ -5,14 +5,15 @@ ghost use Rattle.sqlite.specs.Order.{column};
 ghost use Rattle.sqlite.specs.declared.types.Value.TheVariants.{Text};
 ghost use Rattle.sqlite_value.specs.Value.{owned};
 ghost use Rattle.rights_lattice.specs.State.{State};
-ghost use Rattle.sql_records.specs.Rows.{is_null, text_in, number_within, value_in, site_in, event_in, verb_in, announce_of, release_of, sell_of, part_in, refund_of, cede_of, request_of, request_in, rest_in, reply_in, delta_in, asks_nothing, asked_of, joined_of, entry_with, entry_of, with_delta, WantsForDelta, WantsForEntry, HasPart, IsOfVersion, too_many};
+ghost use Rattle.sql_records.specs.Rows.{is_null, text_in, number_within, value_in, site_in, sites_in, event_in, verb_in, announce_of, release_of, sell_of, part_in, refund_of, cede_of, request_of, request_in, rest_in, reply_in, delta_in, asks_nothing, asked_of, joined_of, is_grow, is_empty, only_grows, grown_of, own_of, entry_with, entry_of, with_delta, WantsForDelta, WantsForEntry, HasPart, IsOfVersion, too_many};
 
+use crate::columns::grow_word;
 use crate::version::Version;
-use book_core::Entry;
+use book_core::{Entry, Growth};
 use delta_mutators::Delta;
 use delta_wire::{MOST_BYTES, WireFault, read_delta};
 use request_ledger::{Reply, Request, RequestNumber, Verb};
-use rights_lattice::{Amount, Event, GREATEST_SITE, MAX_VALUE, SiteId};
+use rights_lattice::{Amount, Event, GREATEST_SITE, MAX_VALUE, MOST_SITES, SiteId, Sites};
 use sqlite::Row;
 use sqlite::types::ValueRef;
 use std::alloc::{AllocError, Global};
@@ -76,6 +77,14 @@ pub fn site_in(value: ValueRef<'_>) -> Option<SiteId>
 {
     let number = number_within(0, GREATEST_SITE, value)?;
     SiteId::of(number)
+}
+
+/// A count of sites.
+pub fn sites_in(value: ValueRef<'_>) -> Option<Sites>
+    ensures { result ≡ sites_in (owned value.entry) }
+{
+    let count = number_within(1, MOST_SITES, value)?;
+    Sites::of(count)
 }
 
 #[tactic(auto, unfolding(crate::specs::Rows::event_in))]
@@ -250,6 +259,36 @@ fn asks_nothing(row: &Row) -> bool
         && is_null(value_at(row, 8))
 }
 
+fn is_grow(value: ValueRef<'_>) -> bool
+    ensures { result ≡ is_grow (owned value.entry) }
+{
+    match value {
+        ValueRef::Text(word) => word == grow_word(),
+        _ => false,
+    }
+}
+
+fn is_empty(value: ValueRef<'_>) -> bool
+    ensures { result ≡ is_empty (owned value.entry) }
+{
+    match value {
+        ValueRef::Text(text) => text.is_empty(),
+        _ => false,
+    }
+}
+
+// Whether a growth's word and count are all that the columns say.
+fn only_grows(row: &Row) -> bool
+    ensures { result ≡ only_grows row.now }
+{
+    is_null(value_at(row, 2))
+        && is_null(value_at(row, 4))
+        && is_null(value_at(row, 5))
+        && is_null(value_at(row, 7))
+        && is_null(value_at(row, 8))
+        && is_empty(value_at(row, 9))
+}
+
 // Whether the columns ask a part of a sale back.
 fn has_part(row: &Row) -> bool
     ensures { IsTrue result ↔ HasPart row.now }
@@ -266,12 +305,14 @@ fn is_too_many(value: ValueRef<'_>) -> bool
     }
 }
 
-/// Whether the columns of a request and its reply are those of this version.
+/// Whether the columns of a request and its reply, or of a growth, are those of this version.
 pub fn is_of_version(read: Version, row: &Row) -> bool
     ensures { IsTrue result ↔ IsOfVersion read row.now }
 {
     match read {
-        Version::First => !has_part(row) && !is_too_many(value_at(row, 7)),
+        Version::First => {
+            !has_part(row) && !is_too_many(value_at(row, 7)) && !is_grow(value_at(row, 3))
+        }
         Version::Second => true,
     }
 }
@@ -287,11 +328,14 @@ enum EntryHead {
     Joined {
         peer: SiteId,
     },
+    Grown {
+        sites: Sites,
+    },
 }
 
 impl EntryHead {
     // The entry with this delta.
-    fn with(self, delta: Delta) -> Entry
+    fn with(self, alloc: Global, delta: Delta) -> Entry
         ensures { result ≡ with_delta self delta }
     {
         match self {
@@ -306,6 +350,9 @@ impl EntryHead {
                 delta,
             },
             EntryHead::Joined { peer } => Entry::Joined { peer, delta },
+            EntryHead::Grown { sites } => Entry::Grown {
+                sites: Growth::to(alloc, sites),
+            },
         }
     }
 }
@@ -341,12 +388,34 @@ fn joined_head(row: &Row) -> Option<EntryHead>
     }
 }
 
+#[tactic(auto, unfolding(crate::specs::Rows::grown_of))]
+fn grown_head(row: &Row) -> Option<EntryHead>
+    ensures { (delta : State) → option_map (λ head. with_delta head delta) result ≡ grown_of row.now }
+{
+    let sites = sites_in(value_at(row, 6))?;
+    if only_grows(row) {
+        Some(EntryHead::Grown { sites })
+    } else {
+        None
+    }
+}
+
+fn own_head(row: &Row) -> Option<EntryHead>
+    ensures { (delta : State) → option_map (λ head. with_delta head delta) result ≡ own_of row.now delta }
+{
+    if is_grow(value_at(row, 3)) {
+        grown_head(row)
+    } else {
+        asked_head(row)
+    }
+}
+
 // What the columns beside the delta stand for, if they are those of an entry.
 fn head_of(row: &Row) -> Option<EntryHead>
     ensures { (delta : State) → option_map (λ head. with_delta head delta) result ≡ entry_with row.now delta }
 {
     if is_null(value_at(row, 1)) {
-        asked_head(row)
+        own_head(row)
     } else {
         joined_head(row)
     }
@@ -363,7 +432,7 @@ pub fn read_entry(alloc: Global, row: &Row) -> Result<Option<Entry>, AllocError>
         return Ok(None);
     };
     match delta_in(alloc, value_at(row, 9))? {
-        Some(delta) => Ok(Some(head.with(delta))),
+        Some(delta) => Ok(Some(head.with(alloc, delta))),
         None => Ok(None),
     }
 }
