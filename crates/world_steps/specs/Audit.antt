@@ -4,6 +4,7 @@ use Rattle.std.specs.Borrow.{Bor}
 use Rattle.rights_lattice.specs.Sums.{max_sites}
 use Rattle.local_rights.specs.declared.report.Totals.{Totals}
 use Rattle.book_core.specs.declared.entry.Entry.{Entry}
+use Rattle.book_core.specs.Decision.{sites_of}
 use Rattle.book_core.specs.Legal.{IsLegal}
 use Rattle.book_core.specs.Operations.{Operation, operations_below, outstanding, released, sold, refunded}
 use Rattle.book_core.specs.BookView.{BookView, SeesWithin}
@@ -17,18 +18,19 @@ books_of books = map (λ book. book.now) books
 abbrev pub history_in : List BookView → ℕ → List Entry
 history_in books k = get_or (map (λ book. book.history) books) k []
 
--- the book is of site k, and counts so many sites
+-- the book is of site k, and counts no more sites than these so far
 abbrev pub StandsAt : ℕ → ℕ → BookView → Type 0
-StandsAt k sites book = (book.office.me ≡ k) × (book.office.sites ≡ sites)
+StandsAt k sites book = (book.office.me ≡ k) × (sites_of book.office book.history ≤ sites)
 
--- the k-th book is of site k, and counts as many sites as there are books
+-- the k-th book is of site k, and counts no more sites than there are books
 abbrev pub IsWhole : List BookView → Type 0
 IsWhole books = (k : ℕ) (book : BookView) → slice_get books k ≡ Some book → StandsAt k (length books) book
 
--- as many books as there may be sites, each with a legal history
+-- as many books as there may be sites, each of a site that it counts, with a legal history
 pub record AreSites (books : List BookView) : Type 0 where
   pub few : length books ≤ max_sites
   pub whole : IsWhole books
+  pub own : (k : ℕ) (book : BookView) → slice_get books k ≡ Some book → book.office.me < book.office.sites
   pub legal : (k : ℕ) (book : BookView) → slice_get books k ≡ Some book → IsLegal book.office book.history
 
 -- what this book shows of each row is at or below what the book of that row's owner shows of it

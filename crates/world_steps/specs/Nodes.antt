@@ -1,7 +1,7 @@
 -- The sites of a world as the program holds them. (Our own.)
-use Rattle.std.specs.Prelude.{ℕ}
+use Rattle.std.specs.Prelude.{◌≡◌, ℕ, ◌+◌, ◌-◌, List, [], ◌++◌, length, slice_get, Some}
 use Rattle.site_exchange.specs.Exchange as exchange
-use Rattle.site_exchange.specs.Exchange.{Site, Verdict}
+use Rattle.site_exchange.specs.Exchange.{Site, Verdict, zeros}
 use Rattle.world_steps.specs.NodeView.{NodeView}
 use Rattle.world_steps.specs.declared.node.Taken.{Taken}
 use Rattle.world_steps.specs.declared.node.Taken.TheVariants as taken
@@ -13,6 +13,23 @@ site_of node = record { history = node.book.history; acked = node.acked }
 -- the greatest length of a site's history
 abbrev pub limit_of : NodeView → ℕ
 limit_of node = node.book.office.limit
+
+-- the count of sites with which a site's history began
+abbrev pub first_count_of : NodeView → ℕ
+first_count_of node = node.book.office.sites
+
+-- site i before any step, which counts so many sites
+pub record IsOpened (sites limit i : ℕ) (node : NodeView) : Type 0 where
+  pub office : node.book.office ≡ record { me = i; sites = sites; limit = limit }
+  pub history : node.book.history ≡ []
+  pub acked : node.acked ≡ zeros
+
+-- the sites that are lacking of so many, at their places
+pub record AreAdded (sites limit : ℕ) (old new : List NodeView) : Type 0 where
+  pub more : List NodeView
+  pub behind : new ≡ old ++ more
+  pub lacking : length more ≡ sites - length old
+  pub opened : (k : ℕ) (node : NodeView) → slice_get more k ≡ Some node → IsOpened sites limit (length old + k) node
 
 -- the verdict that a site tells
 abbrev pub verdict_told : Taken → Verdict

@@ -8,16 +8,16 @@ use Rattle.book_core.specs.History.{state_of}
 use Rattle.book_core.specs.BookView.{BookView}
 use Rattle.site_exchange.specs.declared.message.Message.{Message}
 use Rattle.world_steps.specs.NodeView.{NodeView}
-use Rattle.world_steps.specs.Nodes.{site_of, limit_of}
+use Rattle.world_steps.specs.Nodes.{site_of, limit_of, first_count_of}
 use Rattle.world_steps.specs.World.{World, IsReached}
 
 -- the sites of the program and the messages that they sent, as a world
 abbrev pub world_of : List NodeView → List Message → World
-world_of nodes sent = record { limits = map limit_of nodes; sites = map site_of nodes; sent = sent }
+world_of nodes sent = record { limits = map limit_of nodes; counts = map first_count_of nodes; sites = map site_of nodes; sent = sent }
 
 -- each book is of the site that its place names, and steps lead here
 pub record IsKept (nodes : List NodeView) (sent : List Message) : Type 0 where
-  pub offices : (i : ℕ) (node : NodeView) → slice_get nodes i ≡ Some node → node.book.office ≡ record { me = i; sites = length nodes; limit = limit_of node }
+  pub places : (i : ℕ) (node : NodeView) → slice_get nodes i ≡ Some node → node.book.office.me ≡ i
   pub reached : IsReached (world_of nodes sent)
 
 -- the rising list of a set of names becomes that of the set with these names

@@ -1,26 +1,30 @@
 -- Sites, all messages ever sent, and the steps that change them. Each step changes one site as the site's own
--- definitions say, or puts a message behind those that were sent. (Our own.)
-use Rattle.std.specs.Prelude.{◌≡◌, ℕ, zero, suc, ◌≤◌, Bool, true, not, ◌&&◌, ◌==◌, if◌then◌else◌, nat_lt, List, [], ◌∷◌, ◌++◌, length, take, set, replicate, get_or, slice_get}
+-- definitions say, or puts a message behind those that were sent; a growth adds sites too. (Our own.)
+use Rattle.std.specs.Prelude.{◌≡◌, ℕ, zero, suc, ◌-◌, ◌≤◌, Bool, true, not, ◌&&◌, ◌==◌, if◌then◌else◌, nat_lt, List, [], ◌∷◌, ◌++◌, length, take, set, replicate, get_or, slice_get}
 use Rattle.std.specs.Prelude.{Option, Some, None}
 use Rattle.rights_lattice.specs.Sums.{max_sites}
 use Rattle.rights_lattice.specs.State.{State, Names, no_names, join_names, names_in_order}
 use Rattle.local_rights.specs.declared.report.Totals.{Totals}
 use Rattle.request_ledger.specs.declared.request.Request.{Request}
 use Rattle.book_core.specs.declared.entry.Entry.{Entry}
+use Rattle.book_core.specs.declared.entry.Entry.TheVariants.{Asked, Joined, Grown}
 use Rattle.site_exchange.specs.declared.message.Message.{Message}
 use Rattle.world_steps.specs.declared.step.Input.{Input}
 use Rattle.world_steps.specs.declared.step.Input.TheVariants as input
 use Rattle.world_steps.specs.declared.step.Step.{Step}
-use Rattle.world_steps.specs.declared.step.Step.TheVariants.{Ask, Send, Deliver, Restart, Stop}
+use Rattle.world_steps.specs.declared.step.Step.TheVariants.{Ask, Send, Deliver, Restart, Stop, Grow}
 use Rattle.book_core.specs.History.{state_of}
-use Rattle.book_core.specs.Decision.{Office, entry_of_ask}
+use Rattle.book_core.specs.Decision.{Office, entry_of_ask, sites_of}
+use Rattle.book_core.specs.Growing.{entry_of_grow}
 use Rattle.book_core.specs.Operations.{Operation, operations_below, released, sold, refunded}
 use Rattle.site_exchange.specs.Exchange.{Site, zeros, Verdict, next, receiver, verdict, entry_of_take}
 use Rattle.site_exchange.specs.Taking.{with_entry, site_after, given_back, restarted, stopped_with}
 
--- the greatest length of each site's history, the sites, and all messages ever sent
+-- the greatest length of each site's history, the count of sites with which it began, the sites, and all messages
+-- ever sent
 pub record World : Type 0 where
   pub limits : List ℕ
+  pub counts : List ℕ
   pub sites : List Site
   pub sent : List Message
 
@@ -28,9 +32,11 @@ pub record World : Type 0 where
 abbrev pub no_site : Site
 no_site = record { history = []; acked = zeros }
 
--- sites with these limits, before any step
+-- sites with these limits, before any step: each counts all of them
 abbrev pub opened : List ℕ → World
-opened limits = record { limits = limits; sites = replicate (length limits) no_site; sent = [] }
+opened limits =
+    let n = length limits in
+    record { limits = limits; counts = replicate n n; sites = replicate n no_site; sent = [] }
 
 -- n sites with the same limit, before any step
 abbrev pub opening : ℕ → ℕ → World
@@ -46,11 +52,37 @@ abbrev pub history_at : World → ℕ → List Entry
 history_at w i = (site_at w i).history
 
 abbrev pub office_at : World → ℕ → Office
-office_at w i = record { me = i; sites = count w; limit = get_or w.limits i 0 }
+office_at w i = record { me = i; sites = get_or w.counts i 0; limit = get_or w.limits i 0 }
+
+-- how many sites a site counts so far
+abbrev pub count_at : World → ℕ → ℕ
+count_at w i = sites_of (office_at w i) (history_at w i)
 
 -- the world with this site in the place of the one that was there
 abbrev pub at_site : World → ℕ → Site → World
 at_site w i site = record w { sites = set w.sites i site }
+
+-- with the sites that it lacks of so many: each empty, with this limit, and counting so many
+abbrev pub widened : ℕ → ℕ → World → World
+widened sites limit w =
+    let lacking = sites - count w in
+    record {
+      limits = w.limits ++ replicate lacking limit;
+      counts = w.counts ++ replicate lacking sites;
+      sites = w.sites ++ replicate lacking no_site;
+      sent = w.sent;
+    }
+
+-- with the sites that an entry of site i adds: those that a growth counts, with the limit of the site that grew
+abbrev pub widened_by : Option Entry → ℕ → World → World
+widened_by None i w = w
+widened_by (Some (Asked number request reply delta)) i w = w
+widened_by (Some (Joined peer delta)) i w = w
+widened_by (Some (Grown sites)) i w = widened sites (get_or w.limits i 0) w
+
+-- site i got this entry, if any, and became this site
+abbrev pub entered : Option Entry → ℕ → Site → World → World
+entered entry i site w = at_site (widened_by entry i w) i site
 
 -- the list with this message, if any, at its end
 abbrev pub with_sent : List Message → Option Message → List Message
@@ -62,6 +94,9 @@ sends message w = record w { sent = with_sent w.sent message }
 
 abbrev pub asks : World → ℕ → ℕ → Request → Option Entry
 asks w i number request = entry_of_ask (office_at w i) (history_at w i) number request
+
+abbrev pub grows : World → ℕ → ℕ → Option Entry
+grows w i sites = entry_of_grow (office_at w i) (history_at w i) sites
 
 abbrev pub takes : World → ℕ → Message → Option Entry
 takes w i message = entry_of_take (office_at w i) (history_at w i) message
@@ -86,23 +121,45 @@ entry_if_sent office h (Some message) = entry_of_take office h message
 abbrev pub entry_of_input : Office → List Entry → List Message → Input → Option Entry
 entry_of_input office h sent (input.Request number request) = entry_of_ask office h number request
 entry_of_input office h sent (input.Take index) = entry_if_sent office h (slice_get sent index)
+entry_of_input office h sent (input.Grow sites) = entry_of_grow office h sites
+
+-- the input is a growth
+abbrev pub IsGrowth : Input → Type 0
+IsGrowth (input.Request number request) = ⊥
+IsGrowth (input.Take index) = ⊥
+IsGrowth (input.Grow sites) = Unit {0}
+
+-- the entry that a stop leaves, if any
+abbrev pub entry_if_stored : Bool → Option Entry → Option Entry
+entry_if_stored stored entry = if stored then entry else None
 
 -- the message of the input, if it is one, was sent
 abbrev pub is_there : List Message → Input → Bool
 is_there sent (input.Take index) = nat_lt index (length sent)
 is_there sent (input.Request number request) = true
+is_there sent (input.Grow sites) = true
+
+-- site i may send to site j, which is another that it counts
+abbrev pub are_peers : World → ℕ → ℕ → Bool
+are_peers w i j = nat_lt i (count w) && nat_lt j (count_at w i) && not (i == j)
+
+-- site i stopped in the midst of an input that adds this entry, if any
+abbrev pub stopped_in : World → ℕ → Option Entry → Bool → World
+stopped_in w i entry stored = entered (entry_if_stored stored entry) i (stopped_with entry stored (site_at w i)) w
 
 abbrev pub after : World → Step → World
 after w (Ask i number request) =
     if nat_lt i (count w) then at_site w i (with_entry (asks w i number request) (site_at w i)) else w
 after w (Send i j) =
-    if nat_lt i (count w) && nat_lt j (count w) && not (i == j) then sends (next i (site_at w i) j) w else w
+    if are_peers w i j then sends (next i (site_at w i) j) w else w
 after w (Deliver index) = delivered w (slice_get w.sent index)
 after w (Restart i) = if nat_lt i (count w) then at_site w i (restarted (site_at w i)) else w
 after w (Stop i in_hand stored) =
     if nat_lt i (count w) && is_there w.sent in_hand
-    then at_site w i (stopped_with (entry_of_input (office_at w i) (history_at w i) w.sent in_hand) stored (site_at w i))
+    then stopped_in w i (entry_of_input (office_at w i) (history_at w i) w.sent in_hand) stored
     else w
+after w (Grow i sites) =
+    if nat_lt i (count w) then entered (grows w i sites) i (with_entry (grows w i sites) (site_at w i)) w else w
 
 -- a whole list of steps
 abbrev pub run : List Step → World → World
@@ -143,6 +200,6 @@ reached limits steps = run steps (opened limits)
 abbrev pub state_at : List Entry → ℕ → State
 state_at h a = state_of (take a h)
 
--- some list of steps leads to this world
+-- some list of steps leads to this world, of sites that have numbers
 abbrev pub IsReached : World → Type 0
-IsReached w = (few : length w.limits ≤ max_sites) × (steps : List Step) × (w ≡ reached w.limits steps)
+IsReached w = (limits : List ℕ) × (few : length limits ≤ max_sites) × (steps : List Step) × (w ≡ reached limits steps)

@@ -13,5 +13,6 @@ coded_site = code_by (List Entry × List ℕ) (coded× (coded_list coded_entry) 
 
 abbrev pub coded_world : Coded World
 coded_world =
-    code_by ((List ℕ × List Site) × List Message) (coded× (coded× (coded_list coded_ℕ) (coded_list coded_site)) (coded_list message.the_row.coded))
-    (λ w. ((w.limits, w.sites), w.sent)) (λ p. record { limits = p.0.0; sites = p.0.1; sent = p.1 }) (λ _. refl)
+    code_by (((List ℕ × List ℕ) × List Site) × List Message)
+    (coded× (coded× (coded× (coded_list coded_ℕ) (coded_list coded_ℕ)) (coded_list coded_site)) (coded_list message.the_row.coded))
+    (λ w. (((w.limits, w.counts), w.sites), w.sent)) (λ p. record { limits = p.0.0.0; counts = p.0.0.1; sites = p.0.1; sent = p.1 }) (λ _. refl)

@@ -1,5 +1,5 @@
 //! The books of all sites, stopped and looked at side by side.
-ghost use Rattle.std.specs.Prelude.{◌≡◌, ◌≤◌, ◌↔◌, ℕ, None, Err, IfOk, IfSome, IsTrue};
+ghost use Rattle.std.specs.Prelude.{◌≡◌, ◌<◌, ◌↔◌, ℕ, None, Err, IfOk, IfSome, IsTrue};
 ghost use Rattle.rights_lattice.specs.Sums.{max_sites};
 ghost use Rattle.book_core.specs.Legal.{IsLegal};
 ghost use Rattle.world_steps.specs.Audit.{AreNotOversold, AreSites, IsFirstAhead, IsFirstPassed, IsWhole, NoneIsAhead, SeesNoneAbove, StandsAt, books_of, events_in, lines_in, totals_in};
@@ -15,13 +15,13 @@ use thiserror::Error;
 /// Why books were not summed up, in the order in which the faults are told.
 #[derive(Clone, Copy, PartialEq, Eq, Debug, Error)]
 pub enum AuditFault {
-    /// A book is not of the site that its place names, or counts another number of sites than there are books.
+    /// A book is not of the site that its place names, or counts more sites than there are books.
     #[error("the books are not those of all sites")]
     NotWhole,
     /// The viewer's book shows more of the owner's row than the owner's own book does.
     #[error("a site knows more of a row than its owner")]
     Ahead { viewer: SiteId, owner: SiteId },
-    /// A growth was refused.
+    /// Memory was refused.
     #[error("out of memory")]
     Memory,
 }
@@ -40,10 +40,10 @@ impl From<AllocError> for AuditFault {
 /// Each name that a book knows, rising, with what all books released, sold and took back of it: the sums over the
 /// flat list of the requests that were done.
 ///
-/// The k-th book is that of site k. `NotWhole` where a book is of another site, or counts another number of sites than
-/// there are books; else `Ahead` where a book shows more of a row than the book of its owner does, with the least such
-/// viewer and then the least owner; and `Memory` last. An empty list of books is whole, and gives an empty list. What
-/// messages the books took does not matter: no more is outstanding than was released wherever this is Ok.
+/// The k-th book is that of site k. `NotWhole` where a book is of another site, or counts more sites than there are
+/// books; else `Ahead` where a book shows more of a row than the book of its owner does, with the least such viewer and
+/// then the least owner; and `Memory` last. An empty list of books is whole, and gives an empty list. What messages the
+/// books took does not matter: no more is outstanding than was released wherever this is Ok.
 pub fn audit(alloc: Global, books: &[&Book]) -> Result<Vec<(Event, Totals)>, AuditFault>
     ensures not_whole { (result ≡ Err AuditFault.NotWhole) ↔ (IsWhole (books_of books.now) → ⊥) }
     ensures ahead { (v o : ℕ) → result ≡ Err (AuditFault.Ahead v o)
@@ -63,7 +63,7 @@ pub fn audit(alloc: Global, books: &[&Book]) -> Result<Vec<(Event, Totals)>, Aud
     Ok(lines(alloc, books)?)
 }
 
-/// Whether the k-th book is of site k, among as many sites as there are books.
+/// Whether the k-th book is of site k, and counts no more sites than there are books.
 pub fn is_whole(books: &[&Book]) -> bool
     ensures whole { IsTrue result ↔ IsWhole (books_of books.now) }
     ensures sites { IsTrue result → AreSites (books_of books.now) }
@@ -76,15 +76,16 @@ pub fn is_whole(books: &[&Book]) -> bool
     true
 }
 
-// Whether a book is of the site with this number, among so many sites.
+// Whether a book is of the site with this number, and counts no more than so many sites.
 fn stands_at(book: &Book, place: usize, sites: usize) -> bool
     ensures stands { IsTrue result ↔ StandsAt place sites book.now }
-    ensures few { IsTrue result → sites ≤ max_sites }
+    ensures few { IsTrue result → place < max_sites }
+    ensures own { book.now.office.me < book.now.office.sites }
     ensures legal { IsLegal book.now.office book.now.history }
 {
     // Names what a book's length tells, that its history is legal, which the prover wants to see.
     let _ = book.len();
-    book.me().number() as usize == place && book.sites().count() as usize == sites
+    book.me().number() as usize == place && book.sites().count() as usize <= sites
 }
 
 // The first site whose book shows more of a row than the book of its owner, and the first such owner.

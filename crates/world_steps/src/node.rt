@@ -1,18 +1,18 @@
 //! One site of a world: its book, what its peers have acknowledged, and what is pending for them.
-ghost use Rattle.std.specs.Prelude.{[], ◌∷◌, ◌++◌, ◌≡◌, ◌≢◌, ◌≤◌, ◌<◌, ℕ, get_or, length, max, set, IfOk, IfErr, OnOk, OnErr, IsSome, IsTrue, Err};
-ghost use Rattle.book_core.specs.Decision.{decision, entry_of_ask};
-ghost use Rattle.book_core.specs.Plans.{IsFresh};
+ghost use Rattle.std.specs.Prelude.{[], ◌∷◌, ◌++◌, ◌≡◌, ◌≢◌, ◌≤◌, ◌<◌, ℕ, get_or, length, max, set, vec_capacity, IfOk, IfErr, OnOk, OnErr, IsSome, IsTrue, Some, Err};
+ghost use Rattle.book_core.specs.Decision.{decision, entry_of_ask, sites_of};
+ghost use Rattle.book_core.specs.Plans.{IsFresh, IsGrowFault, IsGrowPlan, IsReady};
 ghost use Rattle.book_core.specs.Joining as join;
 ghost use Rattle.book_core.specs.Joining.{join_decision};
 ghost use Rattle.book_core.specs.declared.entry.Entry.TheVariants.{Joined};
 ghost use Rattle.site_exchange.specs.Exchange.{Joins, entry_of_take, next, verdict, zeros};
 ghost use Rattle.site_exchange.specs.Taking.{MayTake, extended, site_after, stopped_with, with_entry};
-ghost use Rattle.world_steps.specs.World.{entry_of_input, is_there};
+ghost use Rattle.world_steps.specs.World.{IsGrowth, entry_of_input, is_there};
 ghost use Rattle.world_steps.specs.Outcomes.{answered, MayStore};
-ghost use Rattle.world_steps.specs.Nodes.{site_of, verdict_told};
+ghost use Rattle.world_steps.specs.Nodes.{AreAdded, site_of, verdict_told};
 
 use crate::step::{Input, Outcome, WorldFault};
-use book_core::{Book, JoinDecision, JoinPlan, Limit, Plan, PlanFault};
+use book_core::{Book, GrowFault, JoinDecision, JoinPlan, Limit, Plan, PlanFault, Planned};
 use delta_mutators::Delta;
 use request_ledger::{Request, RequestNumber};
 use rights_lattice::{SiteId, Sites};
@@ -70,7 +70,7 @@ impl Node {
 
     /// The message that is due to a peer, if any. Nothing that is shown changes, also where memory is refused.
     pub fn next(&mut self, alloc: Global, to: SiteId) -> Result<Option<Message>, AllocError>
-        requires site { to < self.old.book.office.sites }
+        requires site { to < sites_of self.old.book.office self.old.book.history }
         requires other { to ≢ self.old.book.office.me }
         requires acked { (peer : ℕ) → get_or self.old.acked peer 0 ≤ length self.old.book.history }
         ensures message { IfOk result (λ message. message ≡ next self.old.book.office.me (site_of self.old) to) }
@@ -88,6 +88,35 @@ impl Node {
         ensures unchanged { OnErr result (self.new ≡ self.old) }
     {
         self.exchange.ack(&self.book, by, upto)
+    }
+}
+
+/// Plans a growth at a site, of which nothing is shown.
+pub fn plan_growth(node: &mut Node, alloc: Global, sites: Sites) -> Result<Planned, GrowFault>
+    ensures same { site_of node.new ≡ site_of node.old }
+    ensures office { node.new.book.office ≡ node.old.book.office }
+    ensures plan { IfOk result (IsGrowPlan node.new.book sites) }
+    ensures fault { IfErr result (IsGrowFault node.new.book sites) }
+{
+    node.book.plan_grow(alloc, sites)
+}
+
+/// Enters what was planned.
+pub fn enter(node: &mut Node, planned: Planned)
+    requires { IsReady node.old.book planned }
+    ensures entered { site_of node.new ≡ with_entry (Some planned) (site_of node.old) }
+    ensures office { node.new.book.office ≡ node.old.book.office }
+{
+    node.book.enter(planned);
+}
+
+/// Adds the sites that are lacking of so many, each with no history, and counting so many.
+pub fn add_sites(nodes: &mut Vec<Node>, alloc: Global, sites: Sites, limit: Limit)
+    requires { sites ≤ vec_capacity nodes.old }
+    ensures { AreAdded sites limit nodes.old.items nodes.new.items }
+{
+    for number in nodes.len() as u64..sites.count() {
+        nodes.push_reserved(Node::new(alloc, sites.site(number), sites, limit));
     }
 }
 
@@ -181,8 +210,8 @@ fn join(book: &mut Book, alloc: Global, peer: SiteId, delta: &Delta) -> Result<(
     }
 }
 
-/// Stops a site in the midst of an input and starts it anew: the entry that the input adds is in its history where
-/// it was stored, and nothing counts as acknowledged.
+/// Stops a site in the midst of a request or of taking a message and starts it anew: the entry that the input adds is
+/// in its history where it was stored, and nothing counts as acknowledged.
 pub fn stop(
     node: &mut Node,
     alloc: Global,
@@ -190,7 +219,8 @@ pub fn stop(
     input: &Input,
     stored: bool,
 ) -> Result<Outcome, WorldFault>
-    requires { IsTrue (is_there sent.now input.now) }
+    requires there { IsTrue (is_there sent.now input.now) }
+    requires kind { IsGrowth input.now → ⊥ }
     ensures office { node.new.book.office ≡ node.old.book.office }
     ensures outcome { IfOk result (λ o. o ≡ Outcome.Stopped) }
     ensures memory { IfErr result (λ fault. fault ≡ WorldFault.Memory) }
@@ -208,7 +238,8 @@ pub fn stop(
 
 // Enters what the input adds.
 fn store(book: &mut Book, alloc: Global, sent: &[Message], input: &Input) -> Result<(), AllocError>
-    requires { IsTrue (is_there sent.now input.now) }
+    requires there { IsTrue (is_there sent.now input.now) }
+    requires kind { IsGrowth input.now → ⊥ }
     ensures office { book.new.office ≡ book.old.office }
     ensures stored { OnOk result (book.new.history ≡ extended (entry_of_input book.old.office book.old.history sent.now input.now) book.old.history) }
     ensures wanted { OnErr result (MayStore book.old.office book.old.history sent.now input.now) }
@@ -217,6 +248,7 @@ fn store(book: &mut Book, alloc: Global, sent: &[Message], input: &Input) -> Res
     match input {
         Input::Request { number, request } => store_request(book, alloc, *number, request),
         Input::Take { message } => store_delta(book, alloc, &sent[*message]),
+        Input::Grow { .. } => unreachable!(),
     }
 }
 

@@ -1,7 +1,7 @@
 //! Steps of the sites, and what they are answered.
-use book_core::PlanFault;
+use book_core::{GrowFault, PlanFault};
 use request_ledger::{Reply, Request, RequestNumber};
-use rights_lattice::SiteId;
+use rights_lattice::{SiteId, Sites};
 use site_exchange::TakeFault;
 use std::alloc::AllocError;
 use thiserror::Error;
@@ -17,6 +17,10 @@ pub enum Input {
     /// The message with this index in the list of all messages ever sent.
     Take {
         message: usize,
+    },
+    /// A growth to so many sites.
+    Grow {
+        sites: Sites,
     },
 }
 
@@ -48,6 +52,12 @@ pub enum Step {
         input: Input,
         stored: bool,
     },
+    /// Has a site count more sites. Those that are not there yet are added, each empty, with that count and with the
+    /// limit of the site that grew.
+    Grow {
+        site: SiteId,
+        sites: Sites,
+    },
 }
 
 /// What a step was answered.
@@ -73,20 +83,24 @@ pub enum Outcome {
     Restarted,
     /// The site stopped and started anew.
     Stopped,
+    /// The site counts so many sites.
+    Grown,
+    /// The site counts as many sites as before, and nothing changed.
+    NotGrown(GrowFault),
 }
 
 /// Why a step was not made.
 #[derive(Clone, Copy, PartialEq, Eq, Debug, Error)]
 pub enum WorldFault {
-    /// A site that the step names is not there, or it would send to itself.
+    /// A site that the step names is not there, or it would send to itself or to a site that it does not count.
     #[error("no such site")]
     NoSite,
     /// No message with this index was ever sent.
     #[error("no such message")]
     NoMessage,
-    /// A growth was refused. Only a step that is not refused otherwise gets this: a new request, a send where something
-    /// is due, a delivery where an acknowledgement is due or one is taken that raises a number, and a stop that stores a
-    /// new entry.
+    /// Memory was refused. Only a step that is not refused otherwise gets this: a new request, a send where something
+    /// is due, a delivery where an acknowledgement is due or one is taken that raises a number, a growth, and a stop that
+    /// stores a new entry.
     #[error("out of memory")]
     Memory,
 }

@@ -1,18 +1,19 @@
 //! All sites of one world, and all messages that they ever sent.
-ghost use Rattle.std.specs.Prelude.{IfOk, IfErr, IfSome, OnOk, OnErr, IsSome, option_copied, ◌↔◌, ◌≡◌, ◌+◌, ◌<◌, ◌≤◌, ◌&&◌, ◌==◌, not, nat_lt, List, length, map, take, Ok, Err, IsTrue, IsSomeAnd, slice_get, vec_len, vec_capacity};
+ghost use Rattle.std.specs.Prelude.{IfOk, IfErr, IfSome, OnOk, OnErr, IsSome, option_copied, ◌↔◌, ◌≡◌, ◌+◌, ◌<◌, ◌≤◌, List, length, map, take, Ok, Err, IsTrue, IsSomeAnd, slice_get, vec_len, vec_capacity};
 ghost use Rattle.book_core.specs.Operations.{outstanding, released, sold, refunded};
 ghost use Rattle.site_exchange.specs.Exchange.{receiver};
 ghost use Rattle.site_exchange.specs.Taking.{given_back};
-ghost use Rattle.world_steps.specs.World.{IsReached, after, all_operations, count, events_of, history_at, is_there, office_at, opening, run, totals_of, with_sent};
+ghost use Rattle.world_steps.specs.World.{IsReached, after, all_operations, are_peers, count, events_of, history_at, is_there, office_at, opening, run, totals_of, with_sent};
 ghost use Rattle.world_steps.specs.Promises.{HoldsPromises};
+ghost use Rattle.world_steps.specs.declared.step.Input.{Input};
 ghost use Rattle.world_steps.specs.declared.step.Outcome.{Outcome};
 ghost use Rattle.world_steps.specs.Outcomes.{outcome, outcomes, sent_as, taken_as, IsDue, MayGrow};
 ghost use Rattle.world_steps.specs.Nodes.{verdict_told};
 
 use crate::books::{add_names, listed, with_own};
-use crate::node::{Node, Taken, ask, judge, stop, take};
+use crate::node::{Node, Taken, add_sites, ask, enter, judge, plan_growth, stop, take};
 use crate::step::{Input, Outcome, Step, WorldFault};
-use book_core::{Book, Limit};
+use book_core::{Book, GrowFault, Limit};
 use local_rights::Totals;
 use request_ledger::{Request, RequestNumber};
 use rights_lattice::{Event, SiteId, Sites};
@@ -50,9 +51,8 @@ impl World {
         ensures promises { IfOk result HoldsPromises }
     {
         let mut nodes = Vec::new(alloc);
-        for number in 0..sites.count() {
-            nodes.push(Node::new(alloc, sites.site(number), sites, limit))?;
-        }
+        nodes.reserve(sites.count() as usize)?;
+        add_sites(&mut nodes, alloc, sites, limit);
         Ok(World {
             sites: nodes,
             sent: Vec::new(alloc),
@@ -68,9 +68,9 @@ impl World {
         let _ = &self.sites;
     }
 
-    /// Makes one step. An error changes nothing: `NoSite` where a site that the step names is not there or would
-    /// send to itself, `NoMessage` where a message that it names was never sent, and `Memory` where neither is so
-    /// and a growth was refused, in that order.
+    /// Makes one step. An error changes nothing: `NoSite` where a site that the step names is not there, or would send
+    /// to itself or to a site that it does not count, `NoMessage` where a message that it names was never sent, and
+    /// `Memory` where neither is so and memory was refused, in that order.
     pub fn step(&mut self, alloc: Global, step: Step) -> Result<Outcome, WorldFault>
         ensures outcome { IfOk result (λ o. outcome self.old step ≡ Ok o) }
         ensures fault { IfErr result (IsDue self.old step) }
@@ -95,6 +95,7 @@ impl World {
                 input,
                 stored,
             } => self.stop(alloc, site, input, stored),
+            Step::Grow { site, sites } => self.grow(alloc, site, sites),
         }
     }
 
@@ -148,6 +149,9 @@ impl World {
         ensures made { OnOk result (self.new ≡ after self.old (Step.Stop site input stored)) }
         ensures unchanged { OnErr result (self.new ≡ self.old) }
     {
+        if let Input::Grow { sites } = input {
+            return self.stop_growth(alloc, site, sites, stored);
+        }
         let place = site.number() as usize;
         if place >= self.sites.len() {
             return Err(WorldFault::NoSite);
@@ -159,13 +163,60 @@ impl World {
         stop(node, alloc, &self.sent, &input, stored)
     }
 
+    // Stops a site in the midst of a growth: it has grown where that was stored.
+    fn stop_growth(
+        &mut self,
+        alloc: Global,
+        site: SiteId,
+        sites: Sites,
+        stored: bool,
+    ) -> Result<Outcome, WorldFault>
+        ensures outcome { IfOk result (λ o. outcome self.old (Step.Stop site (Input.Grow sites) stored) ≡ Ok o) }
+        ensures fault { IfErr result (IsDue self.old (Step.Stop site (Input.Grow sites) stored)) }
+        ensures memory { result ≡ Err WorldFault.Memory → MayGrow self.old (Step.Stop site (Input.Grow sites) stored) }
+        ensures made { OnOk result (self.new ≡ after self.old (Step.Stop site (Input.Grow sites) stored)) }
+        ensures unchanged { OnErr result (self.new ≡ self.old) }
+    {
+        if stored {
+            self.grow(alloc, site, sites)?;
+        }
+        self.restart(alloc, site)?;
+        Ok(Outcome::Stopped)
+    }
+
+    fn grow(&mut self, alloc: Global, site: SiteId, sites: Sites) -> Result<Outcome, WorldFault>
+        ensures outcome { IfOk result (λ o. outcome self.old (Step.Grow site sites) ≡ Ok o) }
+        ensures fault { IfErr result (IsDue self.old (Step.Grow site sites)) }
+        ensures memory { result ≡ Err WorldFault.Memory → MayGrow self.old (Step.Grow site sites) }
+        ensures made { OnOk result (self.new ≡ after self.old (Step.Grow site sites)) }
+        ensures unchanged { OnErr result (self.new ≡ self.old) }
+    {
+        let place = site.number() as usize;
+        if place >= self.sites.len() {
+            return Err(WorldFault::NoSite);
+        }
+        let planned = match plan_growth(&mut self.sites[place], alloc, sites) {
+            Ok(planned) => planned,
+            Err(GrowFault::Memory) => return Err(WorldFault::Memory),
+            Err(fault) => return Ok(Outcome::NotGrown(fault)),
+        };
+        // Room first, so that nothing can fail once the growth is entered.
+        let lacking = (sites.count() as usize).saturating_sub(self.sites.len());
+        self.sites.reserve(lacking)?;
+        let node = &mut self.sites[place];
+        let limit = node.book().limit();
+        enter(node, planned);
+        add_sites(&mut self.sites, alloc, sites, limit);
+        Ok(Outcome::Grown)
+    }
+
     // What a step is refused as where no memory is left.
     fn due_without_memory(&self, step: &Step) -> WorldFault
         ensures { IsDue self.now step.now result }
     {
         let there = self.sites.len() as u64;
         match step {
-            Step::Ask { site, .. } | Step::Restart { site } => {
+            Step::Ask { site, .. } | Step::Restart { site } | Step::Grow { site, .. } => {
                 if site.number() < there {
                     WorldFault::Memory
                 } else {
@@ -202,7 +253,7 @@ impl World {
         ensures { result ≡ is_there self.now.sent input.now }
     {
         match input {
-            Input::Request { .. } => true,
+            Input::Request { .. } | Input::Grow { .. } => true,
             Input::Take { message } => *message < self.sent.len(),
         }
     }
@@ -226,10 +277,12 @@ impl World {
     }
 
     fn are_peers(&self, by: SiteId, to: SiteId) -> bool
-        ensures { result ≡ (nat_lt by (count self.now) && nat_lt to (count self.now) && not (by == to)) }
+        ensures { result ≡ are_peers self.now by to }
     {
-        let count = self.sites.len() as u64;
-        by.number() < count && to.number() < count && by != to
+        let Some(book) = self.book(by) else {
+            return false;
+        };
+        to.number() < book.sites().count() && by != to
     }
 
     fn deliver(&mut self, alloc: Global, index: usize) -> Result<Outcome, WorldFault>
