@@ -9,7 +9,7 @@ use crate::files::{Files, close, open_or_make, open_there};
 use book_core::Limit;
 use operator_cli::{
     FileNames, Order, Status, WordsFault, ask_store, audit_stores, export_store, find_store,
-    import_store, init_store, list_store, migrate_store, open_store, read_words, refuse_parts,
+    grow_store, import_store, init_store, list_store, migrate_store, open_store, read_words, refuse_parts,
     refuse_site, serve_stores, tell_listen_fault, world_script,
 };
 use request_ledger::RequestNumber;
@@ -89,6 +89,17 @@ fn run_migrate<S: Start>(rt: &HostRuntime, file: &str, start: S) -> Result<Statu
     let mut conn = open_there(rt, file, start)?;
     let status = migrate_store(rt.alloc(), &mut conn, &mut rt.stdout(), &mut rt.stderr());
     Ok(close(rt, (status, Some(conn))))
+}
+
+fn run_grow<S: Start>(
+    rt: &HostRuntime,
+    file: &str,
+    sites: Sites,
+    start: S,
+) -> Result<Status, Status> {
+    let conn = open_there(rt, file, start)?;
+    let came = grow_store(rt.alloc(), conn, sites, &mut rt.stdout(), &mut rt.stderr());
+    Ok(close(rt, came))
 }
 
 fn run_ask<S: Start>(
@@ -339,6 +350,7 @@ fn run_order<S: Start + Send>(
             limit,
         } => run_init(rt, file, me, sites, limit, start.first()),
         Order::Migrate { file } => run_migrate(rt, file, start.first()),
+        Order::Grow { file, sites } => run_grow(rt, file, sites, start.first()),
         Order::Ask { file } => run_ask(rt, host, file, start.first()),
         Order::Find { file, number } => run_find(rt, file, number, start.first()),
         Order::List { file, event } => run_list(rt, file, event, start.first()),

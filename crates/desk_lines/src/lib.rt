@@ -26,4 +26,4 @@ pub use request_lines::{request_line, request_text};
 pub use script_answer::{ScriptAnswer, write_answer};
 pub use script_line::ScriptLine;
 pub use session_lines::read_line;
-pub use texts::{reply_text, take_fault_text};
+pub use texts::{grow_fault_text, reply_text, take_fault_text};

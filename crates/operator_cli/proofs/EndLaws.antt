@@ -14,7 +14,7 @@ use Rattle.operator_cli.specs.declared.status.Status.TheVariants.{Done, Refused,
 use Rattle.operator_cli.specs.declared.store_fault.StoreFault.{StoreFault}
 use Rattle.operator_cli.specs.declared.store_fault.StoreFault.TheVariants as fault
 use Rattle.operator_cli.specs.declared.told.Told.{Told}
-use Rattle.operator_cli.specs.declared.told.Told.TheVariants.{Made, Migrated, Joined, NothingNew, Acked, AlreadyThere, NoSite, Nothing, NotFound, TooLong, Unread, NotTaken, NotWhole, Ahead}
+use Rattle.operator_cli.specs.declared.told.Told.TheVariants.{Made, Migrated, Joined, NothingNew, Acked, AlreadyThere, NoSite, Nothing, NotFound, TooLong, Unread, NotTaken, NotWhole, Ahead, Grown, NotGrown}
 use Rattle.operator_cli.specs.Exchanged.{HoldsOnly}
 use Rattle.operator_cli.specs.Opened.{FailsFor}
 use Rattle.operator_cli.specs.Told.{store_fault_line, told_status, FaultTold}
@@ -48,6 +48,8 @@ never_failed (Unread f) e = cc
 never_failed (NotTaken f) e = cc
 never_failed NotWhole e = cc
 never_failed (Ahead viewer owner) e = cc
+never_failed Grown e = cc
+never_failed (NotGrown f) e = cc
 
 -- what is told does not fail
 pub told_lives : (r : Result Status StoreFault) (told : Told) → IfOk r (λ status. status ≡ told_status told) → IfOk r (λ status. status ≢ Failed)

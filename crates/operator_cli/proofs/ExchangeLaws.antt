@@ -13,7 +13,7 @@ use Rattle.sql_records.specs.Keeping.{LeavesOnly}
 use Rattle.site_desk.specs.SiteView.{SiteView, office_of, site_of}
 use Rattle.operator_cli.specs.declared.store_fault.StoreFault.{StoreFault}
 use Rattle.operator_cli.specs.declared.store_fault.StoreFault.TheVariants as fault
-use Rattle.operator_cli.specs.Exchanged.{IsInputEnd, IsNextEnd, LeavesAsItWas, LeavesOneOf, site_in}
+use Rattle.operator_cli.specs.Exchanged.{IsGrowingEnd, IsInputEnd, IsNextEnd, LeavesAsItWas, LeavesOneOf, site_in}
 
 pub export_end : {K : Type 0} (to : ℕ) (book : SiteView K) (meta : Meta) (db : Trees) (cause : StoreFault) → book.closed ≡ false → book.book.office ≡ office_of meta → site_of book ≡ site_in db
     → IsNextEnd book.closed book.book.office (site_of book) to cause → IsNextEnd false (office_of meta) (site_in db) to cause
@@ -24,6 +24,10 @@ export_end to book meta db cause unclosed office site e =
 pub import_end : {K : Type 0} (book : SiteView K) (meta : Meta) (db : Trees) (input : Option (List ℕ)) (cause : StoreFault) → book.book.office ≡ office_of meta → book.book.history ≡ history_in db
     → IsInputEnd book.book.office book.book.history input cause → IsInputEnd (office_of meta) (history_in db) input cause
 import_end book meta db input cause office history e = subst₂ (λ (o : Office) (h : List Entry). IsInputEnd o h input cause) office history e
+
+pub growing_end : {K : Type 0} (book : SiteView K) (meta : Meta) (db : Trees) (sites : ℕ) (cause : StoreFault) → book.book.office ≡ office_of meta → book.book.history ≡ history_in db
+    → IsGrowingEnd book.book.office book.book.history sites cause → IsGrowingEnd (office_of meta) (history_in db) sites cause
+growing_end book meta db sites cause office history e = subst₂ (λ (o : Office) (h : List Entry). IsGrowingEnd o h sites cause) office history e
 
 -- a keeper that is as it was holds what it held
 pub kept_as_it_was : {S : Type 0} (g : Ghosts S) (f : StoreFault) (old new : Kept S) → LeavesAsItWas f old new → LeavesAsItWas f (state g old.conn).now (state g new.conn).now

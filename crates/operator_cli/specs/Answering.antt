@@ -1,7 +1,7 @@
 -- What a line is answered in a world, and the world after it.
 use Rattle.std.specs.Prelude.{ℕ, Bool, List, Option, Some, None, Result, Ok, Err, if◌then◌else◌, nat_lt}
 use Rattle.rights_lattice.specs.State.{knows}
-use Rattle.local_rights.specs.Rights.{sums_in}
+use Rattle.local_rights.specs.OpenSeats.{view_in}
 use Rattle.book_core.specs.History.{state_of}
 use Rattle.book_core.specs.Decision.{own_left}
 use Rattle.world_steps.specs.World.{World, count, history_at, office_at, after}
@@ -10,7 +10,7 @@ use Rattle.world_steps.specs.declared.step.Step.{Step}
 use Rattle.world_steps.specs.declared.step.Outcome.{Outcome}
 use Rattle.world_steps.specs.declared.step.WorldFault.{WorldFault}
 use Rattle.world_steps.specs.declared.step.WorldFault.TheVariants as fault
-use Rattle.local_rights.specs.declared.report.Totals.{Totals}
+use Rattle.local_rights.specs.declared.report.ViewTotals.{ViewTotals}
 use Rattle.desk_lines.specs.declared.script_line.ScriptLine.{ScriptLine}
 use Rattle.desk_lines.specs.declared.script_line.ScriptLine.TheVariants.{Make, Left, Totals as ScriptTotals}
 use Rattle.desk_lines.specs.declared.script_answer.ScriptAnswer.{ScriptAnswer}
@@ -23,8 +23,8 @@ is_known_at w i event = knows (state_of (history_at w i)).names event
 abbrev pub left_at : World → ℕ → List ℕ → ℕ
 left_at w i event = own_left (office_at w i) (history_at w i) event
 
-abbrev pub totals_at : World → ℕ → List ℕ → Totals
-totals_at w i event = sums_in (state_of (history_at w i)).cells event
+abbrev pub totals_at : World → ℕ → List ℕ → ViewTotals
+totals_at w i event = view_in (state_of (history_at w i)).cells event
 
 -- the answer to a look, where the site is there and knows the event
 abbrev pub looked : World → ℕ → List ℕ → ScriptAnswer → ScriptAnswer

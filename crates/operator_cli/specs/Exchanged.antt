@@ -4,6 +4,9 @@ use Rattle.sqlite.specs.Tree.{Trees}
 use Rattle.sqlite.specs.State.{State}
 use Rattle.book_core.specs.declared.entry.Entry.{Entry}
 use Rattle.book_core.specs.Decision.{Office}
+use Rattle.book_core.specs.declared.plan.GrowFault.TheVariants as grow_fault
+use Rattle.book_core.specs.Growing as grow
+use Rattle.book_core.specs.Growing.{GrowDecision, entry_of_grow, grow_decision}
 use Rattle.book_core.specs.Legal.{IsLegal}
 use Rattle.site_exchange.specs.declared.message.Message.{Message}
 use Rattle.site_exchange.specs.Exchange as exchange
@@ -23,7 +26,7 @@ use Rattle.operator_cli.specs.declared.status.Status.TheVariants.{Done}
 use Rattle.operator_cli.specs.declared.store_fault.StoreFault.{StoreFault}
 use Rattle.operator_cli.specs.declared.store_fault.StoreFault.TheVariants as fault
 use Rattle.operator_cli.specs.declared.told.Told.{Told}
-use Rattle.operator_cli.specs.declared.told.Told.TheVariants.{Joined, NothingNew, Acked, NoSite, Nothing, TooLong, Unread, NotTaken}
+use Rattle.operator_cli.specs.declared.told.Told.TheVariants.{Joined, NothingNew, Acked, NoSite, Nothing, TooLong, Unread, NotTaken, Grown, NotGrown}
 use Rattle.operator_cli.specs.Printed.{IsTellingOf}
 
 -- the book is that of the records in this database, which are a site's, as they are opened: with their history, which is legal, and nothing acknowledged
@@ -67,11 +70,21 @@ HoldsOnly s h = Keeps h (history_in s.now.trees) (MayLeaveIn s)
 abbrev pub LeavesOneOf : List Entry → List Entry → (Option (List Entry) → Type 0) → Type 0
 LeavesOneOf before behind may_leave = (left : Option (List Entry)) → may_leave left → (left ≡ Some before) ⊎ (left ≡ Some behind)
 
+-- what is told of what a site does with a count of sites
+abbrev pub told_of_growth : GrowDecision → Told
+told_of_growth grow.Grows = Grown
+told_of_growth grow.NotMore = NotGrown grow_fault.NotMore
+told_of_growth grow.Full = NotGrown grow_fault.Full
+
+-- the history behind a count of sites: a growth stands at its end
+abbrev pub behind_growth : Office → List Entry → ℕ → List Entry
+behind_growth office h sites = extended (entry_of_grow office h sites) h
+
 -- the message that is due to a peer, or why there is none
 abbrev pub IsDueText : Office → Site → ℕ → Status → List ℕ → Type 0
-IsDueText office site to Done text = (message : Message) × (IsTrue (is_peer office to) × (next office.me site to ≡ Some message) × (text ≡ message_text message))
+IsDueText office site to Done text = (message : Message) × (IsTrue (is_peer office site.history to) × (next office.me site to ≡ Some message) × (text ≡ message_text message))
 IsDueText office site to status text =
-    IsTellingOf (λ told. (told ≡ (if is_peer office to then Nothing else NoSite)) × (IsTrue (is_peer office to) → next office.me site to ≡ None)) status text
+    IsTellingOf (λ told. (told ≡ (if is_peer office site.history to then Nothing else NoSite)) × (IsTrue (is_peer office site.history to) → next office.me site to ≡ None)) status text
 
 -- the site that records tell, with these numbers
 abbrev pub site_in : Trees → Site
@@ -85,7 +98,7 @@ IsInput input (Some bytes) = (bytes ≡ input) × (length input ≤ most_bytes)
 -- what ends sending early: the book is closed, memory is wanted for a message that is due to a peer, or it is not written
 abbrev pub IsNextEnd : Bool → Office → Site → ℕ → StoreFault → Type 0
 IsNextEnd closed office site to fault.Store = closed ≡ true
-IsNextEnd closed office site to fault.Memory = IsTrue (is_peer office to) × IsSome (next office.me site to)
+IsNextEnd closed office site to fault.Memory = IsTrue (is_peer office site.history to) × IsSome (next office.me site to)
 IsNextEnd closed office site to fault.Write = ⊤
 IsNextEnd closed office site to _ = ⊥
 
@@ -108,3 +121,10 @@ IsInputEnd office h input fault.Memory = ⊤
 IsInputEnd office h input fault.Read = ⊤
 IsInputEnd office h input fault.Write = ⊤
 IsInputEnd office h input _ = ⊥
+
+-- what ends the command `grow` early: the growth is not stored, memory is wanted for it, or what is told is not written
+abbrev pub IsGrowingEnd : Office → List Entry → ℕ → StoreFault → Type 0
+IsGrowingEnd office h sites fault.Store = grow_decision office h sites ≡ grow.Grows
+IsGrowingEnd office h sites fault.Memory = grow_decision office h sites ≡ grow.Grows
+IsGrowingEnd office h sites fault.Write = ⊤
+IsGrowingEnd office h sites _ = ⊥

@@ -25,7 +25,7 @@ use Rattle.sql_records.specs.Layout.{has_our_table, HasMeta}
 use Rattle.sql_records.specs.Lookups.{listed_in}
 use Rattle.sql_records.specs.Opening.{IsOpenFault}
 use Rattle.site_desk.specs.SiteView.{office_of}
-use Rattle.operator_cli.specs.Exchanged.{IsInputEnd, IsNextEnd, LeavesAsItWas, site_in}
+use Rattle.operator_cli.specs.Exchanged.{IsGrowingEnd, IsInputEnd, IsNextEnd, LeavesAsItWas, site_in}
 use Rattle.operator_cli.specs.declared.store_fault.StoreFault.{StoreFault}
 use Rattle.operator_cli.specs.declared.store_fault.StoreFault.TheVariants as fault
 use Rattle.operator_cli.specs.Told.{of_open_fault, of_replay_fault, store_fault_line}
@@ -80,6 +80,10 @@ IsExportEnd to old new cause = (meta : Meta) → HasMeta meta old.now.trees → 
 -- what ends an import early; behind want of memory and a failed read the records are as they were
 abbrev pub IsImportEnd : Option (List ℕ) → State → State → StoreFault → Type 0
 IsImportEnd input old new cause = LeavesAsItWas cause old.now new.now × ((meta : Meta) → HasMeta meta old.now.trees → IsInputEnd (office_of meta) (history_in old.now.trees) input cause)
+
+-- what ends the command `grow` early; behind want of memory the records are as they were
+abbrev pub IsGrowEnd : ℕ → State → State → StoreFault → Type 0
+IsGrowEnd sites old new cause = LeavesAsItWas cause old.now new.now × ((meta : Meta) → HasMeta meta old.now.trees → IsGrowingEnd (office_of meta) (history_in old.now.trees) sites cause)
 
 -- a command failed for one of these causes, and told which
 abbrev pub FailsFor : (StoreFault → Type 0) → Option (List ℕ) → Option (List ℕ) → Status → Type 0

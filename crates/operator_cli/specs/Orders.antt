@@ -12,7 +12,7 @@ use Rattle.book_core.specs.Limits.{greatest_limit}
 use Rattle.operator_cli.specs.declared.orders.Order.{Order}
 use Rattle.operator_cli.specs.declared.orders.Order.TheVariants as order
 use Rattle.operator_cli.specs.declared.orders.Misfit.{Misfit}
-use Rattle.operator_cli.specs.declared.orders.Misfit.TheVariants.{Command, File, Event, Me, Sites, Limit, Number, To, Files, Port, Sessions, Rounds}
+use Rattle.operator_cli.specs.declared.orders.Misfit.TheVariants.{Command, File, Event, Me, Sites, Limit, Number, To, Files, Desks, Port, Sessions, Rounds}
 use Rattle.operator_cli.specs.declared.orders.WordsFault.{WordsFault}
 use Rattle.operator_cli.specs.declared.orders.WordsFault.TheVariants.{NotUnderstood, Memory}
 
@@ -30,9 +30,13 @@ most_sessions = 1024
 abbrev pub most_rounds : ℕ
 most_rounds = 1000000
 
--- a value that is given once for each site of a world, by its place
-abbrev pub operands : Text → Rule
-operands id = record (operand id) { range = Some (record { start_inclusive = 1; end_inclusive = most_sites }) }
+-- the most sites that one `serve` runs
+abbrev pub most_desks : ℕ
+most_desks = 16
+
+-- a value that is given once or more, up to so often, by its place
+abbrev pub operands : Text → ℕ → Rule
+operands id most = record (operand id) { range = Some (record { start_inclusive = 1; end_inclusive = most }) }
 
 -- a command that takes one more value
 abbrev pub taking : App → Text → App
@@ -46,6 +50,9 @@ init_app = taking (taking (taking (taking (new_app (codes "init")) (codes "FILE"
 
 abbrev pub migrate_app : App
 migrate_app = taking (new_app (codes "migrate")) (codes "FILE")
+
+abbrev pub grow_app : App
+grow_app = taking (taking (new_app (codes "grow")) (codes "FILE")) (codes "SITES")
 
 abbrev pub ask_app : App
 ask_app = taking (new_app (codes "ask")) (codes "FILE")
@@ -63,10 +70,10 @@ abbrev pub import_app : App
 import_app = taking (new_app (codes "import")) (codes "FILE")
 
 abbrev pub audit_app : App
-audit_app = with_rule (new_app (codes "audit")) (operands (codes "FILE"))
+audit_app = with_rule (new_app (codes "audit")) (operands (codes "FILE") most_sites)
 
 abbrev pub serve_app : App
-serve_app = with_rule (taking (taking (taking (new_app (codes "serve")) (codes "PORT")) (codes "SESSIONS")) (codes "ROUNDS")) (operands (codes "FILE"))
+serve_app = with_rule (taking (taking (taking (new_app (codes "serve")) (codes "PORT")) (codes "SESSIONS")) (codes "ROUNDS")) (operands (codes "FILE") most_desks)
 
 -- a command that is not used alone
 abbrev pub needing : App → App
@@ -77,13 +84,14 @@ abbrev pub above : App → App → App
 above a b = with_subcommand a b.top
 
 abbrev pub boxoffice : App
-boxoffice = above (above (above (above (above (above (above (above (above (above (needing (new_app (codes "boxoffice"))) world_app) init_app) migrate_app) ask_app) find_app) list_app) export_app) import_app) audit_app) serve_app
+boxoffice = above (above (above (above (above (above (above (above (above (above (above (needing (new_app (codes "boxoffice"))) world_app) init_app) migrate_app) grow_app) ask_app) find_app) list_app) export_app) import_app) audit_app) serve_app
 
 -- What is ordered: a command with its values, words as bytes and numbers as themselves.
 pub data Said : Type 0 where
   SaysWorld : Said
   SaysInit : (file : Text) (me sites limit : ℕ) → Said
   SaysMigrate : (file : Text) → Said
+  SaysGrow : (file : Text) (sites : ℕ) → Said
   SaysAsk : (file : Text) → Said
   SaysFind : (file : Text) (number : ℕ) → Said
   SaysList : (file event : Text) → Said
@@ -96,6 +104,7 @@ abbrev pub said_by : Order → Said
 said_by order.World = SaysWorld
 said_by (order.Init file me sites limit) = SaysInit file.now me sites limit
 said_by (order.Migrate file) = SaysMigrate file.now
+said_by (order.Grow file sites) = SaysGrow file.now sites
 said_by (order.Ask file) = SaysAsk file.now
 said_by (order.Find file number) = SaysFind file.now number
 said_by (order.List file event) = SaysList file.now event.now
@@ -122,6 +131,12 @@ unfoldable pub migrate_in : List Row → Option Said
 migrate_in rows = do
   file ← first_of (codes "FILE") rows
   Some (SaysMigrate file)
+
+unfoldable pub grow_in : List Row → Option Said
+grow_in rows = do
+  file ← first_of (codes "FILE") rows
+  sites ← number_in (codes "SITES") 1 most_sites rows
+  Some (SaysGrow file sites)
 
 unfoldable pub ask_in : List Row → Option Said
 ask_in rows = do
@@ -151,19 +166,19 @@ import_in rows = do
   file ← first_of (codes "FILE") rows
   Some (SaysImport file)
 
--- no more words than a world has sites
-abbrev pub of_sites : List Text → Option (List Text)
-of_sites words = if nat_le (length words) most_sites then Some words else None
+-- the words, where there are no more than so many
+abbrev pub at_most : ℕ → List Text → Option (List Text)
+at_most most words = if nat_le (length words) most then Some words else None
 
--- the files that are given, no more than a world has sites
-unfoldable pub files_in : List Row → Option (List Text)
-files_in rows = do
+-- the files that are given, no more than so many
+unfoldable pub files_in : ℕ → List Row → Option (List Text)
+files_in most rows = do
   files ← all_of (codes "FILE") rows
-  of_sites files
+  at_most most files
 
 unfoldable pub audit_in : List Row → Option Said
 audit_in rows = do
-  files ← files_in rows
+  files ← files_in most_sites rows
   Some (SaysAudit files)
 
 unfoldable pub serve_in : List Row → Option Said
@@ -171,7 +186,7 @@ serve_in rows = do
   port ← number_in (codes "PORT") 1 greatest_port rows
   sessions ← number_in (codes "SESSIONS") 0 most_sessions rows
   rounds ← number_in (codes "ROUNDS") 0 most_rounds rows
-  files ← files_in rows
+  files ← files_in most_desks rows
   Some (SaysServe port sessions rounds files)
 
 -- the order that the command of this name gives with these values
@@ -180,13 +195,14 @@ named_order name rows =
     if bytes_eq name (codes "world") then Some SaysWorld else (
     if bytes_eq name (codes "init") then init_in rows else (
     if bytes_eq name (codes "migrate") then migrate_in rows else (
+    if bytes_eq name (codes "grow") then grow_in rows else (
     if bytes_eq name (codes "ask") then ask_in rows else (
     if bytes_eq name (codes "find") then find_in rows else (
     if bytes_eq name (codes "list") then list_in rows else (
     if bytes_eq name (codes "export") then export_in rows else (
     if bytes_eq name (codes "import") then import_in rows else (
     if bytes_eq name (codes "audit") then audit_in rows else (
-    if bytes_eq name (codes "serve") then serve_in rows else None)))))))))
+    if bytes_eq name (codes "serve") then serve_in rows else None))))))))))
 
 -- the order of the subcommand that was met
 abbrev pub order_in : Option (Text × List Row) → Option Said
@@ -211,13 +227,14 @@ values_of name =
     if bytes_eq name (codes "world") then [] else (
     if bytes_eq name (codes "init") then File ∷ Me ∷ Sites ∷ Limit ∷ [] else (
     if bytes_eq name (codes "migrate") then File ∷ [] else (
+    if bytes_eq name (codes "grow") then File ∷ Sites ∷ [] else (
     if bytes_eq name (codes "ask") then File ∷ [] else (
     if bytes_eq name (codes "find") then File ∷ Number ∷ [] else (
     if bytes_eq name (codes "list") then File ∷ Event ∷ [] else (
     if bytes_eq name (codes "export") then File ∷ To ∷ [] else (
     if bytes_eq name (codes "import") then File ∷ [] else (
     if bytes_eq name (codes "audit") then Files ∷ [] else (
-    if bytes_eq name (codes "serve") then Port ∷ Sessions ∷ Rounds ∷ Files ∷ [] else Command ∷ [])))))))))
+    if bytes_eq name (codes "serve") then Port ∷ Sessions ∷ Rounds ∷ Desks ∷ [] else Command ∷ []))))))))))
 
 -- whether a value is given and in its range
 abbrev pub fits : List Row → Misfit → Bool
@@ -229,7 +246,8 @@ fits rows Sites = is_some (number_in (codes "SITES") 1 most_sites rows)
 fits rows Limit = is_some (number_in (codes "LIMIT") 1 greatest_limit rows)
 fits rows Number = is_some (number_in (codes "NUMBER") 1 max_value rows)
 fits rows To = is_some (number_in (codes "TO") 0 greatest_site rows)
-fits rows Files = is_some (files_in rows)
+fits rows Files = is_some (files_in most_sites rows)
+fits rows Desks = is_some (files_in most_desks rows)
 fits rows Port = is_some (number_in (codes "PORT") 1 greatest_port rows)
 fits rows Sessions = is_some (number_in (codes "SESSIONS") 0 most_sessions rows)
 fits rows Rounds = is_some (number_in (codes "ROUNDS") 0 most_rounds rows)
@@ -250,11 +268,12 @@ misfit_line Command = codes "error: no such command\n"
 misfit_line File = codes "error: FILE is missing\n"
 misfit_line Event = codes "error: EVENT is missing\n"
 misfit_line Me = codes "error: ME is the number of a site, 0 to 63\n"
-misfit_line Sites = codes "error: SITES is a count of sites, 1 to 16\n"
+misfit_line Sites = codes "error: SITES is a count of sites, 1 to 64\n"
 misfit_line Limit = codes "error: LIMIT is a count of entries, 1 to 1000000\n"
 misfit_line Number = codes "error: NUMBER is the number of a request, 1 to 1000000000000\n"
 misfit_line To = codes "error: TO is the number of a site, 0 to 63\n"
-misfit_line Files = codes "error: FILE is given 1 to 16 times\n"
+misfit_line Files = codes "error: FILE is given 1 to 64 times\n"
+misfit_line Desks = codes "error: FILE is given 1 to 16 times\n"
 misfit_line Port = codes "error: PORT is the number of a port, 1 to 65535\n"
 misfit_line Sessions = codes "error: SESSIONS is a count of connections, 0 to 1024\n"
 misfit_line Rounds = codes "error: ROUNDS is a count of rounds, 0 to 1000000\n"

@@ -12,7 +12,7 @@ use Rattle.sql_records.specs.declared.lookup.Found.{Found}
 use Rattle.sql_records.specs.declared.lookup.Listed.{Listed}
 use Rattle.sql_records.specs.Lookups.{found_in, listed_in}
 use Rattle.operator_cli.specs.declared.told.Told.{Told}
-use Rattle.operator_cli.specs.declared.told.Told.TheVariants.{Made, Migrated, Joined, NothingNew, Acked, AlreadyThere, NoSite, Nothing, NotFound, TooLong, Unread, NotTaken}
+use Rattle.operator_cli.specs.declared.told.Told.TheVariants.{Made, Migrated, Joined, NothingNew, Acked, AlreadyThere, NoSite, Nothing, NotFound, TooLong, Unread, NotTaken, Grown, NotGrown}
 use Rattle.operator_cli.specs.declared.status.Status.{Status}
 use Rattle.operator_cli.specs.declared.status.Status.TheVariants.{Done, Refused, NotUnderstood, Failed}
 use Rattle.operator_cli.specs.declared.store_fault.StoreFault.{StoreFault}
@@ -73,6 +73,15 @@ IsOfTaking TooLong = ⊤
 IsOfTaking (Unread f) = ⊤
 IsOfTaking (NotTaken f) = ⊤
 IsOfTaking _ = ⊥
+
+-- what counting more sites may tell
+abbrev pub IsOfGrowing : Told → Type 0
+IsOfGrowing Grown = ⊤
+IsOfGrowing (NotGrown f) = ⊤
+IsOfGrowing _ = ⊥
+
+abbrev pub IsGrownText : Status → List ℕ → Type 0
+IsGrownText = IsTellingOf IsOfGrowing
 
 abbrev pub IsMadeText : ℕ → ℕ → Bool → Status → List ℕ → Type 0
 IsMadeText me sites there = IsTellingOf (λ told. told ≡ told_of_making me sites there)

@@ -9,6 +9,8 @@ use Rattle.delta_wire.specs.declared.fault.WireFault.{WireFault}
 use Rattle.delta_wire.specs.declared.fault.WireFault.TheVariants as wire
 use Rattle.world_steps.specs.declared.auditing.AuditFault.{AuditFault}
 use Rattle.world_steps.specs.declared.auditing.AuditFault.TheVariants as audit
+use Rattle.book_core.specs.declared.plan.GrowFault.{GrowFault}
+use Rattle.book_core.specs.declared.plan.GrowFault.TheVariants as grow
 use Rattle.book_core.specs.declared.plan.ReplayFault.{ReplayFault}
 use Rattle.book_core.specs.declared.plan.ReplayFault.TheVariants as replay
 use Rattle.sql_records.specs.declared.fault.OpenFault.{OpenFault}
@@ -20,10 +22,10 @@ use Rattle.sql_records.specs.declared.lookup.FindFault.TheVariants as find
 use Rattle.operator_cli.specs.declared.store_fault.StoreFault.{StoreFault}
 use Rattle.operator_cli.specs.declared.store_fault.StoreFault.TheVariants as fault
 use Rattle.operator_cli.specs.declared.told.Told.{Told}
-use Rattle.operator_cli.specs.declared.told.Told.TheVariants.{Made, Migrated, Joined, NothingNew, Acked, AlreadyThere, NoSite, Nothing, NotFound, TooLong, Unread, NotTaken, NotWhole, Ahead}
+use Rattle.operator_cli.specs.declared.told.Told.TheVariants.{Made, Migrated, Joined, NothingNew, Acked, AlreadyThere, NoSite, Nothing, NotFound, TooLong, Unread, NotTaken, NotWhole, Ahead, Grown, NotGrown}
 use Rattle.operator_cli.specs.declared.status.Status.{Status}
 use Rattle.operator_cli.specs.declared.status.Status.TheVariants.{Done, Refused, NotUnderstood, Failed}
-use Rattle.desk_lines.specs.Replies.{take_fault_text}
+use Rattle.desk_lines.specs.Replies.{take_fault_text, grow_fault_text}
 
 -- the cause of status 3, one line on standard error
 abbrev pub store_fault_text : StoreFault → List ℕ
@@ -69,6 +71,8 @@ told_text TooLong = codes "too-long"
 told_text (Unread f) = wire_fault_text f
 told_text (NotTaken f) = take_fault_text f
 told_text NotWhole = codes "not-whole"
+told_text Grown = codes "grown"
+told_text (NotGrown f) = grow_fault_text f
 told_text (Ahead viewer owner) = codes "ahead " ++ decimal viewer ++ codes " " ++ decimal owner
 
 abbrev pub told_line : Told → List ℕ
@@ -88,6 +92,8 @@ told_status TooLong = Refused
 told_status (Unread f) = Refused
 told_status (NotTaken f) = Refused
 told_status NotWhole = Refused
+told_status Grown = Done
+told_status (NotGrown f) = Refused
 told_status (Ahead viewer owner) = Refused
 
 -- a fault of reading is told, but want of memory ends the command
@@ -108,6 +114,14 @@ ended_by_take take.Full = Ok (NotTaken take.Full)
 ended_by_take take.Memory = Err fault.Memory
 ended_by_take take.Closed = Err fault.Store
 ended_by_take take.Store = Err fault.Store
+
+-- that a site counts no more sites than before is told, but want of memory and failed records end the command
+abbrev pub ended_by_grow : GrowFault → Result Told StoreFault
+ended_by_grow grow.NotMore = Ok (NotGrown grow.NotMore)
+ended_by_grow grow.Full = Ok (NotGrown grow.Full)
+ended_by_grow grow.Memory = Err fault.Memory
+ended_by_grow grow.Closed = Err fault.Store
+ended_by_grow grow.Store = Err fault.Store
 
 -- that there is nothing to migrate is told, but each other fault ends the command
 abbrev pub ended_by_migrate : MigrateFault → Result Told StoreFault

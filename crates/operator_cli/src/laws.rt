@@ -2,7 +2,7 @@
 
 ghost use Rattle.std.specs.Prelude.{◌∷◌, [], codes};
 ghost use Rattle.operator_cli.specs.Laws.{ScriptsMakeSteps, TotalsAreThose, TotalsAreNotOversold};
-ghost use Rattle.operator_cli.specs.Orders.{boxoffice, AreUnderstood, Give, SaysWorld, SaysInit, SaysMigrate, SaysAsk, SaysFind, SaysList, SaysExport, SaysImport, SaysAudit, SaysServe};
+ghost use Rattle.operator_cli.specs.Orders.{boxoffice, AreUnderstood, Give, SaysWorld, SaysInit, SaysMigrate, SaysGrow, SaysAsk, SaysFind, SaysList, SaysExport, SaysImport, SaysAudit, SaysServe};
 
 /// The totals of a script are those of a world that its steps lead to, and none is oversold.
 pub fn totals_are_not_oversold()
@@ -17,6 +17,7 @@ pub fn each_command_has_words()
     ensures world { Give (codes "world" ∷ []) SaysWorld }
     ensures init { Give (codes "init" ∷ codes "a.db" ∷ codes "1" ∷ codes "2" ∷ codes "9" ∷ []) (SaysInit (codes "a.db") 1 2 9) }
     ensures migrate { Give (codes "migrate" ∷ codes "a.db" ∷ []) (SaysMigrate (codes "a.db")) }
+    ensures grow { Give (codes "grow" ∷ codes "a.db" ∷ codes "21" ∷ []) (SaysGrow (codes "a.db") 21) }
     ensures ask { Give (codes "ask" ∷ codes "a.db" ∷ []) (SaysAsk (codes "a.db")) }
     ensures find { Give (codes "find" ∷ codes "a.db" ∷ codes "7" ∷ []) (SaysFind (codes "a.db") 7) }
     ensures list { Give (codes "list" ∷ codes "a.db" ∷ codes "gala" ∷ []) (SaysList (codes "a.db") (codes "gala")) }

@@ -6,7 +6,7 @@ ghost use Rattle.clap.specs.Words.{subcommand_of, subcommand_rows_of, kind_of, a
 ghost use Rattle.rights_lattice.specs.Cells.{max_value};
 ghost use Rattle.rights_lattice.specs.Limits.{greatest_site, most_sites};
 ghost use Rattle.book_core.specs.Limits.{greatest_limit};
-ghost use Rattle.operator_cli.specs.Orders.{boxoffice, greatest_port, most_sessions, AreUnderstood, order_in, said_by, number_in, init_in, migrate_in, ask_in, find_in, list_in, export_in, import_in, files_in, audit_in, serve_in, named_order, values_of, first_misfit, misfit_in, misfit_line, TellsMisfit, IsRefusal};
+ghost use Rattle.operator_cli.specs.Orders.{boxoffice, greatest_port, most_sessions, AreUnderstood, order_in, said_by, number_in, init_in, migrate_in, grow_in, ask_in, find_in, list_in, export_in, import_in, files_in, audit_in, serve_in, named_order, values_of, first_misfit, misfit_in, misfit_line, TellsMisfit, IsRefusal};
 
 use crate::words::boxoffice;
 use arrayvec::ArrayVec;
@@ -18,8 +18,10 @@ use request_ledger::RequestNumber;
 use rights_lattice::{GREATEST_SITE, MAX_VALUE, MOST_SITES, SiteId, Sites};
 use std::alloc::Global;
 
-// As many files as there may be sites.
+// As many files as there may be sites, and the most sites that one `serve` runs.
 pub(crate) const MOST_FILES: usize = MOST_SITES as usize;
+
+pub(crate) const MOST_DESKS: usize = 16;
 
 // The greatest number of a port, the most connections that `serve` takes, and the most rounds in which its sites send.
 const GREATEST_PORT: u64 = 65_535;
@@ -28,7 +30,7 @@ const MOST_SESSIONS: u64 = 1024;
 
 const MOST_ROUNDS: u64 = 1_000_000;
 
-/// The files of several sites, in the order of the sites: at most 16.
+/// The files of several sites, in the order of the sites: at most 64.
 pub type FileNames<'a> = ArrayVec<&'a str, MOST_FILES>;
 
 /// A command of the program, with its values.
@@ -46,6 +48,11 @@ pub enum Order<'a> {
     /// Makes records of the first schema ones of the second.
     Migrate {
         file: &'a str,
+    },
+    /// Has a site count more sites.
+    Grow {
+        file: &'a str,
+        sites: Sites,
     },
     /// Answers the requests on standard input.
     Ask {
@@ -106,6 +113,7 @@ enum Misfit {
     Number,
     To,
     Files,
+    Desks,
     Port,
     Sessions,
     Rounds,
@@ -120,11 +128,12 @@ fn misfit_line(misfit: Misfit) -> &'static str
         Misfit::File => "error: FILE is missing\n",
         Misfit::Event => "error: EVENT is missing\n",
         Misfit::Me => "error: ME is the number of a site, 0 to 63\n",
-        Misfit::Sites => "error: SITES is a count of sites, 1 to 16\n",
+        Misfit::Sites => "error: SITES is a count of sites, 1 to 64\n",
         Misfit::Limit => "error: LIMIT is a count of entries, 1 to 1000000\n",
         Misfit::Number => "error: NUMBER is the number of a request, 1 to 1000000000000\n",
         Misfit::To => "error: TO is the number of a site, 0 to 63\n",
-        Misfit::Files => "error: FILE is given 1 to 16 times\n",
+        Misfit::Files => "error: FILE is given 1 to 64 times\n",
+        Misfit::Desks => "error: FILE is given 1 to 16 times\n",
         Misfit::Port => "error: PORT is the number of a port, 1 to 65535\n",
         Misfit::Sessions => "error: SESSIONS is a count of connections, 0 to 1024\n",
         Misfit::Rounds => "error: ROUNDS is a count of rounds, 0 to 1000000\n",
@@ -200,6 +209,16 @@ fn migrate_of<'a>(values: &ArgMatches<'a>) -> Result<Order<'a>, Misfit>
     Ok(Order::Migrate { file })
 }
 
+#[tactic(auto, unfolding(crate::specs::Orders::grow_in))]
+fn grow_of<'a>(values: &ArgMatches<'a>) -> Result<Order<'a>, Misfit>
+    ensures order { MatchResult result (λ order. grow_in (rows_of (found_of values.now)) ≡ Some (said_by order)) (λ _. grow_in (rows_of (found_of values.now)) ≡ None) }
+    ensures misfit { IfErr result (λ misfit. first_misfit (Misfit.File ∷ Misfit.Sites ∷ []) (rows_of (found_of values.now)) ≡ Some misfit) }
+{
+    let file = value_of(values, "FILE").ok_or(Misfit::File)?;
+    let sites = sites_of(values).ok_or(Misfit::Sites)?;
+    Ok(Order::Grow { file, sites })
+}
+
 #[tactic(auto, unfolding(crate::specs::Orders::ask_in))]
 fn ask_of<'a>(values: &ArgMatches<'a>) -> Result<Order<'a>, Misfit>
     ensures order { MatchResult result (λ order. ask_in (rows_of (found_of values.now)) ≡ Some (said_by order)) (λ _. ask_in (rows_of (found_of values.now)) ≡ None) }
@@ -254,10 +273,16 @@ fn all_of<'m, 'a>(values: &'m ArgMatches<'a>, id: &str) -> Option<&'m [&'a str]>
     values.get_strs(id)
 }
 
-fn files_of<'a>(values: &ArgMatches<'a>) -> Option<FileNames<'a>>
-    ensures { option_map (λ files. map (λ file. file.now) files.items) result ≡ files_in (rows_of (found_of values.now)) }
+// The files, where there are no more than so many.
+fn files_of<'a>(values: &ArgMatches<'a>, most: usize) -> Option<FileNames<'a>>
+    requires { most ≤ most_sites }
+    ensures { option_map (λ files. map (λ file. file.now) files.items) result ≡ files_in most (rows_of (found_of values.now)) }
 {
-    match FileNames::try_from(all_of(values, "FILE")?) {
+    let words = all_of(values, "FILE")?;
+    if words.len() > most {
+        return None;
+    }
+    match FileNames::try_from(words) {
         Ok(files) => Some(files),
         Err(_) => None,
     }
@@ -268,7 +293,7 @@ fn audit_of<'a>(values: &ArgMatches<'a>) -> Result<Order<'a>, Misfit>
     ensures order { MatchResult result (λ order. audit_in (rows_of (found_of values.now)) ≡ Some (said_by order)) (λ _. audit_in (rows_of (found_of values.now)) ≡ None) }
     ensures misfit { IfErr result (λ misfit. first_misfit (Misfit.Files ∷ []) (rows_of (found_of values.now)) ≡ Some misfit) }
 {
-    let files = files_of(values).ok_or(Misfit::Files)?;
+    let files = files_of(values, MOST_FILES).ok_or(Misfit::Files)?;
     Ok(Order::Audit { files })
 }
 
@@ -289,12 +314,12 @@ fn sessions_of(values: &ArgMatches<'_>) -> Option<usize>
 #[tactic(auto, unfolding(crate::specs::Orders::serve_in))]
 fn serve_of<'a>(values: &ArgMatches<'a>) -> Result<Order<'a>, Misfit>
     ensures order { MatchResult result (λ order. serve_in (rows_of (found_of values.now)) ≡ Some (said_by order)) (λ _. serve_in (rows_of (found_of values.now)) ≡ None) }
-    ensures misfit { IfErr result (λ misfit. first_misfit (Misfit.Port ∷ Misfit.Sessions ∷ Misfit.Rounds ∷ Misfit.Files ∷ []) (rows_of (found_of values.now)) ≡ Some misfit) }
+    ensures misfit { IfErr result (λ misfit. first_misfit (Misfit.Port ∷ Misfit.Sessions ∷ Misfit.Rounds ∷ Misfit.Desks ∷ []) (rows_of (found_of values.now)) ≡ Some misfit) }
 {
     let port = port_of(values).ok_or(Misfit::Port)?;
     let sessions = sessions_of(values).ok_or(Misfit::Sessions)?;
     let rounds = number_of(values, "ROUNDS", 0, MOST_ROUNDS).ok_or(Misfit::Rounds)?;
-    let files = files_of(values).ok_or(Misfit::Files)?;
+    let files = files_of(values, MOST_DESKS).ok_or(Misfit::Desks)?;
     Ok(Order::Serve {
         port,
         sessions,
@@ -314,6 +339,8 @@ fn named_order<'a>(name: &str, values: &ArgMatches<'a>) -> Result<Order<'a>, Mis
         init_of(values)
     } else if name == "migrate" {
         migrate_of(values)
+    } else if name == "grow" {
+        grow_of(values)
     } else if name == "ask" {
         ask_of(values)
     } else if name == "find" {

@@ -5,13 +5,14 @@ ghost use Rattle.std.specs.Fmt.{decimal};
 ghost use Rattle.arrayvec.specs.ArrayVec.{array_vec_len};
 ghost use Rattle.plain_words.specs.Input.{longest_line};
 ghost use Rattle.plain_words.specs.Writing.{Writes};
-ghost use Rattle.operator_cli.specs.Told.{told_text, told_line, told_status, wire_fault_text, ended_by_wire, ended_by_take, ended_by_audit};
+ghost use Rattle.operator_cli.specs.Told.{told_text, told_line, told_status, wire_fault_text, ended_by_wire, ended_by_take, ended_by_grow, ended_by_audit};
 ghost use Rattle.operator_cli.specs.declared.store_fault.StoreFault.TheVariants.{Write as WriteFailed};
 
 use crate::status::Status;
 use crate::store_fault::StoreFault;
+use book_core::GrowFault;
 use delta_wire::WireFault;
-use desk_lines::take_fault_text;
+use desk_lines::{grow_fault_text, take_fault_text};
 use plain_words::{Text, numbered, put, put_number, word, write_bytes};
 use rights_lattice::SiteId;
 use site_exchange::TakeFault;
@@ -49,6 +50,10 @@ pub(crate) enum Told {
     NotWhole,
     /// A site shows more of another's row than that site does.
     Ahead { viewer: SiteId, owner: SiteId },
+    /// The site counts more sites.
+    Grown,
+    /// It counts as many as before.
+    NotGrown(GrowFault),
 }
 
 fn wire_fault_text(fault: WireFault) -> Text
@@ -93,6 +98,8 @@ fn told_text(told: &Told) -> Text
         Told::NotTaken(fault) => take_fault_text(*fault),
         Told::NotWhole => word(b"not-whole"),
         Told::Ahead { viewer, owner } => ahead_text(*viewer, *owner),
+        Told::Grown => word(b"grown"),
+        Told::NotGrown(fault) => grow_fault_text(*fault),
     }
 }
 
@@ -100,7 +107,12 @@ fn told_status(told: &Told) -> Status
     ensures { result ≡ told_status told.now }
 {
     match told {
-        Told::Made | Told::Migrated | Told::Joined | Told::NothingNew | Told::Acked => Status::Done,
+        Told::Made
+        | Told::Migrated
+        | Told::Joined
+        | Told::NothingNew
+        | Told::Acked
+        | Told::Grown => Status::Done,
         _ => Status::Refused,
     }
 }
@@ -137,6 +149,17 @@ pub(crate) fn ended_by_take(fault: TakeFault) -> Result<Told, StoreFault>
         TakeFault::Memory => Err(StoreFault::Memory),
         TakeFault::Store | TakeFault::Closed => Err(StoreFault::Store),
         _ => Ok(Told::NotTaken(fault)),
+    }
+}
+
+/// What a count of sites that is not taken comes to.
+pub(crate) fn ended_by_grow(fault: GrowFault) -> Result<Told, StoreFault>
+    ensures { result ≡ ended_by_grow fault }
+{
+    match fault {
+        GrowFault::Memory => Err(StoreFault::Memory),
+        GrowFault::Store | GrowFault::Closed => Err(StoreFault::Store),
+        GrowFault::NotMore | GrowFault::Full => Ok(Told::NotGrown(fault)),
     }
 }
 

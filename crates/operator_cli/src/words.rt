@@ -3,9 +3,9 @@
 ghost use Rattle.std.specs.Prelude.{◌≡◌, IfOk, false, codes};
 ghost use Rattle.clap.specs.Words.{app_of, new_app, rule_of};
 ghost use Rattle.clap.specs.declared.builder.command.Command.TheViews.{out-Command as fields_of};
-ghost use Rattle.operator_cli.specs.Orders.{operand, boxoffice, init_app, migrate_app, ask_app, find_app, list_app, export_app, import_app, audit_app, serve_app, operands};
+ghost use Rattle.operator_cli.specs.Orders.{operand, boxoffice, init_app, migrate_app, grow_app, ask_app, find_app, list_app, export_app, import_app, audit_app, serve_app, operands};
 
-use crate::orders::MOST_FILES;
+use crate::orders::{MOST_DESKS, MOST_FILES};
 use clap::{Arg, Command};
 use std::alloc::{AllocError, Global};
 
@@ -30,11 +30,11 @@ fn file<'a>(alloc: Global) -> Arg<'a>
     operand(alloc, "FILE", "The file of a site's records")
 }
 
-fn files<'a>(alloc: Global) -> Arg<'a>
-    ensures rule { rule_of result ≡ operands (codes "FILE") }
+fn files<'a>(alloc: Global, most: usize) -> Arg<'a>
+    ensures rule { rule_of result ≡ operands (codes "FILE") most }
     ensures local { result.global ≡ false }
 {
-    file(alloc).num_args(1..=MOST_FILES)
+    file(alloc).num_args(1..=most)
 }
 
 fn init<'a>(alloc: Global) -> Result<Command<'a>, AllocError>
@@ -46,7 +46,7 @@ fn init<'a>(alloc: Global) -> Result<Command<'a>, AllocError>
         "ME",
         "The number of the site, 0 to 63 and below SITES",
     );
-    let sites = operand(alloc, "SITES", "How many sites there are, 1 to 16");
+    let sites = operand(alloc, "SITES", "How many sites there are, 1 to 64");
     let limit = operand(
         alloc,
         "LIMIT",
@@ -69,6 +69,16 @@ fn migrate<'a>(alloc: Global) -> Result<Command<'a>, AllocError>
         "Raises the records of a site to the schema of this program",
     )
     .arg(file(alloc))
+}
+
+fn grow<'a>(alloc: Global) -> Result<Command<'a>, AllocError>
+    ensures app { IfOk result (λ command. app_of command ≡ grow_app) }
+    ensures local { IfOk result (λ command. (fields_of command).has_globals ≡ false) }
+{
+    let sites = operand(alloc, "SITES", "How many sites there are now, 1 to 64");
+    named(alloc, "grow", "Has a site count more sites")
+        .arg(file(alloc))?
+        .arg(sites)
 }
 
 fn ask<'a>(alloc: Global) -> Result<Command<'a>, AllocError>
@@ -132,7 +142,7 @@ fn audit<'a>(alloc: Global) -> Result<Command<'a>, AllocError>
         "audit",
         "Sums up the records of all sites, the k-th file those of site k",
     )
-    .arg(files(alloc))
+    .arg(files(alloc, MOST_FILES))
 }
 
 fn serve<'a>(alloc: Global) -> Result<Command<'a>, AllocError>
@@ -158,7 +168,7 @@ fn serve<'a>(alloc: Global) -> Result<Command<'a>, AllocError>
     .arg(port)?
     .arg(sessions)?
     .arg(rounds)?
-    .arg(files(alloc))
+    .arg(files(alloc, MOST_DESKS))
 }
 
 /// The program's command line.
@@ -175,6 +185,7 @@ pub(crate) fn boxoffice<'a>(alloc: Global) -> Result<Command<'a>, AllocError>
     .subcommand(world)?
     .subcommand(init(alloc)?)?
     .subcommand(migrate(alloc)?)?
+    .subcommand(grow(alloc)?)?
     .subcommand(ask(alloc)?)?
     .subcommand(find(alloc)?)?
     .subcommand(list(alloc)?)?

@@ -1,7 +1,7 @@
 -- How the book of a site answers the lines of a session. (Our own.)
 use Rattle.std.specs.Prelude.{◌≡◌, ◌≢◌, ◌⊎◌, ◌↔◌, ℕ, Bool, true, false, if◌then◌else◌, List, length, Option, Result, Ok, Err, IfOk, IfErr, OnOk, OnErr}
 use Rattle.rights_lattice.specs.State.{knows}
-use Rattle.local_rights.specs.Rights.{sums_in}
+use Rattle.local_rights.specs.OpenSeats.{view_in}
 use Rattle.book_core.specs.declared.entry.Entry.{Entry}
 use Rattle.book_core.specs.BookView.{BookView}
 use Rattle.book_core.specs.Decision.{own_left}
@@ -73,7 +73,7 @@ abbrev pub shown_left : BookView → List ℕ → Answered
 shown_left book event = LeftIs (own_left book.office book.history event)
 
 abbrev pub shown_totals : BookView → List ℕ → Answered
-shown_totals book event = TotalsAre (sums_in (state_of book.history).cells event)
+shown_totals book event = TotalsAre (view_in (state_of book.history).cells event)
 
 -- A step of a book: the answer to what a line asks, and the site behind it. The last line asks nothing.
 abbrev pub BookStep : {K : Type 0} → Keeping K → SiteView K → Line → Answered → SiteView K → Type 0

@@ -1,7 +1,7 @@
 use Rattle.std.proofs.Common.{refl}
 use Rattle.clap.proofs.OnLiterals.{clap_on_literals}
 use Rattle.plain_words.specs.Number.{number_of}
-use Rattle.operator_cli.specs.Orders.{named_order, number_in, init_in, migrate_in, ask_in, find_in, list_in, export_in, import_in, files_in, audit_in, serve_in}
+use Rattle.operator_cli.specs.Orders.{named_order, number_in, init_in, migrate_in, grow_in, ask_in, find_in, list_in, export_in, import_in, files_in, audit_in, serve_in}
 use Rattle.operator_cli.proofs.laws.each_command_has_words.Goals as goal
 
 pub returns-clause-world : goal.returns-clause-world
@@ -15,6 +15,10 @@ returns-clause-init c = (refl, refl)
 pub returns-clause-migrate : goal.returns-clause-migrate
 unfolding clap_on_literals named_order migrate_in
 returns-clause-migrate c = (refl, refl)
+
+pub returns-clause-grow : goal.returns-clause-grow
+unfolding clap_on_literals named_order grow_in number_in number_of
+returns-clause-grow c = (refl, refl)
 
 pub returns-clause-ask : goal.returns-clause-ask
 unfolding clap_on_literals named_order ask_in

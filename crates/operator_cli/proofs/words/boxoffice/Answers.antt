@@ -14,10 +14,11 @@ returns c =
     let world = c.in_ok-subcommand.ensures.shape c.named-world.ensures.local ∙ ap₂ with_subcommand none (ap top_of c.named-world.ensures.app) in
     let init = c.in_ok-subcommand-2.ensures.shape c.in_ok-init.ensures.local ∙ ap₂ with_subcommand world (ap top_of c.in_ok-init.ensures.app) in
     let migrate = c.in_ok-subcommand-3.ensures.shape c.in_ok-migrate.ensures.local ∙ ap₂ with_subcommand init (ap top_of c.in_ok-migrate.ensures.app) in
-    let ask = c.in_ok-subcommand-4.ensures.shape c.in_ok-ask.ensures.local ∙ ap₂ with_subcommand migrate (ap top_of c.in_ok-ask.ensures.app) in
-    let find = c.in_ok-subcommand-5.ensures.shape c.in_ok-find.ensures.local ∙ ap₂ with_subcommand ask (ap top_of c.in_ok-find.ensures.app) in
-    let list = c.in_ok-subcommand-6.ensures.shape c.in_ok-list.ensures.local ∙ ap₂ with_subcommand find (ap top_of c.in_ok-list.ensures.app) in
-    let export = c.in_ok-subcommand-7.ensures.shape c.in_ok-export.ensures.local ∙ ap₂ with_subcommand list (ap top_of c.in_ok-export.ensures.app) in
-    let import = c.in_ok-subcommand-8.ensures.shape c.in_ok-import.ensures.local ∙ ap₂ with_subcommand export (ap top_of c.in_ok-import.ensures.app) in
-    let audit = c.in_ok-subcommand-9.ensures.shape c.in_ok-audit.ensures.local ∙ ap₂ with_subcommand import (ap top_of c.in_ok-audit.ensures.app) in
+    let grow = c.in_ok-subcommand-4.ensures.shape c.in_ok-grow.ensures.local ∙ ap₂ with_subcommand migrate (ap top_of c.in_ok-grow.ensures.app) in
+    let ask = c.in_ok-subcommand-5.ensures.shape c.in_ok-ask.ensures.local ∙ ap₂ with_subcommand grow (ap top_of c.in_ok-ask.ensures.app) in
+    let find = c.in_ok-subcommand-6.ensures.shape c.in_ok-find.ensures.local ∙ ap₂ with_subcommand ask (ap top_of c.in_ok-find.ensures.app) in
+    let list = c.in_ok-subcommand-7.ensures.shape c.in_ok-list.ensures.local ∙ ap₂ with_subcommand find (ap top_of c.in_ok-list.ensures.app) in
+    let export = c.in_ok-subcommand-8.ensures.shape c.in_ok-export.ensures.local ∙ ap₂ with_subcommand list (ap top_of c.in_ok-export.ensures.app) in
+    let import = c.in_ok-subcommand-9.ensures.shape c.in_ok-import.ensures.local ∙ ap₂ with_subcommand export (ap top_of c.in_ok-import.ensures.app) in
+    let audit = c.in_ok-subcommand-10.ensures.shape c.in_ok-audit.ensures.local ∙ ap₂ with_subcommand import (ap top_of c.in_ok-audit.ensures.app) in
     c.in_ok-whole.ensures.shape c.in_ok-serve.ensures.local ∙ ap₂ with_subcommand audit (ap top_of c.in_ok-serve.ensures.app)
