@@ -1,12 +1,12 @@
 -- An entry is read back from its columns.
-use Rattle.std.proofs.Common.{◌≡◌, ℕ, ◌≤◌, ◌<◌, ◌^◌, pos, Bool, false, List, [], length, Option, Some, None, refl, ap, ◌∙◌, arith}
+use Rattle.std.proofs.Common.{◌≡◌, ℕ, ◌≤◌, ◌<◌, ◌^◌, pos, false, List, [], length, Option, Some, None, refl, ap, ◌∙◌, arith}
 use Rattle.std.specs.Prelude.{IfSome}
 use Rattle.std.specs.Result.{result_ok}
 use Rattle.std.proofs.lemmas.Bool.{and_from, le-leb, cond-true}
 use Rattle.sqlite.specs.declared.types.Value.TheVariants.{Int, Text}
 use Rattle.rights_lattice.specs.Cells.{max_value, IsValue}
 use Rattle.rights_lattice.specs.Limits.{greatest_site, most_sites, IsSite}
-use Rattle.rights_lattice.specs.State.{State}
+use Rattle.rights_lattice.specs.State.{State, bottom}
 use Rattle.rights_lattice.specs.EventName.{IsEventName}
 use Rattle.request_ledger.specs.Ranges.{IsPart, IsRequest}
 use Rattle.request_ledger.specs.declared.request.Request.{Request}
@@ -17,6 +17,8 @@ use Rattle.request_ledger.specs.Words.{verb_word, request_verb, reply_word, repl
 use Rattle.request_ledger.proofs.WordLaws.{verb_again, reply_again}
 use Rattle.book_core.specs.declared.entry.Entry.{Entry}
 use Rattle.book_core.specs.declared.entry.Entry.TheVariants.{Asked, Joined, Grown}
+use Rattle.book_core.proofs.Deltas.{lists_of_nothing}
+use Rattle.book_core.specs.History.{delta_of as added}
 use Rattle.delta_wire.specs.Grammar.{most_bytes, IsDelta, delta_text}
 use Rattle.rights_lattice.proofs.EventLaws.{name_of_again}
 use Rattle.delta_wire.proofs.Texts.{delta_again}
@@ -62,7 +64,13 @@ delta_back : (S : State) → IsDelta S → length (delta_text S) ≤ most_bytes 
 unfolding delta_in
 delta_back S h short = cond-true _ _ _ (le-leb _ _ short) ∙ ap result_ok (delta_again S h)
 
--- a growth has no delta
+nothing_written : delta_text bottom ≡ []
+nothing_written = rw (lists_of_nothing.0, lists_of_nothing.1) refl
+
+-- the text of a growth's delta
+pub grown_text : (sites : ℕ) (entry : Entry) (text : List ℕ) → entry ≡ Grown sites → text ≡ delta_text (added entry) → text ≡ []
+grown_text sites entry text is told = told ∙ ap (λ e. delta_text (added e)) is ∙ nothing_written
+
 none_back : delta_in (Text []) ≡ Some (state_from [] [])
 unfolding delta_in items_from
 none_back = refl

@@ -1,5 +1,5 @@
 -- Why a query over the records fails.
-use Rattle.std.proofs.Common.{◌≡◌, ◌≢◌, ◌⊎◌, inl, inr, ℕ, ◌≤◌, leb, List, [], length, true, false, Option, Some, None, Ok, Err, Result, refl, sym, ap, subst, subst₂, ◌∙◌, append-nil, IsSome}
+use Rattle.std.proofs.Common.{◌≡◌, ◌≢◌, ◌⊎◌, inl, inr, ℕ, ◌≤◌, leb, List, [], length, true, false, Option, Ok, Err, Result, refl, sym, ap, subst, subst₂, ◌∙◌, append-nil, IsSome}
 use Rattle.std.proofs.lemmas.Bool.{leb-true}
 use Rattle.std.specs.List.{Any}
 use Rattle.sqlite_trees.specs.declared.error.StoreError.{StoreError}

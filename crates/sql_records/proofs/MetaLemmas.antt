@@ -18,7 +18,7 @@ use Rattle.sql_records.specs.declared.version.Version.{Version}
 use Rattle.sql_records.specs.declared.fault.OpenFault.{OpenFault}
 use Rattle.sql_records.specs.declared.fault.OpenFault.TheVariants.{NotOurs, OtherSchema, Damaged, Memory, Disk}
 use Rattle.sql_records.specs.Rows.{number_within, site_in}
-use Rattle.sql_records.specs.Layout.{our_kind, number_of, meta_as, meta_shown, meta_rows, HasMetaAs, HasOtherSchema, AreNumbers, HasNoMeta}
+use Rattle.sql_records.specs.Layout.{number_of, meta_as, meta_shown, meta_rows, HasMetaAs, HasOtherSchema, AreNumbers, HasNoMeta}
 use Rattle.sql_records.proofs.EntryBack.{within_back}
 use Rattle.sql_records.specs.Opening.{int_in, numbers_in, IsRowOf, IsForeignRow, IsRowFault, IsMetaFault}
 

@@ -6,11 +6,8 @@ use Rattle.std.proofs.lemmas.List.Sums.{prefix_len-le-length}
 use Rattle.std.proofs.Math.Seq.{take-length}
 use Rattle.std.proofs.lemmas.Option.{slice_get_read}
 use Rattle.sqlite.specs.Order.{Row, column}
-use Rattle.sqlite.specs.declared.types.Value.{Value}
 use Rattle.sqlite.specs.declared.types.Value.TheVariants.{Int}
 use Rattle.sqlite_trees.specs.declared.error.StoreError.TheVariants as StoreError
-use Rattle.plain_words.proofs.WordLaws.{bind_some}
-use Rattle.rights_lattice.specs.State.{State as Delta}
 use Rattle.sqlite.specs.Tree.{Trees}
 use Rattle.sqlite.specs.Effect.{Database, IsDatabase}
 use Rattle.sqlite.specs.State.{State, IsLive, IsRolledBack, IsUnchanged}
@@ -21,7 +18,7 @@ use Rattle.sql_records.specs.Keeping.{LeavesOnly, LeavesWithOrWithout, Keeps}
 use Rattle.sql_records.specs.declared.meta.Meta.{Meta}
 use Rattle.sql_records.specs.declared.version.Version.{Version}
 use Rattle.sql_records.specs.Layout.{IsOurs, HasGoodMeta, HasMeta, HasMetaAs, AreNumbers}
-use Rattle.sql_records.specs.Rows.{delta_in, delta_named, entry_of, entry_with, text_in, is_below, rows_below, rows_from_0, AreInOrder, AreWhole, IsEntryIn, AreWholeIn, IsFirstDamaged, IsDamagedAt, IsOfVersion, WantsForEntry}
+use Rattle.sql_records.specs.Rows.{entry_of, is_below, rows_below, rows_from_0, AreInOrder, AreWhole, IsEntryIn, AreWholeIn, IsFirstDamaged, IsDamagedAt, IsOfVersion, WantsForEntry}
 use Rattle.sql_records.specs.Held.{IsAtRest, IsSiteIn, MayLeaveIn, LeavesSite, history_in, opened_in, rows_in}
 use Rattle.sql_records.specs.Opening.{AreRowsFault, IsMetaFault, IsOurFault, IsStoreFault, IsWantedAt}
 use Rattle.sql_records.specs.Faults.{HasDiskCause, IsUndoneForMemory}

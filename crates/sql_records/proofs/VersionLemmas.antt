@@ -1,11 +1,10 @@
 -- What the UPDATE makes of records at rest, and what a stop may leave.
-use Rattle.std.proofs.Common.{◌≡◌, ◌⊎◌, inl, inr, ℕ, List, [], ◌∷◌, length, map, Bool, true, false, None, Ok, Err, Result, IfErr, OnOk, IsTrue, Some, refl, sym, ap, subst, ◌∙◌, arith}
+use Rattle.std.proofs.Common.{◌≡◌, ◌⊎◌, inl, inr, ℕ, List, [], ◌∷◌, length, map, false, Ok, Err, IsTrue, sym, ap, subst, ◌∙◌, arith}
 use Rattle.std.proofs.lemmas.Bool.{cases_Bool}
 use Rattle.sqlite.specs.declared.error.Error.{Error}
 use Rattle.sqlite.specs.Order.{Row}
 use Rattle.sqlite.specs.Command.TheVariants.{Commit, Release}
 use Rattle.sqlite.specs.Tree.{Trees}
-use Rattle.sqlite.specs.Effect.{Database, IsDatabase}
 use Rattle.sqlite.specs.Listing.{understood}
 use Rattle.sqlite.specs.State.{State, HasCleanDisk, Survives, Executes, ExecutesIn, IsNotRun, CommitsBy, mode_of, IsNewestNamed, names_in, begins_at, shows_rows, IsUnchanged, IsRolledBack}
 use Rattle.sqlite.proofs.Callers.{statement_of, runs_as}
@@ -13,7 +12,7 @@ use Rattle.sql_records.specs.declared.meta.Meta.{Meta}
 use Rattle.sql_records.specs.declared.version.Version.TheVariants.{First, Second}
 use Rattle.sql_records.specs.Texts.{update_text}
 use Rattle.sql_records.specs.Layout.{IsOurs, ours_and, meta_shown, HasMeta, HasMetaAs, AreNumbers}
-use Rattle.sql_records.specs.Held.{IsAtRest, IsSiteIn, LeavesSite, MayLeaveIn, history_in, opened_in, rows_in}
+use Rattle.sql_records.specs.Held.{IsAtRest, LeavesSite, MayLeaveIn, history_in, opened_in, rows_in}
 use Rattle.std.specs.List.{AllByRecursion}
 use Rattle.sql_records.specs.Rows.{AreWhole, AreWholeIn, IsOfVersion, in_order, shown, history_of, entries_from}
 use Rattle.sql_records.specs.Keeping.{LeavesOnly}

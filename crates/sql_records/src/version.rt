@@ -5,9 +5,9 @@ ghost use Rattle.sql_records.specs.Layout.{number_of};
 /// A version of the records. Both have the same tables and columns.
 #[derive(Clone, Copy, Debug, PartialEq, Eq)]
 pub enum Version {
-    /// A sale is given back whole, and a site counts as many sites as at first.
+    /// A sale is given back whole, and no site grows.
     First,
-    /// A sale is given back in parts too, and a site may count more sites later. It is the version that is written.
+    /// A sale is given back in parts too, and a site may grow. It is the version that is written.
     Second,
 }
 

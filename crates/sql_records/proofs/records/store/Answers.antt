@@ -2,7 +2,7 @@ use Rattle.std.proofs.Common.{◌≡◌, ℕ, List, Bool, true, false, inl, inr,
 use Rattle.sqlite.specs.Held.{state}
 use Rattle.delta_wire.specs.Grammar.{delta_text}
 use Rattle.sql_records.specs.Rows.{HasRoom}
-use Rattle.sql_records.specs.Held.{Kept, IsKeepFault}
+use Rattle.sql_records.specs.Held.{Kept}
 use Rattle.sql_records.proofs.OpeningLemmas.{if_err, leaves_still, rest_count}
 use Rattle.sql_records.proofs.KeepLemmas.{told_keep}
 use Rattle.sql_records.proofs.records.store.Goals as goal

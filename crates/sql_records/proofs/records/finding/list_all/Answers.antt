@@ -1,4 +1,4 @@
-use Rattle.std.proofs.Common.{inl, inr, refl, arith, ◌∙◌}
+use Rattle.std.proofs.Common.{inl, inr, refl, ◌∙◌}
 use Rattle.sqlite.specs.Held.{state}
 use Rattle.sql_records.specs.Held.{rows_in, history_in}
 use Rattle.sql_records.proofs.LookupLemmas.{all_listed, all_fault, of_query}
