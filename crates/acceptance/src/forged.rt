@@ -49,6 +49,17 @@ fn forged_messages_are_told(rt: HostRuntime) {
     let _ = audit_two(&rt, alloc, (zero, one), b"ahead 1 0\n", Status::Refused);
 }
 
+#[test]
+fn no_seats_are_open_by_a_forged_view(rt: HostRuntime) {
+    let alloc = rt.alloc();
+    let conn = Connection::open_in_memory(alloc).expect(&rt, "a database");
+    let conn = sold_eight(&rt, alloc, conn);
+    let forged = b"delta 0 1 1\nused gala 0 5\nend\n";
+    let conn = import(&rt, alloc, conn, forged, b"joined\n", Status::Done);
+    let totals = b"totals released 50 sold 13 refunded 0 open none\n";
+    let _ = session(&rt, alloc, conn, b"totals gala\n", totals);
+}
+
 // What a look-up tells of the records of one sale on which this statement was run.
 fn told_after(rt: &(impl Abort + Wait), alloc: Global, sql: &str) -> Vec<u8> {
     let mut conn = Connection::open_in_memory(alloc).expect(rt, "a database");

@@ -87,7 +87,7 @@ fn row_handed_on_by_another_site(rt: HostRuntime) {
           done\n\
           short 0\n\
           left 0\n\
-          totals released 10 sold 0 refunded 0\n\
+          totals released 10 sold 0 refunded 0 open 10\n\
           gala released 10 sold 4 refunded 0 outstanding 4\n",
         Status::Done,
     );

@@ -25,11 +25,17 @@ fn words(rt: HostRuntime) {
     let init = Order::Init {
         file,
         me: SiteId::of(63).expect(&rt, "a site"),
-        sites: Sites::of(16).expect(&rt, "a count of sites"),
+        sites: Sites::of(64).expect(&rt, "a count of sites"),
         limit: Limit::of(1000).expect(&rt, "a limit"),
     };
-    let words = ["boxoffice", "init", file, "63", "16", "1000"];
+    let words = ["boxoffice", "init", file, "63", "64", "1000"];
     assert_eq!(rt; order(&rt, rt.alloc(), &words), init);
+    let grow = Order::Grow {
+        file,
+        sites: Sites::of(21).expect(&rt, "a count of sites"),
+    };
+    let words = ["boxoffice", "grow", file, "21"];
+    assert_eq!(rt; order(&rt, rt.alloc(), &words), grow);
     let find = Order::Find {
         file,
         number: RequestNumber::of(1_000_000_000_000).expect(&rt, "a number"),
@@ -74,11 +80,10 @@ fn words_of_several_files(rt: HostRuntime) {
     let words = ["boxoffice", "audit", "b.db", "a.db"];
     let found = files(&rt, rt.alloc(), &words);
     assert_eq!(rt; found.as_slice(), ["b.db", "a.db"].as_slice());
-    let most = ["a.db"; 18];
-    let mut words = most;
+    let mut words = ["a.db"; 66];
     words[0] = "boxoffice";
     words[1] = "audit";
-    assert_eq!(rt; files(&rt, rt.alloc(), &words).len(), 16);
+    assert_eq!(rt; files(&rt, rt.alloc(), &words).len(), 64);
 }
 
 // The port, the sessions and the rounds of the command that serves.
@@ -115,7 +120,14 @@ fn told(rt: &HostRuntime, words: &[&str]) -> Result<String, Fail> {
 
 #[test]
 fn words_not_understood(rt: HostRuntime) -> Result<(), Fail> {
-    let none: [&[&str]; 9] = [
+    let mut many = ["a.db"; 67];
+    many[0] = "boxoffice";
+    many[1] = "audit";
+    let mut served = ["0"; 22];
+    served[0] = "boxoffice";
+    served[1] = "serve";
+    served[2] = "1";
+    let none: [&[&str]; 11] = [
         &["boxoffice"],
         &["boxoffice", "find"],
         &["boxoffice", "find", "a.db"],
@@ -123,28 +135,10 @@ fn words_not_understood(rt: HostRuntime) -> Result<(), Fail> {
         &["boxoffice", "sell", "a.db"],
         &["boxoffice", "list", "a.db", "gala", "expo"],
         &["boxoffice", "import", "a.db", "b.db"],
+        &["boxoffice", "grow", "a.db"],
         &["boxoffice", "audit"],
-        &[
-            "boxoffice",
-            "audit",
-            "0",
-            "1",
-            "2",
-            "3",
-            "4",
-            "5",
-            "6",
-            "7",
-            "8",
-            "9",
-            "10",
-            "11",
-            "12",
-            "13",
-            "14",
-            "15",
-            "16",
-        ],
+        &many,
+        &served,
     ];
     for words in none {
         let text = told(&rt, words)?;
@@ -158,14 +152,18 @@ fn words_not_understood(rt: HostRuntime) -> Result<(), Fail> {
 #[test]
 fn numbers_out_of_limit(rt: HostRuntime) -> Result<(), Fail> {
     let number = "error: NUMBER is the number of a request, 1 to 1000000000000\n";
-    let cases: [(&[&str], &str); 11] = [
+    let cases: [(&[&str], &str); 12] = [
         (
             &["boxoffice", "init", "a.db", "64", "2", "9"],
             "error: ME is the number of a site, 0 to 63\n",
         ),
         (
-            &["boxoffice", "init", "a.db", "1", "17", "9"],
-            "error: SITES is a count of sites, 1 to 16\n",
+            &["boxoffice", "init", "a.db", "1", "65", "9"],
+            "error: SITES is a count of sites, 1 to 64\n",
+        ),
+        (
+            &["boxoffice", "grow", "a.db", "0"],
+            "error: SITES is a count of sites, 1 to 64\n",
         ),
         (
             &["boxoffice", "init", "a.db", "1", "2", "1000001"],

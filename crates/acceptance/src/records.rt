@@ -252,7 +252,7 @@ fn session_goes_on_after_a_bad_line(rt: HostRuntime) -> Result<(), Fail> {
     let lines =
         b"announce 1 gala\nrelease 2 gala 50\n\nsell 3 gala 08\nsell 3 gala 8\nsell 4 gala 100\nsell 3 gala 9\nleft gala\ntotals gala\nleft expo\nquit\nsell 5 gala 1\n";
     let replies =
-        b"done\ndone\nbad-line\nbad-line\ndone\nshort 42\nreused\nleft 42\ntotals released 50 sold 8 refunded 0\nunknown\n";
+        b"done\ndone\nbad-line\nbad-line\ndone\nshort 42\nreused\nleft 42\ntotals released 50 sold 8 refunded 0 open 42\nunknown\n";
     let conn = session(&rt, rt.alloc(), conn, lines, replies);
     let _ = session(
         &rt,

@@ -13,7 +13,7 @@ fn each_line_of_a_script(rt: HostRuntime) {
         ),
         (
             b"sites 2\nlimit 2\n0 announce 1 gala\n0 release 2 gala 5\n1 left gala\n0 left gala\n0 sell 3 gala 1\n0 totals gala\nlimit 3\n3 left gala",
-            b"done\ndone\nunknown\nleft 5\nhistory-full\ntotals released 5 sold 0 refunded 0\nbad-line\nno-such-site\ngala released 5 sold 0 refunded 0 outstanding 0\n",
+            b"done\ndone\nunknown\nleft 5\nhistory-full\ntotals released 5 sold 0 refunded 0 open 5\nbad-line\nno-such-site\ngala released 5 sold 0 refunded 0 outstanding 0\n",
         ),
         (
             b"sites 2\n0 announce 1 gala\n0 release 2 gala 9\nsend 0 1\ndeliver 0\ndeliver 1\nsend 0 1\nrestart 0\nsend 0 1\ndeliver 2\n",
@@ -27,7 +27,7 @@ fn each_line_of_a_script(rt: HostRuntime) {
             b"sites 2\nsend 1 1\nsend 0 2\nrestart 2\nstop 2 kept deliver 0\nstop 1 kept deliver 0\ndeliver 0\nstop 0 kept left gala\nsend 0\n0 send 0 1\nquit\n",
             b"no-such-site\nno-such-site\nno-such-site\nno-such-site\nno-message\nno-message\nbad-line\nbad-line\nbad-line\nbad-line\n",
         ),
-        (b"sites 16\n", b""),
+        (b"sites 64\n", b""),
     ];
     for (script, wanted) in cases {
         prints(&rt, script, wanted, Status::Done);
@@ -39,7 +39,7 @@ fn scripts_that_do_not_begin(rt: HostRuntime) {
     for script in [
         b"".as_slice(),
         b"sites 0\n",
-        b"sites 17",
+        b"sites 65",
         b"sites 1 \n",
         b"\nsites 1",
     ] {

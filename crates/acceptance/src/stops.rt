@@ -5,7 +5,7 @@
 
 use crate::values::site;
 use book_core::Limit;
-use operator_cli::{Status, ask_store, import_store, init_store, list_store};
+use operator_cli::{Status, ask_store, grow_store, import_store, init_store, list_store};
 use rights_lattice::Sites;
 use sqlite::{Connection, FileStore, Files, Options};
 use sqlite_disk::{Crash, Disk, Fuse, Memory};
@@ -39,6 +39,7 @@ enum Command {
     Init,
     Ask(&'static [u8]),
     Import(&'static [u8]),
+    Grow(u64),
     List,
 }
 
@@ -64,6 +65,18 @@ fn init(rt: &impl Abort, conn: &mut Stopping, out: &mut Vec<u8>, err: &mut Vec<u
     init_store(conn, site(rt, 1), sites, limit, out, err)
 }
 
+fn grow(
+    rt: &impl Abort,
+    alloc: Global,
+    conn: Stopping,
+    count: u64,
+    out: &mut Vec<u8>,
+    err: &mut Vec<u8>,
+) -> (Status, Option<Stopping>) {
+    let sites = Sites::of(count).expect(rt, "a count");
+    grow_store(alloc, conn, sites, out, err)
+}
+
 fn give(
     rt: &(impl Abort + Wait),
     alloc: Global,
@@ -76,6 +89,7 @@ fn give(
         Command::Init => (init(rt, &mut conn, out, err), Some(conn)),
         Command::Ask(lines) => ask_store(rt, alloc, conn, lines, out, err),
         Command::Import(text) => import_store(alloc, conn, text, out, err),
+        Command::Grow(count) => grow(rt, alloc, conn, count, out, err),
         Command::List => list_store(alloc, conn, "gala", out, err),
     }
 }
@@ -234,11 +248,21 @@ fn is_left_by_import(rt: &(impl Abort + Wait), alloc: Global, held: &Held, print
     }
 }
 
+// The growth is there or not.
+fn is_left_by_grow(rt: &(impl Abort + Wait), alloc: Global, held: &Held, printed: &[u8]) {
+    let again = run(rt, alloc, held, ALL, Command::Grow(21)).out;
+    if again.as_slice() != b"not-more\n".as_slice() {
+        assert!(rt; printed.is_empty());
+        assert!(rt; again.as_slice() == b"grown\n".as_slice());
+    }
+}
+
 fn is_left(rt: &(impl Abort + Wait), alloc: Global, command: Command, held: &Held, printed: &[u8]) {
     match command {
         Command::Init => is_left_by_init(rt, alloc, held, printed),
         Command::Ask(_) => is_left_by_session(rt, alloc, held, printed),
         Command::Import(_) => is_left_by_import(rt, alloc, held, printed),
+        Command::Grow(_) => is_left_by_grow(rt, alloc, held, printed),
         Command::List => {}
     }
 }
@@ -312,4 +336,10 @@ fn session_keeps_what_it_answered(rt: HostRuntime) {
 fn import_is_made_or_not(rt: HostRuntime) {
     let held = empty_site(&rt, rt.alloc());
     stop_everywhere(&rt, rt.alloc(), &held, Command::Import(MESSAGE));
+}
+
+#[test]
+fn growth_is_made_or_not(rt: HostRuntime) {
+    let held = empty_site(&rt, rt.alloc());
+    stop_everywhere(&rt, rt.alloc(), &held, Command::Grow(21));
 }

@@ -9,8 +9,8 @@ use crate::files::{Files, close, open_or_make, open_there};
 use book_core::Limit;
 use operator_cli::{
     FileNames, Order, Status, WordsFault, ask_store, audit_stores, export_store, find_store,
-    grow_store, import_store, init_store, list_store, migrate_store, open_store, read_words, refuse_parts,
-    refuse_site, serve_stores, tell_listen_fault, world_script,
+    grow_store, import_store, init_store, list_store, migrate_store, open_store, read_words,
+    refuse_parts, refuse_site, serve_stores, tell_listen_fault, world_script,
 };
 use request_ledger::RequestNumber;
 use rights_lattice::{SiteId, Sites};

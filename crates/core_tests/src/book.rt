@@ -2,7 +2,7 @@
 use crate::values::{book_of, event, gave, join, mark, number, seats, site};
 use book_core::{Book, Entry, JoinDecision, JoinFault, Limit, Plan, PlanFault, ReplayFault};
 use delta_mutators::{Delta, Item, announce};
-use local_rights::Totals;
+use local_rights::ViewTotals;
 use request_ledger::{Kept, Reply, Request, RequestNumber, SaleState};
 use rights_lattice::{Event, Mark};
 use std::alloc::Global;
@@ -124,7 +124,7 @@ fn busy_book(rt: &impl Abort, alloc: Global) -> Book {
 }
 
 // The length of the history, what is left of the event, its totals, and what was ceded of it.
-fn busy_counts(rt: &impl Abort, alloc: Global) -> (usize, u64, Totals, u64) {
+fn busy_counts(rt: &impl Abort, alloc: Global) -> (usize, u64, ViewTotals, u64) {
     let gala = event(rt, b"gala");
     let ceded = gave(rt, 0, 1);
     let book = busy_book(rt, alloc);
@@ -138,10 +138,11 @@ fn busy_counts(rt: &impl Abort, alloc: Global) -> (usize, u64, Totals, u64) {
 
 #[test]
 fn requests_and_their_refusals(rt: HostRuntime) {
-    let totals = Totals {
+    let totals = ViewTotals {
         released: 5,
         sold: 6,
         refunded: 5,
+        open_seats: Some(4),
     };
     assert!(rt; busy_counts(&rt, rt.alloc()) == (15, 0, totals, 4));
 }
@@ -249,7 +250,7 @@ fn refunds_counted(
     alloc: Global,
     gala: Event,
     rows: &[Row],
-) -> (usize, Totals, Option<SaleState>) {
+) -> (usize, ViewTotals, Option<SaleState>) {
     let mut book = book_of(rt, alloc, 0, 1, 1_000_000);
     ask_each(rt, alloc, &mut book, rows);
     (book.len(), book.totals(gala), book.sale(number(rt, 9)))
@@ -270,10 +271,11 @@ fn refund_in_parts(rt: HostRuntime) {
         (14, Said::RefundPart(9, 5), Ok(Reply::Refunded)),
         (15, Said::RefundPart(2, 1), Ok(Reply::NoSale)),
     ];
-    let totals = Totals {
+    let totals = ViewTotals {
         released: 5,
         sold: 5,
         refunded: 5,
+        open_seats: Some(5),
     };
     let sold = SaleState {
         event: gala,
@@ -445,7 +447,7 @@ fn replay_of(alloc: Global, book: &Book, entries: Vec<Entry>) -> Result<Book, Re
 }
 
 // The length of the history, what is left of the event, its totals, and what is kept of a refund.
-fn shown(rt: &impl Abort, book: &Book) -> (usize, u64, Totals, Option<Kept>) {
+fn shown(rt: &impl Abort, book: &Book) -> (usize, u64, ViewTotals, Option<Kept>) {
     let gala = event(rt, b"gala");
     let refund = number(rt, 10);
     (

@@ -19,9 +19,9 @@ fn sites_have_limits(rt: HostRuntime) {
         (0, Some(0), None),
         (1, Some(1), Some(1)),
         (16, Some(16), Some(16)),
-        (17, Some(17), None),
-        (63, Some(63), None),
-        (64, None, None),
+        (63, Some(63), Some(63)),
+        (64, None, Some(64)),
+        (65, None, None),
     ] {
         assert!(rt; as_both(number) == (site, count), "at {number}");
     }

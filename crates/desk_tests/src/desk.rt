@@ -2,9 +2,9 @@
 ghost use Rattle.std.specs.Prelude.{◌≡◌, IfOk};
 
 use crate::values::{event, number, seats, site};
-use book_core::{Entry, Limit};
+use book_core::{Entry, GrowFault, Limit};
 use delta_mutators::{Delta, Item, announce};
-use local_rights::Totals;
+use local_rights::ViewTotals;
 use request_ledger::{Reply, Request};
 use rights_lattice::{Cell, Event, Mark, Sites};
 use site_desk::{Answer, AskFault, LookFault, NextFault, Seen, SiteBook, Taken};
@@ -159,10 +159,11 @@ fn selling_book(rt: &impl Abort, alloc: Global, gala: Event) -> SiteBook<ListKee
 fn book_sells_and_shows(rt: HostRuntime) {
     let gala = event(&rt, b"gala");
     let mut book = selling_book(&rt, rt.alloc(), gala);
-    let totals = Totals {
+    let totals = ViewTotals {
         released: 50,
         sold: 8,
         refunded: 0,
+        open_seats: Some(42),
     };
     let seen = Seen {
         event: gala,
@@ -275,4 +276,27 @@ fn book_meets_a_forged_delta(rt: HostRuntime) {
     let refused = book.take(delta(&rt, rt.alloc(), Item::Cell(forged))).err();
     assert_eq!(rt; refused, Some(TakeFault::ForeignRow { mark: forged }));
     assert_eq!(rt; book.book().left(gala), 42);
+}
+
+// What growing to 21 sites is answered twice, and how many sites the book then counts.
+fn grown_twice(
+    rt: &impl Abort,
+    book: &mut SiteBook<ListKeeper>,
+    alloc: Global,
+) -> (Result<(), GrowFault>, Result<(), GrowFault>, u64) {
+    let sites = Sites::of(21).expect(rt, "a count of sites");
+    let first = book.grow(alloc, sites);
+    let again = book.grow(alloc, sites);
+    (first, again, book.book().sites().count())
+}
+
+#[test]
+fn book_counts_more_sites(rt: HostRuntime) {
+    let mut book = failing_book(&rt, rt.alloc(), 9, false);
+    let grown = grown_twice(&rt, &mut book, rt.alloc());
+    assert!(rt; grown == (Ok(()), Err(GrowFault::NotMore), 21));
+    assert!(rt; book.next(rt.alloc(), site(&rt, 20)).is_ok());
+    let mut failing = failing_book(&rt, rt.alloc(), 1, true);
+    let grown = grown_twice(&rt, &mut failing, rt.alloc());
+    assert!(rt; grown == (Err(GrowFault::Store), Err(GrowFault::Closed), 2));
 }

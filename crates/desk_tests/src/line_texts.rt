@@ -1,9 +1,10 @@
 //! The first lines of scripts, the texts of replies and refusals, and the lines that answer scripts.
 
+use book_core::GrowFault;
 use desk_lines::{
     ScriptAnswer, read_limit, read_sites, reply_text, request_text, take_fault_text, write_answer,
 };
-use local_rights::Totals;
+use local_rights::ViewTotals;
 use request_ledger::{Reply, Request, RequestNumber};
 use rights_lattice::{Amount, Cell, Event, Mark, SiteId};
 use site_exchange::TakeFault;
@@ -13,13 +14,13 @@ use world_steps::Outcome;
 fn counts_of_sites(rt: HostRuntime) {
     let one = read_sites(b"sites 1").map(|sites| sites.count());
     assert_eq!(rt; one, Some(1));
-    let most = read_sites(b"sites 16").map(|sites| sites.count());
-    assert_eq!(rt; most, Some(16));
+    let most = read_sites(b"sites 64").map(|sites| sites.count());
+    assert_eq!(rt; most, Some(64));
     for line in [
         b"".as_slice(),
         b"sites",
         b"sites 0",
-        b"sites 17",
+        b"sites 65",
         b"sites 02",
         b"sites 2 ",
         b"limit 2",
@@ -121,10 +122,11 @@ fn texts_of_requests(rt: HostRuntime) {
 
 #[test]
 fn answers_to_scripts(rt: HostRuntime) {
-    let totals = Totals {
+    let totals = ViewTotals {
         released: 100,
         sold: 40,
         refunded: 3,
+        open_seats: Some(63),
     };
     let not_taken = Outcome::NotTaken(TakeFault::StrayAck { len: 2 });
     let cases = [
@@ -148,11 +150,16 @@ fn answers_to_scripts(rt: HostRuntime) {
         (ScriptAnswer::Made(Outcome::Acked), b"acked\n"),
         (ScriptAnswer::Made(not_taken), b"stray-ack 2\n"),
         (ScriptAnswer::Made(Outcome::Restarted), b"restarted\n"),
+        (ScriptAnswer::Made(Outcome::Grown), b"grown\n"),
+        (
+            ScriptAnswer::Made(Outcome::NotGrown(GrowFault::NotMore)),
+            b"not-more\n",
+        ),
         (ScriptAnswer::Made(Outcome::Stopped), b"stopped\n"),
         (ScriptAnswer::LeftIs(60), b"left 60\n"),
         (
             ScriptAnswer::TotalsAre(totals),
-            b"totals released 100 sold 40 refunded 3\n",
+            b"totals released 100 sold 40 refunded 3 open 63\n",
         ),
         (ScriptAnswer::NotKnown, b"unknown\n"),
         (ScriptAnswer::NoSuchSite, b"no-such-site\n"),

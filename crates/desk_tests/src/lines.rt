@@ -1,7 +1,7 @@
 //! The lines of sessions and scripts, and the lines that answer them.
 
 use desk_lines::{Answered, Line, ScriptLine, read_line, read_step, reply_line, request_line};
-use local_rights::Totals;
+use local_rights::ViewTotals;
 use request_ledger::{Reply, Request, RequestNumber};
 use rights_lattice::{Amount, Event, SiteId};
 use site_desk::AskFault;
@@ -129,10 +129,11 @@ fn lines_of_a_script(rt: HostRuntime) -> Result<(), Fail> {
 
 #[test]
 fn reply_lines(rt: HostRuntime) -> Result<(), Fail> {
-    let totals = Totals {
+    let totals = ViewTotals {
         released: 100,
         sold: 3,
         refunded: 1,
+        open_seats: None,
     };
     let cases = [
         (Answered::Kept(Reply::Done), b"done\n".as_slice()),
@@ -148,7 +149,7 @@ fn reply_lines(rt: HostRuntime) -> Result<(), Fail> {
         (Answered::LeftIs(96), b"left 96\n"),
         (
             Answered::TotalsAre(totals),
-            b"totals released 100 sold 3 refunded 1\n",
+            b"totals released 100 sold 3 refunded 1 open none\n",
         ),
         (Answered::NotKnown, b"unknown\n"),
         (

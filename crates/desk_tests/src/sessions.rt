@@ -7,7 +7,7 @@ use crate::desk::header;
 use crate::values::{gala, number, seats, site};
 use book_core::Limit;
 use delta_mutators::{Delta, Item};
-use local_rights::Totals;
+use local_rights::ViewTotals;
 use request_ledger::{Reply, Request};
 use rights_lattice::{Cell, Event, Mark, Sites};
 use site_desk::{
@@ -52,10 +52,11 @@ fn selling_book(rt: &impl Abort, alloc: Global) -> SiteBook<ListKeeper> {
 
 // What is seen of the event after so many entries.
 fn seen_of(event: Event, left: u64, sold: u64, at: usize) -> Seen {
-    let totals = Totals {
+    let totals = ViewTotals {
         released: 100,
         sold,
         refunded: 0,
+        open_seats: 100_u64.checked_sub(sold),
     };
     Seen {
         event,

@@ -1,10 +1,10 @@
 //! The steps of one site that sells, made one by one and as a list.
 
 use crate::values::{gala, number, seats, site};
-use book_core::{Limit, PlanFault};
-use local_rights::Totals;
+use book_core::{GrowFault, Limit, PlanFault};
+use local_rights::{Totals, ViewTotals};
 use request_ledger::{Reply, Request};
-use rights_lattice::Sites;
+use rights_lattice::{SiteId, Sites};
 use std::process::Abort;
 use world_steps::{Input, Outcome, Step, World, WorldFault};
 
@@ -149,6 +149,47 @@ fn two_sites_step_by_step(rt: HostRuntime) {
     }
     assert_eq!(rt; world.totals(gala(&rt)), SOLD);
     let book = world.book(to).expect(&rt, "a book");
-    assert_eq!(rt; book.totals(gala(&rt)), SOLD);
+    let seen = ViewTotals {
+        released: 100,
+        sold: 3,
+        refunded: 0,
+        open_seats: Some(97),
+    };
+    assert!(rt; book.totals(gala(&rt)) == seen);
     assert_eq!(rt; book.left(gala(&rt)), 0);
+}
+
+#[test]
+fn sites_grow_step_by_step(rt: HostRuntime) {
+    // Names a type inside of the steps, which the prover wants to see in this function.
+    let _: Option<Request> = None;
+    let mut world = world_of(&rt, 2);
+    let (first, second, third) = (site(&rt, 0), site(&rt, 1), site(&rt, 2));
+    let three = Sites::of(3).expect(&rt, "a count of sites");
+    let made = [
+        (grow(first, three), Ok(Outcome::Grown)),
+        (
+            grow(first, three),
+            Ok(Outcome::NotGrown(GrowFault::NotMore)),
+        ),
+        (send(first, third), Ok(Outcome::NothingToSend)),
+        (send(second, third), Err(WorldFault::NoSite)),
+        (
+            grow(third, three),
+            Ok(Outcome::NotGrown(GrowFault::NotMore)),
+        ),
+        (grow(site(&rt, 3), three), Err(WorldFault::NoSite)),
+    ];
+    for (step, outcome) in made {
+        assert!(rt; world.step(rt.alloc(), step) == outcome);
+    }
+    assert!(rt; world.book(third).is_some());
+}
+
+fn grow(site: SiteId, sites: Sites) -> Step {
+    Step::Grow { site, sites }
+}
+
+fn send(by: SiteId, to: SiteId) -> Step {
+    Step::Send { by, to }
 }

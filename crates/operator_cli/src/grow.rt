@@ -27,11 +27,7 @@ use sqlite::{Alter, Connection};
 use std::alloc::Global;
 use std::io::Write;
 
-fn grow<K: Keeper>(
-    alloc: Global,
-    book: &mut SiteBook<K>,
-    sites: Sites,
-) -> Result<Told, StoreFault>
+fn grow<K: Keeper>(alloc: Global, book: &mut SiteBook<K>, sites: Sites) -> Result<Told, StoreFault>
     ensures kind { IfOk result IsOfGrowing }
     ensures told { IfOk result (λ told. told ≡ told_of_growth (grow_decision book.old.book.office book.old.book.history sites)) }
     ensures entered { OnOk result (book.new.book.history ≡ behind_growth book.old.book.office book.old.book.history sites) }

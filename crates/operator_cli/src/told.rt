@@ -107,12 +107,8 @@ fn told_status(told: &Told) -> Status
     ensures { result ≡ told_status told.now }
 {
     match told {
-        Told::Made
-        | Told::Migrated
-        | Told::Joined
-        | Told::NothingNew
-        | Told::Acked
-        | Told::Grown => Status::Done,
+        Told::Made | Told::Migrated | Told::Joined | Told::NothingNew | Told::Acked | Told::Grown =>
+            Status::Done,
         _ => Status::Refused,
     }
 }

@@ -3,7 +3,7 @@ ghost use Rattle.std.specs.Prelude.{◌≡◌, IfOk};
 
 use crate::values::{gala, number, seats, site};
 use book_core::{Entry, Limit};
-use local_rights::Totals;
+use local_rights::ViewTotals;
 use request_ledger::Request;
 use rights_lattice::{Event, Sites};
 use site_desk::{Seen, SiteBook};
@@ -101,10 +101,11 @@ pub(crate) fn selling_book(rt: &impl Abort, alloc: Global) -> SiteBook<ListKeepe
 
 // What is seen of the event after so many entries.
 pub(crate) fn seen_of(event: Event, left: u64, sold: u64, at: usize) -> Seen {
-    let totals = Totals {
+    let totals = ViewTotals {
         released: 100,
         sold,
         refunded: 0,
+        open_seats: 100_u64.checked_sub(sold),
     };
     Seen {
         event,
