@@ -172,7 +172,7 @@ fn sites_grow_step_by_step(rt: HostRuntime) {
             grow(first, three),
             Ok(Outcome::NotGrown(GrowFault::NotMore)),
         ),
-        (send(first, third), Ok(Outcome::NothingToSend)),
+        (send(first, third), Ok(Outcome::Sent { index: 0 })),
         (send(second, third), Err(WorldFault::NoSite)),
         (
             grow(third, three),
