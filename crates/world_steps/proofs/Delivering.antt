@@ -13,10 +13,10 @@ use Rattle.world_steps.specs.declared.node.Taken.{Taken}
 use Rattle.world_steps.specs.declared.step.Step.TheVariants.{Deliver}
 use Rattle.world_steps.specs.declared.step.Outcome.{Outcome}
 use Rattle.world_steps.specs.declared.step.WorldFault.{WorldFault}
-use Rattle.world_steps.specs.Nodes.{site_of, limit_of, verdict_told}
+use Rattle.world_steps.specs.Nodes.{site_of, limit_of, first_count_of, verdict_told}
 use Rattle.world_steps.specs.Outcomes.{outcome, delivered_as, taken_as, MayGrow}
 use Rattle.world_steps.specs.Reaching.{world_of, IsKept}
-use Rattle.world_steps.specs.World.{World, count, site_at, history_at, office_at, with_sent, judged, delivered, after}
+use Rattle.world_steps.specs.World.{World, count, site_at, history_at, office_at, at_site, with_sent, judged, delivered, after}
 use Rattle.world_steps.proofs.Reached.{sound_in}
 use Rattle.world_steps.proofs.Sites.{at_place, found_at, made_at, length-sites}
 use Rattle.world_steps.proofs.Worlds.{IsSound}
@@ -103,14 +103,15 @@ deliver_gives nodes sent index i message old new taken kept sent_is to l is offi
     let told_is : verdict_told taken ≡ judged w message = taken_is ∙ verdict_is in
     let site_is : site_of new ≡ site_after (judged w message) message (site_at w i) =
     changed ∙ ap (λ v. site_after v message (site_of old)) verdict_is ∙ ap (λ (s : Site). site_after (judged w message) message s) (sym here.site) in
-    let after_is : after w (Deliver index) ≡ record { limits = map limit_of nodes; sites = set (map site_of nodes) i (site_of new); sent = with_sent sent (given_back (verdict_told taken) message) } =
+    let after_is : after w (Deliver index) ≡ at_site (world_of nodes (with_sent sent (given_back (verdict_told taken) message))) i (site_of new) =
     ap (delivered w) sent_is
     ∙ (λ k. record {
       limits = map limit_of nodes;
+      counts = map first_count_of nodes;
       sites = set (map site_of nodes) (sym to k) (site_after (judged w message) message (site_at w (sym to k)));
       sent = with_sent sent (given_back (sym told_is k) message);
     })
-    ∙ ap (λ (s : Site). let v : World = record { limits = map limit_of nodes; sites = set (map site_of nodes) i s; sent = with_sent sent (given_back (verdict_told taken) message) } in v) (sym site_is) in
+    ∙ ap (at_site (world_of nodes (with_sent sent (given_back (verdict_told taken) message))) i) (sym site_is) in
     let made = made_at nodes sent (with_sent sent (given_back (verdict_told taken) message)) i old new (Deliver index) kept here.found office after_is in
     record {
       kept = made.kept;

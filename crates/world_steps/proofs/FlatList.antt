@@ -7,7 +7,7 @@ use Rattle.rights_lattice.specs.Cell.{same_event}
 use Rattle.rights_lattice.specs.Cells.{Cells}
 use Rattle.request_ledger.specs.Requests.{is_done}
 use Rattle.book_core.specs.declared.entry.Entry.{Entry}
-use Rattle.book_core.specs.declared.entry.Entry.TheVariants.{Asked, Joined}
+use Rattle.book_core.specs.declared.entry.Entry.TheVariants.{Asked, Joined, Grown}
 use Rattle.book_core.specs.History.{state_of}
 use Rattle.book_core.specs.Decision.{Office, Kind, Releasing, Selling, Refunding, Ceding, Change, change_of}
 use Rattle.book_core.specs.Legal.{IsNext, IsLegal}
@@ -23,7 +23,7 @@ record IsOf (me from : ℕ) (o : Operation) : Type 0 where
   place : from ≤ o.place
 
 -- an element of two lists, one behind the other
-get_append : {A : Type 0} (xs ys : List A) (k : ℕ) (a : A) → slice_get (xs ++ ys) k ≡ Some a
+pub get_append : {A : Type 0} (xs ys : List A) (k : ℕ) (a : A) → slice_get (xs ++ ys) k ≡ Some a
     → ((k < length xs) × (slice_get xs k ≡ Some a)) ⊎ ((j : ℕ) × (k ≡ length xs + j) × (slice_get ys j ≡ Some a))
 get_append [] ys k a found = inr (k, omega arith, found)
 get_append (x ∷ xs) ys zero a found = inl (omega arith, found)
@@ -42,6 +42,7 @@ of_if me place (Some c) (suc k) x found = cc
 
 of_entry : (me : ℕ) (before : List Entry) (entry : Entry) (k : ℕ) (x : Operation) → slice_get (operation_of me before entry) k ≡ Some x → (k ≡ 0) × (x.site ≡ me) × (x.place ≡ length before)
 of_entry me before (Joined peer delta) k x found = cc
+of_entry me before (Grown sites) k x found = cc
 of_entry me before (Asked number request reply delta) k x found = by_test (is_done reply) found
   where
     by_test : (b : Bool) → slice_get (cond b (operation_if me (length before) (change_of before request)) []) k ≡ Some x → (k ≡ 0) × (x.site ≡ me) × (x.place ≡ length before)
@@ -189,3 +190,5 @@ ceded_self office h legal j me event = legal_along office (λ g. total (Ceding j
         ∙ omega (arith, before, no_share (state_of g).cells (accepted g request reply) (asked_allowed office g request reply next.answer))
     more g (Joined peer delta) before next =
         ap (total (Ceding j) event) (operations_push office.me g (Joined peer delta) ∙ append-nil (operations office.me g)) ∙ before
+    more g (Grown sites) before next =
+        ap (total (Ceding j) event) (operations_push office.me g (Grown sites) ∙ append-nil (operations office.me g)) ∙ before

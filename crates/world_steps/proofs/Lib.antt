@@ -1,6 +1,7 @@
 pub mod Audits
 pub mod Balance
 pub mod Delivering
+pub mod Growing
 pub mod Making
 pub mod Positions
 pub mod Promised
@@ -8,7 +9,9 @@ pub mod Reached
 pub mod Seats
 pub mod Sites
 pub mod Steps
+pub mod Widening
 pub mod Worlds
+mod Added
 mod FlatList
 mod Names
 mod Nodes

@@ -3,7 +3,8 @@ use Rattle.std.proofs.Common.{◌≡◌, ℕ, zero, suc, ◌<◌, ◌≤◌, Boo
 use Rattle.std.specs.Prelude.{slice_get, nat_lt, ◌==◌, Result, Ok, Err, IsOk, IfOk, IfErr, OnOk, OnErr}
 use Rattle.std.proofs.lemmas.Bool.{lt-ltb, ltb-true, and_parts}
 use Rattle.request_ledger.specs.declared.request.Request.{Request}
-use Rattle.book_core.specs.Decision.{Office, decision, entry_of_ask}
+use Rattle.book_core.specs.declared.entry.Entry.{Entry}
+use Rattle.book_core.specs.Decision.{Office, decision, entry_of_ask, sites_of}
 use Rattle.book_core.specs.Plans.{IsFresh}
 use Rattle.site_exchange.specs.declared.message.Message.{Message}
 use Rattle.site_exchange.specs.Exchange.{Site, zeros, next}
@@ -19,8 +20,9 @@ use Rattle.world_steps.specs.declared.step.WorldFault.TheVariants.{NoSite, NoMes
 use Rattle.world_steps.specs.Nodes.{site_of}
 use Rattle.world_steps.specs.Outcomes.{answered, outcome, delivered_as, IsDue, MayGrow, MayStore}
 use Rattle.world_steps.specs.Reaching.{world_of, IsKept}
-use Rattle.world_steps.specs.World.{World, count, site_at, history_at, office_at, at_site, with_sent, sends, asks, entry_of_input, is_there, after, IsReached}
+use Rattle.world_steps.specs.World.{World, count, site_at, history_at, office_at, count_at, at_site, are_peers, with_sent, sends, asks, entry_of_input, is_there, stopped_in, after, IsGrowth, IsReached}
 use Rattle.world_steps.proofs.Reached.{reached_after, sound_in}
+use Rattle.world_steps.proofs.Widening.{input_adds_none}
 use Rattle.world_steps.proofs.Sites.{IsMade, at_place, made_at, same_world, kept_same, length-sites}
 
 -- what a step gives that changed one site, or nothing
@@ -113,33 +115,36 @@ restart_made nodes sent i old new kept l is fresh =
 
 -- a stop
 pub stop_made : (nodes : List NodeView) (sent : List Message) (i : ℕ) (in_hand : Input) (stored : Bool) (old new : NodeView) → IsKept nodes sent → i < length nodes → old ≡ get_or nodes i old
-    → is_there sent in_hand ≡ true → new.book.office ≡ old.book.office
+    → is_there sent in_hand ≡ true → (IsGrowth in_hand → ⊥) → new.book.office ≡ old.book.office
     → site_of new ≡ stopped_with (entry_of_input old.book.office old.book.history sent in_hand) stored (site_of old) → IsMade nodes sent (set nodes i new) sent (Stop i in_hand stored)
-stop_made nodes sent i in_hand stored old new kept l is there office stopped =
+stop_made nodes sent i in_hand stored old new kept l is there kind office stopped =
     let w : World = world_of nodes sent in
     let here = at_place nodes sent i old kept l is in
-    let site : Site = stopped_with (entry_of_input (office_at w i) (history_at w i) sent in_hand) stored (site_at w i) in
+    let entry : Option Entry = entry_of_input (office_at w i) (history_at w i) sent in_hand in
+    let site : Site = stopped_with entry stored (site_at w i) in
     let site_is : site_of new ≡ site =
     stopped
     ∙ ap (λ (f : Office). stopped_with (entry_of_input f old.book.history sent in_hand) stored (site_of old)) (sym here.office)
     ∙ ap (λ (s : Site). stopped_with (entry_of_input (office_at w i) s.history sent in_hand) stored s) (sym here.site) in
     made_at nodes sent sent i old new (Stop i in_hand stored) kept here.found office
-    ((λ k. cond (lt-ltb i (count w) here.below k && there k) (at_site w i site) w) ∙ ap (at_site w i) (sym site_is))
+    ((λ k. cond (lt-ltb i (count w) here.below k && there k) (stopped_in w i entry stored) w)
+    ∙ ap (λ (v : World). at_site v i site) (input_adds_none (office_at w i) (history_at w i) sent in_hand kind stored i w)
+    ∙ ap (at_site w i) (sym site_is))
 
-outcome_of_stop : (w : World) (i : ℕ) (in_hand : Input) → i < count w → is_there w.sent in_hand ≡ true → (stored : Bool) → outcome w (Stop i in_hand stored) ≡ Ok outcomes.Stopped
+pub outcome_of_stop : (w : World) (i : ℕ) (in_hand : Input) → i < count w → is_there w.sent in_hand ≡ true → (stored : Bool) → outcome w (Stop i in_hand stored) ≡ Ok outcomes.Stopped
 outcome_of_stop w i in_hand l there stored =
     ap (λ b. cond b (cond (is_there w.sent in_hand) (let r : Result Outcome WorldFault = Ok outcomes.Stopped in r) (Err NoMessage)) (Err NoSite)) (lt-ltb i (count w) l)
     ∙ ap (λ b. cond b (let r : Result Outcome WorldFault = Ok outcomes.Stopped in r) (Err NoMessage)) there
 
 pub stop_gives : (nodes : List NodeView) (sent : List Message) (i : ℕ) (in_hand : Input) (stored : Bool) (old new : NodeView) (result : Result Outcome WorldFault)
-    → IsKept nodes sent → i < length nodes → old ≡ get_or nodes i old → is_there sent in_hand ≡ true → new.book.office ≡ old.book.office
+    → IsKept nodes sent → i < length nodes → old ≡ get_or nodes i old → is_there sent in_hand ≡ true → (IsGrowth in_hand → ⊥) → new.book.office ≡ old.book.office
     → IfOk result (λ o. o ≡ outcomes.Stopped) → IfErr result (λ fault. fault ≡ Memory)
     → OnOk result (site_of new ≡ stopped_with (entry_of_input old.book.office old.book.history sent in_hand) stored (site_of old)) → OnErr result (site_of new ≡ site_of old)
     → IsGiven nodes sent (set nodes i new) (Stop i in_hand stored) result
-stop_gives nodes sent i in_hand stored old new (Ok o) kept l is there office answer memory stopped same =
+stop_gives nodes sent i in_hand stored old new (Ok o) kept l is there kind office answer memory stopped same =
     let w : World = world_of nodes sent in
     let here = at_place nodes sent i old kept l is in
-    let made = stop_made nodes sent i in_hand stored old new kept l is there office stopped in
+    let made = stop_made nodes sent i in_hand stored old new kept l is there kind office stopped in
     record {
       kept = made.kept;
       outcome = outcome_of_stop w i in_hand here.below there stored ∙ ap (λ (a : Outcome). let r : Result Outcome WorldFault = Ok a in r) (sym answer);
@@ -147,7 +152,7 @@ stop_gives nodes sent i in_hand stored old new (Ok o) kept l is there office ans
       made = made.made;
       unchanged = tt;
     }
-stop_gives nodes sent i in_hand stored old new (Err fault) kept l is there office answer memory stopped same =
+stop_gives nodes sent i in_hand stored old new (Err fault) kept l is there kind office answer memory stopped same =
     let w : World = world_of nodes sent in
     let here = at_place nodes sent i old kept l is in
     record {
@@ -162,7 +167,7 @@ stop_gives nodes sent i in_hand stored old new (Err fault) kept l is there offic
 pub sent_made : (nodes : List NodeView) (sent sent_now : List Message) (step : Step) → IsKept nodes sent → after (world_of nodes sent) step ≡ world_of nodes sent_now → IsMade nodes sent nodes sent_now step
 sent_made nodes sent sent_now step kept is = record {
   kept = record {
-    offices = kept.offices;
+    places = kept.places;
     reached = subst IsReached is (reached_after (world_of nodes sent) step kept.reached);
   };
   made = sym is;
@@ -170,7 +175,7 @@ sent_made nodes sent sent_now step kept is = record {
 
 -- a message sent
 pub send_made : (nodes : List NodeView) (sent : List Message) (i j : ℕ) (old : NodeView) (due : Option Message) → IsKept nodes sent → i < length nodes → old ≡ get_or nodes i old
-    → (nat_lt i (count (world_of nodes sent)) && nat_lt j (count (world_of nodes sent)) && not (i == j)) ≡ true
+    → are_peers (world_of nodes sent) i j ≡ true
     → due ≡ next old.book.office.me (site_of old) j → IsMade nodes sent nodes (with_sent sent due) (Send i j)
 send_made nodes sent i j old due kept l is peers due_is =
     let w : World = world_of nodes sent in
@@ -179,18 +184,27 @@ send_made nodes sent i j old due kept l is peers due_is =
     sent_made nodes sent (with_sent sent due) (Send i j) kept
     (ap (λ b. cond b (sends (next i (site_at w i) j) w) w) peers ∙ ap (λ (o : Option Message). world_of nodes (with_sent sent o)) (sym same))
 
--- the sites of a send, as the world itself says it
-abbrev pub are_peers : World → ℕ → ℕ → Bool
-are_peers w i j = nat_lt i (count w) && nat_lt j (count w) && not (i == j)
-
 pub peers_in : (nodes : List NodeView) (sent : List Message) (w : World) (i by j : ℕ) → world_of nodes sent ≡ w → i ≡ by → true ≡ are_peers w by j → are_peers (world_of nodes sent) i j ≡ true
 peers_in nodes sent w i by j is here peers = (λ k. are_peers (is k) (here k) j) ∙ sym peers
 
 pub peer_below : (nodes : List NodeView) (sent : List Message) (i j : ℕ) → are_peers (world_of nodes sent) i j ≡ true → i < length nodes
 peer_below nodes sent i j peers =
     let w : World = world_of nodes sent in
-    let front = (and_parts (nat_lt i (count w) && nat_lt j (count w)) (not (i == j)) peers).0 in
-    subst (λ n. i < n) (length-sites nodes) (ltb-true i (count w) (and_parts (nat_lt i (count w)) (nat_lt j (count w)) front).0)
+    let front = (and_parts (nat_lt i (count w) && nat_lt j (count_at w i)) (not (i == j)) peers).0 in
+    subst (λ n. i < n) (length-sites nodes) (ltb-true i (count w) (and_parts (nat_lt i (count w)) (nat_lt j (count_at w i)) front).0)
+
+pub peer_counted : (nodes : List NodeView) (sent : List Message) (i j : ℕ) (old : NodeView) → IsKept nodes sent → i < length nodes → old ≡ get_or nodes i old
+    → are_peers (world_of nodes sent) i j ≡ true → j < sites_of old.book.office old.book.history
+peer_counted nodes sent i j old kept l is peers =
+    let w : World = world_of nodes sent in
+    let here = at_place nodes sent i old kept l is in
+    let front = (and_parts (nat_lt i (count w) && nat_lt j (count_at w i)) (not (i == j)) peers).0 in
+    omega (
+      arith,
+      ltb-true j (count_at w i) (and_parts (nat_lt i (count w)) (nat_lt j (count_at w i)) front).1,
+      ap (λ (s : Site). sites_of (office_at w i) s.history) here.site,
+      ap (λ (f : Office). sites_of f old.book.history) here.office,
+    )
 
 -- what is acknowledged is in the history
 pub acked_within : (nodes : List NodeView) (sent : List Message) (i : ℕ) (old : NodeView) → IsKept nodes sent → i < length nodes → old ≡ get_or nodes i old

@@ -30,23 +30,23 @@ pub never_oversold : (w : World) → Sound w → count w ≤ max_sites → Never
 never_oversold w sound few event =
     omega (
       arith,
-      not_oversold (history_at w) (λ _. count w) (λ i. get_or w.limits i 0) (count w) event few (no_history w) sound.legal (λ i cell. sound_views w sound i event cell),
+      not_oversold (history_at w) (λ i. get_or w.counts i 0) (λ i. get_or w.limits i 0) (count w) event few (no_history w) sound.legal (λ i cell. sound_views w sound i event cell),
     )
 
 -- where each history is legal, no more is given back than was sold
-pub refunds_below : (m n : ℕ) (limit : ℕ → ℕ) (h : ℕ → List Entry) (event : List ℕ) → ((i : ℕ) → IsLegal (office_of i n (limit i)) (h i)) → refunded event (operations_below m h) ≤ sold event (operations_below m h)
+pub refunds_below : (m : ℕ) (n limit : ℕ → ℕ) (h : ℕ → List Entry) (event : List ℕ) → ((i : ℕ) → IsLegal (office_of i (n i) (limit i)) (h i)) → refunded event (operations_below m h) ≤ sold event (operations_below m h)
 refunds_below zero n limit h event legal = omega arith
 refunds_below (suc m) n limit h event legal =
     omega (
       arith,
       refunds_below m n limit h event legal,
-      legal_refunds (office_of m n (limit m)) (h m) (legal m) event,
+      legal_refunds (office_of m (n m) (limit m)) (h m) (legal m) event,
       sum_by-append (counted Refunding event) (operations_below m h) (operations m (h m)),
       sum_by-append (counted Selling event) (operations_below m h) (operations m (h m)),
     )
 
 pub refunds_within_sales : (w : World) → Sound w → RefundsWithinSales w
-refunds_within_sales w sound event = refunds_below (count w) (count w) (λ i. get_or w.limits i 0) (history_at w) event sound.legal
+refunds_within_sales w sound event = refunds_below (count w) (λ i. get_or w.counts i 0) (λ i. get_or w.limits i 0) (history_at w) event sound.legal
 
 pub no_seat_is_lost : (w : World) → Sound w → count w ≤ max_sites → NoSeatIsLost w
 no_seat_is_lost w sound few event = seats_add_up w sound few event (refunds_within_sales w sound event)

@@ -14,11 +14,11 @@ use Rattle.local_rights.specs.Rights.{gained, spent}
 use Rattle.local_rights.proofs.Sums.{sum_below-add, sum_below_same, sum_below_swap, sum_below_more}
 use Rattle.book_core.specs.declared.entry.Entry.{Entry}
 use Rattle.book_core.specs.History.{state_of, delta_of}
-use Rattle.book_core.specs.Decision.{Office, Releasing, Selling, Refunding, Ceding}
+use Rattle.book_core.specs.Decision.{Office, Releasing, Selling, Refunding, Ceding, sites_of}
 use Rattle.book_core.specs.Legal.{IsNext, IsLegal}
 use Rattle.book_core.specs.Operations.{operations, total, sold, refunded, ceded}
 use Rattle.book_core.proofs.BookLaws.{marks_within}
-use Rattle.book_core.proofs.Histories.{at-push, legal_along}
+use Rattle.book_core.proofs.Histories.{at-push, legal_along, next_sites, sites_of-push}
 use Rattle.book_core.proofs.Rows.{legal_rights, legal_cells}
 use Rattle.world_steps.specs.World.{World, count, history_at, office_at, all_operations}
 use Rattle.world_steps.specs.Promises.{SeatsAddUp}
@@ -27,20 +27,39 @@ use Rattle.world_steps.proofs.FlatList.{ceded_all, ceded_self}
 use Rattle.world_steps.proofs.Worlds.{Sound, sound_views}
 use Rattle.world_steps.proofs.Reached.{no_history}
 
--- the cells that a legal history raises are of sites below the count
-pub legal_within : (office : Office) (h : List Entry) → office.me < office.sites → IsLegal office h
-    → (event : List ℕ) (cell : Cell) → 1 ≤ value_at (state_of h).cells event cell → IsCellOf office.sites cell
-legal_within office h me legal =
-    legal_along office (λ g. (event : List ℕ) (cell : Cell) → 1 ≤ value_at (state_of g).cells event cell → IsCellOf office.sites cell)
-    (λ event cell some. absurd (omega (arith, some, value_at-all_zero event cell))) more h legal
+-- the cells that a history raises are of sites below the count so far, and so is the site itself
+record IsOfSites (office : Office) (h : List Entry) : Type 0 where
+  me : office.me < sites_of office h
+  cells : (event : List ℕ) (cell : Cell) → 1 ≤ value_at (state_of h).cells event cell → IsCellOf (sites_of office h) cell
+
+cell_of_more : (n m : ℕ) (cell : Cell) → n ≤ m → IsCellOf n cell → IsCellOf m cell
+cell_of_more n m (Gave by to) le of = (omega (arith, le, of.0), omega (arith, le, of.1))
+cell_of_more n m (Used by) le of = omega (arith, le, of)
+cell_of_more n m (Back by) le of = omega (arith, le, of)
+
+legal_of_sites : (office : Office) (h : List Entry) → office.me < office.sites → IsLegal office h → IsOfSites office h
+legal_of_sites office h me legal =
+    legal_along office (IsOfSites office) (record { me = me; cells = λ event cell some. absurd (omega (arith, some, value_at-all_zero event cell)) }) more h legal
   where
-    more : (g : List Entry) (entry : Entry) → ((event : List ℕ) (cell : Cell) → 1 ≤ value_at (state_of g).cells event cell → IsCellOf office.sites cell) → IsNext office g entry
-        → (event : List ℕ) (cell : Cell) → 1 ≤ value_at (state_of (g ++ entry ∷ [])).cells event cell → IsCellOf office.sites cell
-    more g entry before next event cell some = elim (cases_lt 0 (value_at (state_of g).cells event cell)) [
-      | inl l ↦ before event cell (omega (arith, l))
-      | inr l ↦ marks_within office g entry (marks_of (delta_of entry).cells) me next refl event cell
-          (omega (arith, l, some, at-push g entry (At event cell), greatest-marks_of (delta_of entry).cells event cell))
-    ]
+    more : (g : List Entry) (entry : Entry) → IsOfSites office g → IsNext office g entry → IsOfSites office (g ++ entry ∷ [])
+    more g entry before next =
+        let le : sites_of office g ≤ sites_of office (g ++ entry ∷ []) = omega (arith, next_sites office g entry next, sites_of-push office g entry) in
+        record {
+          me = omega (arith, before.me, le);
+          cells = λ event cell some. cell_of_more (sites_of office g) (sites_of office (g ++ entry ∷ [])) cell le (of_before g entry before next event cell some);
+        }
+      where
+        of_before : (g : List Entry) (entry : Entry) → IsOfSites office g → IsNext office g entry
+            → (event : List ℕ) (cell : Cell) → 1 ≤ value_at (state_of (g ++ entry ∷ [])).cells event cell → IsCellOf (sites_of office g) cell
+        of_before g entry before next event cell some = elim (cases_lt 0 (value_at (state_of g).cells event cell)) [
+          | inl l ↦ before.cells event cell (omega (arith, l))
+          | inr l ↦ marks_within office g entry (marks_of (delta_of entry).cells) before.me next refl event cell
+              (omega (arith, l, some, at-push g entry (At event cell), greatest-marks_of (delta_of entry).cells event cell))
+        ]
+
+pub legal_within : (office : Office) (h : List Entry) → office.me < office.sites → IsLegal office h
+    → (event : List ℕ) (cell : Cell) → 1 ≤ value_at (state_of h).cells event cell → IsCellOf (sites_of office h) cell
+legal_within office h me legal = (legal_of_sites office h me legal).cells
 
 ceded_zero : (X : Cells) (event : List ℕ) (i j : ℕ) → value_at X event (Gave i j) ≡ 0 → rights.ceded X event i j ≡ 0
 ceded_zero X event i j h = by_test (i == j)
@@ -116,7 +135,7 @@ seats_add_up w sound few event within =
     -- nothing is given to a site that is not there
     no_gift : (i j : ℕ) → i < count w → count w ≤ j → value_at (state_of (history_at w i)).cells event (Gave i j) ≡ 0
     no_gift i j l m = elim (cases_lt 0 (value_at (state_of (history_at w i)).cells event (Gave i j))) [
-      | inl some ↦ absurd (omega (arith, (legal_within (office_at w i) (history_at w i) l (sound.legal i) event (Gave i j) (omega (arith, some))).1, m))
+      | inl some ↦ absurd (omega (arith, (legal_within (office_at w i) (history_at w i) (sound.own i l) (sound.legal i) event (Gave i j) (omega (arith, some))).1, sound.few i, m))
       | inr none ↦ omega (arith, none)
     ]
 

@@ -1,32 +1,20 @@
 -- The sites of the program as a world: one of them changes, and messages are put behind those that were sent.
 use Rattle.std.proofs.lemmas.Option.{slice_get_read}
-use Rattle.std.proofs.Common.{◌≡◌, ℕ, zero, suc, ◌<◌, ◌≤◌, List, [], ◌∷◌, ◌++◌, Some, refl, sym, ap, ◌∙◌, subst, arith, length, get_or, set, length-set, map, inl, inr}
+use Rattle.std.proofs.Common.{◌≡◌, ℕ, zero, suc, ◌-◌, ◌<◌, ◌≤◌, List, [], ◌∷◌, ◌++◌, Some, refl, sym, ap, ◌∙◌, subst, arith, length, get_or, set, length-set, map, inl, inr}
 use Rattle.std.specs.Prelude.{slice_get, replicate}
-use Rattle.std.proofs.lemmas.List.{length-replicate, set-get_or}
+use Rattle.std.proofs.lemmas.List.{length-replicate, map-append, set-get_or}
 use Rattle.rights_lattice.specs.Sums.{max_sites}
 use Rattle.book_core.specs.Decision.{Office}
-use Rattle.book_core.proofs.Histories.{get_push}
 use Rattle.site_exchange.specs.declared.message.Message.{Message}
 use Rattle.site_exchange.specs.Exchange.{Site, zeros}
 use Rattle.world_steps.specs.NodeView.{NodeView}
 use Rattle.world_steps.specs.declared.step.Step.{Step}
-use Rattle.world_steps.specs.Nodes.{site_of, limit_of}
+use Rattle.world_steps.specs.Nodes.{site_of, limit_of, first_count_of, AreAdded}
 use Rattle.world_steps.specs.Reaching.{world_of, IsKept}
-use Rattle.world_steps.specs.World.{World, opened, opening, count, no_site, site_at, history_at, office_at, after, IsReached}
+use Rattle.world_steps.specs.World.{World, opening, count, no_site, site_at, history_at, office_at, at_site, widened, after, IsReached}
+use Rattle.world_steps.proofs.FlatList.{get_append}
 use Rattle.world_steps.proofs.Reached.{reached_after}
-
--- site i before any step
-pub record IsOpened (sites limit i : ℕ) (node : NodeView) : Type 0 where
-  pub office : node.book.office ≡ record { me = i; sites = sites; limit = limit }
-  pub history : node.book.history ≡ []
-  pub acked : node.acked ≡ zeros
-
-pub opened_push : (sites limit : ℕ) (nodes : List NodeView) (node : NodeView) → ((i : ℕ) (n : NodeView) → slice_get nodes i ≡ Some n → IsOpened sites limit i n)
-    → IsOpened sites limit (length nodes) node → (i : ℕ) (n : NodeView) → slice_get (nodes ++ node ∷ []) i ≡ Some n → IsOpened sites limit i n
-opened_push sites limit nodes node before here i n found = elim (get_push nodes node i n found) [
-  | inl p ↦ before i n p.1
-  | inr p ↦ subst (λ k. IsOpened sites limit k n) (sym p.0) (subst (IsOpened sites limit (length nodes)) p.1 here)
-]
+use Rattle.world_steps.proofs.Worlds.{site_kept}
 
 all_empty : (nodes : List NodeView) → ((i : ℕ) (n : NodeView) → slice_get nodes i ≡ Some n → (n.book.history ≡ []) × (n.acked ≡ zeros))
     → map site_of nodes ≡ replicate (length nodes) no_site
@@ -43,28 +31,12 @@ all_limited limit (node ∷ nodes) same =
     let here = same 0 node refl in
     λ i. here i ∷ rest i
 
--- the sites that a world begins with
-pub kept_opening : (sites limit : ℕ) (nodes : List NodeView) (sent : List Message) → sites ≤ max_sites → length nodes ≡ sites → sent ≡ []
-    → ((i : ℕ) (n : NodeView) → slice_get nodes i ≡ Some n → IsOpened sites limit i n) → IsKept nodes sent × (world_of nodes sent ≡ opening sites limit)
-kept_opening sites limit nodes sent few len none opened_each =
-    let limits_are : map limit_of nodes ≡ replicate sites limit =
-    all_limited limit nodes (λ i n found. ap (λ (o : Office). o.limit) (opened_each i n found).office) ∙ ap (λ n. replicate n limit) len in
-    let sites_are : map site_of nodes ≡ replicate (length (replicate sites limit)) no_site =
-    all_empty nodes (λ i n found. ((opened_each i n found).history, (opened_each i n found).acked))
-    ∙ ap (λ n. replicate n no_site) (len ∙ sym (length-replicate sites limit)) in
-    let is : world_of nodes sent ≡ opening sites limit = λ i. record { limits = limits_are i; sites = sites_are i; sent = none i } in (
-      record {
-        offices = λ i n found.
-            (opened_each i n found).office
-            ∙ (λ k. record { me = i; sites = sym len k; limit = sym (ap (λ (o : Office). o.limit) (opened_each i n found).office) k });
-        reached = (
-          omega (arith, few, ap length limits_are, length-replicate sites limit),
-          [],
-          is ∙ ap opened (sym limits_are),
-        );
-      },
-      is,
-    )
+all_counting : (sites : ℕ) (nodes : List NodeView) → ((i : ℕ) (n : NodeView) → slice_get nodes i ≡ Some n → first_count_of n ≡ sites) → map first_count_of nodes ≡ replicate (length nodes) sites
+all_counting sites [] same = refl
+all_counting sites (node ∷ nodes) same =
+    let rest = all_counting sites nodes (λ i n found. same (suc i) n found) in
+    let here = same 0 node refl in
+    λ i. here i ∷ rest i
 
 pub sites_set : (nodes : List NodeView) (i : ℕ) (node : NodeView) → map site_of (set nodes i node) ≡ set (map site_of nodes) i (site_of node)
 sites_set [] i node = refl
@@ -79,12 +51,24 @@ limits_set (n ∷ nodes) zero old new found same =
     ap (λ (l : ℕ). l ∷ map limit_of nodes) (same ∙ sym (ap limit_of is))
 limits_set (n ∷ nodes) (suc i) old new found same = ap (λ (ls : List ℕ). limit_of n ∷ ls) (limits_set nodes i old new found same)
 
+counts_set : (nodes : List NodeView) (i : ℕ) (old new : NodeView) → slice_get nodes i ≡ Some old → first_count_of new ≡ first_count_of old → map first_count_of (set nodes i new) ≡ map first_count_of nodes
+counts_set [] i old new found same = refl
+counts_set (n ∷ nodes) zero old new found same =
+    let is : n ≡ old = cc in
+    ap (λ (k : ℕ). k ∷ map first_count_of nodes) (same ∙ sym (ap first_count_of is))
+counts_set (n ∷ nodes) (suc i) old new found same = ap (λ (ks : List ℕ). first_count_of n ∷ ks) (counts_set nodes i old new found same)
+
 pub site_found : (nodes : List NodeView) (i : ℕ) (old : NodeView) → slice_get nodes i ≡ Some old → get_or (map site_of nodes) i no_site ≡ site_of old
 site_found [] i old found = cc
 site_found (n ∷ nodes) zero old found = let same : n ≡ old = cc in ap site_of same
 site_found (n ∷ nodes) (suc i) old found = site_found nodes i old found
 
-limit_found : (nodes : List NodeView) (i : ℕ) (old : NodeView) → slice_get nodes i ≡ Some old → get_or (map limit_of nodes) i 0 ≡ limit_of old
+count_found : (nodes : List NodeView) (i : ℕ) (old : NodeView) → slice_get nodes i ≡ Some old → get_or (map first_count_of nodes) i 0 ≡ first_count_of old
+count_found [] i old found = cc
+count_found (n ∷ nodes) zero old found = let same : n ≡ old = cc in ap first_count_of same
+count_found (n ∷ nodes) (suc i) old found = count_found nodes i old found
+
+pub limit_found : (nodes : List NodeView) (i : ℕ) (old : NodeView) → slice_get nodes i ≡ Some old → get_or (map limit_of nodes) i 0 ≡ limit_of old
 limit_found [] i old found = cc
 limit_found (n ∷ nodes) zero old found = let same : n ≡ old = cc in ap limit_of same
 limit_found (n ∷ nodes) (suc i) old found = limit_found nodes i old found
@@ -97,9 +81,12 @@ length-sites (n ∷ nodes) = ap suc (length-sites nodes)
 pub history_found : (nodes : List NodeView) (sent : List Message) (i : ℕ) (node : NodeView) → slice_get nodes i ≡ Some node → history_at (world_of nodes sent) i ≡ node.book.history
 history_found nodes sent i node found = ap (λ (s : Site). s.history) (site_found nodes i node found)
 
--- each book is of the site that its place names, among n
-abbrev IsInPlace : ℕ → ℕ → NodeView → Type 0
-IsInPlace n i node = node.book.office ≡ record { me = i; sites = n; limit = limit_of node }
+-- the book is of the site that its place names
+abbrev IsInPlace : ℕ → NodeView → Type 0
+IsInPlace i node = node.book.office.me ≡ i
+
+abbrev pub AreInPlace : List NodeView → Type 0
+AreInPlace nodes = (i : ℕ) (node : NodeView) → slice_get nodes i ≡ Some node → IsInPlace i node
 
 -- what holds of each site at its place holds with another one put there
 each_set : (Holds : ℕ → NodeView → Type 0) (nodes : List NodeView) (i k : ℕ) (new node : NodeView) → slice_get (set nodes i new) k ≡ Some node
@@ -111,13 +98,10 @@ each_set Holds (x ∷ nodes) (suc i) zero new node found before here = before ze
 each_set Holds (x ∷ nodes) (suc i) (suc k) new node found before here =
     each_set (λ j. Holds (suc j)) nodes i k new node found (λ j m there. before (suc j) m there) here
 
--- the office of a site that is put in the place of another is that of its place
-kept_offices : (nodes : List NodeView) (i : ℕ) (old new : NodeView) → ((j : ℕ) (m : NodeView) → slice_get nodes j ≡ Some m → IsInPlace (length nodes) j m)
-    → slice_get nodes i ≡ Some old → new.book.office ≡ old.book.office → (k : ℕ) (n : NodeView) → slice_get (set nodes i new) k ≡ Some n → IsInPlace (length (set nodes i new)) k n
-kept_offices nodes i old new before found same k n there =
-    subst (λ c. IsInPlace c k n) (sym (length-set nodes i new))
-    (each_set (IsInPlace (length nodes)) nodes i k new n there before
-    (same ∙ before i old found ∙ (λ t. record { me = i; sites = length nodes; limit = sym (ap (λ (o : Office). o.limit) same) t })))
+-- a site that is put in the place of another, of the same office, is in its place
+pub kept_places : (nodes : List NodeView) (i : ℕ) (old new : NodeView) → AreInPlace nodes → slice_get nodes i ≡ Some old → new.book.office ≡ old.book.office → AreInPlace (set nodes i new)
+kept_places nodes i old new before found same k n there =
+    each_set IsInPlace nodes i k new n there before (ap (λ (o : Office). o.me) same ∙ before i old found)
 
 pub found_at : (nodes : List NodeView) (i : ℕ) (n : NodeView) → i < length nodes → n ≡ get_or nodes i n → slice_get nodes i ≡ Some n
 found_at nodes i n l e = slice_get_read nodes (length nodes) i n refl l e
@@ -132,22 +116,23 @@ pub record IsMade (nodes : List NodeView) (sent : List Message) (now : List Node
   pub made : world_of now sent_now ≡ after (world_of nodes sent) step
 
 -- the program's world with one site in another state
-world_set : (nodes : List NodeView) (sent : List Message) (i : ℕ) (old new : NodeView) → slice_get nodes i ≡ Some old → new.book.office ≡ old.book.office
-    → world_of (set nodes i new) sent ≡ record { limits = map limit_of nodes; sites = set (map site_of nodes) i (site_of new); sent = sent }
+pub world_set : (nodes : List NodeView) (sent : List Message) (i : ℕ) (old new : NodeView) → slice_get nodes i ≡ Some old → new.book.office ≡ old.book.office
+    → world_of (set nodes i new) sent ≡ at_site (world_of nodes sent) i (site_of new)
 world_set nodes sent i old new found same = λ k. record {
   limits = limits_set nodes i old new found (ap (λ (o : Office). o.limit) same) k;
+  counts = counts_set nodes i old new found (ap (λ (o : Office). o.sites) same) k;
   sites = sites_set nodes i new k;
   sent = sent;
 }
 
 -- what the definition of the step changes is what was changed
 pub made_at : (nodes : List NodeView) (sent sent_now : List Message) (i : ℕ) (old new : NodeView) (step : Step) → IsKept nodes sent → slice_get nodes i ≡ Some old → new.book.office ≡ old.book.office
-    → after (world_of nodes sent) step ≡ record { limits = map limit_of nodes; sites = set (map site_of nodes) i (site_of new); sent = sent_now } → IsMade nodes sent (set nodes i new) sent_now step
+    → after (world_of nodes sent) step ≡ at_site (world_of nodes sent_now) i (site_of new) → IsMade nodes sent (set nodes i new) sent_now step
 made_at nodes sent sent_now i old new step kept found same after_is =
     let is : world_of (set nodes i new) sent_now ≡ after (world_of nodes sent) step = world_set nodes sent_now i old new found same ∙ sym after_is in
     record {
       kept = record {
-        offices = kept_offices nodes i old new kept.offices found same;
+        places = kept_places nodes i old new kept.places found same;
         reached = subst IsReached (sym is) (reached_after (world_of nodes sent) step kept.reached);
       };
       made = is;
@@ -157,13 +142,13 @@ made_at nodes sent sent_now i old new step kept found same after_is =
 pub same_world : (nodes : List NodeView) (sent : List Message) (i : ℕ) (old new : NodeView) → slice_get nodes i ≡ Some old → new.book.office ≡ old.book.office → site_of new ≡ site_of old → world_of (set nodes i new) sent ≡ world_of nodes sent
 same_world nodes sent i old new found same_office same =
     world_set nodes sent i old new found same_office
-    ∙ ap (λ (ss : List Site). let w : World = record { limits = map limit_of nodes; sites = ss; sent = sent } in w)
-    (ap (set (map site_of nodes) i) (same ∙ sym (site_found nodes i old found)) ∙ set-get_or (map site_of nodes) i no_site)
+    ∙ ap (at_site (world_of nodes sent) i) (same ∙ sym (site_found nodes i old found))
+    ∙ site_kept (world_of nodes sent) i
 
 pub kept_same : (nodes : List NodeView) (sent : List Message) (i : ℕ) (old new : NodeView) → IsKept nodes sent → slice_get nodes i ≡ Some old → new.book.office ≡ old.book.office → site_of new ≡ site_of old
     → IsKept (set nodes i new) sent
 kept_same nodes sent i old new kept found same_office same = record {
-  offices = kept_offices nodes i old new kept.offices found same_office;
+  places = kept_places nodes i old new kept.places found same_office;
   reached = subst IsReached (sym (same_world nodes sent i old new found same_office same)) kept.reached;
 }
 
@@ -181,5 +166,43 @@ at_place nodes sent i old kept l is =
       found = found;
       below = omega (arith, l, length-sites nodes);
       site = site_found nodes i old found;
-      office = (λ k. record { me = i; sites = length-sites nodes k; limit = limit_found nodes i old found k }) ∙ sym (kept.offices i old found);
+      office = λ k. record { me = sym (kept.places i old found) k; sites = count_found nodes i old found k; limit = limit_found nodes i old found k };
     }
+
+-- sites that are added are in their places
+pub places_added : (sites limit : ℕ) (nodes now : List NodeView) → AreInPlace nodes → AreAdded sites limit nodes now → AreInPlace now
+places_added sites limit nodes now before added i n found = elim (get_append nodes added.more i n (subst (λ (ns : List NodeView). slice_get ns i ≡ Some n) added.behind found)) [
+  | inl p ↦ before i n p.1
+  | inr p ↦ ap (λ (o : Office). o.me) (added.opened p.0 n p.2).office ∙ sym p.1
+]
+
+-- the world with sites that are added
+pub world_added : (sites limit : ℕ) (nodes now : List NodeView) (sent : List Message) → AreAdded sites limit nodes now → world_of now sent ≡ widened sites limit (world_of nodes sent)
+world_added sites limit nodes now sent added =
+    let more : List NodeView = added.more in
+    let lacking : length more ≡ sites - length (map site_of nodes) = added.lacking ∙ ap (λ n. sites - n) (sym (length-sites nodes)) in
+    let limits_are = map-append limit_of nodes more ∙ ap (λ ls. map limit_of nodes ++ ls)
+    (all_limited limit more (λ k n found. ap (λ (o : Office). o.limit) (added.opened k n found).office) ∙ ap (λ n. replicate n limit) lacking) in
+    let counts_are = map-append first_count_of nodes more ∙ ap (λ ks. map first_count_of nodes ++ ks)
+    (all_counting sites more (λ k n found. ap (λ (o : Office). o.sites) (added.opened k n found).office) ∙ ap (λ n. replicate n sites) lacking) in
+    let sites_are = map-append site_of nodes more ∙ ap (λ ss. map site_of nodes ++ ss)
+    (all_empty more (λ k n found. ((added.opened k n found).history, (added.opened k n found).acked)) ∙ ap (λ n. replicate n no_site) lacking) in
+    ap (λ (ns : List NodeView). world_of ns sent) added.behind ∙ (λ i. record { limits = limits_are i; counts = counts_are i; sites = sites_are i; sent = sent })
+
+-- the sites that a world begins with
+pub kept_opening : (sites limit : ℕ) (nodes : List NodeView) (sent : List Message) → sites ≤ max_sites → sent ≡ [] → AreAdded sites limit [] nodes
+    → IsKept nodes sent × (world_of nodes sent ≡ opening sites limit)
+kept_opening sites limit nodes sent few none added =
+    let n : ℕ = length (replicate sites limit) in
+    let n_is : sites ≡ n = sym (length-replicate sites limit) in
+    let whole : sites - 0 ≡ sites = omega arith in
+    let is : world_of nodes sent ≡ opening sites limit =
+    world_added sites limit [] nodes sent added
+    ∙ (λ k. record { limits = replicate (whole k) limit; counts = replicate (whole k) sites; sites = replicate (whole k) no_site; sent = sent })
+    ∙ (λ k. record { limits = replicate sites limit; counts = replicate (n_is k) (n_is k); sites = replicate (n_is k) no_site; sent = none k }) in (
+      record {
+        places = places_added sites limit [] nodes (λ i n found. cc) added;
+        reached = (replicate sites limit, omega (arith, few, n_is), [], is);
+      },
+      is,
+    )

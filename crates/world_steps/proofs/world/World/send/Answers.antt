@@ -4,9 +4,9 @@ use Rattle.site_exchange.specs.declared.message.Message.{Message}
 use Rattle.world_steps.specs.NodeView.{NodeView}
 use Rattle.world_steps.specs.declared.step.Step.TheVariants.{Send}
 use Rattle.world_steps.specs.Reaching.{world_of}
-use Rattle.world_steps.specs.World.{World, after, with_sent}
+use Rattle.world_steps.specs.World.{World, after, are_peers, with_sent}
 use Rattle.world_steps.proofs.Sites.{IsMade, put_back}
-use Rattle.world_steps.proofs.Making.{acked_within, are_peers, peers_in, peer_below, send_made}
+use Rattle.world_steps.proofs.Making.{acked_within, peers_in, peer_below, peer_counted, send_made}
 use Rattle.world_steps.proofs.world.World.send.Goals as goal
 
 peers : (c : goal.After-index_mut-node) → are_peers (world_of c.self.inside.sites.items c.self.inside.sent.items) c.number.result c.args.to ≡ true
@@ -16,6 +16,11 @@ pub next-requires-clause-acked : goal.next-requires-clause-acked
 next-requires-clause-acked c =
     acked_within c.self.inside.sites.items c.self.inside.sent.items c.number.result c.index_mut-node.result.now c.self.invariant
     (peer_below c.self.inside.sites.items c.self.inside.sent.items c.number.result c.args.to (peers c)) c.index_mut-node.ensures.value
+
+pub next-requires-clause-site : goal.next-requires-clause-site
+next-requires-clause-site c =
+    peer_counted c.self.inside.sites.items c.self.inside.sent.items c.number.result c.args.to c.index_mut-node.result.now c.self.invariant
+    (peer_below c.self.inside.sites.items c.self.inside.sent.items c.number.result c.args.to (peers c)) c.index_mut-node.ensures.value (peers c)
 
 made : (c : goal.After-put) → IsMade c.self.inside.sites.items c.self.inside.sent.items c.self.inside.sites.items (with_sent c.self.inside.sent.items c.in_ok-due.due) (Send c.number.result c.args.to)
 made c =

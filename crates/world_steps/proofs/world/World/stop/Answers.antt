@@ -15,7 +15,7 @@ given c =
     stop_gives c.self.inside.sites.items c.self.inside.sent.items c.number-place.result c.args.input c.args.stored c.index_mut-node.result.now c.stop.new.node c.stop.result
     c.self.invariant (search rules) c.index_mut-node.ensures.value
     (subst (λ (w : World). is_there w.sent c.args.input ≡ true) (sym c.self.view_is) (sym c.if-not-has_message_of.ensures))
-    c.stop.ensures.office c.stop.ensures.outcome c.stop.ensures.memory
+    (search rules) c.stop.ensures.office c.stop.ensures.outcome c.stop.ensures.memory
     (subst (λ (sent : List Message). OnOk c.stop.result (site_of c.stop.new.node ≡ stopped_with (entry_of_input c.index_mut-node.result.now.book.office c.index_mut-node.result.now.book.history sent c.args.input) c.args.stored (site_of c.index_mut-node.result.now))) c.deref.ensures.value c.stop.ensures.stopped)
     c.stop.ensures.unchanged
 

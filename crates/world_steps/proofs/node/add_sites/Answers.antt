@@ -1,0 +1,22 @@
+use Rattle.std.proofs.Common.{◌≡◌, ◌<◌, ◌+◌, arith, ap, ◌∙◌, sym, subst}
+use Rattle.std.specs.Prelude.{vec_capacity}
+use Rattle.world_steps.specs.NodeView.{NodeView}
+use Rattle.world_steps.specs.Nodes.{IsOpened}
+use Rattle.world_steps.proofs.Added.{none_added, one_added, all_added}
+use Rattle.world_steps.proofs.node.add_sites.Goals as goal
+
+pub loop-number-preserved : goal.loop-number-preserved
+loop-number-preserved c =
+    let node : NodeView = c.new.result in
+    let here : c.site.result ≡ c.loop-number.number = c.site.ensures in
+    let opened : IsOpened c.args.sites c.args.limit c.loop-number.number node = record {
+      office = c.new.ensures.office ∙ (λ k. record { me = here k; sites = c.args.sites; limit = c.args.limit });
+      history = c.new.ensures.history;
+      acked = c.new.ensures.acked;
+    } in
+    let below : c.loop-number.number < c.args.sites = omega (arith, c.loop-number-test.true, c.count-number-end.ensures.count) in
+    record {
+      added = one_added c.args.sites c.args.limit c.args.nodes.now.items c.loop-number.nodes.items c.push_reserved.new.self.items c.loop-number.number node
+          c.loop-number.invariant.added below c.push_reserved.ensures.items opened;
+      room = omega (arith, c.loop-number.invariant.room, c.push_reserved.ensures.capacity);
+    }
