@@ -44,6 +44,7 @@ enum Entry {
         delta: Delta,
     },
     Joined(Delta),
+    Grown,
 }
 struct Site {
     me: u8,
@@ -302,6 +303,7 @@ impl Site {
             let d = match e {
                 Entry::Asked { delta, .. } => delta,
                 Entry::Joined(d) => d,
+                Entry::Grown => continue,
             };
             for n in &d.names {
                 names.insert(n.clone());
@@ -321,17 +323,48 @@ impl Site {
             },
         })
     }
-    fn view(&self, e: &Ev) -> (u64, u64, u64) {
+    fn grow(&mut self, count: u8, store: bool) -> String {
+        if count <= self.sites {
+            return "not-more".into();
+        }
+        if self.history.len() >= self.limit {
+            return "history-full".into();
+        }
+        if store {
+            self.history.push(Entry::Grown);
+            self.sites = count;
+        }
+        "grown".into()
+    }
+    fn view(&self, e: &Ev) -> (u64, u64, u64, String) {
         let (mut released, mut sold, mut refunded) = (0, 0, 0);
+        let mut rights = [0_i64; 64];
         for ((_, (kind, by, to)), v) in self.cells.range((e.clone(), (0, 0, 0))..=(e.clone(), (9, 0, 0))) {
             match kind {
-                0 if by == to => released += v,
-                0 => {}
-                1 => sold += v,
-                _ => refunded += v,
+                0 if by == to => {
+                    released += v;
+                    rights[*by as usize] += *v as i64;
+                }
+                0 => {
+                    rights[*by as usize] -= *v as i64;
+                    rights[*to as usize] += *v as i64;
+                }
+                1 => {
+                    sold += v;
+                    rights[*by as usize] -= *v as i64;
+                }
+                _ => {
+                    refunded += v;
+                    rights[*by as usize] += *v as i64;
+                }
             }
         }
-        (released, sold, refunded)
+        let open = if rights.iter().all(|right| *right >= 0) {
+            (released + refunded - sold).to_string()
+        } else {
+            "none".into()
+        };
+        (released, sold, refunded, open)
     }
 }
 fn text(r: &Reply) -> String {
@@ -387,8 +420,18 @@ fn req(w: &[&str]) -> Option<(u64, Req)> {
 struct World {
     sites: Vec<Site>,
     sent: Vec<Msg>,
+    limit: usize,
 }
 impl World {
+    fn grow(&mut self, s: usize, count: u8, store: bool) -> String {
+        let t = self.sites[s].grow(count, store);
+        if store && t == "grown" {
+            for i in self.sites.len()..count as usize {
+                self.sites.push(Site::new(i as u8, count, self.limit));
+            }
+        }
+        t
+    }
     fn line(&mut self, l: &[u8]) -> Option<String> {
         let l = std::str::from_utf8(l).ok()?;
         let w: Vec<&str> = l.split(' ').collect();
@@ -436,6 +479,14 @@ impl World {
                 self.sites[s].acked = vec![0; 64];
                 Some("restarted".into())
             }
+            ("grow", 3) => {
+                let s = site(w[1])? as usize;
+                let count = num(w[2], 1, 64)? as u8;
+                if s >= self.sites.len() {
+                    return none();
+                }
+                Some(self.grow(s, count, true))
+            }
             ("stop", n) if n >= 4 => {
                 let s = site(w[1])? as usize;
                 let kept = match w[2] {
@@ -453,6 +504,13 @@ impl World {
                             return Some("no-message".into());
                         };
                         self.sites[s].take(m, kept);
+                    }
+                    ("grow", 5) => {
+                        let count = num(w[4], 1, 64)? as u8;
+                        if s >= self.sites.len() {
+                            return none();
+                        }
+                        self.grow(s, count, kept);
                     }
                     _ => {
                         let (n, q) = req(&w[3..])?;
@@ -479,8 +537,8 @@ impl World {
                     return Some(if w[1] == "left" {
                         format!("left {}", b.left(&e))
                     } else {
-                        let (r, s, f) = b.view(&e);
-                        format!("totals released {r} sold {s} refunded {f}")
+                        let (r, s, f, o) = b.view(&e);
+                        format!("totals released {r} sold {s} refunded {f} open {o}")
                     });
                 }
                 let (k, q) = req(&w[1..])?;
@@ -524,7 +582,7 @@ fn main() -> io::Result<()> {
         .first()
         .and_then(|l| std::str::from_utf8(l).ok())
         .and_then(|l| l.strip_prefix("sites "))
-        .and_then(|w| num(w, 1, 16));
+        .and_then(|w| num(w, 1, 64));
     if lines.is_empty() && fail.is_some() {
         eprintln!("{}", fail.unwrap());
         std::process::exit(3);
@@ -550,6 +608,7 @@ fn main() -> io::Result<()> {
         let w = w.get_or_insert_with(|| World {
             sites: (0..n as u8).map(|i| Site::new(i, n as u8, limit)).collect(),
             sent: vec![],
+            limit,
         });
         let t = w.line(l).unwrap_or_else(|| "bad-line".into());
         writeln!(out, "{t}")?;

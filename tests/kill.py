@@ -1,5 +1,5 @@
 #!/usr/bin/env python3
-"""Kills the built program (SIGKILL) at random moments of `ask`, `import`, `init`, `migrate` and `serve`. What it had
+"""Kills the built program (SIGKILL) at random moments of `ask`, `import`, `init`, `migrate`, `grow` and `serve`. What it had
 answered has to be in the files as C SQLite reads them, with little more, and asked again it has to answer the same.
 
 Usage: tests/kill.py [PROGRAM] [--full] [--seed=N]     (PROGRAM: crates/boxoffice/out/boxoffice)
@@ -34,9 +34,9 @@ MEMORY = "/dev/shm" if os.path.isdir("/dev/shm") else None
 PROCESSES = 2
 # How many trials there are of each kind, and how often each kills.
 TRIALS = (
-    {"ask": (30, 10), "import": (30, 3), "init": (30, 3), "migrate": (30, 3), "serve": (30, 1)}
+    {"ask": (30, 10), "import": (30, 3), "init": (30, 3), "migrate": (30, 3), "grow": (30, 3), "serve": (30, 1)}
     if FULL
-    else {"ask": (6, 10), "import": (6, 2), "init": (10, 2), "migrate": (6, 2), "serve": (6, 1)}
+    else {"ask": (6, 10), "import": (6, 2), "init": (10, 2), "migrate": (6, 2), "grow": (6, 2), "serve": (6, 1)}
 )
 LINES_A_KILL = 60
 EVENTS = 2000 if FULL else 400
@@ -336,6 +336,32 @@ def kill_migrating(trial, folder, chance, kills):
     trial.same("asked again", call(folder, ["ask", "site.db"], text_of(lines)), asked)
 
 
+# More sites.
+
+
+def kill_growing(trial, folder, chance, kills):
+    trial.same("init", call(folder, ["init", "site.db", "0", "2", "1000000"]), (0, "done\n", ""))
+    asked = call(folder, ["ask", "site.db"], text_of(requests(chance, EVENTS)))
+    trial.same("ask", (asked[0], asked[2]), (0, ""))
+    rows, count = rows_kept(trial, folder, "site.db"), 2
+    begun = time.monotonic()
+    trial.same("the twin", call(copied(folder, ["site.db"], "twin"), ["grow", "site.db", "3"]), (0, "grown\n", ""))
+    taken = time.monotonic() - begun
+    while trial.killed.total() < kills and trial.step < 5 * kills:
+        trial.step += 1
+        program = started(folder, ["grow", "site.db", str(count + 1)], stdin=subprocess.DEVNULL)
+        time.sleep(chance.uniform(chance.choice([0, 0.7]), 1.1) * taken)
+        told = put_down(trial, program, "grow")
+        kept = rows_kept(trial, folder, "site.db")
+        grown = [*rows, (len(rows), None, None, "grow", None, None, count + 1, None, None, "")]
+        trial.same("told", told, ["grown"] if told else [])
+        trial.same("the entries", kept, grown if told or len(kept) > len(rows) else rows)
+        if kept == grown:
+            rows, count = grown, count + 1
+    trial.same("grown in the end", call(folder, ["grow", "site.db", str(count + 1)]), (0, "grown\n", ""))
+    trial.same("no more", call(folder, ["grow", "site.db", str(count + 1)]), (1, "not-more\n", ""))
+
+
 # Two sites and eight callers.
 
 
@@ -440,6 +466,7 @@ KINDS = {
     "import": kill_importing,
     "init": kill_making,
     "migrate": kill_migrating,
+    "grow": kill_growing,
     "serve": kill_serving,
 }
 

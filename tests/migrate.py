@@ -26,6 +26,7 @@ HISTORY = [
 ]
 # What the other commands are called with.
 OTHERS = [
+    ["grow", FILE, "2"],
     ["ask", FILE],
     ["find", FILE, "9"],
     ["list", FILE, "gala"],

@@ -25,7 +25,7 @@ TYPED = [
     ("sell", "bad-line"),
     ("left gala", "left 39"),
     ("refund 5 3", "done"),
-    ("totals gala", "totals released 100 sold 61 refunded 61"),
+    ("totals gala", "totals released 100 sold 61 refunded 61 open 100"),
 ]
 # What the records keep of them: number, place and reply.
 KEPT = [("1", "0 done"), ("2", "1 done"), ("3", "2 done"), ("4", "3 short 39"), ("5", "4 done")]
