@@ -54,7 +54,7 @@ done_of_sites office h (Refund sale part) me e = of_sale (sale_of h sale)
     of_sale : (o : Option SaleState) → IsOfSites office.me (sites_of office h) (refund_of o part)
     of_sale None = tt
     of_sale (Some sale) = me
-done_of_sites office h (Cede event n to) me e =
+done_of_sites office h (Cede event to n) me e =
     (me, leb-false (sites_of office h) to (past_sites (not (knows (state_of h).names event)) (to == office.me) (nat_le (sites_of office h) to) _ e))
 
 marked_within : (me n : ℕ) (X : Cells) (o : Option Change) → IsOfSites me n o → IsWithin n (marked me X o).cells
@@ -66,7 +66,7 @@ addition_within office n h (Announce event) of = within_zero n
 addition_within office n h (Release event m) of = marked_within office.me n (state_of h).cells (change_of h (Release event m)) of
 addition_within office n h (Sell event m) of = marked_within office.me n (state_of h).cells (change_of h (Sell event m)) of
 addition_within office n h (Refund sale part) of = marked_within office.me n (state_of h).cells (refund_of (sale_of h sale) part) of
-addition_within office n h (Cede event m to) of = marked_within office.me n (state_of h).cells (change_of h (Cede event m to)) of
+addition_within office n h (Cede event to m) of = marked_within office.me n (state_of h).cells (change_of h (Cede event to m)) of
 
 delta_within : (office : Office) (h : List Entry) (request : Request) (reply : Reply) → office.me < sites_of office h → reply ≡ reply_to office h request
     → IsWithin (sites_of office h) (delta_for office h request reply).cells

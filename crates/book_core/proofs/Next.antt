@@ -41,7 +41,7 @@ addition_foreign office h (Announce name) event cell other = value_at-all_zero e
 addition_foreign office h (Release of n) event cell other = marked_foreign office.me (state_of h).cells (change_of h (Release of n)) event cell other
 addition_foreign office h (Sell of n) event cell other = marked_foreign office.me (state_of h).cells (change_of h (Sell of n)) event cell other
 addition_foreign office h (Refund sale part) event cell other = marked_foreign office.me (state_of h).cells (refund_of (sale_of h sale) part) event cell other
-addition_foreign office h (Cede of n to) event cell other = marked_foreign office.me (state_of h).cells (change_of h (Cede of n to)) event cell other
+addition_foreign office h (Cede of to n) event cell other = marked_foreign office.me (state_of h).cells (change_of h (Cede of to n)) event cell other
 
 asked_foreign : (office : Office) (h : List Entry) (request : Request) (reply : Reply) (event : List ℕ) (cell : Cell) → owner_of cell ≢ office.me → value_at (delta_for office h request reply).cells event cell ≡ 0
 asked_foreign office h request reply event cell other = by_test (is_done reply)

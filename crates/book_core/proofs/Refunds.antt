@@ -221,9 +221,9 @@ balanced_after office h (Asked number (Release of seats) reply delta) before nex
     by_test : (b : Bool) → share Refunding event (cond b (Some (record { kind = Releasing; event = of; amount = seats })) None) ≤ 0
     by_test true = omega (arith, no_share (same_event event of) seats)
     by_test false = omega arith
-balanced_after office h (Asked number (Cede of seats to) reply delta) before next event =
-    balanced_push office.me h number (Cede of seats to) reply delta event (before event)
-    (omega (arith, sales_le (kept_seats (h ++ Asked number (Cede of seats to) reply delta ∷ [])) (kept_seats h) event (kept_less h (Asked number (Cede of seats to) reply delta)) h, by_test (is_done reply)))
+balanced_after office h (Asked number (Cede of to seats) reply delta) before next event =
+    balanced_push office.me h number (Cede of to seats) reply delta event (before event)
+    (omega (arith, sales_le (kept_seats (h ++ Asked number (Cede of to seats) reply delta ∷ [])) (kept_seats h) event (kept_less h (Asked number (Cede of to seats) reply delta)) h, by_test (is_done reply)))
   where
     by_test : (b : Bool) → share Refunding event (cond b (Some (record { kind = Ceding to; event = of; amount = seats })) None) ≤ 0
     by_test true = omega (arith, no_share (same_event event of) seats)

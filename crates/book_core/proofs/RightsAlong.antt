@@ -37,7 +37,7 @@ addition_few office h (Announce event) = none_at_most
 addition_few office h (Release event n) = marked_few office.me (state_of h).cells (change_of h (Release event n))
 addition_few office h (Sell event n) = marked_few office.me (state_of h).cells (change_of h (Sell event n))
 addition_few office h (Refund sale part) = marked_few office.me (state_of h).cells (refund_of (sale_of h sale) part)
-addition_few office h (Cede event n to) = marked_few office.me (state_of h).cells (change_of h (Cede event n to))
+addition_few office h (Cede event to n) = marked_few office.me (state_of h).cells (change_of h (Cede event to n))
 
 delta_few : (office : Office) (h : List Entry) (request : Request) (reply : Reply) → length (marks_of (delta_for office h request reply).cells) ≤ 1
 delta_few office h request reply = by_test (is_done reply)

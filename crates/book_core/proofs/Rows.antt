@@ -58,7 +58,7 @@ addition_at office h (Announce name) event cell = omega (arith, value_at-all_zer
 addition_at office h (Release of n) event cell = marked_at office.me (state_of h).cells (change_of h (Release of n)) event cell
 addition_at office h (Sell of n) event cell = marked_at office.me (state_of h).cells (change_of h (Sell of n)) event cell
 addition_at office h (Refund sale part) event cell = marked_at office.me (state_of h).cells (refund_of (sale_of h sale) part) event cell
-addition_at office h (Cede of n to) event cell = marked_at office.me (state_of h).cells (change_of h (Cede of n to)) event cell
+addition_at office h (Cede of to n) event cell = marked_at office.me (state_of h).cells (change_of h (Cede of to n)) event cell
 
 -- the change of an asked entry, where it was accepted
 abbrev pub accepted : List Entry → Request → Reply → Option Change
@@ -124,7 +124,7 @@ done_allowed office h (Sell event seats) e =
     let known = past _ Unknown _ refl e in
     let enough = past _ (Short (own_left office h event)) _ refl known.1 in
     ltb-false (own_left office h event) seats enough.0
-done_allowed office h (Cede event seats to) e =
+done_allowed office h (Cede event to seats) e =
     let known = past _ Unknown _ refl e in
     let other = past _ ToSelf _ refl known.1 in
     let site = past _ NoSite _ refl other.1 in

@@ -78,7 +78,7 @@ next_alike office h (Asked number (Refund sale (Some part)) reply delta) whole s
 next_alike office h (Asked number (Announce event) reply delta) whole seats named = (λ next. next, λ next. next)
 next_alike office h (Asked number (Release event n) reply delta) whole seats named = (λ next. next, λ next. next)
 next_alike office h (Asked number (Sell event n) reply delta) whole seats named = (λ next. next, λ next. next)
-next_alike office h (Asked number (Cede event n to) reply delta) whole seats named = (λ next. next, λ next. next)
+next_alike office h (Asked number (Cede event to n) reply delta) whole seats named = (λ next. next, λ next. next)
 next_alike office h (Joined peer delta) whole seats named = (λ next. next, λ next. next)
 next_alike office h (Grown sites) whole seats named = (λ next. next, λ next. next)
 

@@ -64,7 +64,7 @@ change_of h (Announce event) = None
 change_of h (Release event n) = Some (record { kind = Releasing; event = event; amount = n })
 change_of h (Sell event n) = Some (record { kind = Selling; event = event; amount = n })
 change_of h (Refund sale part) = refund_of (sale_of h sale) part
-change_of h (Cede event n to) = Some (record { kind = Ceding to; event = event; amount = n })
+change_of h (Cede event to n) = Some (record { kind = Ceding to; event = event; amount = n })
 
 -- the cell of a change at its old value plus the amount
 abbrev pub marked : ℕ → Cells → Option Change → State
@@ -113,7 +113,7 @@ reply_to office h (Sell event n) =
     else if is_full (state_of h).cells event (Used office.me) n then CellFull
     else Done
 reply_to office h (Refund sale part) = refund_reply (sale_of h sale) part
-reply_to office h (Cede event n to) =
+reply_to office h (Cede event to n) =
     if not (knows (state_of h).names event) then Unknown
     else if to == office.me then ToSelf
     else if nat_le (sites_of office h) to then NoSite

@@ -94,11 +94,11 @@ refund_found words q e =
 cede_found : (words : List (List ℕ)) (q : Request) → cede_at words ≡ Some q → Spells verb.Cede words q
 unfolding cede_at
 cede_found words q e =
-    let a = bind_some (sized_at words) (λ x. site_at x.1 >>= λ to. ended (Cede x.0.0 x.0.1 to.0) to.1) q e in
-    let b = bind_some (site_at a.0.1) (λ to. ended (Cede a.0.0.0 a.0.0.1 to.0) to.1) q a.2 in
+    let a = bind_some (sized_at words) (λ x. site_at x.1 >>= λ to. ended (Cede x.0.0 to.0 x.0.1) to.1) q e in
+    let b = bind_some (site_at a.0.1) (λ to. ended (Cede a.0.0.0 to.0 a.0.0.1) to.1) q a.2 in
     let p = sized_at_found words a.0 a.1 in
     let r = site_at_found a.0.1 b.0 b.1 in
-    let z = ended_found (Cede a.0.0.0 a.0.0.1 b.0.0) q b.0.1 b.2 in
+    let z = ended_found (Cede a.0.0.0 b.0.0 a.0.0.1) q b.0.1 b.2 in
     subst (Spells verb.Cede words) z.1
     (λ n. ap (λ (t : List (List ℕ)). codes "cede" ∷ decimal n ∷ t) (p.0 ∙ ap (λ (t : List (List ℕ)). a.0.0.0 ∷ decimal a.0.0.1 ∷ t) (r.0 ∙ ap (λ (t : List (List ℕ)). decimal b.0.0 ∷ t) z.0)), (p.1, p.2, r.1))
 
@@ -144,7 +144,7 @@ request_again (Announce e) h = rw (event_again e [] h) refl
 request_again (Release e a) h = rw (sized_again e a [] h.0 h.1) refl
 request_again (Sell e a) h = rw (sized_again e a [] h.0 h.1) refl
 request_again (Refund s part) h = rw (value_again s (part_words part) h.0, part_again part h.1) refl
-request_again (Cede e a to) h = rw (sized_again e a (decimal to ∷ []) h.0 h.1, site_again to [] h.2) refl
+request_again (Cede e to a) h = rw (sized_again e a (decimal to ∷ []) h.0 h.1, site_again to [] h.2) refl
 
 numbered_again : (n : ℕ) (q : Request) → IsValue n → IsRequest q → numbered_at (request_verb q) (decimal n ∷ operands q) ≡ Some (n, q)
 unfolding numbered_at
@@ -164,4 +164,4 @@ request_lacks n (Release e a) h g = (refl, (value_lacks_space n h, (name_lacks_s
 request_lacks n (Sell e a) h g = (refl, (value_lacks_space n h, (name_lacks_space e g.0, (value_lacks_space a g.1, tt))))
 request_lacks n (Refund s None) h g = (refl, (value_lacks_space n h, (value_lacks_space s g.0, tt)))
 request_lacks n (Refund s (Some a)) h g = (refl, (value_lacks_space n h, (value_lacks_space s g.0, (value_lacks_space a g.1, tt))))
-request_lacks n (Cede e a to) h g = (refl, (value_lacks_space n h, (name_lacks_space e g.0, (value_lacks_space a g.1, (site_lacks_space to g.2, tt)))))
+request_lacks n (Cede e to a) h g = (refl, (value_lacks_space n h, (name_lacks_space e g.0, (value_lacks_space a g.1, (site_lacks_space to g.2, tt)))))

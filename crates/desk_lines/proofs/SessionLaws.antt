@@ -118,7 +118,7 @@ no_request_quits n (Announce e) = refl
 no_request_quits n (Release e a) = refl
 no_request_quits n (Sell e a) = refl
 no_request_quits n (Refund s part) = refl
-no_request_quits n (Cede e a to) = refl
+no_request_quits n (Cede e to a) = refl
 
 -- what is spelled so is read
 pub session_reads : (l : Line) → IsSessionLine l → session_line_of (session_text l) ≡ Some l

@@ -30,7 +30,7 @@ operands (Announce e) = e ∷ []
 operands (Release e a) = e ∷ decimal a ∷ []
 operands (Sell e a) = e ∷ decimal a ∷ []
 operands (Refund s part) = decimal s ∷ part_words part
-operands (Cede e a to) = e ∷ decimal a ∷ decimal to ∷ []
+operands (Cede e to a) = e ∷ decimal a ∷ decimal to ∷ []
 
 -- the words of a request under its number
 abbrev pub request_words : ℕ → Request → List (List ℕ)

@@ -51,7 +51,7 @@ unfoldable pub cede_at : List (List ℕ) → Option Request
 cede_at words = do
   x ← sized_at words
   to ← site_at x.1
-  ended (Cede x.0.0 x.0.1 to.0) to.1
+  ended (Cede x.0.0 to.0 x.0.1) to.1
 
 -- a request with this verb, after its number
 abbrev pub request_at : Verb → List (List ℕ) → Option Request

@@ -16,4 +16,4 @@ IsRequest (Announce e) = IsEventName e
 IsRequest (Release e a) = IsEventName e × IsValue a
 IsRequest (Sell e a) = IsEventName e × IsValue a
 IsRequest (Refund s part) = IsValue s × IsPart part
-IsRequest (Cede e a to) = IsEventName e × IsValue a × IsSite to
+IsRequest (Cede e to a) = IsEventName e × IsValue a × IsSite to

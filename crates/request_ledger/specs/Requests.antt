@@ -17,5 +17,5 @@ same_request (Announce e) (Announce f) = same_event e f
 same_request (Release e n) (Release f m) = same_event e f && (n == m)
 same_request (Sell e n) (Sell f m) = same_event e f && (n == m)
 same_request (Refund s p) (Refund t q) = (s == t) && option_eq nat_eq p q
-same_request (Cede e n i) (Cede f m j) = same_event e f && (n == m) && (i == j)
+same_request (Cede e i n) (Cede f j m) = same_event e f && (i == j) && (n == m)
 same_request _ _ = false

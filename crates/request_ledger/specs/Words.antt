@@ -29,7 +29,7 @@ request_verb (request.Announce event) = Announce
 request_verb (request.Release event amount) = Release
 request_verb (request.Sell event amount) = Sell
 request_verb (request.Refund sale part) = Refund
-request_verb (request.Cede event amount to) = Cede
+request_verb (request.Cede event to amount) = Cede
 
 -- the first word of the line that tells a reply
 abbrev pub reply_word : Reply → List ℕ

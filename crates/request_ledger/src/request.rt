@@ -31,8 +31,8 @@ pub enum Request {
     /// Hands rights of this site to the site `to`.
     Cede {
         event: Event,
-        amount: Amount,
         to: SiteId,
+        amount: Amount,
     },
 }
 

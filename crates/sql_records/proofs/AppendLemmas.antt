@@ -50,21 +50,21 @@ amount_fits (ReleaseSeats event amount) = cast_int amount
 amount_fits (Sell event amount) = cast_int amount
 amount_fits (Refund sale None) = cast_null
 amount_fits (Refund sale (Some part)) = cast_int part
-amount_fits (Cede event amount to) = cast_int amount
+amount_fits (Cede event to amount) = cast_int amount
 
 target_fits : (r : Request) → cast Integer (target_column r) ≡ target_column r
 target_fits (Announce event) = cast_null
 target_fits (ReleaseSeats event amount) = cast_null
 target_fits (Sell event amount) = cast_null
 target_fits (Refund sale part) = cast_int sale
-target_fits (Cede event amount to) = cast_int to
+target_fits (Cede event to amount) = cast_int to
 
 event_fits : (r : Request) → cast Text (event_column r) ≡ event_column r
 event_fits (Announce event) = refl
 event_fits (ReleaseSeats event amount) = refl
 event_fits (Sell event amount) = refl
 event_fits (Refund sale part) = refl
-event_fits (Cede event amount to) = refl
+event_fits (Cede event to amount) = refl
 
 rest_fits : (r : Reply) → cast Integer (rest_column r) ≡ rest_column r
 rest_fits Done = cast_null

@@ -49,7 +49,7 @@ request_back (Announce e) h = rw (verb_again verb.Announce, event_back e h) refl
 request_back (Release e n) h = rw (verb_again verb.Release, event_back e h.0, value_back n h.1) refl
 request_back (Sell e n) h = rw (verb_again verb.Sell, event_back e h.0, value_back n h.1) refl
 request_back (Refund sale part) h = rw (verb_again verb.Refund, value_back sale h.0, part_back part h.1) refl
-request_back (Cede e n to) h = rw (verb_again verb.Cede, event_back e h.0, value_back n h.1, site_back to h.2) refl
+request_back (Cede e to n) h = rw (verb_again verb.Cede, event_back e h.0, value_back n h.1, site_back to h.2) refl
 
 rest_back : (number : Option ℕ) → IfSome number (λ n. n < 2 ^ 63) → rest_in (number_column number) ≡ Some number
 unfolding rest_in
@@ -81,7 +81,7 @@ asks (Announce e) = refl
 asks (Release e n) = refl
 asks (Sell e n) = refl
 asks (Refund sale part) = refl
-asks (Cede e n to) = refl
+asks (Cede e to n) = refl
 
 -- what was written for an entry is read as that entry
 pub entry_back : (at : ℕ) (entry : Entry) → IsStorable entry → entry_of (columns_of at entry) ≡ Some entry

@@ -97,10 +97,10 @@ named verb.Refund event amount target q e =
     let d = cond_is _ (Refund a.0 b.0) q b.2 in
     null_found event d.0 ∙ ap event_column d.1
 named verb.Cede event amount target q e =
-    let a = bind_some (event_in event) (λ x. value_in amount >>= λ n. site_in target >>= λ to. Some (Cede x n to)) q e in
-    let b = bind_some (value_in amount) (λ n. site_in target >>= λ to. Some (Cede a.0 n to)) q a.2 in
-    let d = bind_some (site_in target) (λ to. Some (Cede a.0 b.0 to)) q b.2 in
-    event_found event a.0 a.1 ∙ ap event_column (some_is (Cede a.0 b.0 d.0) q d.2)
+    let a = bind_some (event_in event) (λ x. value_in amount >>= λ n. site_in target >>= λ to. Some (Cede x to n)) q e in
+    let b = bind_some (value_in amount) (λ n. site_in target >>= λ to. Some (Cede a.0 to n)) q a.2 in
+    let d = bind_some (site_in target) (λ to. Some (Cede a.0 to b.0)) q b.2 in
+    event_found event a.0 a.1 ∙ ap event_column (some_is (Cede a.0 d.0 b.0) q d.2)
 
 event_is : (word event amount target : Value) (q : Request) → request_in word event amount target ≡ Some q → event ≡ event_column q
 unfolding request_in
@@ -189,7 +189,7 @@ names name (Announce event) = same_text event name
 names name (Release event amount) = same_text event name
 names name (Sell event amount) = same_text event name
 names name (Refund sale part) = no_number (Text name)
-names name (Cede event amount to) = same_text event name
+names name (Cede event to amount) = same_text event name
 
 -- ---- looking up a number
 

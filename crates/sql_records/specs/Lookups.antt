@@ -35,7 +35,7 @@ names_event name (Announce event) = same_event event name
 names_event name (Release event amount) = same_event event name
 names_event name (Sell event amount) = same_event event name
 names_event name (Refund sale part) = false
-names_event name (Cede event amount to) = same_event event name
+names_event name (Cede event to amount) = same_event event name
 
 abbrev pub listing : ℕ × Kept → Listed
 listing a = record { place = a.1.place; number = a.0; request = a.1.request; reply = a.1.reply }

@@ -38,7 +38,7 @@ event_column (Announce event) = Text event
 event_column (Release event amount) = Text event
 event_column (Sell event amount) = Text event
 event_column (Refund sale part) = Null
-event_column (Cede event amount to) = Text event
+event_column (Cede event to amount) = Text event
 
 -- a number, where there is one
 abbrev pub number_column : Option ℕ → Value
@@ -51,7 +51,7 @@ amount_column (Announce event) = Null
 amount_column (Release event amount) = Int (pos amount)
 amount_column (Sell event amount) = Int (pos amount)
 amount_column (Refund sale part) = number_column part
-amount_column (Cede event amount to) = Int (pos amount)
+amount_column (Cede event to amount) = Int (pos amount)
 
 -- the site that is ceded to, or the sale that is given back
 abbrev pub target_column : Request → Value
@@ -59,7 +59,7 @@ target_column (Announce event) = Null
 target_column (Release event amount) = Null
 target_column (Sell event amount) = Null
 target_column (Refund sale part) = Int (pos sale)
-target_column (Cede event amount to) = Int (pos to)
+target_column (Cede event to amount) = Int (pos to)
 
 -- the number of a reply, where it has one
 abbrev pub rest_column : Reply → Value
@@ -178,7 +178,7 @@ cede_of event amount target = do
   e ← event_in event
   n ← value_in amount
   to ← site_in target
-  Some (Cede e n to)
+  Some (Cede e to n)
 
 abbrev pub request_of : Verb → Value → Value → Value → Option Request
 request_of verb.Announce event amount target = announce_of event amount target

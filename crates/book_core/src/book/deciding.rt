@@ -151,8 +151,8 @@ impl Book {
     }
 
     fn cede(&self, event: Event, amount: Amount, to: SiteId) -> (Reply, Option<Item>)
-        ensures reply { result.0 ≡ reply_to self.now.office self.now.history (Cede event amount to) }
-        ensures item { state_of_item result.1 ≡ delta_for self.now.office self.now.history (Cede event amount to) result.0 }
+        ensures reply { result.0 ≡ reply_to self.now.office self.now.history (Cede event to amount) }
+        ensures item { state_of_item result.1 ≡ delta_for self.now.office self.now.history (Cede event to amount) result.0 }
         ensures idle { is_done result.0 ≡ false → result.1 ≡ None }
     {
         if !self.knows(event) {
