@@ -9,6 +9,7 @@ use Rattle.rights_lattice.specs.Cells.{value_at}
 use Rattle.rights_lattice.specs.RightsView.{IsCellOf}
 use Rattle.rights_lattice.proofs.CellLaws.{value_at-all_zero}
 use Rattle.book_core.specs.declared.entry.Entry.{Entry}
+use Rattle.book_core.specs.Decision.{sites_of}
 use Rattle.book_core.specs.History.{state_of}
 use Rattle.book_core.specs.Legal.{IsLegal}
 use Rattle.book_core.specs.BookView.{BookView}
@@ -74,21 +75,30 @@ no_more (x ∷ books) (suc k) l = no_more books k (omega (arith, l))
 abbrev pub limit_in : List BookView → ℕ → ℕ
 limit_in books k = get_or (map (λ book. book.office.limit) books) k 0
 
+-- the count of sites with which the history of the k-th book began
+abbrev pub first_count_in : List BookView → ℕ → ℕ
+first_count_in books k = get_or (map (λ book. book.office.sites) books) k 0
+
+first_count_there : (books : List BookView) (k : ℕ) (book : BookView) → slice_get books k ≡ Some book → first_count_in books k ≡ book.office.sites
+first_count_there [] k book found = cc
+first_count_there (x ∷ books) zero book found = let same : x ≡ book = cc in ap (λ (b : BookView). b.office.sites) same
+first_count_there (x ∷ books) (suc k) book found = first_count_there books k book found
+
 limit_there : (books : List BookView) (k : ℕ) (book : BookView) → slice_get books k ≡ Some book → limit_in books k ≡ book.office.limit
 limit_there [] k book found = cc
 limit_there (x ∷ books) zero book found = let same : x ≡ book = cc in ap (λ (b : BookView). b.office.limit) same
 limit_there (x ∷ books) (suc k) book found = limit_there books k book found
 
 -- each history is legal for the site of its place
-pub legal_in : (books : List BookView) → AreSites books → (k : ℕ) → IsLegal (office_of k (length books) (limit_in books k)) (history_in books k)
+pub legal_in : (books : List BookView) → AreSites books → (k : ℕ) → IsLegal (office_of k (first_count_in books k) (limit_in books k)) (history_in books k)
 legal_in books sites k = by_case (slice_get books k) refl
   where
-    by_case : (o : Option BookView) → slice_get books k ≡ o → IsLegal (office_of k (length books) (limit_in books k)) (history_in books k)
+    by_case : (o : Option BookView) → slice_get books k ≡ o → IsLegal (office_of k (first_count_in books k) (limit_in books k)) (history_in books k)
     by_case None none = λ j entry found. cc (ap (λ (h : List Entry). slice_get h j) (history_past books k none))
     by_case (Some book) found =
         let stands = sites.whole k book found in
-        let office_is : book.office ≡ office_of k (length books) (limit_in books k) =
-        λ i. record { me = stands.0 i; sites = stands.1 i; limit = sym (limit_there books k book found) i } in
+        let office_is : book.office ≡ office_of k (first_count_in books k) (limit_in books k) =
+        λ i. record { me = stands.site i; sites = sym (first_count_there books k book found) i; limit = sym (limit_there books k book found) i } in
         subst (λ o. IsLegal o (history_in books k)) office_is (subst (IsLegal book.office) (sym (history_there books k book found)) (sites.legal k book found))
 
 owner_below : (n : ℕ) (cell : Cell) → IsCellOf n cell → owner_of cell < n
@@ -108,14 +118,14 @@ views_below books sites none event i cell = by_viewer (slice_get books i) refl
     by_owner viewer found None past = elim (cases_lt 0 (value_at (state_of viewer.history).cells event cell)) [
       | inl some ↦
           let stands = sites.whole i viewer found in
-          let me : viewer.office.me < viewer.office.sites = omega (arith, stands.0, stands.1, place_below books i viewer found) in
-          absurd (omega (arith, past_end books (owner_of cell) past, stands.1, owner_below viewer.office.sites cell (legal_within viewer.office viewer.history me (sites.legal i viewer found) event cell (omega (arith, some)))))
+          let of = legal_within viewer.office viewer.history (sites.own i viewer found) (sites.legal i viewer found) event cell (omega (arith, some)) in
+          absurd (omega (arith, past_end books (owner_of cell) past, stands.count, owner_below (sites_of viewer.office viewer.history) cell of))
       | inr l ↦ omega (arith, l)
     ]
     by_owner viewer found (Some owner) there =
         let stands = sites.whole (owner_of cell) owner there in
         subst (λ (h : List Entry). value_at (state_of viewer.history).cells event cell ≤ value_at (state_of h).cells event cell) (sym (history_there books (owner_of cell) owner there))
-        (none i viewer found (owner_of cell) owner there event cell (sym stands.0))
+        (none i viewer found (owner_of cell) owner there event cell (sym stands.site))
 
     by_viewer : (o : Option BookView) → slice_get books i ≡ o → value_at (state_of (history_in books i)).cells event cell ≤ own
     by_viewer None past = omega (arith, ap (λ (h : List Entry). value_at (state_of h).cells event cell) (history_past books i past), value_at-all_zero event cell)
@@ -127,10 +137,10 @@ pub audited : (books : List BookView) → AreSites books → NoneIsAhead books �
 audited books sites none event =
     let n = length books in
     let legal = legal_in books sites in
-    let back = refunds_below n n (limit_in books) (history_in books) event legal in (
+    let back = refunds_below n (first_count_in books) (limit_in books) (history_in books) event legal in (
       omega (
         arith,
-        not_oversold (history_in books) (λ _. n) (limit_in books) n event sites.few (no_more books) legal (views_below books sites none event),
+        not_oversold (history_in books) (first_count_in books) (limit_in books) n event sites.few (no_more books) legal (views_below books sites none event),
       ),
       back,
     )

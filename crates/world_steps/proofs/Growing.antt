@@ -1,6 +1,6 @@
 -- A growth: the site that grew, and those that were added.
 use Rattle.std.proofs.Common.{◌≡◌, ℕ, ◌-◌, ◌<◌, ◌≤◌, Bool, true, false, cond, ◌&&◌, List, Option, Some, None, refl, sym, ap, ◌∙◌, subst, arith, length, get_or, set, le-leb, ltb-true, length-set, ◌++◌}
-use Rattle.std.specs.Prelude.{slice_get, nat_lt, nat_le, replicate, Result, Ok, Err}
+use Rattle.std.specs.Prelude.{nat_lt, nat_le, replicate, Result, Ok, Err}
 use Rattle.std.proofs.lemmas.Bool.{lt-ltb}
 use Rattle.std.proofs.lemmas.List.{set-append_left, set-set, get_or-set_same}
 use Rattle.rights_lattice.specs.Limits.{most_sites}
@@ -14,7 +14,7 @@ use Rattle.book_core.specs.Growing.{GrowDecision, grow_decision, grown_if, entry
 use Rattle.book_core.specs.Plans.{IsGrowFault, IsGrowPlan}
 use Rattle.site_exchange.specs.declared.message.Message.{Message}
 use Rattle.site_exchange.specs.Exchange.{Site}
-use Rattle.site_exchange.specs.Taking.{with_entry, restarted, stopped_with}
+use Rattle.site_exchange.specs.Taking.{with_entry, restarted}
 use Rattle.world_steps.specs.NodeView.{NodeView}
 use Rattle.world_steps.specs.declared.step.Input.TheVariants as input
 use Rattle.world_steps.specs.declared.step.Step.TheVariants.{Restart, Stop, Grow}
@@ -23,14 +23,14 @@ use Rattle.world_steps.specs.declared.step.Outcome.TheVariants as outcomes
 use Rattle.world_steps.specs.declared.step.WorldFault.{WorldFault}
 use Rattle.world_steps.specs.declared.step.WorldFault.TheVariants.{NoSite}
 use Rattle.world_steps.specs.Nodes.{site_of, limit_of, AreAdded}
-use Rattle.world_steps.specs.Outcomes.{outcome, grown_as, MayGrow}
+use Rattle.world_steps.specs.Outcomes.{outcome, grown_as}
 use Rattle.world_steps.specs.Reaching.{world_of, IsKept}
-use Rattle.world_steps.specs.World.{World, count, no_site, site_at, history_at, office_at, at_site, widened, widened_by, entered, entry_if_stored, grows, stopped_in, after, IsReached}
+use Rattle.world_steps.specs.World.{World, count, no_site, site_at, history_at, office_at, at_site, widened, widened_by, entered, grows, stopped_in, after, IsReached}
 use Rattle.world_steps.proofs.Making.{IsGiven}
 use Rattle.world_steps.proofs.Reached.{reached_after}
 use Rattle.world_steps.proofs.Sites.{IsMade, at_place, found_at, kept_same, same_world, made_at, kept_places, places_added, world_set, world_added, limit_found}
 use Rattle.world_steps.proofs.Widening.{more_by}
-use Rattle.world_steps.proofs.Worlds.{site_kept, site_same}
+use Rattle.world_steps.proofs.Worlds.{site_same}
 
 -- the same world, of sites that may have other room
 pub record IsStill (nodes : List NodeView) (sent : List Message) (now : List NodeView) : Type 0 where

@@ -1,6 +1,6 @@
 -- The sites of the program as a world: one of them changes, and messages are put behind those that were sent.
 use Rattle.std.proofs.lemmas.Option.{slice_get_read}
-use Rattle.std.proofs.Common.{◌≡◌, ℕ, zero, suc, ◌-◌, ◌<◌, ◌≤◌, List, [], ◌∷◌, ◌++◌, Some, refl, sym, ap, ◌∙◌, subst, arith, length, get_or, set, length-set, map, inl, inr}
+use Rattle.std.proofs.Common.{◌≡◌, ℕ, zero, suc, ◌-◌, ◌<◌, ◌≤◌, List, [], ◌∷◌, ◌++◌, Some, refl, sym, ap, ◌∙◌, subst, arith, length, get_or, set, map, inl, inr}
 use Rattle.std.specs.Prelude.{slice_get, replicate}
 use Rattle.std.proofs.lemmas.List.{length-replicate, map-append, set-get_or}
 use Rattle.rights_lattice.specs.Sums.{max_sites}
@@ -11,7 +11,7 @@ use Rattle.world_steps.specs.NodeView.{NodeView}
 use Rattle.world_steps.specs.declared.step.Step.{Step}
 use Rattle.world_steps.specs.Nodes.{site_of, limit_of, first_count_of, AreAdded}
 use Rattle.world_steps.specs.Reaching.{world_of, IsKept}
-use Rattle.world_steps.specs.World.{World, opening, count, no_site, site_at, history_at, office_at, at_site, widened, after, IsReached}
+use Rattle.world_steps.specs.World.{opening, count, no_site, site_at, history_at, office_at, at_site, widened, after, IsReached}
 use Rattle.world_steps.proofs.FlatList.{get_append}
 use Rattle.world_steps.proofs.Reached.{reached_after}
 use Rattle.world_steps.proofs.Worlds.{site_kept}

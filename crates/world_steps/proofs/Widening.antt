@@ -1,11 +1,9 @@
 -- Sites that are added leave what holds of a world, and so does an entry with the sites that it adds.
-use Rattle.std.proofs.Common.{◌≡◌, ◌≢◌, inl, inr, ℕ, zero, suc, ◌+◌, ◌-◌, ◌≤◌, ◌<◌, Bool, true, false, cond, List, [], ◌∷◌, ◌++◌, Option, Some, None, refl, sym, ap, ◌∙◌, subst, arith, take, length, get_or, replicate, length-append, length-set}
+use Rattle.std.proofs.Common.{◌≡◌, inl, inr, ℕ, zero, suc, ◌+◌, ◌-◌, ◌≤◌, ◌<◌, Bool, true, false, List, [], ◌∷◌, ◌++◌, Option, Some, None, refl, sym, ap, ◌∙◌, subst, arith, take, get_or, replicate, length-append, length-set}
 use Rattle.std.specs.Prelude.{slice_get}
 use Rattle.std.proofs.lemmas.Bool.{cases_lt}
 use Rattle.std.proofs.lemmas.List.{append-nil, length-replicate, get_or_append_left, get_or-append_right, get_or-replicate, get_or_past}
-use Rattle.rights_lattice.specs.Limits.{most_sites}
 use Rattle.rights_lattice.specs.Sums.{max_sites}
-use Rattle.rights_lattice.specs.State.{State}
 use Rattle.request_ledger.specs.declared.request.Request.{Request}
 use Rattle.book_core.specs.declared.entry.Entry.{Entry}
 use Rattle.book_core.specs.declared.entry.Entry.TheVariants.{Asked, Joined, Grown}
@@ -21,7 +19,7 @@ use Rattle.site_exchange.specs.Exchange.{Site, Verdict, verdict, entry_of_take}
 use Rattle.site_exchange.specs.Taking.{extended}
 use Rattle.world_steps.specs.declared.step.Input.{Input}
 use Rattle.world_steps.specs.declared.step.Input.TheVariants as input
-use Rattle.world_steps.specs.World.{World, count, no_site, site_at, history_at, office_at, count_at, at_site, widened, widened_by, entered, entry_if_sent, entry_if_stored, entry_of_input, IsGrowth}
+use Rattle.world_steps.specs.World.{World, count, no_site, site_at, history_at, office_at, count_at, widened, widened_by, entered, entry_if_sent, entry_if_stored, entry_of_input, IsGrowth}
 use Rattle.world_steps.proofs.Worlds.{Grows, IsAcked, Sound, HasVersion, MayFollow, GoesOn, acked_grows, version_grows, sound_grows, goes_on, sound_site}
 
 -- ---- more sites

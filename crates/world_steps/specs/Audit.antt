@@ -19,8 +19,9 @@ abbrev pub history_in : List BookView → ℕ → List Entry
 history_in books k = get_or (map (λ book. book.history) books) k []
 
 -- the book is of site k, and counts no more sites than these so far
-abbrev pub StandsAt : ℕ → ℕ → BookView → Type 0
-StandsAt k sites book = (book.office.me ≡ k) × (sites_of book.office book.history ≤ sites)
+pub record StandsAt (k sites : ℕ) (book : BookView) : Type 0 where
+  pub site : book.office.me ≡ k
+  pub count : sites_of book.office book.history ≤ sites
 
 -- the k-th book is of site k, and counts no more sites than there are books
 abbrev pub IsWhole : List BookView → Type 0

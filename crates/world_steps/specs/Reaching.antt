@@ -1,5 +1,5 @@
 -- What a world of the program keeps.
-use Rattle.std.specs.Prelude.{◌≡◌, ℕ, ◌+◌, ◌≤◌, List, map, length, Some, slice_get}
+use Rattle.std.specs.Prelude.{◌≡◌, ℕ, ◌+◌, ◌≤◌, List, map, Some, slice_get}
 use Rattle.rights_lattice.specs.declared.cell.Cell.TheVariants.{Gave, Used, Back}
 use Rattle.rights_lattice.specs.Cells.{Cells, value_at}
 use Rattle.rights_lattice.specs.State.{Names, join_names, names_in_order}

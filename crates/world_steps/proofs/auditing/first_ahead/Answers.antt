@@ -10,7 +10,7 @@ returns-in-Some-clause-found c =
     let i = c.loop-viewer.viewer-index in
     let viewer = c.viewer-item.result.now in
     let found : slice_get (books_of books) i ≡ Some viewer = found_view books i c.viewer-item.result c.loop-viewer-test.true c.viewer-item.is in
-    let here : i ≡ c.me.result = sym (c.requires.whole i viewer found).0 ∙ sym c.me.ensures.me in
+    let here : i ≡ c.me.result = sym (c.requires.whole i viewer found).site ∙ sym c.me.ensures.me in
     subst (λ v. IsFirstAhead (books_of books) v c.in-Some.owner) here (record {
       viewer = viewer;
       there = found;

@@ -11,7 +11,7 @@ returns-then-not-sees_within-clause-found c =
     let i = c.loop-owner.owner-index in
     let owner = c.owner-item.result.now in
     let found : slice_get (books_of books) i ≡ Some owner = found_view books i c.owner-item.result c.loop-owner-test.true c.owner-item.is in
-    let here : i ≡ c.me.result = sym (c.requires.whole i owner found).0 ∙ sym c.me.ensures.me in
+    let here : i ≡ c.me.result = sym (c.requires.whole i owner found).site ∙ sym c.me.ensures.me in
     subst (IsFirstPassed (books_of books) c.args.viewer.now) here (record {
       owner = owner;
       there = found;

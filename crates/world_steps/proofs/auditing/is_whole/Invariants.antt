@@ -1,4 +1,4 @@
-use Rattle.std.proofs.Common.{◌≡◌, ◌≤◌, ◌<◌, ℕ, length}
+use Rattle.std.proofs.Common.{◌≤◌, ◌<◌, ◌≡◌, ℕ, length}
 use Rattle.std.specs.Prelude.{Some, slice_get}
 use Rattle.rights_lattice.specs.Sums.{max_sites}
 use Rattle.book_core.specs.Legal.{IsLegal}
@@ -8,6 +8,6 @@ use Rattle.world_steps.proofs.auditing.is_whole.Given as goal
 
 abbrev pub invariant-loop-place : goal.invariant-loop-place
 invariant-loop-place l = record {
-  stand : (k : ℕ) (book : BookView) → k < l.place → slice_get (books_of l.books) k ≡ Some book → StandsAt k (length l.books) book × IsLegal book.office book.history;
-  few : 1 ≤ l.place → length l.books ≤ max_sites;
+  stand : (k : ℕ) (book : BookView) → k < l.place → slice_get (books_of l.books) k ≡ Some book → StandsAt k (length l.books) book × (book.office.me < book.office.sites) × IsLegal book.office book.history;
+  few : l.place ≤ max_sites;
 }

@@ -2,7 +2,7 @@ use Rattle.std.proofs.Common.{◌≡◌, ◌+◌, ◌*◌, length, sym, subst, a
 use Rattle.std.specs.Prelude.{Some, slice_get}
 use Rattle.rights_lattice.specs.Cells.{max_value}
 use Rattle.world_steps.specs.Audit.{books_of, history_in}
-use Rattle.world_steps.proofs.Audits.{found_view, history_there, legal_in, length-views, limit_in}
+use Rattle.world_steps.proofs.Audits.{found_view, first_count_in, history_there, legal_in, length-views, limit_in}
 use Rattle.world_steps.proofs.Totals.{AreOwn, own_none, own_all_more, own_fits, one_more, own_totals}
 use Rattle.world_steps.proofs.auditing.totals.Goals as goal
 
@@ -20,7 +20,7 @@ loop-book-preserved c =
     let found : slice_get (books_of books) i ≡ Some book.now = found_view books i book c.loop-book-test.true c.book-item.is in
     record {
       own = subst (AreOwn (i + 1) (history_in (books_of books)) c.args.event) (sym c.with_own-totals.ensures.sums)
-          (own_all_more (history_in (books_of books)) c.args.event i book.now c.loop-book.totals (c.requires.sites.whole i book.now found).0
+          (own_all_more (history_in (books_of books)) c.args.event i book.now c.loop-book.totals (c.requires.sites.whole i book.now found).site
           (history_there (books_of books) i book.now found) c.loop-book.invariant.own);
       bound = one_more i c.with_own-totals.result (c.with_own-totals.ensures.bound (max_value * i) c.loop-book.invariant.bound);
     }
@@ -36,5 +36,5 @@ returns c =
     let books = c.args.books.now in
     let n = length (books_of books) in
     let all : c.loop-book.book-index ≡ n = omega (arith, c.loop-book.auto.book-index-end, c.loop-book-test.false, length-views books) in
-    own_totals n c.loop-book.book-index (history_in (books_of books)) (λ _. n) (limit_in (books_of books)) c.args.event c.loop-book.totals
+    own_totals n c.loop-book.book-index (history_in (books_of books)) (first_count_in (books_of books)) (limit_in (books_of books)) c.args.event c.loop-book.totals
     (legal_in (books_of books) c.requires.sites) all c.loop-book.invariant.own

@@ -1,8 +1,7 @@
-use Rattle.std.proofs.Common.{◌≡◌, ◌<◌, ◌+◌, arith, ap, ◌∙◌, sym, subst}
-use Rattle.std.specs.Prelude.{vec_capacity}
+use Rattle.std.proofs.Common.{◌≡◌, ◌<◌, arith, ◌∙◌}
 use Rattle.world_steps.specs.NodeView.{NodeView}
 use Rattle.world_steps.specs.Nodes.{IsOpened}
-use Rattle.world_steps.proofs.Added.{none_added, one_added, all_added}
+use Rattle.world_steps.proofs.Added.{one_added}
 use Rattle.world_steps.proofs.node.add_sites.Goals as goal
 
 pub loop-number-preserved : goal.loop-number-preserved

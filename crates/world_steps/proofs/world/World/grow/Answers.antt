@@ -1,7 +1,6 @@
 use Rattle.std.proofs.Common.{◌≡◌, ℕ, ◌≤◌, List, rules, sym, ap, ◌∙◌, subst, arith}
-use Rattle.std.specs.Prelude.{Some, Ok, OnErr, slice_get, slice_set}
+use Rattle.std.specs.Prelude.{Ok, slice_set}
 use Rattle.rights_lattice.specs.Limits.{most_sites}
-use Rattle.book_core.specs.declared.plan.GrowFault.TheVariants.{Memory}
 use Rattle.book_core.specs.BookView.{BookView}
 use Rattle.world_steps.specs.NodeView.{NodeView}
 use Rattle.world_steps.specs.declared.step.Step.TheVariants.{Grow}

@@ -1,6 +1,6 @@
 use Rattle.std.proofs.Common.{subst}
 use Rattle.world_steps.specs.World.{IsReached}
-use Rattle.world_steps.specs.declared.step.Step.TheVariants.{Ask, Send, Deliver, Restart, Stop}
+use Rattle.world_steps.specs.declared.step.Step.TheVariants.{Ask, Send, Deliver, Restart, Stop, Grow}
 use Rattle.world_steps.proofs.Promised.{promises_after}
 use Rattle.world_steps.proofs.world.World.step.Goals as goal
 
@@ -18,3 +18,6 @@ returns-in-Restart-clause-promises c = promises_after c.args.self.now c.restart.
 
 pub returns-in-Stop-clause-promises : goal.returns-in-Stop-clause-promises
 returns-in-Stop-clause-promises c = promises_after c.args.self.now c.stop.new.self (Stop c.in-Stop.site c.in-Stop.input c.in-Stop.stored) c.stop.result (subst IsReached c.self.view_is c.self.invariant.reached) c.stop.ensures.made c.stop.ensures.unchanged
+
+pub returns-in-Grow-clause-promises : goal.returns-in-Grow-clause-promises
+returns-in-Grow-clause-promises c = promises_after c.args.self.now c.grow.new.self (Grow c.in-Grow.site c.in-Grow.sites) c.grow.result (subst IsReached c.self.view_is c.self.invariant.reached) c.grow.ensures.made c.grow.ensures.unchanged

@@ -2,7 +2,6 @@ use Rattle.std.proofs.Common.{◌≡◌, ◌+◌, ◌*◌, ◌≤◌, List, arit
 use Rattle.std.specs.Prelude.{slice_get, Some}
 use Rattle.rights_lattice.specs.Cells.{max_value}
 use Rattle.rights_lattice.specs.Sums.{max_sites}
-use Rattle.book_core.specs.Decision.{Office}
 use Rattle.book_core.specs.BookView.{BookView}
 use Rattle.world_steps.specs.NodeView.{NodeView}
 use Rattle.world_steps.specs.Reaching.{world_of}
@@ -28,7 +27,7 @@ loop-node-preserved c =
     let found : slice_get c.self.inside.sites.items i ≡ Some node =
     subst (λ (nodes : List NodeView). slice_get nodes i ≡ Some node) c.deref-node-items.ensures.value
     (found_at c.deref-node-items.result.now i node c.loop-node-test.true c.node-item.is) in
-    let here : book.office.me ≡ i = ap (λ (b : BookView). b.office.me) c.book.ensures ∙ ap (λ (o : Office). o.me) (c.self.invariant.offices i node found) in
+    let here : book.office.me ≡ i = ap (λ (b : BookView). b.office.me) c.book.ensures ∙ c.self.invariant.places i node found in
     let is : history_at c.args.self.now i ≡ book.history =
     ap (λ (w : World). history_at w i) (sym c.self.view_is)
     ∙ history_found c.self.inside.sites.items c.self.inside.sent.items i node found
@@ -60,7 +59,7 @@ returns-clause-totals c =
       length-sites c.self.inside.sites.items,
       ap count c.self.view_is,
     ) in
-    own_totals (count w) c.loop-node.node-index (history_at w) (λ _. count w) (λ i. get_or w.limits i 0) c.args.event c.loop-node.totals sound.legal all c.loop-node.invariant.own
+    own_totals (count w) c.loop-node.node-index (history_at w) (λ i. get_or w.counts i 0) (λ i. get_or w.limits i 0) c.args.event c.loop-node.totals sound.legal all c.loop-node.invariant.own
 
 promises : (c : goal.After-loop-node) → HoldsPromises c.args.self.now
 promises c = subst HoldsPromises c.self.view_is (promises_hold (world_of c.self.inside.sites.items c.self.inside.sent.items) c.self.invariant.reached)
