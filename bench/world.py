@@ -32,8 +32,8 @@ def one_site(events):
     return write
 
 
-def sites_of(sites, events):
-    """Sales of so many events at so many sites, with a message and its acknowledgement after every fifty."""
+def sites_of(sites, events, sends=True):
+    """Sales of so many events at so many sites, with a message and its acknowledgement after every fifty, or with none."""
     def write(sales, out):
         chance = random.Random(7)
         out.write('sites %d\n' % sites)
@@ -50,7 +50,7 @@ def sites_of(sites, events):
         for k in range(sales):
             number += 1
             out.write('%d sell %d ev%d 1\n' % (chance.randrange(sites), number, chance.randrange(events)))
-            if k % 50 == 49:
+            if sends and k % 50 == 49:
                 by = chance.randrange(sites)
                 to = (by + 1 + chance.randrange(sites - 1)) % sites
                 out.write('send %d %d\ndeliver %d\ndeliver %d\n' % (by, to, message, message + 1))
@@ -81,6 +81,9 @@ def main(words):
         ('four sites', sites_of(4, 20), 20000),
         ('four sites', sites_of(4, 20), 200000),
         ('sixteen sites, 100 events', sites_of(16, 100), 20000),
+        ('four sites, 100 events, sales alone', sites_of(4, 100, False), 200000),
+        ('sixty-four sites, 100 events, sales alone', sites_of(64, 100, False), 200000),
+        ('sixty-four sites, 100 events', sites_of(64, 100), 20000),
     ]
     with tempfile.TemporaryDirectory() as folder:
         plain = os.path.join(folder, 'plain_world')
