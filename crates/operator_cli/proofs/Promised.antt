@@ -1,10 +1,10 @@
 -- What a script prints is of a world that its steps lead to.
-use Rattle.std.proofs.Common.{◌≡◌, ℕ, ◌≤◌, List, [], ◌∷◌, ◌++◌, Option, Some, None, refl, sym, ◌∙◌, subst, arith}
+use Rattle.std.proofs.Common.{◌≡◌, ℕ, ◌≤◌, List, [], ◌∷◌, ◌++◌, length, Option, Some, None, refl, sym, ◌∙◌, subst, arith}
 use Rattle.world_steps.specs.declared.step.Step.{Step}
 use Rattle.world_steps.specs.World.{World, opening, run, reached, totals_of, count}
 use Rattle.rights_lattice.specs.Sums.{max_sites}
 use Rattle.world_steps.proofs.Promised as promised
-use Rattle.world_steps.proofs.Reached.{count_reached, sound_reached}
+use Rattle.world_steps.proofs.Reached.{few_reached, sound_reached}
 use Rattle.desk_lines.specs.declared.script_line.ScriptLine.{ScriptLine}
 use Rattle.desk_lines.specs.declared.script_line.ScriptLine.TheVariants.{Make, Left, Totals}
 use Rattle.desk_lines.specs.Grammar.{IsSites}
@@ -45,6 +45,6 @@ totals_are_not_oversold sites lines event h =
     let limits = replicate sites w.0 in
     let steps = steps_of (opened sites lines).1 in
     let sound = sound_reached limits steps in
-    let few : count (reached limits steps) ≤ max_sites = fits sites (count (reached limits steps)) h (count_reached limits steps ∙ length-replicate sites w.0) in
+    let few : count (reached limits steps) ≤ max_sites = few_reached limits steps (fits sites (length limits) h (length-replicate sites w.0)) in
     subst (λ (v : World). IsNotOversold (totals_of v event)) (sym w.1)
     (promised.refunds_within_sales (reached limits steps) sound event, omega (arith, promised.never_oversold (reached limits steps) sound few event))

@@ -82,8 +82,8 @@ fn audit_all<K: Keeper, W: Write>(
 
 /// Prints a line for each event that a site knows, rising, with what all sites released, sold and took back of it.
 ///
-/// The k-th book is that of site k: `not-whole` where a book is of another site or counts another number of sites than
-/// there are books, and `ahead VIEWER OWNER` where a site shows more of another's row than that site does, with status 1.
+/// The k-th book is that of site k: `not-whole` where a book is of another site or counts more sites than there are
+/// books, and `ahead VIEWER OWNER` where a site shows more of another's row than that site does, with status 1.
 /// Whatever messages the sites took, no more is outstanding than was released where the status is 0. Want of memory and
 /// a writer that fails are told on `err`, with status 3: nothing was printed at the first, and a front of it at the other.
 /// No book changes.
@@ -123,7 +123,7 @@ fn refused_parts<K: Keeper, W: Write>(
 
 /// Prints `not-whole`, with status 1, where the books are not those of all sites, and nothing where they are.
 ///
-/// They are where the k-th is that of site k, and counts as many sites as there are books. Want of memory and a writer that
+/// They are where the k-th is that of site k, and counts no more sites than there are books. Want of memory and a writer that
 /// fails are told on `err`, with status 3.
 pub fn refuse_parts<K: Keeper, W: Write, E: Write>(
     alloc: Global,

@@ -13,3 +13,9 @@ returns-clause-fault g c =
     λ whole. (let holds = c.is_whole.ensures.whole.1 (subst IsWhole (sym (ap books_of c.as_slice.ensures.value ∙ c.in-Ok.ensures)) whole) in let fails = c.if-is_whole.false in search rules) in
     unprinted_write (IsPartsText (map (λ site. site.book) c.args.sites.now)) (g.W.Write.contents c.args.out.now) (g.W.Write.contents c.tell.new.out) c.tell.result Refused (told_line NotWhole)
     (unwhole, refl) c.tell.ensures.fault c.tell.ensures.written
+
+pub returns-then-is_whole-clause-whole : goal.returns-then-is_whole-clause-whole
+returns-then-is_whole-clause-whole g c = ?
+
+pub returns-clause-out : goal.returns-clause-out
+returns-clause-out g c = ?

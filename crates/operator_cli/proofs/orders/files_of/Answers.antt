@@ -35,11 +35,14 @@ returns-in_err-words c =
     let none : None ≡ files_in c.args.most (rows_of (found_of c.args.values.now)) = from c.args.most (rows_of (found_of c.args.values.now)) None c.in_err-words.ensures in
     rw c.from_residual.ensures none
 
-pub returns-then-len-gt-most : goal.returns-then-len-gt-most
-returns-then-len-gt-most c = ?
+pub returns-then-words-most : goal.returns-then-words-most
+returns-then-words-most c =
+    many c.args.most c.in_ok-words.words.now c.if-words-most.true ∙ from c.args.most (rows_of (found_of c.args.values.now)) (Some (texts c.in_ok-words.words.now)) c.in_ok-words.ensures
 
 pub returns-in-Ok : goal.returns-in-Ok
-returns-in-Ok c = ?
+returns-in-Ok c =
+    let words = c.in_ok-words.words.now in
+    ap (λ (xs : List (Bor Text)). Some (texts xs)) c.in-Ok.ensures.0 ∙ few c.args.most words c.if-words-most.false ∙ from c.args.most (rows_of (found_of c.args.values.now)) (Some (texts words)) c.in_ok-words.ensures
 
 pub returns-in-Err : goal.returns-in-Err
-returns-in-Err c = ?
+returns-in-Err c = absurd (omega (arith, c.in-Err.ensures, c.if-words-most.false, c.requires))
