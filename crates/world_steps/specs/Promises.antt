@@ -14,7 +14,8 @@ use Rattle.site_exchange.specs.declared.message.Message.TheVariants.{Delta, Ack}
 use Rattle.world_steps.specs.declared.step.Step.{Step}
 use Rattle.world_steps.specs.World.{World, count, history_at, site_at, state_at, reached, all_operations}
 
--- Over every list of requests, messages lost, repeated or reordered, stops and restarts, of sites with any limits.
+-- Over every list of requests, messages lost, repeated or reordered, growths, stops and restarts, of sites with any
+-- limits.
 abbrev pub Always : (World → Type 0) → Type 0
 Always Holds = (limits : List ℕ) (steps : List Step) → Holds (reached limits steps)
 

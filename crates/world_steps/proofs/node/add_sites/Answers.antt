@@ -1,4 +1,4 @@
-use Rattle.std.proofs.Common.{◌≡◌, ◌<◌, arith, ◌∙◌}
+use Rattle.std.proofs.Common.{◌≡◌, ◌<◌, rules, arith, ◌∙◌}
 use Rattle.world_steps.specs.NodeView.{NodeView}
 use Rattle.world_steps.specs.Nodes.{IsOpened}
 use Rattle.world_steps.proofs.Added.{one_added}
@@ -13,7 +13,7 @@ loop-number-preserved c =
       history = c.new.ensures.history;
       acked = c.new.ensures.acked;
     } in
-    let below : c.loop-number.number < c.args.sites = omega (arith, c.loop-number-test.true, c.count-number-end.ensures.count) in
+    let below : c.loop-number.number < c.args.sites = search rules in
     record {
       added = one_added c.args.sites c.args.limit c.args.nodes.now.items c.loop-number.nodes.items c.push_reserved.new.self.items c.loop-number.number node
           c.loop-number.invariant.added below c.push_reserved.ensures.items opened;
