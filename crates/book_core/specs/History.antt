@@ -1,4 +1,5 @@
--- A history: its state and its intervals (RR-7506, JPDC 2018), what it keeps under each number, and its names (our own).
+-- A history: its state and its intervals (RR-7506, JPDC 2018), what it keeps under each number, the count of sites, and
+-- its names (our own).
 use Rattle.std.specs.Prelude.{ℕ, ◌+◌, ◌-◌, Option, List, [], ◌∷◌, take, drop}
 use Rattle.std.specs.List.{fold}
 use Rattle.rights_lattice.specs.State.{State, bottom, join, names_in_order}

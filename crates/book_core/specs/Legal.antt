@@ -18,7 +18,7 @@ pub record IsNextAsked (office : Office) (h : List Entry) (number : ℕ) (reques
   pub answer : reply ≡ reply_to office h request
   pub change : delta ≡ delta_for office h request reply
 
--- a peer's delta within the limit, of the book's sites, with nothing new on the own row and something new elsewhere
+-- a peer's delta within the limit, of the sites counted so far, with nothing new on the own row and something new elsewhere
 pub record IsNextJoined (office : Office) (h : List Entry) (peer : ℕ) (delta : State) : Type 0 where
   pub room : length h < office.limit
   pub from_peer : IsPeer (office_after office h) peer

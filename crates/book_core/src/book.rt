@@ -1,10 +1,11 @@
 //! The book of a site.
-ghost use Rattle.std.specs.Prelude.{vec_len, vec_capacity, nat_le, IsTrue, ◌↔◌, IsOk, IfOk, IfErr, OnOk, ◌++◌, ◌∷◌, ◌≡◌, ℕ, ◌<◌, ◌≤◌, [], ◌+◌, length, slice_get, Some, None};
+ghost use Rattle.std.specs.Prelude.{IsSome, IfSome, pos, vec_len, vec_capacity, nat_le, IsTrue, ◌↔◌, IsOk, IfOk, IfErr, OnOk, ◌++◌, ◌∷◌, ◌≡◌, ℕ, ◌<◌, ◌≤◌, [], ◌+◌, length, slice_get, Some, None};
 ghost use Rattle.std.specs.Option.{option_copied};
 ghost use Rattle.rights_lattice.specs.Cells.{value_at, raise_all, max_value};
 ghost use Rattle.rights_lattice.specs.State.{knows};
+ghost use Rattle.rights_lattice.specs.RightsView.{IsWithin};
 ghost use Rattle.local_rights.specs.OpenSeats.{view_in};
-ghost use Rattle.local_rights.specs.Rights.{HasRights};
+ghost use Rattle.local_rights.specs.Rights.{HasRights, IsPosition, paper_value};
 ghost use Rattle.request_ledger.specs.Ledger.{kept_under, IsRefundable};
 ghost use Rattle.book_core.specs.History.{state_of, kept, sale_of, names_of, asked_from, sites_after};
 ghost use Rattle.book_core.specs.Decision.{own_left, sites_of};
@@ -92,7 +93,9 @@ impl Book {
 
     /// The count of sites so far: that of the last growth, or that with which the history began.
     pub fn sites(&self) -> Sites
-        ensures { result ≡ sites_of self.now.office self.now.history }
+        ensures sites { result ≡ sites_of self.now.office self.now.history }
+        ensures no_fewer { self.now.office.sites ≤ result }
+        ensures within { IsWithin result (state_of self.now.history).cells }
     {
         self.rights.rights().sites()
     }
@@ -159,7 +162,9 @@ impl Book {
 
     /// What all sites released, sold and took back of an event, and the seats that are open, by this site's view.
     pub fn totals(&self, event: Event) -> ViewTotals
-        ensures { result ≡ view_in (state_of self.now.history).cells event }
+        ensures view { result ≡ view_in (state_of self.now.history).cells event }
+        ensures position { IsSome result.open_seats ↔ IsPosition (state_of self.now.history).cells event }
+        ensures value { IfSome result.open_seats (λ seats. pos seats ≡ paper_value (state_of self.now.history).cells event) }
     {
         let view = self.rights.rights();
         let sums = totals(view, event);
@@ -257,7 +262,7 @@ fn raise_marks(rights: &mut Counted, marks: &[Mark])
     }
 }
 
-// Keeps the number of an asked entry; a joined one has none.
+// Keeps the number of an asked entry; the others have none.
 fn keep(ledger: &mut Ledger, place: usize, entry: &Entry)
     requires new { IsUnkept ledger.old.entries entry.now }
     requires refund { KeepsRefunds ledger.old.entries entry.now }

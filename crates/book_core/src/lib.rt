@@ -1,4 +1,4 @@
-//! The book of one site: its history, the decisions on requests, and what peers' deltas lead to.
+//! The book of one site: its history, the decisions on requests, and what peers' deltas and greater counts of sites lead to.
 #![tactic(auto)]
 
 pub mod book;

@@ -1,4 +1,4 @@
-//! What a request or a peer's delta leads to, before it is entered.
+//! What a request, a peer's delta or a count of sites leads to, before it is entered.
 ghost use Rattle.std.specs.Prelude.{◌≡◌};
 ghost use Rattle.book_core.specs.Plans.{HasReply, IsAsked};
 

@@ -1,10 +1,12 @@
 // What asking, joining and replaying answer, with ample memory; the expected values are worked out by hand.
 use crate::values::{book_of, event, gave, join, mark, number, seats, site};
-use book_core::{Book, Entry, JoinDecision, JoinFault, Limit, Plan, PlanFault, ReplayFault};
+use book_core::{
+    Book, Entry, GrowFault, JoinDecision, JoinFault, Limit, Plan, PlanFault, ReplayFault,
+};
 use delta_mutators::{Delta, Item, announce};
 use local_rights::ViewTotals;
 use request_ledger::{Kept, Reply, Request, RequestNumber, SaleState};
-use rights_lattice::{Event, Mark};
+use rights_lattice::{Event, Mark, Sites};
 use std::alloc::Global;
 use std::process::Abort;
 
@@ -482,4 +484,37 @@ fn fault_of_forged_entry(rt: &impl Abort, alloc: Global, place: usize) -> Option
 fn forged_entry_is_named(rt: HostRuntime) {
     let fault = fault_of_forged_entry(&rt, rt.alloc(), 3);
     assert!(rt; fault == Some(ReplayFault::IllegalAt { place: 3 }));
+}
+
+// The first of two sites once it has grown to 21, and what growing so far again leads to.
+fn grown_book(rt: &impl Abort, alloc: Global) -> (Book, Option<GrowFault>) {
+    let gala = event(rt, b"gala");
+    let sites = Sites::of(21).expect(rt, "a count of sites");
+    let mut book = book_of(rt, alloc, 0, 2, 1000);
+    let before = [
+        (1, Said::Announce(gala), Ok(Reply::Done)),
+        (2, Said::Release(gala, 10), Ok(Reply::Done)),
+        (3, Said::Cede(gala, 4, 20), Ok(Reply::NoSite)),
+    ];
+    ask_each(rt, alloc, &mut book, &before);
+    match book.plan_grow(alloc, sites) {
+        Ok(planned) => book.enter(planned),
+        Err(_) => panic!(rt; "more sites"),
+    }
+    let again = book.plan_grow(alloc, sites).err();
+    (book, again)
+}
+
+#[test]
+fn book_counts_more_sites(rt: HostRuntime) {
+    let gala = event(&rt, b"gala");
+    let (mut book, again) = grown_book(&rt, rt.alloc());
+    assert!(rt; again == Some(GrowFault::NotMore));
+    let behind = [
+        (3, Said::Cede(gala, 4, 20), Ok(Reply::NoSite)),
+        (4, Said::Cede(gala, 4, 20), Ok(Reply::Done)),
+        (5, Said::Sell(gala, 7), Ok(Reply::Short { left: 6 })),
+    ];
+    ask_each(&rt, rt.alloc(), &mut book, &behind);
+    assert!(rt; (book.sites().count(), book.len()) == (21, 6));
 }

@@ -1,4 +1,4 @@
-//! Tests of the crates below the records: each public call with ample memory, at values that are worked out by hand.
+//! Tests of the crates below the records with ample memory, at values that are worked out by hand.
 #![tactic(auto)]
 
 #[cfg(test)]

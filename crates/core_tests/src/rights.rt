@@ -1,4 +1,4 @@
-use local_rights::{Totals, left, paper_value, totals};
+use local_rights::{Totals, left, open_seats, paper_value, totals};
 use rights_lattice::{Cell, Event, Mark, Rights, Sites};
 
 // The first site released 100 seats and ceded 30 of them; the second sold 25 and took 2 back.
@@ -47,6 +47,13 @@ fn cession_reaches_the_other_site(rt: HostRuntime) {
     };
     assert!(rt; totals(&rights, event) == want);
     assert!(rt; paper_value(&rights, event) == 77);
+    assert!(rt; open_seats(&rights, event) == Some(77));
+    rights.raise(Mark {
+        event,
+        cell: Cell::Used { by: taker },
+        value: 33,
+    });
+    assert!(rt; open_seats(&rights, event).is_none());
 }
 
 // The cells of the seller after five seats were released, sold, given back and sold again.

@@ -3,7 +3,8 @@
 ghost use Rattle.std.specs.Prelude.{◌≡◌, IfOk, false, codes};
 ghost use Rattle.clap.specs.Words.{app_of, new_app, rule_of};
 ghost use Rattle.clap.specs.declared.builder.command.Command.TheViews.{out-Command as fields_of};
-ghost use Rattle.operator_cli.specs.Orders.{operand, boxoffice, init_app, migrate_app, grow_app, ask_app, find_app, list_app, export_app, import_app, audit_app, serve_app, operands};
+ghost use Rattle.operator_cli.specs.Orders.{operand, boxoffice, init_app, migrate_app, grow_app, ask_app, find_app, list_app, export_app, import_app, audit_app, serve_app, most_desks, operands};
+ghost use Rattle.rights_lattice.specs.Limits.{most_sites};
 
 use crate::orders::{MOST_DESKS, MOST_FILES};
 use clap::{Arg, Command};
@@ -30,11 +31,19 @@ fn file<'a>(alloc: Global) -> Arg<'a>
     operand(alloc, "FILE", "The file of a site's records")
 }
 
-fn files<'a>(alloc: Global, most: usize) -> Arg<'a>
-    ensures rule { rule_of result ≡ operands (codes "FILE") most }
+fn files<'a>(alloc: Global) -> Arg<'a>
+    ensures rule { rule_of result ≡ operands (codes "FILE") most_sites }
     ensures local { result.global ≡ false }
 {
-    file(alloc).num_args(1..=most)
+    file(alloc).num_args(1..=MOST_FILES)
+}
+
+// As many files as one `serve` runs sites.
+fn desks<'a>(alloc: Global) -> Arg<'a>
+    ensures rule { rule_of result ≡ operands (codes "FILE") most_desks }
+    ensures local { result.global ≡ false }
+{
+    file(alloc).num_args(1..=MOST_DESKS)
 }
 
 fn init<'a>(alloc: Global) -> Result<Command<'a>, AllocError>
@@ -142,7 +151,7 @@ fn audit<'a>(alloc: Global) -> Result<Command<'a>, AllocError>
         "audit",
         "Sums up the records of all sites, the k-th file those of site k",
     )
-    .arg(files(alloc, MOST_FILES))
+    .arg(files(alloc))
 }
 
 fn serve<'a>(alloc: Global) -> Result<Command<'a>, AllocError>
@@ -168,7 +177,7 @@ fn serve<'a>(alloc: Global) -> Result<Command<'a>, AllocError>
     .arg(port)?
     .arg(sessions)?
     .arg(rounds)?
-    .arg(files(alloc, MOST_DESKS))
+    .arg(desks(alloc))
 }
 
 /// The program's command line.

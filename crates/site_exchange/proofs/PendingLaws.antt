@@ -8,7 +8,7 @@ use Rattle.book_core.proofs.Histories.{get_push}
 use Rattle.delta_buffer.specs.Pending.{PendingView, IsPendingOf}
 use Rattle.delta_buffer.proofs.PendingLaws.{none_pending, still_pending}
 use Rattle.site_exchange.specs.Taking.{extended}
-use Rattle.site_exchange.specs.Pendings.{ArePending, BeginAtAcked, ExchangeView, IsPendingIn, KeepAdded}
+use Rattle.site_exchange.specs.Pendings.{ArePending, BeginAtAcked, ExchangeView, IsPendingIn, KeepAdded, IsCaughtUp}
 
 -- nothing was added behind what a peer has acknowledged
 abbrev pub nothing_behind : ℕ → PendingView
@@ -106,3 +106,8 @@ pub pending_entered : {A F : Type 0} (came : Result A F) (entry : Option Entry) 
     → ArePending old e → ArePending new e
 pending_entered (Ok a) entry old new e entered same are = subst (λ (h : List Entry). ArePending h e) (sym entered) (pending_extended entry old e are)
 pending_entered (Err f) entry old new e entered same are = subst (λ (h : List Entry). ArePending h e) (sym same) are
+
+-- what is pending at a place reaches as far as the one that was set there
+pub reached_set : {A E : Type 0} (r : Result A E) (h : List Entry) (ps : List PendingView) (i : ℕ) (old new : PendingView) → slice_get ps i ≡ Some old → OnOk r (new.upto ≡ length h) → OnOk r (IsCaughtUp h (set ps i new) i)
+reached_set (Ok a) h ps i old new there is = (new, set_there ps i old new there, is)
+reached_set (Err e) h ps i old new there is = tt

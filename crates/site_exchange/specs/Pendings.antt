@@ -1,5 +1,5 @@
 -- What each peer has acknowledged (JPDC 2018), and what is pending for it (our own).
-use Rattle.std.specs.Prelude.{◌≡◌, ℕ, ◌≤◌, List, get_or, slice_get, Some, refl}
+use Rattle.std.specs.Prelude.{◌≡◌, ℕ, ◌≤◌, List, length, get_or, slice_get, Some, refl}
 use Rattle.std.specs.Coded.{Coded, code_by, coded_ℕ, coded_list, coded×}
 use Rattle.book_core.specs.declared.entry.Entry.{Entry}
 use Rattle.delta_buffer.specs.Pending.{PendingView, coded_pending, IsPendingOf}
@@ -27,3 +27,7 @@ ArePending h e = (peer : ℕ) → IsPendingIn h e.pendings peer
 -- what was added for a peer stays added
 abbrev pub KeepAdded : List PendingView → List PendingView → Type 0
 KeepAdded old new = (peer : ℕ) (p : PendingView) → slice_get old peer ≡ Some p → (q : PendingView) × (slice_get new peer ≡ Some q) × (p.upto ≤ q.upto)
+
+-- all of the history was added for the peer
+abbrev pub IsCaughtUp : List Entry → List PendingView → ℕ → Type 0
+IsCaughtUp h pendings peer = (p : PendingView) × (slice_get pendings peer ≡ Some p) × (p.upto ≡ length h)

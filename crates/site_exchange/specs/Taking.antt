@@ -1,4 +1,4 @@
--- A site after it was asked, took a message, or started anew. (Our own.)
+-- A site after it was asked, grew, took a message, or started anew. (Our own.)
 use Rattle.std.specs.Prelude.{◌≡◌, ◌⊎◌, ◌<◌, max, Bool, if◌then◌else◌, List, [], ◌∷◌, ◌++◌, set, get_or, Option, Some, None}
 use Rattle.book_core.specs.declared.entry.Entry.{Entry}
 use Rattle.site_exchange.specs.declared.message.Message.{Message}

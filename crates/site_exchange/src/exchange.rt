@@ -5,7 +5,7 @@ ghost use Rattle.book_core.specs.Decision.{sites_of};
 ghost use Rattle.book_core.specs.History.{interval};
 ghost use Rattle.delta_buffer.specs.Pending.{IsPendingOf};
 ghost use Rattle.site_exchange.specs.Exchange.{next, zeros};
-ghost use Rattle.site_exchange.specs.Pendings.{BeginAtAcked, IsPendingIn, KeepAdded};
+ghost use Rattle.site_exchange.specs.Pendings.{BeginAtAcked, IsCaughtUp, IsPendingIn, KeepAdded};
 
 use crate::message::Message;
 use crate::upto::Upto;
@@ -97,6 +97,7 @@ impl Exchange {
         ensures acked { self.new.acked ≡ self.old.acked }
         ensures pending { (peer : ℕ) → get_or self.old.acked peer 0 ≤ length book.now.history → IsPendingIn book.now.history self.old.pendings peer → IsPendingIn book.now.history self.new.pendings peer }
         ensures added { KeepAdded self.old.pendings self.new.pendings }
+        ensures reached { IfOk result (λ message. IsSome message → IsCaughtUp book.now.history self.new.pendings to) }
     {
         let len = book.len();
         if self.acked(to) as usize == len {
@@ -174,6 +175,7 @@ fn due(
     ensures begins { (acked : List ℕ) → BeginAtAcked acked pendings.old.items → BeginAtAcked acked pendings.new.items }
     ensures pending { (peer : ℕ) → IsPendingIn book.now.history pendings.old.items peer → IsPendingIn book.now.history pendings.new.items peer }
     ensures added { KeepAdded pendings.old.items pendings.new.items }
+    ensures reached { OnOk result (IsCaughtUp book.now.history pendings.new.items place) }
 {
     caught_up(alloc, &mut pendings[place], book)
 }
@@ -185,6 +187,7 @@ fn caught_up(alloc: Global, pending: &mut Pending, book: &Book) -> Result<Delta,
     ensures from { pending.new.from ≡ pending.old.from }
     ensures pending { IsPendingOf book.now.history pending.new }
     ensures added { pending.old.upto ≤ pending.new.upto }
+    ensures reached { OnOk result (pending.new.upto ≡ length book.now.history) }
 {
     pending.catch_up(alloc, book)?;
     pending.delta().copy(alloc)

@@ -2,7 +2,7 @@ use Rattle.std.proofs.Common.{◌≡◌, length, Some, refl, ◌∙◌, subst}
 use Rattle.std.specs.Prelude.{IfOk, slice_get}
 use Rattle.std.proofs.lemmas.Option.{slice_get_read}
 use Rattle.book_core.specs.History.{interval}
-use Rattle.site_exchange.proofs.PendingLaws.{added_set, begins_set, pending_set}
+use Rattle.site_exchange.proofs.PendingLaws.{added_set, reached_set, begins_set, pending_set}
 use Rattle.site_exchange.proofs.exchange.due.Goals as goal
 
 pub caught_up-requires : goal.caught_up-requires
@@ -25,3 +25,8 @@ pub returns-clause-added : goal.returns-clause-added
 returns-clause-added c =
     let found : slice_get c.args.pendings.now.items c.args.place ≡ Some c.index_mut.result.now = slice_get_read _ _ _ _ refl c.requires.there c.index_mut.ensures.value in
     added_set c.args.pendings.now.items c.args.place c.index_mut.result.now c.caught_up.new.pending found c.caught_up.ensures.added
+
+pub returns-clause-reached : goal.returns-clause-reached
+returns-clause-reached c =
+    let found : slice_get c.args.pendings.now.items c.args.place ≡ Some c.index_mut.result.now = slice_get_read _ _ _ _ refl c.requires.there c.index_mut.ensures.value in
+    reached_set c.caught_up.result c.args.book.now.history c.args.pendings.now.items c.args.place c.index_mut.result.now c.caught_up.new.pending found c.caught_up.ensures.reached

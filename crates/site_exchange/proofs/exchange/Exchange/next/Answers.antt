@@ -1,5 +1,5 @@
-use Rattle.std.proofs.Common.{◌≤◌, length, get_or, sym, subst}
-use Rattle.site_exchange.specs.Pendings.{ExchangeView, IsPendingIn, KeepAdded}
+use Rattle.std.proofs.Common.{rules, ◌≤◌, length, get_or, sym, subst}
+use Rattle.site_exchange.specs.Pendings.{ExchangeView, IsCaughtUp, IsPendingIn, KeepAdded}
 use Rattle.site_exchange.proofs.PendingLaws.{added_then}
 use Rattle.site_exchange.proofs.exchange.Exchange.next.Goals as goal
 
@@ -38,3 +38,6 @@ pub returns-clause-added : goal.returns-clause-added
 returns-clause-added c =
     subst (λ (e : ExchangeView). KeepAdded e.pendings c.due.new.pendings.items) c.self.view_is
     (added_then c.self.inside.pendings.items c.reach.new.pendings.items c.due.new.pendings.items c.reach.ensures.added c.due.ensures.added)
+
+pub returns-clause-reached : goal.returns-clause-reached
+returns-clause-reached c some = subst (IsCaughtUp c.args.book.now.history c.due.new.pendings.items) c.number-place.ensures.number (search rules)
