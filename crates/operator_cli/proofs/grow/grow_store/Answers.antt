@@ -14,7 +14,7 @@ use Rattle.operator_cli.specs.Exchanged.{HoldsOnly, LeavesOneOf, behind_growth, 
 use Rattle.operator_cli.specs.Printed.{Printed, IsTellingOf}
 use Rattle.operator_cli.specs.Printed.{IsGrownText}
 use Rattle.operator_cli.specs.Opened.{IsIllegal, IsGrowEnd, IsRefused}
-use Rattle.operator_cli.proofs.EndLaws.{always, both_err, holds_behind, if_back, weaker}
+use Rattle.operator_cli.proofs.EndLaws.{always, both_err, holds_behind, if_back}
 use Rattle.operator_cli.proofs.ExchangeLaws.{growing_end, kept_as_it_was}
 use Rattle.operator_cli.proofs.OpenedLaws.{book_back, opened_cause, opened_illegal, opened_ours, refused_cause, refused_illegal, refused_lost, refused_ours}
 use Rattle.operator_cli.proofs.PrintLaws.{ends_printed, ends_as, if_some_is, ok_unless_failed}

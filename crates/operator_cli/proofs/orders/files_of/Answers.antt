@@ -3,7 +3,6 @@ use Rattle.std.specs.Prelude.{nat_le}
 use Rattle.std.proofs.lemmas.Bool.Decides.{nat_tests}
 use Rattle.clap.specs.Words.{Row, Text, all_of, found_of, rows_of}
 use Rattle.plain_words.specs.Words.{◌>>=◌}
-use Rattle.rights_lattice.specs.Limits.{most_sites}
 use Rattle.operator_cli.specs.Orders.{at_most, files_in}
 use Rattle.operator_cli.proofs.orders.files_of.Goals as goal
 
