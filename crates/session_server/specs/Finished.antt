@@ -1,6 +1,7 @@
 -- What a site leaves: its book, and what was found of it beside what its sessions were given. (Our own.)
 use Rattle.std.specs.Prelude.{◌≡◌, ◌≢◌, ◌≤◌, ℕ, nat_le, List, All, count_by, length, Result, Ok, Err}
 use Rattle.book_core.specs.BookView.{BookView}
+use Rattle.book_core.specs.Decision.{sites_of}
 use Rattle.site_desk.specs.declared.answer.Seen.{Seen}
 use Rattle.site_desk.specs.declared.finish.FinishFault.{FinishFault}
 use Rattle.site_desk.specs.declared.finish.FinishFault.TheVariants.{SeatsOut, Stranger, StrangerSeen}
@@ -26,12 +27,13 @@ IsFinished book receipts looks (Err (StrangerSeen k)) = All (StandsIn book.histo
 abbrev pub given_since : ℕ → List Receipt → ℕ
 given_since opening receipts = count_by (λ r. nat_le opening r.place) receipts
 
--- What a site that began with this book leaves. Its book is of the same site, count of sites and limit, and its history
--- goes on from the one that it began with. Seats are out only where not all sessions were served. Unless they are, no more
+-- What a site that began with this book leaves. Its book is of the same site and limit and counts the same sites, and its
+-- history goes on from the one that it began with. Seats are out only where not all sessions were served. Unless they are, no more
 -- requests were newly entered than receipts were given of entries from then on.
 pub record IsLeftOf (began left : BookView) (AllServed : Type 0) (receipts : List Receipt) (looks : List Seen) (result : Result (Unit {0}) FinishFault) : Type 0 where
   pub finished : IsFinished left receipts looks result
   pub whole : AllServed → result ≢ Err SeatsOut
   pub office : left.office ≡ began.office
+  pub sites : sites_of left.office left.history ≡ sites_of began.office began.history
   pub goes_on : GoesOnFrom began.history left.history
   pub entered : result ≢ Err SeatsOut → asked_since (length began.history) left.history ≤ given_since (length began.history) receipts

@@ -39,7 +39,7 @@ impl<K: Keeper + Drop, R: Read + Drop, W: Write + Drop> Promise<
 /// others, through which it sends what is due for so many rounds. It ends when each of them is done.
 ///
 /// The links hold as many messages as their capacity. The ends of sites come in the order in which they were handed in,
-/// each with the ends of its sessions and a book of its site, of its count of sites and its limit, whose history goes on
+/// each with the ends of its sessions and a book of its site and its limit, which counts the same sites and whose history goes on
 /// from the one that was handed in. What was found of its book is of all receipts and looks that its sessions were given.
 /// Seats are out only where a session's thread could not be started; unless they are, no more requests were newly entered
 /// than receipts were given of entries behind the history that was handed in.

@@ -33,6 +33,8 @@ pub(crate) fn answer<K: Keeper>(
     ensures unchanged { OnErr result (book.new.history ≡ book.old.history) }
     ensures untouched { IfErr result (λ fault. fault ≢ AskFault.Store → keeper.new ≡ keeper.old) }
     ensures again { IfOk result (λ a. a.fresh ≡ false → keeper.new ≡ keeper.old) }
+    ensures still { IfOk result (λ a. a.fresh ≡ false → book.new ≡ book.old) }
+    ensures refused { IfErr result (λ fault. fault ≢ AskFault.Memory → fault ≢ AskFault.Store → book.new ≡ book.old) }
     ensures sound { OnOk result (K.failed keeper.new ≡ 0) }
     ensures kept { IfOk result (λ a. a.fresh ≡ true → K.is_trusted keeper.new → Keeps book.new.history (K.kept keeper.new) (K.may_leave keeper.new)) }
     ensures rests { OnOk result (K.is_trusted keeper.new → LeavesOnly book.new.history (K.may_leave keeper.new)) }

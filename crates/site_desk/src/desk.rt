@@ -4,6 +4,7 @@ ghost use Rattle.book_core.specs.Legal.{IsLegal};
 ghost use Rattle.book_core.specs.OwnRow.{HasOwnRights};
 ghost use Rattle.site_exchange.specs.Exchange.{ack_for, receiver};
 ghost use Rattle.sql_records.specs.Keeping.{LeavesOnly};
+ghost use Rattle.book_core.specs.Decision.{sites_of};
 ghost use Rattle.site_desk.specs.Answers.{ack_of};
 ghost use Rattle.site_desk.specs.Count.{asked_since, GoesOnFrom};
 ghost use Rattle.site_desk.specs.Finish.{FindsFirst, StandsIn, WasSeen, handed_back};
@@ -133,6 +134,7 @@ impl<K: Keeper, L: Opens> Desk<K, L> {
 
         // What the book kept, whenever the lock was free.
         ensures office { (handed_back result).book.office ≡ L.office }
+        ensures sites { sites_of (handed_back result).book.office (handed_back result).book.history ≡ sites_of L.office L.began }
         ensures goes_on { GoesOnFrom L.began (handed_back result).book.history }
         ensures legal { IsLegal (handed_back result).book.office (handed_back result).book.history }
         ensures has_rights { HasOwnRights (handed_back result).book }

@@ -26,7 +26,7 @@ pub enum AskFault {
 pub enum NextFault {
     #[error("the book is closed")]
     Closed,
-    /// The site is not another one of the book.
+    /// The site is not another one of those that the book counts so far.
     #[error("there is no such other site")]
     NoSite,
     #[error("out of memory")]

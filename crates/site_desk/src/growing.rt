@@ -30,6 +30,7 @@ pub(crate) fn grow<K: Keeper>(
     ensures fault { IfErr result (IsGrowFault false (grow_decision_in book.old sites) (K.failed keeper.old) (K.failed keeper.new)) }
     ensures unchanged { OnErr result (book.new.history ≡ book.old.history) }
     ensures untouched { IfErr result (λ fault. fault ≢ GrowFault.Store → keeper.new ≡ keeper.old) }
+    ensures still { IfErr result (λ fault. fault ≢ GrowFault.Memory → fault ≢ GrowFault.Store → book.new ≡ book.old) }
     ensures sound { OnOk result (K.failed keeper.new ≡ 0) }
     ensures kept { OnOk result (K.is_trusted keeper.new → Keeps book.new.history (K.kept keeper.new) (K.may_leave keeper.new)) }
     ensures stopped { result ≡ Err GrowFault.Store → K.is_trusted keeper.new → LeavesEither book.old.history (growth_in book.old sites) (K.may_leave keeper.new) }

@@ -2,6 +2,7 @@
 ghost use Rattle.std.specs.Prelude.{◌≡◌, ◌≢◌, ◌↔◌, ◌⊎◌, All, Err, IsSome, ◌+◌, ◌<◌, ◌≤◌, true, false, length, IsTrue, IfOk, IfErr, OnErr, OnOk, if◌then◌else◌};
 ghost use Rattle.rights_lattice.specs.State.{knows};
 ghost use Rattle.book_core.specs.History.{state_of};
+ghost use Rattle.book_core.specs.Decision.{sites_of};
 ghost use Rattle.book_core.specs.Legal.{IsLegal};
 ghost use Rattle.book_core.specs.OwnRow.{HasOwnRights};
 ghost use Rattle.site_exchange.specs.Exchange.{ack_for, next};
@@ -41,6 +42,7 @@ impl<K: Keeper, L: Opens> Model for Locked<K, L> {
     ghost use Rattle.std.specs.Prelude.{◌≡◌, ◌≤◌, length};
     ghost use Rattle.site_desk.specs.SiteView.{SiteView, coded_view};
     ghost use Rattle.site_desk.specs.Count.{asked_since, GoesOnFrom};
+    ghost use Rattle.book_core.specs.Decision.{sites_of};
 
     ghost Value = { SiteView K };
 
@@ -48,7 +50,7 @@ impl<K: Keeper, L: Opens> Model for Locked<K, L> {
 
     ghost view = { λ d. d.book };
 
-    ghost invariant = { λ d. (length L.began ≤ length d.book.book.history) × (d.total ≡ asked_since (length L.began) d.book.book.history) × (d.tally.total ≡ d.total) × (d.nothing.parts ≡ 0) × (d.book.book.office ≡ L.office) × GoesOnFrom L.began d.book.book.history };
+    ghost invariant = { λ d. (length L.began ≤ length d.book.book.history) × (d.total ≡ asked_since (length L.began) d.book.book.history) × (d.tally.total ≡ d.total) × (d.nothing.parts ≡ 0) × (d.book.book.office ≡ L.office) × GoesOnFrom L.began d.book.book.history × (sites_of d.book.book.office d.book.book.history ≡ sites_of L.office L.began) };
 }
 
 impl<K: Keeper, L: Opens> Locked<K, L> {
@@ -184,6 +186,7 @@ impl<K: Keeper, L: Opens> Locked<K, L> {
 
         // What the types of the book and its keeper keep.
         ensures office { self.book.office ≡ L.office }
+        ensures sites { sites_of self.book.office self.book.history ≡ sites_of L.office L.began }
         ensures goes_on { GoesOnFrom L.began self.book.history }
         ensures legal { IsLegal self.book.office self.book.history }
         ensures has_rights { HasOwnRights self.book }

@@ -5,6 +5,7 @@ ghost use Rattle.rights_lattice.specs.Cell.{owner_of};
 ghost use Rattle.rights_lattice.specs.State.{knows};
 ghost use Rattle.book_core.specs.declared.entry.Entry.TheVariants.{Grown};
 ghost use Rattle.book_core.specs.History.{state_of};
+ghost use Rattle.book_core.specs.Decision.{sites_of};
 ghost use Rattle.book_core.specs.OwnRow.{HasOwnRights, cell_in};
 ghost use Rattle.book_core.specs.Legal.{IsLegal};
 ghost use Rattle.book_core.specs.Replay.{IsReplayFault};
@@ -127,6 +128,7 @@ impl<K: Keeper> SiteBook<K> {
     ///
     /// `Store` where the entry is not known to be kept: the history is as it was, and the book is closed. Every
     /// other error changes nothing. Neither a kept number nor a full history takes memory.
+    #[tactic(auto, using(crate::proofs::Growth::sites_asked))]
     pub fn ask(
         &mut self,
         alloc: Global,
@@ -134,6 +136,7 @@ impl<K: Keeper> SiteBook<K> {
         request: &Request,
     ) -> Result<Answer, AskFault>
         ensures office { self.new.book.office ≡ self.old.book.office }
+        ensures sites { sites_of self.new.book.office self.new.book.history ≡ sites_of self.old.book.office self.old.book.history }
         ensures answer { IfOk result (IsAnswer (decision_in self.old.book number request.now) (length self.old.book.history)) }
         ensures entered { OnOk result (site_of self.new ≡ with_entry (entry_in self.old.book number request.now) (site_of self.old)) }
         ensures grown { IfOk result (λ a. Grows a.fresh a.place self.old.book.history self.new.book.history) }
@@ -144,6 +147,8 @@ impl<K: Keeper> SiteBook<K> {
         ensures unchanged { OnErr result (site_of self.new ≡ site_of self.old) }
         ensures untouched { IfErr result (λ fault. fault ≢ AskFault.Store → self.new.keeper ≡ self.old.keeper) }
         ensures closes { (self.new.closed ≡ true) ↔ ((self.old.closed ≡ true) ⊎ (result ≡ Err AskFault.Store)) }
+        ensures still { IfOk result (λ a. a.fresh ≡ false → self.new ≡ self.old) }
+        ensures refused { IfErr result (λ fault. fault ≢ AskFault.Memory → fault ≢ AskFault.Store → self.new ≡ self.old) }
 
         // What the keeper holds, and what a stop may leave of it.
         ensures again { IfOk result (λ a. a.fresh ≡ false → self.new.keeper ≡ self.old.keeper) }
@@ -168,8 +173,10 @@ impl<K: Keeper> SiteBook<K> {
     ///
     /// No message changes a cell of the own row, forged ones too. Errors are as for a request; a delta that holds nothing
     /// new takes no memory, and neither does an acknowledgement of no more than was acknowledged.
+    #[tactic(auto, using(crate::proofs::Growth::sites_taken))]
     pub fn take(&mut self, message: Message) -> Result<Taken, TakeFault>
         ensures office { self.new.book.office ≡ self.old.book.office }
+        ensures sites { sites_of self.new.book.office self.new.book.history ≡ sites_of self.old.book.office self.old.book.history }
         ensures taken { IfOk result (IsTaken (verdict_in self.old.book message) (ack_for message)) }
         ensures changed { OnOk result (site_of self.new ≡ site_after (verdict_in self.old.book message) message (site_of self.old)) }
 
@@ -233,6 +240,7 @@ impl<K: Keeper> SiteBook<K> {
         ensures fault { IfErr result (IsGrowFault self.old.closed (grow_decision_in self.old.book sites) (K.failed self.old.keeper) (K.failed self.new.keeper)) }
         ensures unchanged { OnErr result (site_of self.new ≡ site_of self.old) }
         ensures untouched { IfErr result (λ fault. fault ≢ GrowFault.Store → self.new.keeper ≡ self.old.keeper) }
+        ensures still { IfErr result (λ fault. fault ≢ GrowFault.Memory → fault ≢ GrowFault.Store → self.new ≡ self.old) }
         ensures closes { (self.new.closed ≡ true) ↔ ((self.old.closed ≡ true) ⊎ (result ≡ Err GrowFault.Store)) }
 
         // What the keeper holds, and what a stop may leave of it.
