@@ -73,7 +73,8 @@ def site_that_has_not_grown(folder):
     grows(folder, SOUTH, 3, "grown", 0)
     growth_kept(folder, SOUTH, 2)
     told(folder, ["import", SOUTH], 0, "joined\n", message(folder, EAST, 1))
-    told(folder, ["import", SOUTH], 0, "joined\n", message(folder, NORTH, 1))
+    # The third site had heard of all that the first knows, and hands it on.
+    told(folder, ["import", SOUTH], 0, "nothing-new\n", message(folder, NORTH, 1))
     told(folder, ["ask", SOUTH], 0, "totals released 100 sold 40 refunded 0 open 60\n", "totals gala\n")
     told(folder, ["audit", NORTH, SOUTH, EAST], 0, totals)
     told(folder, ["serve", "7393", "0", "2", NORTH, SOUTH, EAST], 0, totals)
