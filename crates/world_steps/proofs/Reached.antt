@@ -9,9 +9,9 @@ use Rattle.book_core.specs.declared.entry.Entry.{Entry}
 use Rattle.rights_lattice.specs.Sums.{max_sites}
 use Rattle.world_steps.specs.declared.step.Step.{Step}
 use Rattle.world_steps.specs.declared.step.Step.TheVariants.{Ask, Send, Deliver, Restart, Stop, Grow}
-use Rattle.world_steps.specs.World.{is_there, IsReached, World, count, run, after, opened, reached, no_site, site_at, history_at, office_at, at_site, are_peers, entered, stopped_in, sends, asks, grows, entry_of_input, judged, delivered}
+use Rattle.world_steps.specs.World.{is_there, IsReached, World, count, run, after, opened, begun, AreBegun, reached, no_site, site_at, history_at, office_at, at_site, are_peers, entered, stopped_in, sends, asks, grows, entry_of_input, judged, delivered}
 use Rattle.world_steps.proofs.Worlds.{Sound}
-use Rattle.world_steps.proofs.Steps.{sound_after, sound_run, sound_opened, may_grow, may_store}
+use Rattle.world_steps.proofs.Steps.{sound_after, sound_run, sound_opened, sound_begun, may_grow, may_store}
 use Rattle.world_steps.proofs.Widening.{few_entered}
 
 few_either : (b : Bool) (u w : World) → count u ≤ max_sites → count w ≤ max_sites → count (cond b u w) ≤ max_sites
@@ -52,6 +52,13 @@ few_run (step ∷ steps) w sound few = few_run steps (after w step) (sound_after
 
 pub sound_reached : (limits : List ℕ) (steps : List Step) → Sound (reached limits steps)
 sound_reached limits steps = sound_run steps (opened limits) (sound_opened limits)
+
+pub sound_from : (limits counts : List ℕ) (steps : List Step) → AreBegun limits counts → Sound (run steps (begun limits counts))
+sound_from limits counts steps are = sound_run steps (begun limits counts) (sound_begun limits counts are)
+
+pub few_from : (limits counts : List ℕ) (steps : List Step) → AreBegun limits counts → length limits ≤ max_sites → count (run steps (begun limits counts)) ≤ max_sites
+few_from limits counts steps are few =
+    few_run steps (begun limits counts) (sound_begun limits counts are) (omega (arith, few, length-replicate (length limits) no_site))
 
 pub few_reached : (limits : List ℕ) (steps : List Step) → length limits ≤ max_sites → count (reached limits steps) ≤ max_sites
 few_reached limits steps few =

@@ -12,16 +12,16 @@ use Rattle.book_core.specs.History.{state_of}
 use Rattle.book_core.specs.Operations.{outstanding, released, sold, refunded, ceded, AreDistinct}
 use Rattle.site_exchange.specs.declared.message.Message.TheVariants.{Delta, Ack}
 use Rattle.world_steps.specs.declared.step.Step.{Step}
-use Rattle.world_steps.specs.World.{World, count, history_at, site_at, state_at, reached, all_operations}
+use Rattle.world_steps.specs.World.{World, count, history_at, site_at, state_at, run, begun, AreBegun, all_operations}
 
 -- Over every list of requests, messages lost, repeated or reordered, growths, stops and restarts, of sites with any
--- limits.
+-- limits, each counting at first so many of them, itself among them.
 abbrev pub Always : (World → Type 0) → Type 0
-Always Holds = (limits : List ℕ) (steps : List Step) → Holds (reached limits steps)
+Always Holds = (limits counts : List ℕ) → AreBegun limits counts → (steps : List Step) → Holds (run steps (begun limits counts))
 
 -- The same, where each site has a number.
 abbrev pub AlwaysNumbered : (World → Type 0) → Type 0
-AlwaysNumbered Holds = (limits : List ℕ) → length limits ≤ max_sites → (steps : List Step) → Holds (reached limits steps)
+AlwaysNumbered Holds = (limits counts : List ℕ) → AreBegun limits counts → length limits ≤ max_sites → (steps : List Step) → Holds (run steps (begun limits counts))
 
 -- The tickets outstanding over all sites never exceed the seats released.
 abbrev pub NeverOversold : World → Type 0

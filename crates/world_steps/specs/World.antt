@@ -1,6 +1,6 @@
 -- Sites, all messages ever sent, and the steps that change them. Each step changes one site as the site's own
 -- definitions say, or puts a message behind those that were sent; a growth adds sites too. (Our own.)
-use Rattle.std.specs.Prelude.{◌≡◌, ℕ, zero, suc, ◌-◌, ◌≤◌, Bool, true, not, ◌&&◌, ◌==◌, if◌then◌else◌, nat_lt, List, [], ◌∷◌, ◌++◌, length, take, set, replicate, get_or, slice_get}
+use Rattle.std.specs.Prelude.{◌≡◌, ℕ, zero, suc, ◌-◌, ◌≤◌, ◌<◌, Bool, true, not, ◌&&◌, ◌==◌, if◌then◌else◌, nat_lt, List, [], ◌∷◌, ◌++◌, length, take, set, replicate, get_or, slice_get}
 use Rattle.std.specs.Prelude.{Option, Some, None}
 use Rattle.rights_lattice.specs.Sums.{max_sites}
 use Rattle.rights_lattice.specs.State.{State, Names, no_names, join_names, names_in_order}
@@ -32,11 +32,19 @@ pub record World : Type 0 where
 abbrev pub no_site : Site
 no_site = record { history = []; acked = zeros }
 
+-- sites with these limits, before any step, each counting so many
+abbrev pub begun : List ℕ → List ℕ → World
+begun limits counts = record { limits = limits; counts = counts; sites = replicate (length limits) no_site; sent = [] }
+
+-- each site counts itself, and no more sites than there are
+pub record AreBegun (limits counts : List ℕ) : Type 0 where
+  pub each : length counts ≡ length limits
+  pub own : (i : ℕ) → i < length limits → i < get_or counts i 0
+  pub few : (i : ℕ) → get_or counts i 0 ≤ length limits
+
 -- sites with these limits, before any step: each counts all of them
 abbrev pub opened : List ℕ → World
-opened limits =
-    let n = length limits in
-    record { limits = limits; counts = replicate n n; sites = replicate n no_site; sent = [] }
+opened limits = begun limits (replicate (length limits) (length limits))
 
 -- n sites with the same limit, before any step
 abbrev pub opening : ℕ → ℕ → World

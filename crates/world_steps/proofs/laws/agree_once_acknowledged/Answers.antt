@@ -1,7 +1,7 @@
-use Rattle.world_steps.specs.World.{reached}
+use Rattle.world_steps.specs.World.{run, begun}
 use Rattle.world_steps.proofs.Promised as promised
-use Rattle.world_steps.proofs.Reached.{sound_reached}
+use Rattle.world_steps.proofs.Reached.{sound_from}
 use Rattle.world_steps.proofs.laws.agree_once_acknowledged.Goals as goal
 
 pub returns : goal.returns
-returns c = λ limits steps. promised.agree_once_acknowledged (reached limits steps) (sound_reached limits steps)
+returns c = λ limits counts are steps. promised.agree_once_acknowledged (run steps (begun limits counts)) (sound_from limits counts steps are)

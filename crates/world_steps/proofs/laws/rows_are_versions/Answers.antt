@@ -1,7 +1,7 @@
-use Rattle.world_steps.specs.World.{reached}
+use Rattle.world_steps.specs.World.{run, begun}
 use Rattle.world_steps.proofs.Promised as promised
-use Rattle.world_steps.proofs.Reached.{sound_reached}
+use Rattle.world_steps.proofs.Reached.{sound_from}
 use Rattle.world_steps.proofs.laws.rows_are_versions.Goals as goal
 
 pub returns : goal.returns
-returns c = λ limits steps. promised.rows_are_versions (reached limits steps) (sound_reached limits steps)
+returns c = λ limits counts are steps. promised.rows_are_versions (run steps (begun limits counts)) (sound_from limits counts steps are)
