@@ -18,12 +18,13 @@ use Rattle.world_steps.specs.declared.step.Step.{Step}
 use Rattle.world_steps.specs.declared.step.Outcome.{Outcome}
 use Rattle.world_steps.specs.declared.step.WorldFault.{WorldFault}
 use Rattle.world_steps.specs.World.{IsReached, World, count, after, run, history_at, state_at}
-use Rattle.world_steps.specs.Promises.{NeverOversold, RefundsWithinSales, NoSeatIsLost, OperationsAreDistinct, ViewsBelowOwners, DeltasBelowOwners, RowsAreVersions, JoinsAreCausal, AcknowledgedIsHeld, AcksAreTrue, AgreeOnceAcknowledged, ViewsArePositions, ViewsNotOversold, HoldsPromises, own_state}
+use Rattle.world_steps.specs.Promises.{NeverOversold, RefundsWithinSales, NoSeatIsLost, OperationsAreDistinct, ViewsBelowOwners, DeltasBelowOwners, RowsAreVersions, JoinsAreCausal, AcknowledgedIsHeld, AcksAreTrue, AgreeOnceAcknowledged, ViewsArePositions, ViewsNotOversold, CountedAreThere, ReceiversAreThere, HoldsPromises, own_state}
 use Rattle.world_steps.proofs.Positions.{sound_position, position_balance}
 use Rattle.world_steps.proofs.Balance.{office_of, not_oversold}
 use Rattle.world_steps.proofs.FlatList.{distinct_below}
 use Rattle.world_steps.proofs.Seats.{seats_add_up}
 use Rattle.world_steps.proofs.Worlds.{Sound, HasVersion, sound_views, sound_rows, sound_version}
+use Rattle.world_steps.proofs.Delivering.{receiver_there}
 use Rattle.world_steps.proofs.Reached.{no_history, sound_in, count_in, reached_after, reached_run}
 
 pub never_oversold : (w : World) → Sound w → count w ≤ max_sites → NeverOversold w
@@ -95,6 +96,12 @@ views_are_positions w sound i event = sound_position w sound i event
 pub views_not_oversold : (w : World) → Sound w → ViewsNotOversold w
 views_not_oversold w sound i event = position_balance (own_state w i).cells event (views_are_positions w sound i event)
 
+pub counted_are_there : (w : World) → Sound w → CountedAreThere w
+counted_are_there w sound = sound.few
+
+pub receivers_are_there : (w : World) → Sound w → ReceiversAreThere w
+receivers_are_there w sound k message found = receiver_there w message (sound.sent k message found)
+
 -- every promise holds of a reached world
 pub promises_hold : (w : World) → IsReached w → HoldsPromises w
 promises_hold w h =
@@ -114,6 +121,8 @@ promises_hold w h =
       agree_once_acknowledged = agree_once_acknowledged w sound;
       rights_not_negative = views_are_positions w sound;
       views_not_oversold = views_not_oversold w sound;
+      counted_are_there = counted_are_there w sound;
+      receivers_are_there = receivers_are_there w sound;
     }
 
 -- and of the world after a step, whether it was made or not

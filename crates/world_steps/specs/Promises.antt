@@ -10,9 +10,11 @@ use Rattle.local_rights.specs.Rights as rights
 use Rattle.local_rights.specs.Rights.{IsPosition, gained, spent, released_in, sold_in, refunded_in}
 use Rattle.book_core.specs.History.{state_of}
 use Rattle.book_core.specs.Operations.{outstanding, released, sold, refunded, ceded, AreDistinct}
+use Rattle.site_exchange.specs.declared.message.Message.{Message}
 use Rattle.site_exchange.specs.declared.message.Message.TheVariants.{Delta, Ack}
+use Rattle.site_exchange.specs.Exchange.{receiver}
 use Rattle.world_steps.specs.declared.step.Step.{Step}
-use Rattle.world_steps.specs.World.{World, count, history_at, site_at, state_at, run, begun, AreBegun, all_operations}
+use Rattle.world_steps.specs.World.{World, count, count_at, history_at, site_at, state_at, run, begun, AreBegun, all_operations}
 
 -- Over every list of requests, messages lost, repeated or reordered, growths, stops and restarts, of sites with any
 -- limits, each counting at first so many of them, itself among them.
@@ -105,6 +107,14 @@ pub record SeatsAddUp (w : World) (event : List ℕ) : Type 0 where
 abbrev pub NoSeatIsLost : World → Type 0
 NoSeatIsLost w = (event : List ℕ) → SeatsAddUp w event
 
+-- Each site that a site counts is there.
+abbrev pub CountedAreThere : World → Type 0
+CountedAreThere w = (i : ℕ) → count_at w i ≤ count w
+
+-- The receiver of each message that was sent is there.
+abbrev pub ReceiversAreThere : World → Type 0
+ReceiversAreThere w = (k : ℕ) (message : Message) → slice_get w.sent k ≡ Some message → receiver message < count w
+
 -- All of these, in one world.
 pub record HoldsPromises (w : World) : Type 0 where
   pub never_oversold : NeverOversold w
@@ -120,3 +130,5 @@ pub record HoldsPromises (w : World) : Type 0 where
   pub agree_once_acknowledged : AgreeOnceAcknowledged w
   pub rights_not_negative : ViewsArePositions w
   pub views_not_oversold : ViewsNotOversold w
+  pub counted_are_there : CountedAreThere w
+  pub receivers_are_there : ReceiversAreThere w

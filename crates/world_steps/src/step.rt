@@ -98,9 +98,9 @@ pub enum WorldFault {
     /// No message with this index was ever sent.
     #[error("no such message")]
     NoMessage,
-    /// Memory was refused. Only a step that is not refused otherwise gets this: a new request, a send where something
-    /// is due, a delivery where an acknowledgement is due or one is taken that raises a number, a growth, and a stop that
-    /// stores a new entry.
+    /// Memory was refused. `World::step` tells it only of a new request, a send where something is due, a delivery where
+    /// an acknowledgement is due or one is taken that raises a number, a growth, and a stop that stores a new entry;
+    /// `World::run` of any step that is not refused otherwise, since it makes room for the answer first.
     #[error("out of memory")]
     Memory,
 }
