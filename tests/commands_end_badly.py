@@ -57,9 +57,11 @@ def writing_fails(folder):
             (["list", "site.db", "gala"], b""),
             (["export", "site.db", "1"], b""),
             (["audit", "site.db", "other.db"], b""),
+            (["grow", "site.db", "3"], b""),
         ]
         for words, given in trials:
             same(f"{words}: a full device", ended(folder, words, given, full), (3, None, "write\n"))
+    same("it has grown", call(folder, ["grow", "site.db", "3"]), (1, "not-more\n", ""))
 
 
 def lines_are_too_many_or_long(folder):

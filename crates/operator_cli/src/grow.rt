@@ -10,10 +10,10 @@ ghost use Rattle.sql_records.specs.declared.meta.Meta.{Meta as Numbers};
 ghost use Rattle.site_desk.specs.SiteView.{office_of};
 ghost use Rattle.operator_cli.specs.Exchanged.{HoldsOnly, IsGrowingEnd, LeavesAsItWas, LeavesOneOf, behind_growth, told_of_growth};
 ghost use Rattle.operator_cli.specs.Opened.{EndsOpened, FailsFor, FailsIfIllegal, IsGrowEnd, IsIllegal, IsLost, ShowedRecords};
-ghost use Rattle.operator_cli.specs.Printed.{Printed, IsGrownText, IsOfGrowing, IsTellingOf};
+ghost use Rattle.operator_cli.specs.Printed.{Printed, Unsaid, IsGrownText, IsOfGrowing, IsTellingOf};
 ghost use Rattle.operator_cli.specs.Told.{FaultTold, told_status};
 ghost use Rattle.operator_cli.specs.declared.status.Status.TheVariants.{Refused, Failed};
-ghost use Rattle.operator_cli.specs.declared.store_fault.StoreFault.TheVariants.{Store as NotStored};
+ghost use Rattle.operator_cli.specs.declared.store_fault.StoreFault.TheVariants.{Memory as WantsMemory, Store as NotStored, Write as WriteFailed};
 
 use crate::ending::{close_book, ended};
 use crate::opening::open_book;
@@ -39,6 +39,7 @@ fn grow<K: Keeper>(alloc: Global, book: &mut SiteBook<K>, sites: Sites) -> Resul
     ensures fault { IfErr result (λ fault. book.old.closed ≡ false → IsGrowingEnd book.old.book.office book.old.book.history sites fault) }
     ensures untouched { IfErr result (λ fault. LeavesAsItWas fault book.old.keeper book.new.keeper) }
     ensures failed { result ≡ Err NotStored → book.old.closed ≡ false → (K.failed book.old.keeper ≡ 0) × (K.failed book.new.keeper ≡ 1) }
+    ensures store { IfErr result (λ fault. (fault ≡ WantsMemory) ⊎ (fault ≡ NotStored)) }
     ensures trusted { K.is_trusted book.new.keeper → K.is_trusted book.old.keeper }
 {
     match book.grow(alloc, sites) {
@@ -67,6 +68,9 @@ fn write_grown<K: Keeper, W: Write>(
     ensures untouched { IfErr result (λ fault. LeavesAsItWas fault book.old.keeper book.new.keeper) }
     ensures failed { result ≡ Err NotStored → book.old.closed ≡ false → (K.failed book.old.keeper ≡ 0) × (K.failed book.new.keeper ≡ 1) }
     ensures ends { IfOk result (λ status. status ≢ Failed) }
+    ensures silent { IfErr result (Unsaid IsGrownText (W.contents out.old) (W.contents out.new)) }
+    ensures begun { OnOk result (Unsaid IsGrownText (W.contents out.old) (W.contents out.new) WriteFailed) }
+    ensures unsaid { IfErr result (λ fault. fault ≡ WriteFailed → book.new.book.history ≡ behind_growth book.old.book.office book.old.book.history sites) }
     ensures trusted { K.is_trusted book.new.keeper → K.is_trusted book.old.keeper }
 {
     match grow(alloc, book, sites) {
@@ -76,7 +80,7 @@ fn write_grown<K: Keeper, W: Write>(
 }
 
 /// Has the site count so many sites from here on, and prints `grown`; or `not-more` where that is no more than it counts,
-/// or `history-full`, with status 1, which change nothing. It changes no cell, and what peers acknowledged is kept nowhere.
+/// or `history-full`, with status 1, which change nothing. It changes no cell.
 ///
 /// A fault is told on `err`, with status 3, and a stop then leaves what the records held, or that with the growth at its
 /// end. The connection comes back unless its records were refused.
@@ -105,6 +109,7 @@ pub fn grow_store<S: Alter + Drop, W: Write, E: Write>(
     ensures cause { IfSome result.1 (λ after. HasCleanDisk (state S.Store after)
         → FailsFor (λ fault. IsIllegal S.Store conn after fault ⊎ EndsOpened S.Store conn (IsGrowEnd sites) after fault)
         (E.contents err.old) (E.contents err.new) result.0) }
+    ensures silent { FailsFor (Unsaid IsGrownText (W.contents out.old) (W.contents out.new)) (E.contents err.old) (E.contents err.new) result.0 }
     ensures ours { IfSome result.1 (ShowedRecords S.Store conn) }
     ensures illegal { IfSome result.1 (λ after. FailsIfIllegal S.Store conn after (W.contents out.old) (W.contents out.new) (E.contents err.old) (E.contents err.new) result.0) }
     ensures lost { result.1 ≡ None → IsLost S.Store conn (W.contents out.old) (W.contents out.new) (E.contents err.old) (E.contents err.new) result.0 }

@@ -25,7 +25,7 @@ use Rattle.world_steps.proofs.Worlds.{IsSound}
 pub message_at : (sent now : List Message) (index : ℕ) (message : Message) → now ≡ sent → index < length sent → message ≡ get_or now index message → slice_get sent index ≡ Some message
 message_at sent now index message same l is = slice_get_read sent (length sent) index message refl l (is ∙ ap (λ (ms : List Message). get_or ms index message) same)
 
-receiver_there : (w : World) (message : Message) → IsSound w message → receiver message < count w
+pub receiver_there : (w : World) (message : Message) → IsSound w message → receiver message < count w
 receiver_there w (Delta by to upto delta) ok = ok.0.1
 receiver_there w (Ack by to upto) ok = ok.0.1
 

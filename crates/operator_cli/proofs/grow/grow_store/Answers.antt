@@ -9,15 +9,18 @@ use Rattle.sql_records.specs.Held.{IsTrusted, Kept, MayLeaveIn, history_in}
 use Rattle.sql_records.specs.Layout.{HasMeta}
 use Rattle.site_desk.specs.SiteView.{office_of}
 use Rattle.operator_cli.specs.declared.status.Status.{Status}
-use Rattle.operator_cli.specs.declared.status.Status.TheVariants.{Refused}
+use Rattle.operator_cli.specs.declared.status.Status.TheVariants.{Done, Refused}
+use Rattle.operator_cli.specs.declared.store_fault.StoreFault.TheVariants as fault
+use Rattle.operator_cli.specs.declared.told.Told.TheVariants.{Grown}
+use Rattle.operator_cli.specs.Told.{told_line}
 use Rattle.operator_cli.specs.Exchanged.{HoldsOnly, LeavesOneOf, behind_growth, told_of_growth}
-use Rattle.operator_cli.specs.Printed.{Printed, IsTellingOf}
+use Rattle.operator_cli.specs.Printed.{Printed, Unsaid, IsTellingOf}
 use Rattle.operator_cli.specs.Printed.{IsGrownText}
 use Rattle.operator_cli.specs.Opened.{IsIllegal, IsGrowEnd, IsRefused}
-use Rattle.operator_cli.proofs.EndLaws.{always, both_err, holds_behind, if_back}
+use Rattle.operator_cli.proofs.EndLaws.{always, both_err, fails_for, holds_behind, if_back, on_ok_map, weaker}
 use Rattle.operator_cli.proofs.ExchangeLaws.{growing_end, kept_as_it_was}
 use Rattle.operator_cli.proofs.OpenedLaws.{book_back, opened_cause, opened_illegal, opened_ours, refused_cause, refused_illegal, refused_lost, refused_ours}
-use Rattle.operator_cli.proofs.PrintLaws.{ends_printed, ends_as, if_some_is, ok_unless_failed}
+use Rattle.operator_cli.proofs.PrintLaws.{ends_as, ends_printed, if_some_is, ok_unless_failed, unsaid_kept, unsaid_yet}
 use Rattle.operator_cli.proofs.grow.grow_store.Goals as goal
 
 pub returns-in-Ok-clause-out : goal.returns-in-Ok-clause-out
@@ -109,3 +112,22 @@ pub returns-in-Err-clause-stopped : goal.returns-in-Err-clause-stopped
 returns-in-Err-clause-stopped g c =
     if_back c.in-Err.conn (IsRefused g.S.Store c.args.conn c.in-Err.fault) (λ after. IsIllegal g.S.Store c.args.conn after c.in-Err.fault) _ c.in-Err.ensures.fault
     (λ after found clean meta has left may. inl ((found.rests clean).alone left may))
+
+pub returns-in-Ok-clause-silent : goal.returns-in-Ok-clause-silent
+returns-in-Ok-clause-silent g c =
+    let before = g.W.Write.contents c.args.out.now in
+    let between = g.W.Write.contents c.write_grown-came.new.out in
+    let after = g.W.Write.contents c.close_book.new.out in
+    let still = unsaid_kept IsGrownText before between after c.close_book.ensures.kept in
+    fails_for (Unsaid IsGrownText before after) (g.E.Write.contents c.args.err.now) (g.E.Write.contents c.close_book.new.err) c.write_grown-came.result c.close_book.result.0
+    (weaker (Unsaid IsGrownText before between) (Unsaid IsGrownText before after) c.write_grown-came.result still c.write_grown-came.ensures.silent)
+    (on_ok_map c.write_grown-came.result (Unsaid IsGrownText before between fault.Write) (Unsaid IsGrownText before after fault.Write) (still fault.Write) c.write_grown-came.ensures.begun)
+    c.write_grown-came.ensures.ends c.close_book.ensures.line c.close_book.ensures.flush
+
+pub returns-in-Err-clause-silent : goal.returns-in-Err-clause-silent
+returns-in-Err-clause-silent g c = λ failed.
+    let before = g.W.Write.contents c.args.out.now in (
+      c.in-Err.fault,
+      unsaid_kept IsGrownText before before (g.W.Write.contents c.ended.new.out) c.ended.ensures.kept c.in-Err.fault (unsaid_yet IsGrownText before Done (told_line Grown) (Grown, tt, refl, refl) c.in-Err.fault),
+      c.ended.ensures.line,
+    )
