@@ -11,7 +11,7 @@ import resource
 import subprocess
 import sys
 
-from trial import PROGRAM, same, try_each
+from trial import PROGRAM, call, same, try_each
 
 MOST_LINES = 1_000_000
 LONGEST_LINE = 200

@@ -241,6 +241,23 @@ def importing(trial, disk, twin, free):
         trial.same("all entries", db.execute(ROWS).fetchall(), twin.joined)
 
 
+def growing(trial, disk, twin, free):
+    disk.hold(twin.template)
+    if not disk.fill(free):
+        return
+    told = call(disk.folder, ["grow", "site.db", "64"])
+    trial.among("grow", told, [(0, "grown\n", ""), (3, "grown\n", "disk\n"), (3, "", "store\n"), (3, "", "disk\n")])
+    trial.ends[f"grow: {told[1].strip() or 'nothing'} and {told[2].strip() or 'done'}"] += 1
+    grown = [*twin.before, (len(twin.before), None, None, "grow", None, None, 64, None, None, "")]
+    rows = rows_in(trial, disk.folder)
+    wanted = {"grown\n": [grown]}.get(told[1], [twin.before, grown] if told[2] == "store\n" else [twin.before])
+    trial.among("the entries", rows, wanted)
+    disk.make_space()
+    word = (1, "not-more\n", "") if rows == grown else (0, "grown\n", "")
+    trial.same("grown again", call(disk.folder, ["grow", "site.db", "64"]), word)
+    trial.same("all entries", rows_in(trial, disk.folder), grown)
+
+
 def making(trial, disk, _twin, free):
     disk.hold(None)
     if not disk.fill(free):
@@ -284,7 +301,7 @@ def no_file_more(trial, disk, twin):
     with open(os.path.join(disk.folder, "site.db"), "rb") as file:
         before = file.read()
     names = sorted(os.listdir(disk.folder))
-    for words in [["ask", "site.db"], ["find", "site.db", "1"], ["import", "site.db"], ["init", "new.db", "0", "2", "10"]]:
+    for words in [["ask", "site.db"], ["find", "site.db", "1"], ["import", "site.db"], ["grow", "site.db", "64"], ["init", "new.db", "0", "2", "10"]]:
         trial.same(f"{words} and no file more", call(disk.folder, words, "sell 9 gala 1\n"), (3, "", "disk\n"))
         trial.same(f"the files behind {words}", sorted(os.listdir(disk.folder)), names)
     with open(os.path.join(disk.folder, "site.db"), "rb") as file:
@@ -308,7 +325,7 @@ def try_all(trial, top, folder):
     for start in KEPT:
         twin = Twin(trial, top, start, evening(150), message)
         for free in few:
-            for kind in [asking, importing, making] if start == "killed" else [asking, importing]:
+            for kind in [asking, importing, growing, making] if start == "killed" else [asking, importing, growing]:
                 trial.name = f"{kind.__name__}, {start}, {free} pages free"
                 kind(trial, disk, twin, free)
     twin = Twin(trial, top, "closed well", evening(LONG), message)
