@@ -17,7 +17,7 @@ fn cession_reaches_the_other_site(rt: HostRuntime) {
         to: taker,
     };
     let mut rights = Rights::new(rt.alloc(), sites);
-    rights.reserve(4).expect(&rt, "memory");
+    rights.reserve(5).expect(&rt, "memory");
     rights.raise(Mark {
         event,
         cell: released,
