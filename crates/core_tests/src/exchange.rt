@@ -6,7 +6,7 @@ use crate::values::{book_of, event, gave, join, mark, number, seats, site};
 use book_core::{Book, JoinFault, Plan};
 use delta_mutators::{Delta, Item};
 use request_ledger::Request;
-use rights_lattice::{Cell, Event, Mark, SiteId};
+use rights_lattice::{Cell, Event, Mark, SiteId, Sites};
 use site_exchange::{CheckFault, Exchange, Message, Upto, ack_for, check};
 use std::alloc::Global;
 use std::process::Abort;
@@ -132,7 +132,7 @@ fn selling_book(rt: &impl Abort, alloc: Global, event: Event) -> Book {
 
 // The whole history of the book as the message that a site of it has not had.
 fn first_message(rt: &impl Abort, alloc: Global, book: &Book, to: u64) -> Message {
-    let mut exchange = Exchange::fresh(alloc);
+    let mut exchange = Exchange::fresh(alloc, book.sites());
     due(rt, alloc, &mut exchange, book, site(rt, to)).expect(rt, "a message")
 }
 
@@ -226,11 +226,11 @@ fn acknowledge(rt: &impl Abort, exchange: &mut Exchange, book: &Book, peer: Site
 fn acknowledged_and_fresh(rt: &impl Abort, alloc: Global) -> [(u64, bool); 2] {
     let book = ceding_book(rt, alloc, event(rt, b"gala"));
     let peer = site(rt, 1);
-    let mut exchange = Exchange::fresh(alloc);
+    let mut exchange = Exchange::fresh(alloc, book.sites());
     acknowledge(rt, &mut exchange, &book, peer, upto(rt, 4));
     acknowledge(rt, &mut exchange, &book, peer, upto(rt, 1));
     let acknowledged = is_due(rt, alloc, &mut exchange, &book, peer);
-    exchange = Exchange::fresh(alloc);
+    exchange = Exchange::fresh(alloc, book.sites());
     [acknowledged, is_due(rt, alloc, &mut exchange, &book, peer)]
 }
 
@@ -239,11 +239,30 @@ fn restart_forgets_acknowledgements(rt: HostRuntime) {
     assert!(rt; acknowledged_and_fresh(&rt, rt.alloc()) == [(4, false), (0, true)]);
 }
 
+// How many sites an exchange of two counts once it counts three, what is acknowledged by then and whether a message is
+// due, where the other site had acknowledged four entries; and what the third site has acknowledged.
+fn grown_to_three(rt: &impl Abort, alloc: Global) -> (u64, (u64, bool), u64) {
+    let book = ceding_book(rt, alloc, event(rt, b"gala"));
+    let peer = site(rt, 1);
+    let mut exchange = Exchange::fresh(alloc, book.sites());
+    acknowledge(rt, &mut exchange, &book, peer, upto(rt, 4));
+    assert!(rt; exchange.sites().count() <= 3);
+    exchange.grow(Sites::of(3).expect(rt, "a count of sites"));
+    let third = exchange.acked(site(rt, 2));
+    let counted = exchange.sites().count();
+    (counted, is_due(rt, alloc, &mut exchange, &book, peer), third)
+}
+
+#[test]
+fn growth_keeps_acknowledgements(rt: HostRuntime) {
+    assert!(rt; grown_to_three(&rt, rt.alloc()) == (3, (4, false), 0));
+}
+
 // The message that is due once the other site acknowledged two of the four entries of the message before.
 fn due_behind_two(rt: &impl Abort, alloc: Global, gala: Event) -> Message {
     let book = ceding_book(rt, alloc, gala);
     let peer = site(rt, 1);
-    let mut exchange = Exchange::fresh(alloc);
+    let mut exchange = Exchange::fresh(alloc, book.sites());
     let first = is_due(rt, alloc, &mut exchange, &book, peer);
     assert!(rt; first == (0, true));
     acknowledge(rt, &mut exchange, &book, peer, upto(rt, 2));

@@ -12,9 +12,9 @@ ghost use Rattle.delta_wire.specs.Wire.{message_of};
 ghost use Rattle.sql_records.specs.Held.{MayLeaveIn, history_in};
 ghost use Rattle.operator_cli.specs.Told.{FaultTold, told_status};
 ghost use Rattle.operator_cli.specs.declared.status.Status.TheVariants.{Refused, Failed};
-ghost use Rattle.operator_cli.specs.declared.store_fault.StoreFault.TheVariants.{Memory as WantsMemory, Read as ReadFailed, Store as NotStored};
+ghost use Rattle.operator_cli.specs.declared.store_fault.StoreFault.TheVariants.{Memory as WantsMemory, Read as ReadFailed, Store as NotStored, Write as WriteFailed};
 ghost use Rattle.std.specs.Option.{option_map};
-ghost use Rattle.operator_cli.specs.Printed.{Printed, IsTakenText, IsOfTaking, IsTellingOf};
+ghost use Rattle.operator_cli.specs.Printed.{Printed, Unsaid, IsTakenText, IsOfTaking, IsTellingOf};
 ghost use Rattle.operator_cli.specs.Opened.{EndsOpened, FailsFor, FailsIfIllegal, IsIllegal, IsImportEnd, IsLost, ShowedRecords};
 
 use crate::ending::{close_book, ended};
@@ -129,6 +129,8 @@ fn write_taken<K: Keeper, R: Read + Drop, W: Write>(
     ensures untouched { IfErr result (λ fault. LeavesAsItWas fault book.old.keeper book.new.keeper) }
     ensures failed { result ≡ Err NotStored → book.old.closed ≡ false → (K.failed book.old.keeper ≡ 0) × (K.failed book.new.keeper ≡ 1) }
     ensures ends { IfOk result (λ status. status ≢ Failed) }
+    ensures silent { IfErr result (Unsaid IsTakenText (W.contents out.old) (W.contents out.new)) }
+    ensures begun { OnOk result (Unsaid IsTakenText (W.contents out.old) (W.contents out.new) WriteFailed) }
     ensures trusted { K.is_trusted book.new.keeper → K.is_trusted book.old.keeper }
 {
     match take_input(alloc, book, input) {
@@ -170,6 +172,7 @@ pub fn import_store<S: Alter + Drop, R: Read + Drop, W: Write, E: Write>(
     ensures cause { IfSome result.1 (λ after. HasCleanDisk (state S.Store after)
         → FailsFor (λ fault. IsIllegal S.Store conn after fault ⊎ EndsOpened S.Store conn (IsImportEnd (R.remaining input)) after fault)
         (E.contents err.old) (E.contents err.new) result.0) }
+    ensures silent { FailsFor (Unsaid IsTakenText (W.contents out.old) (W.contents out.new)) (E.contents err.old) (E.contents err.new) result.0 }
     ensures ours { IfSome result.1 (ShowedRecords S.Store conn) }
     ensures illegal { IfSome result.1 (λ after. FailsIfIllegal S.Store conn after (W.contents out.old) (W.contents out.new) (E.contents err.old) (E.contents err.new) result.0) }
     ensures lost { result.1 ≡ None → IsLost S.Store conn (W.contents out.old) (W.contents out.new) (E.contents err.old) (E.contents err.new) result.0 }

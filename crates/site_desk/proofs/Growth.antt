@@ -7,8 +7,9 @@ use Rattle.std.proofs.lemmas.List.{drop-append-le, take-append-le}
 use Rattle.request_ledger.specs.declared.request.Request.{Request}
 use Rattle.book_core.specs.declared.entry.Entry.{Entry}
 use Rattle.book_core.specs.declared.entry.Entry.TheVariants.{Asked, Joined}
-use Rattle.book_core.specs.Decision.{Decision, Again, Reused, Full, Fresh, Office, decision, entry_if, entry_of_ask, sites_of, delta_for}
+use Rattle.book_core.specs.Decision.{Decision, Again, Reused, Full, Fresh, Office, decision, entry_if, entry_of_ask, sites_of}
 use Rattle.book_core.proofs.Histories.{sites_of-push}
+use Rattle.site_exchange.proofs.Counts.{count_asked}
 use Rattle.site_exchange.specs.declared.message.Message.{Message}
 use Rattle.site_exchange.specs.declared.message.Message.TheVariants.{Delta, Ack}
 use Rattle.site_exchange.specs.Exchange.{Site, Verdict, Joins, NothingNew, Acks, Refuses}
@@ -65,15 +66,9 @@ taken (Ok a) v m old new opening within is same = subst (λ (s : Site). (asked_s
 taken (Err e) v m old new opening within is same = subst (λ (s : Site). (asked_since opening s.history ≡ asked_since opening old.history) × (opening ≤ length s.history)) (sym same) (refl, within)
 
 -- neither a request nor a message changes the count of sites
-sites_decided : (d : Decision) (office : Office) (old : List Entry) (number : ℕ) (request : Request) → sites_of office (extended (entry_if d office old number request) old) ≡ sites_of office old
-sites_decided (Again place reply) office old number request = refl
-sites_decided (Fresh reply) office old number request = sites_of-push office old (Asked number request reply (delta_for office old request reply))
-sites_decided (Reused place) office old number request = refl
-sites_decided Full office old number request = refl
-
 pub sites_asked : (result : Result Answer AskFault) (office : Office) (old new : List Entry) (number : ℕ) (request : Request)
     → OnOk result (new ≡ extended (entry_of_ask office old number request) old) → OnErr result (new ≡ old) → sites_of office new ≡ sites_of office old
-sites_asked (Ok a) office old new number request now same = ap (sites_of office) now ∙ sites_decided (decision office old number request) office old number request
+sites_asked (Ok a) office old new number request now same = ap (sites_of office) now ∙ count_asked office old number request
 sites_asked (Err fault) office old new number request now same = ap (sites_of office) same
 
 sites_after_verdict : (v : Verdict) (m : Message) (old : Site) (office : Office) → sites_of office (site_after v m old).history ≡ sites_of office old.history

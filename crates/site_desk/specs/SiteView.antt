@@ -10,7 +10,7 @@ use Rattle.book_core.specs.Growing.{GrowDecision, entry_of_grow, grow_decision}
 use Rattle.book_core.specs.OwnRow.{HasOwnRights}
 use Rattle.site_exchange.specs.declared.message.Message.{Message}
 use Rattle.site_exchange.specs.Exchange.{Site, Verdict, verdict}
-use Rattle.site_exchange.specs.Pendings.{ArePending, ExchangeView}
+use Rattle.site_exchange.specs.Pendings.{ExchangeView, IsExchangeOf}
 use Rattle.sql_records.specs.Keeping.{LeavesOnly}
 use Rattle.sql_records.specs.declared.meta.Meta.{Meta}
 
@@ -27,13 +27,13 @@ coded_view {K} keeper =
     (λ s. ((s.book, s.acked), (s.keeper, s.closed))) (λ p. record { book = p.0.0; acked = p.0.1; keeper = p.1.0; closed = p.1.1 }) (λ _. refl)
 
 -- an open book's keeper has not failed and, where it is trusted, keeps the history, which is what a stop leaves;
--- no peer has acknowledged more than there is, and what is pending for each is of this history
+-- the exchange is of this book, and no peer has acknowledged more than there is
 pub record IsInStep (closed : Bool) (failed : ℕ) (is_trusted : Type 0) (kept : List Entry) (may_leave : Option (List Entry) → Type 0) (exchange : ExchangeView) (book : BookView) : Type 0 where
   pub sound : closed ≡ false → failed ≡ 0
   pub same : closed ≡ false → is_trusted → book.history ≡ kept
   pub rests : closed ≡ false → is_trusted → LeavesOnly book.history may_leave
   pub acknowledged : (peer : ℕ) → get_or exchange.acked peer 0 ≤ length book.history
-  pub pending : ArePending book.history exchange
+  pub of_book : IsExchangeOf book.office book.history exchange
   pub has_rights : HasOwnRights book
 
 -- the history, and what each peer has acknowledged of it

@@ -36,6 +36,7 @@ pub(crate) fn join<K: Keeper>(
     ensures unchanged { OnErr result (book.new.history ≡ book.old.history) }
     ensures untouched { IfErr result (λ fault. fault ≢ TakeFault.Store → keeper.new ≡ keeper.old) }
     ensures again { OnOk result (verdict_of (join_decision book.old.office book.old.history peer delta) ≢ Joins → keeper.new ≡ keeper.old) }
+    ensures still { verdict_of (join_decision book.old.office book.old.history peer delta) ≢ Joins → book.new ≡ book.old }
     ensures sound { OnOk result (K.failed keeper.new ≡ 0) }
     ensures same { OnOk result (K.is_trusted keeper.new → book.new.history ≡ K.kept keeper.new) }
     ensures kept { OnOk result (verdict_of (join_decision book.old.office book.old.history peer delta) ≡ Joins → K.is_trusted keeper.new → Keeps book.new.history (K.kept keeper.new) (K.may_leave keeper.new)) }

@@ -9,7 +9,7 @@ ghost use Rattle.book_core.specs.Decision.{sites_of};
 ghost use Rattle.book_core.specs.OwnRow.{HasOwnRights, cell_in};
 ghost use Rattle.book_core.specs.Legal.{IsLegal};
 ghost use Rattle.book_core.specs.Replay.{IsReplayFault};
-ghost use Rattle.site_exchange.specs.Exchange.{Joins, ack_for, entry_of_take, next, zeros};
+ghost use Rattle.site_exchange.specs.Exchange.{Acks, Joins, ack_for, entry_of_take, next, zeros};
 ghost use Rattle.site_exchange.specs.Taking.{MayTake, site_after, with_entry};
 ghost use Rattle.sql_records.specs.Keeping.{Keeps, LeavesOnly};
 ghost use Rattle.sql_records.specs.declared.meta.Meta.{Meta as Numbers};
@@ -83,9 +83,10 @@ impl<K: Keeper> SiteBook<K> {
             Ok(book) => {
                 // What the book says of its history.
                 let _len = book.len();
+                let exchange = Exchange::fresh(alloc, book.sites());
                 Ok(SiteBook {
                     book,
-                    exchange: Exchange::fresh(alloc),
+                    exchange,
                     keeper,
                     is_closed: false,
                 })
@@ -186,6 +187,7 @@ impl<K: Keeper> SiteBook<K> {
         ensures unchanged { OnErr result (site_of self.new ≡ site_of self.old) }
         ensures untouched { IfErr result (λ fault. fault ≢ TakeFault.Store → self.new.keeper ≡ self.old.keeper) }
         ensures closes { (self.new.closed ≡ true) ↔ ((self.old.closed ≡ true) ⊎ (result ≡ Err TakeFault.Store)) }
+        ensures still { verdict_in self.old.book message ≢ Joins → verdict_in self.old.book message ≢ Acks → self.new ≡ self.old }
 
         // What the keeper holds, and what a stop may leave of it.
         ensures again { OnOk result (verdict_in self.old.book message ≢ Joins → self.new.keeper ≡ self.old.keeper) }
@@ -259,7 +261,9 @@ impl<K: Keeper> SiteBook<K> {
         }
         let grown = grow(&mut self.book, &mut self.keeper, alloc, sites);
         self.is_closed = matches!(grown, Err(GrowFault::Store));
-        grown
+        grown?;
+        self.exchange.grow(sites);
+        Ok(())
     }
 
     /// The message that is due to a peer, and none where it has acknowledged all, which takes no memory.
@@ -273,7 +277,7 @@ impl<K: Keeper> SiteBook<K> {
         if self.is_closed {
             return Err(NextFault::Closed);
         }
-        if to.number() >= self.book.sites().count() || to == self.book.me() {
+        if to.number() >= self.exchange.sites().count() || to == self.book.me() {
             return Err(NextFault::NoSite);
         }
         Ok(self.exchange.next(alloc, &self.book, to)?)

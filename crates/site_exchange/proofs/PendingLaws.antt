@@ -1,6 +1,6 @@
 -- What an exchange keeps for its peers: of one peer more, of a peer that was caught up, and of a longer history.
 use Rattle.std.proofs.Common.{◌≡◌, ◌≢◌, ◌⊎◌, inl, inr, ℕ, zero, suc, ◌<◌, ◌≤◌, List, [], ◌∷◌, ◌++◌, length, get_or, set, Option, Some, None, refl, sym, ap, ◌∙◌, subst, arith, get_or-set_same, get_or-set_other}
-use Rattle.std.specs.Prelude.{Result, Ok, Err, OnOk, OnErr, slice_get}
+use Rattle.std.specs.Prelude.{Result, Ok, Err, OnOk, slice_get}
 use Rattle.std.proofs.lemmas.Bool.{cases_eq}
 use Rattle.rights_lattice.specs.State.{bottom}
 use Rattle.book_core.specs.declared.entry.Entry.{Entry}
@@ -100,12 +100,6 @@ pending_grown h more e are peer p found = still_pending h more p (are peer p fou
 pub pending_extended : (entry : Option Entry) (h : List Entry) (e : ExchangeView) → ArePending h e → ArePending (extended entry h) e
 pending_extended None h e are = are
 pending_extended (Some entry) h e are = pending_grown h (entry ∷ []) e are
-
--- so it is of a history that an input was entered in, or that stayed as it was
-pub pending_entered : {A F : Type 0} (came : Result A F) (entry : Option Entry) (old new : List Entry) (e : ExchangeView) → OnOk came (new ≡ extended entry old) → OnErr came (new ≡ old)
-    → ArePending old e → ArePending new e
-pending_entered (Ok a) entry old new e entered same are = subst (λ (h : List Entry). ArePending h e) (sym entered) (pending_extended entry old e are)
-pending_entered (Err f) entry old new e entered same are = subst (λ (h : List Entry). ArePending h e) (sym same) are
 
 -- what is pending at a place reaches as far as the one that was set there
 pub reached_set : {A E : Type 0} (r : Result A E) (h : List Entry) (ps : List PendingView) (i : ℕ) (old new : PendingView) → slice_get ps i ≡ Some old → OnOk r (new.upto ≡ length h) → OnOk r (IsCaughtUp h (set ps i new) i)

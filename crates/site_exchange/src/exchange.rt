@@ -12,7 +12,7 @@ use crate::upto::Upto;
 use book_core::Book;
 use delta_buffer::Pending;
 use delta_mutators::Delta;
-use rights_lattice::{SITE_NUMBERS, SiteId};
+use rights_lattice::{SITE_NUMBERS, SiteId, Sites};
 use std::alloc::{AllocError, Global};
 use std::marker::Model;
 
@@ -21,6 +21,8 @@ use std::marker::Model;
 #[derive(Drop)]
 pub struct Exchange {
     alloc: Global,
+    /// Each of them but the own one is a peer.
+    sites: Sites,
     acked: [u64; SITE_NUMBERS],
     /// Of the peers with the lowest numbers, as far as messages were asked for.
     pendings: Vec<Pending>,
@@ -33,22 +35,38 @@ impl Model for Exchange {
 
     ghost coded = { coded_exchange };
 
-    ghost view = { λ e. record { acked = e.acked; pendings = e.pendings.items } };
+    ghost view = { λ e. record { sites = e.sites; acked = e.acked; pendings = e.pendings.items } };
 
     ghost invariant = { λ e. BeginAtAcked e.acked e.pendings.items };
 }
 
 impl Exchange {
-    /// Nothing counts as acknowledged by any peer. It takes no memory.
+    /// An exchange of so many sites: nothing counts as acknowledged by any peer. It takes no memory.
     #[tactic(auto, unfolding(rights_lattice::specs::Sums::max_sites))]
-    pub fn fresh(alloc: Global) -> Exchange
-        ensures { result ≡ record { acked = zeros; pendings = [] } }
+    pub fn fresh(alloc: Global, sites: Sites) -> Exchange
+        ensures { result ≡ record { sites = sites; acked = zeros; pendings = [] } }
     {
         Exchange {
             alloc,
+            sites,
             acked: [0; SITE_NUMBERS],
             pendings: Vec::new(alloc),
         }
+    }
+
+    /// Counts so many sites, and no fewer than before. What peers have acknowledged stays, and so does what is pending.
+    pub fn grow(&mut self, sites: Sites)
+        requires not_fewer { self.old.sites ≤ sites }
+        ensures { self.new ≡ record self.old { sites = sites } }
+    {
+        self.sites = sites;
+    }
+
+    /// The count of sites.
+    pub fn sites(&self) -> Sites
+        ensures { result ≡ self.now.sites }
+    {
+        self.sites
     }
 
     /// How many entries the peer has acknowledged.
@@ -63,6 +81,7 @@ impl Exchange {
     pub fn ack(&mut self, book: &Book, peer: SiteId, upto: Upto) -> Result<(), AllocError>
         requires within { upto ≤ length book.now.history }
         requires pending { IsPendingIn book.now.history self.old.pendings peer }
+        ensures sites { self.new.sites ≡ self.old.sites }
         ensures acked { OnOk result (self.new.acked ≡ set self.old.acked peer (max (get_or self.old.acked peer 0) upto)) }
         ensures pending { OnOk result ((other : ℕ) → IsPendingIn book.now.history self.old.pendings other → IsPendingIn book.now.history self.new.pendings other) }
         ensures added { OnOk result (KeepAdded self.old.pendings self.new.pendings) }
@@ -94,6 +113,7 @@ impl Exchange {
         requires pending { IsPendingIn book.now.history self.old.pendings to }
         ensures message { IfOk result (λ message. message ≡ next book.now.office.me (record { history = book.now.history; acked = self.old.acked }) to) }
         ensures memory { OnErr result (IsSome (next book.now.office.me (record { history = book.now.history; acked = self.old.acked }) to)) }
+        ensures sites { self.new.sites ≡ self.old.sites }
         ensures acked { self.new.acked ≡ self.old.acked }
         ensures pending { (peer : ℕ) → get_or self.old.acked peer 0 ≤ length book.now.history → IsPendingIn book.now.history self.old.pendings peer → IsPendingIn book.now.history self.new.pendings peer }
         ensures added { KeepAdded self.old.pendings self.new.pendings }

@@ -1,14 +1,20 @@
--- What is pending at a site of the program, as its history stays, and as an acknowledgement is taken.
-use Rattle.std.proofs.Common.{◌≡◌, ℕ, List, sym, subst}
-use Rattle.std.specs.Prelude.{Result, Ok, Err, OnOk, OnErr}
+-- How many sites a site of the program counts, as an input is entered that is no growth.
+use Rattle.std.proofs.Common.{◌≡◌, ℕ, List, Option, Some, None, refl}
+use Rattle.std.specs.Prelude.{slice_get}
 use Rattle.book_core.specs.declared.entry.Entry.{Entry}
-use Rattle.site_exchange.specs.Pendings.{ArePending, ExchangeView, IsPendingIn}
+use Rattle.book_core.specs.Decision.{Office, sites_of}
+use Rattle.site_exchange.specs.declared.message.Message.{Message}
+use Rattle.site_exchange.specs.Taking.{extended}
+use Rattle.site_exchange.proofs.Counts.{count_asked, count_taken}
+use Rattle.world_steps.specs.declared.step.Input.{Input}
+use Rattle.world_steps.specs.declared.step.Input.TheVariants as input
+use Rattle.world_steps.specs.World.{IsGrowth, entry_if_sent, entry_of_input}
 
-pub pending_still : (h now : List Entry) (e : ExchangeView) → now ≡ h → ArePending h e → ArePending now e
-pending_still h now e same are = subst (λ (g : List Entry). ArePending g e) (sym same) are
+count_if_sent : (office : Office) (h : List Entry) (m : Option Message) → sites_of office (extended (entry_if_sent office h m) h) ≡ sites_of office h
+count_if_sent office h None = refl
+count_if_sent office h (Some m) = count_taken office h m
 
--- where an acknowledgement was taken, or refused
-pub pending_acked : {T E : Type 0} (r : Result T E) (h : List Entry) (e now : ExchangeView)
-    → OnOk r ((peer : ℕ) → IsPendingIn h e.pendings peer → IsPendingIn h now.pendings peer) → OnErr r (now ≡ e) → ArePending h e → ArePending h now
-pending_acked (Ok x) h e now taken same are = λ peer. taken peer (are peer)
-pending_acked (Err x) h e now taken same are = subst (ArePending h) (sym same) are
+pub count_of_input : (office : Office) (h : List Entry) (sent : List Message) (i : Input) → (IsGrowth i → ⊥) → sites_of office (extended (entry_of_input office h sent i) h) ≡ sites_of office h
+count_of_input office h sent (input.Request number request) kind = count_asked office h number request
+count_of_input office h sent (input.Take index) kind = count_if_sent office h (slice_get sent index)
+count_of_input office h sent (input.Grow sites) kind = absurd (kind tt)

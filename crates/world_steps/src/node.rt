@@ -20,7 +20,8 @@ use site_exchange::{Exchange, Message, TakeFault, Upto, check};
 use std::alloc::{AllocError, Global};
 use std::marker::Model;
 
-/// One site of a world. What is pending for its peers is of its book's history.
+/// One site of a world. Its exchange counts the sites that its book counts, and what is pending for its peers is of the
+/// book's history.
 #[derive(Drop)]
 pub struct Node {
     book: Book,
@@ -28,7 +29,7 @@ pub struct Node {
 }
 
 impl Model for Node {
-    ghost use Rattle.site_exchange.specs.Pendings.{ArePending};
+    ghost use Rattle.site_exchange.specs.Pendings.{IsExchangeOf};
     ghost use Rattle.world_steps.specs.NodeView.{NodeView, coded_node};
 
     ghost Value = { NodeView };
@@ -37,7 +38,7 @@ impl Model for Node {
 
     ghost view = { λ n. record { book = n.book; acked = n.exchange.acked } };
 
-    ghost invariant = { λ n. ArePending n.book.history n.exchange };
+    ghost invariant = { λ n. IsExchangeOf n.book.office n.book.history n.exchange };
 }
 
 impl Node {
@@ -50,7 +51,7 @@ impl Node {
     {
         Node {
             book: Book::new(alloc, me, sites, limit),
-            exchange: Exchange::fresh(alloc),
+            exchange: Exchange::fresh(alloc, sites),
         }
     }
 
@@ -65,7 +66,7 @@ impl Node {
     pub fn restart(&mut self, alloc: Global)
         ensures { self.new ≡ record self.old { acked = zeros } }
     {
-        self.exchange = Exchange::fresh(alloc);
+        self.exchange = Exchange::fresh(alloc, self.book.sites());
     }
 
     /// The message that is due to a peer, if any. Nothing that is shown changes, also where memory is refused.
@@ -101,13 +102,14 @@ pub fn plan_growth(node: &mut Node, alloc: Global, sites: Sites) -> Result<Plann
     node.book.plan_grow(alloc, sites)
 }
 
-/// Enters what was planned.
+/// Enters what was planned, and counts the sites that the book then counts.
 pub fn enter(node: &mut Node, planned: Planned)
     requires { IsReady node.old.book planned }
     ensures entered { site_of node.new ≡ with_entry (Some planned) (site_of node.old) }
     ensures office { node.new.book.office ≡ node.old.book.office }
 {
     node.book.enter(planned);
+    node.exchange.grow(node.book.sites());
 }
 
 /// Adds the sites that are lacking of so many, each with no history, and counting so many.

@@ -8,15 +8,18 @@ use Rattle.sql_records.specs.Held.{IsTrusted, Kept, MayLeaveIn, history_in}
 use Rattle.sql_records.specs.Layout.{HasMeta}
 use Rattle.site_desk.specs.SiteView.{office_of}
 use Rattle.operator_cli.specs.declared.status.Status.{Status}
-use Rattle.operator_cli.specs.declared.status.Status.TheVariants.{Refused}
+use Rattle.operator_cli.specs.declared.status.Status.TheVariants.{Done, Refused}
+use Rattle.operator_cli.specs.declared.store_fault.StoreFault.TheVariants as fault
+use Rattle.operator_cli.specs.declared.told.Told.TheVariants.{Joined}
+use Rattle.operator_cli.specs.Told.{told_line}
 use Rattle.operator_cli.specs.Exchanged.{HoldsOnly, LeavesOneOf, behind_bytes, told_of_bytes}
-use Rattle.operator_cli.specs.Printed.{Printed, IsTellingOf}
+use Rattle.operator_cli.specs.Printed.{Printed, Unsaid, IsTellingOf}
 use Rattle.operator_cli.specs.Printed.{IsTakenText}
 use Rattle.operator_cli.specs.Opened.{IsIllegal, IsImportEnd, IsRefused}
-use Rattle.operator_cli.proofs.EndLaws.{always, both_err, holds_behind, if_back}
+use Rattle.operator_cli.proofs.EndLaws.{always, both_err, fails_for, holds_behind, if_back, on_ok_map, weaker}
 use Rattle.operator_cli.proofs.ExchangeLaws.{import_end, kept_as_it_was, leaves_as_they_were}
 use Rattle.operator_cli.proofs.OpenedLaws.{book_back, opened_cause, opened_illegal, opened_ours, refused_cause, refused_illegal, refused_lost, refused_ours}
-use Rattle.operator_cli.proofs.PrintLaws.{ends_printed, ends_as, if_some_is, if_some_map, ok_unless_failed}
+use Rattle.operator_cli.proofs.PrintLaws.{ends_printed, ends_as, if_some_is, if_some_map, ok_unless_failed, unsaid_kept, unsaid_yet}
 use Rattle.operator_cli.proofs.import.import_store.Goals as goal
 
 pub returns-in-Ok-clause-out : goal.returns-in-Ok-clause-out
@@ -117,3 +120,22 @@ returns-in-Err-clause-stopped g c =
     (λ after found clean meta has.
     let h = history_in (state g.S.Store c.args.conn).now.trees in
     leaves_as_they_were (g.R.Read.remaining c.args.input) h (behind_bytes (office_of meta) h) (MayLeaveIn (state g.S.Store after)) (found.rests clean))
+
+pub returns-in-Ok-clause-silent : goal.returns-in-Ok-clause-silent
+returns-in-Ok-clause-silent g c =
+    let before = g.W.Write.contents c.args.out.now in
+    let between = g.W.Write.contents c.write_taken-came.new.out in
+    let after = g.W.Write.contents c.close_book.new.out in
+    let still = unsaid_kept IsTakenText before between after c.close_book.ensures.kept in
+    fails_for (Unsaid IsTakenText before after) (g.E.Write.contents c.args.err.now) (g.E.Write.contents c.close_book.new.err) c.write_taken-came.result c.close_book.result.0
+    (weaker (Unsaid IsTakenText before between) (Unsaid IsTakenText before after) c.write_taken-came.result still c.write_taken-came.ensures.silent)
+    (on_ok_map c.write_taken-came.result (Unsaid IsTakenText before between fault.Write) (Unsaid IsTakenText before after fault.Write) (still fault.Write) c.write_taken-came.ensures.begun)
+    c.write_taken-came.ensures.ends c.close_book.ensures.line c.close_book.ensures.flush
+
+pub returns-in-Err-clause-silent : goal.returns-in-Err-clause-silent
+returns-in-Err-clause-silent g c = λ failed.
+    let before = g.W.Write.contents c.args.out.now in (
+      c.in-Err.fault,
+      unsaid_kept IsTakenText before before (g.W.Write.contents c.ended.new.out) c.ended.ensures.kept c.in-Err.fault (unsaid_yet IsTakenText before Done (told_line Joined) (Joined, tt, refl, refl) c.in-Err.fault),
+      c.ended.ensures.line,
+    )

@@ -1,9 +1,11 @@
 use Rattle.std.proofs.Common.{Some}
 use Rattle.book_core.specs.declared.entry.Entry.TheVariants.{Joined}
-use Rattle.site_exchange.proofs.PendingLaws.{pending_entered}
+use Rattle.site_exchange.proofs.Counts.{count_joined}
+use Rattle.site_exchange.proofs.ExchangeLaws.{exchange_entered}
 use Rattle.world_steps.proofs.node.take.Goals as goal
 
 pub invariant_of-node : goal.invariant_of-node
 invariant_of-node c =
-    pending_entered c.join.result (Some (Joined c.in-Joined-Delta.by c.in-Joined-Delta.delta)) c.node.inside.book.history c.join.new.book.history c.node.inside.exchange
-    c.join.ensures.joined c.join.ensures.unchanged c.node.invariant
+    let b = c.node.inside.book in
+    exchange_entered c.join.result b.office c.join.new.book.office (Some (Joined c.in-Joined-Delta.by c.in-Joined-Delta.delta)) b.history c.join.new.book.history c.node.inside.exchange
+    c.join.ensures.office c.join.ensures.joined c.join.ensures.unchanged (count_joined b.office b.history c.in-Joined-Delta.by c.in-Joined-Delta.delta) c.node.invariant

@@ -1,5 +1,6 @@
 use Rattle.std.proofs.Common.{arith, rules}
-use Rattle.site_exchange.proofs.PendingLaws.{pending_entered}
+use Rattle.site_exchange.proofs.Counts.{count_asked}
+use Rattle.site_exchange.proofs.ExchangeLaws.{exchange_entered}
 use Rattle.site_desk.specs.SiteView.{entry_in}
 use Rattle.site_desk.proofs.Acknowledged.{no_shorter}
 use Rattle.site_desk.proofs.Growth.{grown}
@@ -17,7 +18,8 @@ invariant_of-self g c = record {
   same = search rules;
   rests = search rules;
   acknowledged = λ peer. omega (arith, c.self.invariant.acknowledged peer, no_shorter c.answer-answer.result (entry_in c.self.inside.book c.args.number c.args.request.now) c.self.inside.book.history c.answer-answer.new.book.history c.answer-answer.ensures.entered c.answer-answer.ensures.unchanged);
-  pending = pending_entered c.answer-answer.result (entry_in c.self.inside.book c.args.number c.args.request.now) c.self.inside.book.history c.answer-answer.new.book.history c.self.inside.exchange
-      c.answer-answer.ensures.entered c.answer-answer.ensures.unchanged c.self.invariant.pending;
+  of_book = exchange_entered c.answer-answer.result c.self.inside.book.office c.answer-answer.new.book.office (entry_in c.self.inside.book c.args.number c.args.request.now)
+      c.self.inside.book.history c.answer-answer.new.book.history c.self.inside.exchange c.answer-answer.ensures.office c.answer-answer.ensures.entered c.answer-answer.ensures.unchanged
+      (count_asked c.self.inside.book.office c.self.inside.book.history c.args.number c.args.request.now) c.self.invariant.of_book;
   has_rights = search rules;
 }

@@ -1,8 +1,8 @@
-use Rattle.std.proofs.Common.{ℕ, ◌≤◌, List, length, get_or, sym, subst}
+use Rattle.std.proofs.Common.{ℕ, ◌≤◌, List, length, get_or, sym, subst, ◌∙◌}
 use Rattle.site_desk.proofs.site_book.SiteBook.next.Goals as goal
 
 pub next-requires-clause-pending : goal.next-requires-clause-pending
-next-requires-clause-pending g c = c.self.invariant.pending c.args.to
+next-requires-clause-pending g c = c.self.invariant.of_book.pending c.args.to
 
 pub invariant_of-self : goal.invariant_of-self
 invariant_of-self g c = record {
@@ -10,7 +10,10 @@ invariant_of-self g c = record {
   same = c.self.invariant.same;
   rests = c.self.invariant.rests;
   acknowledged = λ peer. subst (λ (acked : List ℕ). get_or acked peer 0 ≤ length c.self.inside.book.history) (sym c.next.ensures.acked) (c.self.invariant.acknowledged peer);
-  pending = λ peer. c.next.ensures.pending peer (c.self.invariant.acknowledged peer) (c.self.invariant.pending peer);
+  of_book = record {
+    counted = c.next.ensures.sites ∙ c.self.invariant.of_book.counted;
+    pending = λ peer. c.next.ensures.pending peer (c.self.invariant.acknowledged peer) (c.self.invariant.of_book.pending peer);
+  };
   has_rights = c.self.invariant.has_rights;
 }
 
@@ -20,6 +23,9 @@ invariant_of-self-2 g c = record {
   same = c.self.invariant.same;
   rests = c.self.invariant.rests;
   acknowledged = λ peer. subst (λ (acked : List ℕ). get_or acked peer 0 ≤ length c.self.inside.book.history) (sym c.next.ensures.acked) (c.self.invariant.acknowledged peer);
-  pending = λ peer. c.next.ensures.pending peer (c.self.invariant.acknowledged peer) (c.self.invariant.pending peer);
+  of_book = record {
+    counted = c.next.ensures.sites ∙ c.self.invariant.of_book.counted;
+    pending = λ peer. c.next.ensures.pending peer (c.self.invariant.acknowledged peer) (c.self.invariant.of_book.pending peer);
+  };
   has_rights = c.self.invariant.has_rights;
 }
