@@ -91,8 +91,6 @@ added_then ps qs rs first then peer p found =
     let new = then peer old.0 old.1 in
     (new.0, new.1, omega (arith, old.2, new.2))
 
--- ---- for callers
-
 -- what is pending of a history is pending of it with more behind it
 pub pending_grown : (h more : List Entry) (e : ExchangeView) → ArePending h e → ArePending (h ++ more) e
 pending_grown h more e are peer p found = still_pending h more p (are peer p found)
