@@ -250,7 +250,11 @@ fn grown_to_three(rt: &impl Abort, alloc: Global) -> (u64, (u64, bool), u64) {
     exchange.grow(Sites::of(3).expect(rt, "a count of sites"));
     let third = exchange.acked(site(rt, 2));
     let counted = exchange.sites().count();
-    (counted, is_due(rt, alloc, &mut exchange, &book, peer), third)
+    (
+        counted,
+        is_due(rt, alloc, &mut exchange, &book, peer),
+        third,
+    )
 }
 
 #[test]

@@ -6,7 +6,7 @@ use Rattle.std.proofs.lemmas.List.Sums.{count_by-le-length, sum_by-append}
 use Rattle.std.proofs.lemmas.List.{drop-append-le, take-append-le}
 use Rattle.request_ledger.specs.declared.request.Request.{Request}
 use Rattle.book_core.specs.declared.entry.Entry.{Entry}
-use Rattle.book_core.specs.declared.entry.Entry.TheVariants.{Asked, Joined}
+use Rattle.book_core.specs.declared.entry.Entry.TheVariants.{Joined}
 use Rattle.book_core.specs.Decision.{Decision, Again, Reused, Full, Fresh, Office, decision, entry_if, entry_of_ask, sites_of}
 use Rattle.book_core.proofs.Histories.{sites_of-push}
 use Rattle.site_exchange.proofs.Counts.{count_asked}

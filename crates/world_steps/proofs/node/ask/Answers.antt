@@ -20,7 +20,7 @@ invariant_of-node-in-Ok-New c =
     let is : c.enter.new.self.history ≡ b.history ++ planned ∷ [] = c.enter.ensures.history ∙ ap (λ (b : BookView). b.history ++ planned ∷ []) c.plan.ensures.unchanged in
     let office : c.enter.new.self.office ≡ b.office = c.enter.ensures.office ∙ ap (λ (b : BookView). b.office) c.plan.ensures.unchanged in
     let plan : IsPlan c.plan.new.self c.args.number c.args.request.now (New planned) =
-        subst (IsPlan c.plan.new.self c.args.number c.args.request.now) c.in-Ok-New.field-0-is c.in-Ok-New.ensures.plan in
+    subst (IsPlan c.plan.new.self c.args.number c.args.request.now) c.in-Ok-New.field-0-is c.in-Ok-New.ensures.plan in
     exchange_extended b.office c.enter.new.self.office (Some planned) b.history c.enter.new.self.history c.node.inside.exchange office is
     (count_entry b.office b.history c.args.number c.args.request.now planned plan.0) c.node.invariant
 

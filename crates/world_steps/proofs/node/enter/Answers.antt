@@ -11,8 +11,15 @@ pub grow-requires : goal.grow-requires
 grow-requires c =
     let b = c.node.inside.book in
     let next : IsNext b.office b.history c.args.planned = subst (λ (n : NodeView). IsNext n.book.office n.book.history c.args.planned) (sym c.node.view_is) c.requires.next in
-    omega (arith, c.node.invariant.counted, next_sites b.office b.history c.args.planned next, sites_of-push b.office b.history c.args.planned,
-      ap (sites_of b.office) c.enter.ensures.history, ap (λ (o : Office). sites_of o c.enter.new.self.history) c.enter.ensures.office, c.sites.ensures.sites)
+    omega (
+      arith,
+      c.node.invariant.counted,
+      next_sites b.office b.history c.args.planned next,
+      sites_of-push b.office b.history c.args.planned,
+      ap (sites_of b.office) c.enter.ensures.history,
+      ap (λ (o : Office). sites_of o c.enter.new.self.history) c.enter.ensures.office,
+      c.sites.ensures.sites,
+    )
 
 pub invariant_of-node : goal.invariant_of-node
 invariant_of-node c =
