@@ -27,7 +27,7 @@ coded_view {K} keeper =
     (λ s. ((s.book, s.acked), (s.keeper, s.closed))) (λ p. record { book = p.0.0; acked = p.0.1; keeper = p.1.0; closed = p.1.1 }) (λ _. refl)
 
 -- an open book's keeper has not failed and, where it is trusted, keeps the history, which is what a stop leaves;
--- the exchange is of this book, and no peer has acknowledged more than there is
+-- closed or not, the exchange is of this book, no peer has acknowledged more than there is, and own rights are not negative
 pub record IsInStep (closed : Bool) (failed : ℕ) (is_trusted : Type 0) (kept : List Entry) (may_leave : Option (List Entry) → Type 0) (exchange : ExchangeView) (book : BookView) : Type 0 where
   pub sound : closed ≡ false → failed ≡ 0
   pub same : closed ≡ false → is_trusted → book.history ≡ kept

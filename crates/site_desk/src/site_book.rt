@@ -9,7 +9,7 @@ ghost use Rattle.book_core.specs.Decision.{sites_of};
 ghost use Rattle.book_core.specs.OwnRow.{HasOwnRights, cell_in};
 ghost use Rattle.book_core.specs.Legal.{IsLegal};
 ghost use Rattle.book_core.specs.Replay.{IsReplayFault};
-ghost use Rattle.site_exchange.specs.Exchange.{Acks, Joins, ack_for, entry_of_take, next, zeros};
+ghost use Rattle.site_exchange.specs.Exchange.{Joins, NothingNew, ack_for, entry_of_take, next, zeros};
 ghost use Rattle.site_exchange.specs.Taking.{MayTake, site_after, with_entry};
 ghost use Rattle.sql_records.specs.Keeping.{Keeps, LeavesOnly};
 ghost use Rattle.sql_records.specs.declared.meta.Meta.{Meta as Numbers};
@@ -187,7 +187,9 @@ impl<K: Keeper> SiteBook<K> {
         ensures unchanged { OnErr result (site_of self.new ≡ site_of self.old) }
         ensures untouched { IfErr result (λ fault. fault ≢ TakeFault.Store → self.new.keeper ≡ self.old.keeper) }
         ensures closes { (self.new.closed ≡ true) ↔ ((self.old.closed ≡ true) ⊎ (result ≡ Err TakeFault.Store)) }
-        ensures still { verdict_in self.old.book message ≢ Joins → verdict_in self.old.book message ≢ Acks → self.new ≡ self.old }
+        ensures still { verdict_in self.old.book message ≢ Joins → self.new.book ≡ self.old.book }
+        ensures known { verdict_in self.old.book message ≡ NothingNew → self.new ≡ self.old }
+        ensures refused { IfErr result (λ fault. fault ≢ TakeFault.Memory → fault ≢ TakeFault.Store → self.new ≡ self.old) }
 
         // What the keeper holds, and what a stop may leave of it.
         ensures again { OnOk result (verdict_in self.old.book message ≢ Joins → self.new.keeper ≡ self.old.keeper) }
@@ -236,6 +238,7 @@ impl<K: Keeper> SiteBook<K> {
         ensures office { self.new.book.office ≡ self.old.book.office }
         ensures growth { OnOk result (growth_in self.old.book sites ≡ Some (Grown sites)) }
         ensures entered { OnOk result (site_of self.new ≡ with_entry (growth_in self.old.book sites) (site_of self.old)) }
+        ensures sites { OnOk result (sites_of self.new.book.office self.new.book.history ≡ sites) }
 
         // When each error comes, and what it leaves.
         ensures closed { (result ≡ Err GrowFault.Closed) ↔ (self.old.closed ≡ true) }
