@@ -6,8 +6,8 @@ usage: records.py PROGRAM [FOLDER]
 PROGRAM is the built boxoffice, which answers sales from a session: each is an entry in the file before it is
 answered. The lines come all at once, or each when the reply to the one before it was read, as a person types. It is
 compared with C SQLite (Python's sqlite3), which makes the same INSERTs one by one in WAL mode with synchronous=FULL, in
-the same run and FOLDER (where the files stand; a temporary one without it). Each rate is the median of five runs, which
-take turns.
+the same run and FOLDER (where the files stand; a temporary one without it). Both are timed from before a file that is
+there is opened until it is closed, which moves its log into it. Each rate is the median of five runs, which take turns.
 """
 import os
 import sqlite3
@@ -61,15 +61,16 @@ def theirs(path, sales):
     fresh(path)
     db = sqlite3.connect(path, isolation_level=None)
     db.execute('PRAGMA journal_mode=WAL')
-    db.execute('PRAGMA synchronous=FULL')
     db.execute(TABLE)
+    db.close()
     began = time.perf_counter()
+    db = sqlite3.connect(path, isolation_level=None)
+    db.execute('PRAGMA synchronous=FULL')
     for k in range(sales):
         columns = (k, None, 3 + k, 'sell', 'gala', 1, None, 'done', None, 'used gala 0 %d\n' % (k + 1))
         db.execute('INSERT INTO entries VALUES (?1, ?2, ?3, ?4, ?5, ?6, ?7, ?8, ?9, ?10)', columns)
-    took = time.perf_counter() - began
     db.close()
-    return took
+    return time.perf_counter() - began
 
 
 def opening(program, path):

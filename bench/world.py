@@ -1,6 +1,8 @@
 #!/usr/bin/env python3
 """Times `boxoffice world` on large scripts, beside a plain program that answers the same.
 
+The names of events are of one length, so that scripts of few events and of many differ in nothing but their number.
+
 usage: world.py PROGRAM
 
 PROGRAM is the built boxoffice. It is compared with bench/plain_world.rs, an unproved program over Rust's standard
@@ -21,13 +23,13 @@ def one_site(events):
         chance = random.Random(7)
         out.write('sites 1\n')
         for event in range(events):
-            out.write('0 announce %d ev%d\n0 release %d ev%d 1000000000\n' % (2 * event + 1, event, 2 * event + 2, event))
+            out.write('0 announce %d ev%04d\n0 release %d ev%04d 1000000000\n' % (2 * event + 1, event, 2 * event + 2, event))
         sales = []
         for number in range(2 * events + 1, lines):
             if sales and chance.random() < 0.1:
                 out.write('0 refund %d %d\n' % (number, sales.pop()))
             else:
-                out.write('0 sell %d ev%d %d\n' % (number, chance.randrange(events), chance.randint(1, 9)))
+                out.write('0 sell %d ev%04d %d\n' % (number, chance.randrange(events), chance.randint(1, 9)))
                 sales.append(number)
     return write
 
@@ -39,17 +41,17 @@ def sites_of(sites, events, sends=True):
         out.write('sites %d\n' % sites)
         number, message = 1, 0
         for event in range(events):
-            out.write('0 announce %d ev%d\n0 release %d ev%d 100000000\n' % (number, event, number + 1, event))
+            out.write('0 announce %d ev%04d\n0 release %d ev%04d 100000000\n' % (number, event, number + 1, event))
             number += 2
             for to in range(1, sites):
-                out.write('0 cede %d ev%d %d %d\n' % (number, event, 80000000 // sites, to))
+                out.write('0 cede %d ev%04d %d %d\n' % (number, event, 80000000 // sites, to))
                 number += 1
         for to in range(1, sites):
             out.write('send 0 %d\ndeliver %d\ndeliver %d\n' % (to, message, message + 1))
             message += 2
         for k in range(sales):
             number += 1
-            out.write('%d sell %d ev%d 1\n' % (chance.randrange(sites), number, chance.randrange(events)))
+            out.write('%d sell %d ev%04d 1\n' % (chance.randrange(sites), number, chance.randrange(events)))
             if sends and k % 50 == 49:
                 by = chance.randrange(sites)
                 to = (by + 1 + chance.randrange(sites - 1)) % sites
@@ -84,6 +86,7 @@ def main(words):
         ('four sites, 100 events, sales alone', sites_of(4, 100, False), 200000),
         ('sixty-four sites, 100 events, sales alone', sites_of(64, 100, False), 200000),
         ('sixty-four sites, 100 events', sites_of(64, 100), 20000),
+        ('sixty-four sites, 100 events', sites_of(64, 100), 200000),
     ]
     with tempfile.TemporaryDirectory() as folder:
         plain = os.path.join(folder, 'plain_world')

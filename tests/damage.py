@@ -17,6 +17,7 @@ import collections
 import concurrent.futures
 import os
 import re
+import socket
 import sqlite3
 import subprocess
 import sys
@@ -89,6 +90,12 @@ class History:
 
     def with_row(self, *columns):
         return History(self.me, self.sites, [*self.rows, (len(self.rows), *columns)])
+
+    def grow(self, count):
+        """The word for a growth to so many sites, and the history behind it."""
+        if count <= max([self.sites, *(row[6] for row in self.rows if row[3] == "grow")]):
+            return 1, "not-more\n", self
+        return 0, "grown\n", self.with_row(None, None, "grow", None, None, count, None, None, "")
 
     def left(self, event):
         """Released, given and taken back, less given away and sold."""
@@ -352,6 +359,12 @@ def damages(variant):
 # Commands, and what they may tell.
 
 
+def free_port():
+    with socket.socket() as one:
+        one.bind(("127.0.0.1", 0))
+        return str(one.getsockname()[1])
+
+
 def commands():
     return [
         ("ask", ["ask", FILE], text_of(SESSION)),
@@ -360,6 +373,9 @@ def commands():
         ("export", ["export", FILE, "1"], ""),
         ("import", ["import", FILE], NEWS),
         ("audit", ["audit", FILE, PEER], ""),
+        ("serve", ["serve", free_port(), "0", "0", FILE, PEER], ""),
+        ("grow", ["grow", FILE, "3"], ""),
+        ("migrate", ["migrate", FILE], ""),
         ("init", ["init", FILE, "0", "2", "1000"], ""),
     ]
 
@@ -379,8 +395,12 @@ def right(name, history, peers):
         case "import":
             word, behind = history.take(NEWS)
             return 0, word, behind
-        case "audit":
+        case "audit" | "serve":
             return *audit_of([history, peers]), history
+        case "grow":
+            return history.grow(3)
+        case "migrate":
+            return 1, "nothing\n", history
         case "init":
             return 1, "already-there\n", history
 

@@ -1,6 +1,7 @@
 #!/usr/bin/env python3
 """Gives random and mutated texts of messages to a site's book, all in one process, and holds each answer against what this
-script reads in the text itself. The rights of the site may never be negative, and no message may change its own rows.
+script reads in the text itself, and so what the site has left and what it counts of each event behind it. The rights of
+the site may never be negative, and no message may change its own rows.
 
 Usage: tests/forgers.py [DRIVER] [--full] [--seed=N]     (DRIVER: crates/forge_bench/out/forge_bench)
 
@@ -29,6 +30,7 @@ KINDS = ["gave", "used", "back"]
 OPENING = ["announce 1 gala", "release 2 gala 100", "cede 3 gala 30 0", "sell 4 gala 20", "refund 5 4", "sell 6 gala 7"]
 NUMBER = re.compile(rb"0|[1-9][0-9]*")
 NAME = re.compile(rb"[a-z0-9-]{1,32}")
+OPEN = re.compile(r" open (none|[0-9]+)$")
 
 
 class Fault(Exception):
@@ -150,9 +152,17 @@ class Site:
             self.cells[cell] = max(value, self.cells.get(cell, 0))
         return "joined"
 
+    def totals(self, name):
+        """What was released, sold and given back by what the site knows."""
+        cells = [(cell[2:], value) for cell, value in self.cells.items() if cell[1] == name]
+        released = sum(value for (kind, by, *to), value in cells if kind == 0 and to == [by])
+        sold, refunded = (sum(value for (kind, *_), value in cells if kind == one) for one in (1, 2))
+        return f"totals released {released} sold {sold} refunded {refunded}"
+
     def looks(self):
-        """The replies to a look at each event."""
-        return [f"left {self.left(name.encode())}" if name.encode() in self.names else "unknown" for name in EVENTS]
+        """The replies to looks at each event, without the seats that are open."""
+        known = [name.encode() if name.encode() in self.names else None for name in EVENTS]
+        return [text for name in known for text in ([f"left {self.left(name)}", self.totals(name)] if name else ["unknown"] * 2)]
 
 
 # Texts.
@@ -227,7 +237,7 @@ def trial():
     """The pieces for the driver, and what it has to answer."""
     chance = random.Random(SEED)
     pieces, wanted, negative, changed = [], [], 0, 0
-    looks = b"?" + "".join(f"left {name}\n" for name in EVENTS).encode()
+    looks = b"?" + "".join(f"left {name}\ntotals {name}\n" for name in EVENTS).encode()
     for place in range(TEXTS):
         if place % OF_A_BOOK == 0:
             site = Site()
@@ -250,7 +260,7 @@ def main():
     print(f"seed {SEED}", flush=True)
     pieces, wanted, negative, changed = trial()
     done = subprocess.run([DRIVER], input=b"\0".join(pieces), stdout=subprocess.PIPE, timeout=110)
-    told = done.stdout.decode().splitlines()
+    told = [OPEN.sub("", line) for line in done.stdout.decode().splitlines()]
     differing = [f"{what!r}: told {line}, wanted {reply}" for (what, reply), line in zip(wanted, told) if line != reply]
     if done.returncode != 0 or len(told) != len(wanted):
         differing.append(f"the driver ended with status {done.returncode} and told {len(told)} lines of {len(wanted)}")

@@ -52,6 +52,8 @@ def site_more(folder):
     # A refusal that was kept stays, and a new number is decided anew.
     told(folder, ["ask", NORTH], 0, "no-site\ndone\nleft 50\n", "cede 5 gala 7 2\ncede 6 gala 7 2\nleft gala\n")
     told(folder, ["find", NORTH, "6"], 0, "6 done\n")
+    told(folder, ["migrate", NORTH], 1, "nothing\n")
+    told(folder, ["init", NORTH, "0", "2", "1000"], 1, "already-there\n")
     listed = "0 announce 1 gala done\n1 release 2 gala 100 done\n2 cede 3 gala 40 1 done\n3 sell 4 gala 3 done\n"
     told(folder, ["list", NORTH, "gala"], 0, listed + "4 cede 5 gala 7 2 no-site\n6 cede 6 gala 7 2 done\n")
     same("init", call(folder, ["init", EAST, "2", "3", "1000"]), (0, "done\n", ""))

@@ -32,9 +32,9 @@ from trial import PROGRAM, SECONDS, call, change, opened
 FULL = "--full" in FLAGS
 MEMORY = "/dev/shm" if os.path.isdir("/dev/shm") else None
 PROCESSES = 2
-# How many trials there are of each kind, and how often each kills.
+# How many trials there are of each kind, and how often each kills. On average half of the kills of `ask` fall as it answers.
 TRIALS = (
-    {"ask": (30, 10), "import": (30, 3), "init": (30, 3), "migrate": (30, 3), "grow": (30, 3), "serve": (30, 1)}
+    {"ask": (70, 10), "import": (30, 3), "init": (30, 3), "migrate": (30, 3), "grow": (30, 3), "serve": (30, 1)}
     if FULL
     else {"ask": (6, 10), "import": (6, 2), "init": (10, 2), "migrate": (6, 2), "grow": (6, 2), "serve": (6, 1)}
 )
