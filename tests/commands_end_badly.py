@@ -8,16 +8,19 @@ Says what differs and ends with status 1 where anything does.
 
 import os
 import resource
+import shutil
 import subprocess
 import sys
 
-from trial import PROGRAM, call, same, try_each
+from trial import HERE, PROGRAM, call, same, try_each
 
 MOST_LINES = 1_000_000
 LONGEST_LINE = 200
 # Far less than a world of so many sales takes, and more than the program takes to begin.
 FEW_BYTES = 128 << 20
 MANY_SALES = 600_000
+# What another site tells.
+NEWS = b"delta 1 0 1\nname expo\nend\n"
 
 
 def ended(folder, words, given=b"", out=subprocess.PIPE, memory=None):
@@ -58,10 +61,16 @@ def writing_fails(folder):
             (["export", "site.db", "1"], b""),
             (["audit", "site.db", "other.db"], b""),
             (["grow", "site.db", "3"], b""),
+            (["import", "site.db"], NEWS),
+            (["migrate", "old.db"], b""),
+            (["init", "new.db", "0", "2", "1000"], b""),
         ]
         for words, given in trials:
             same(f"{words}: a full device", ended(folder, words, given, full), (3, None, "write\n"))
     same("it has grown", call(folder, ["grow", "site.db", "3"]), (1, "not-more\n", ""))
+    same("it was joined", call(folder, ["import", "site.db"], NEWS.decode()), (0, "nothing-new\n", ""))
+    same("it was raised", call(folder, ["migrate", "old.db"]), (1, "nothing\n", ""))
+    same("it was made", call(folder, ["init", "new.db", "0", "2", "1000"]), (1, "already-there\n", ""))
 
 
 def lines_are_too_many_or_long(folder):
@@ -91,6 +100,7 @@ def bad_ends(folder):
     for site, name in enumerate(["site.db", "other.db"]):
         same(f"init {name}", ended(folder, ["init", name, str(site), "2", "1000"]), (0, b"done\n", ""))
     same("ask", ended(folder, ["ask", "site.db"], b"announce 1 gala\n"), (0, b"done\n", ""))
+    shutil.copyfile(os.path.join(HERE, "schema-1.db"), os.path.join(folder, "old.db"))
     for trial in [reading_fails, writing_fails, lines_are_too_many_or_long, memory_is_refused]:
         trial(folder)
 

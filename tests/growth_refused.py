@@ -71,10 +71,13 @@ RESTARTED = (
 
 
 # Two sessions of one site that has released 100 seats, and what each may write: nothing where its thread or its buffer was
-# refused, else a line for each line.
+# refused, else a line for each line, of which the second shows the own sale where it was made, and perhaps the other's.
 SESSIONS = [b"sell 10 gala 3\nleft gala\n", b"sell 20 gala 4\nleft gala\n"]
 SALES = [("10", 3), ("20", 4)]
-REPLIES = rb"|(done|memory|store|closed)\n(left (100|97|96|93)|memory|closed)\n"
+REPLIES = [
+    rb"|done\n(left (97|93)|memory|closed)\n|(memory|store|closed)\n(left (100|96)|memory|closed)\n",
+    rb"|done\n(left (96|93)|memory|closed)\n|(memory|store|closed)\n(left (100|97)|memory|closed)\n",
+]
 SERVE_WORDS = [b"memory\n", b"disk\n", b"not-started\n", b"accept\n", b"bind\n", b"closed 0\n"]
 # One of so many requests of `serve` is refused: most of them are made while its file is opened.
 STEP = 1 if FULL else 41
@@ -193,8 +196,8 @@ def served(refuser, folder, which, number):
         replies = list(pool.map(lambda lines: talked(program, port, lines), SESSIONS))
         was_refused, (status, out, err) = ended(program, told)
     sold = 0
-    for seats, reply in zip((3, 4), replies):
-        same(f"{which}: replies {reply!r}", reply is None or re.fullmatch(REPLIES, reply) is not None, True)
+    for (_, seats), may_be, reply in zip(SALES, REPLIES, replies):
+        same(f"{which}: replies {reply!r}", reply is None or re.fullmatch(may_be, reply) is not None, True)
         sold += seats if (reply or b"").startswith(b"done\n") else 0
     line = b"gala released 100 sold %d refunded 0 outstanding %d\n" % (sold, sold)
     if status == 3 and was_refused:
