@@ -203,6 +203,19 @@ def read_by_sqlite(folder, file):
         return None
 
 
+def is_moved(log, before, after):
+    """Whether each page of the file behind is as before, or as a frame of the log has it."""
+    told = collections.defaultdict(list)
+    for at in frames(log):
+        told[int.from_bytes(log[at : at + 4], "big")].append(log[at + FRAME_HEADER : at + FRAME])
+    pages_there = [(at // PAGE + 1, after[at : at + PAGE], before[at : at + PAGE]) for at in range(0, len(after), PAGE)]
+    return all(page == old or page in told[number] for number, page, old in pages_there)
+
+
+def log_is_empty(log):
+    return log is None or len(log) in (0, EMPTY_LOG)
+
+
 def write(folder, parts):
     """Leaves these files in the folder and no others."""
     for name in os.listdir(folder):
@@ -451,7 +464,7 @@ class Judge:
         if status not in (0, 1, 3) or is_word != (status == 3) or (err and not is_word):
             return "no status, or no word of it", False
         if status == 3 and not out:
-            return self.refused(err)
+            return self.refused(name, err)
         # A file that was cut to nothing is as a new one.
         if name == "init" and len(self.parts[FILE]) < 2 and (status, out, err) == (0, "done\n", ""):
             return "made where nothing was", True
@@ -460,12 +473,17 @@ class Judge:
                 return kind + (f" and {err.strip()}" if err else ""), kind == RIGHT or not STRICT
         return "by nothing that was kept", False
 
-    def refused(self, err):
+    def refused(self, name, err):
         left = read(self.folder, self.parts)
         word = re.sub(r"\d+", "K", err.strip())
+        log, before = left.get(LOG), self.parts.get(LOG)
         if left[FILE] != self.parts[FILE]:
-            return f"{word} and another file", False
-        return word if left.get(LOG) == self.parts.get(LOG) else f"{word} and another log", True
+            # `migrate` closes what it opened and refuses, so that the log moves into the file.
+            is_well = name == "migrate" and log_is_empty(log) and is_moved(before, self.parts[FILE], left[FILE])
+            return f"{word} and its log moved", is_well
+        if log == before:
+            return word, True
+        return f"{word} and another empty log", log_is_empty(log) and log_is_empty(before)
 
     def histories(self):
         """What answers may go by: what was kept, else what damage that nobody can tell makes of it."""
@@ -563,7 +581,7 @@ def try_foreign(name, content):
 
 def judge_foreign(finding, what, command, parts, told, left):
     status, out, err = told
-    is_left = left[FILE] == parts[FILE] and len(left.get(LOG, b"")) in (0, EMPTY_LOG, len(parts.get(LOG, b"")))
+    is_left = left[FILE] == parts[FILE] and (left.get(LOG) == parts.get(LOG) or log_is_empty(left.get(LOG)))
     if status == 3 and WORDS.fullmatch(err) and not out and is_left:
         finding.told[f"foreign: {err.strip()}"] += 1
         finding.passed += 1
