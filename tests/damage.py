@@ -17,7 +17,6 @@ import collections
 import concurrent.futures
 import os
 import re
-import socket
 import sqlite3
 import subprocess
 import sys
@@ -27,7 +26,7 @@ import tempfile
 FLAGS = [word for word in sys.argv[1:] if word.startswith("--")]
 sys.argv = [word for word in sys.argv if not word.startswith("--")]
 
-from trial import PROGRAM, call, opened
+from trial import PROGRAM, call, free_port, opened
 
 FULL = "--full" in FLAGS
 STRICT = "--strict" in FLAGS
@@ -372,12 +371,6 @@ def damages(variant):
 # Commands, and what they may tell.
 
 
-def free_port():
-    with socket.socket() as one:
-        one.bind(("127.0.0.1", 0))
-        return str(one.getsockname()[1])
-
-
 def commands():
     return [
         ("ask", ["ask", FILE], text_of(SESSION)),
@@ -386,7 +379,7 @@ def commands():
         ("export", ["export", FILE, "1"], ""),
         ("import", ["import", FILE], NEWS),
         ("audit", ["audit", FILE, PEER], ""),
-        ("serve", ["serve", free_port(), "0", "0", FILE, PEER], ""),
+        ("serve", ["serve", str(free_port()), "0", "0", FILE, PEER], ""),
         ("grow", ["grow", FILE, "3"], ""),
         ("migrate", ["migrate", FILE], ""),
         ("init", ["init", FILE, "0", "2", "1000"], ""),

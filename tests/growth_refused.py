@@ -24,7 +24,7 @@ import time
 FULL = "--full" in sys.argv
 sys.argv = [word for word in sys.argv if not word.startswith("--")]
 
-from trial import HERE, PROGRAM, SECONDS, call, same, try_each
+from trial import HERE, PROGRAM, SECONDS, call, free_port, same, try_each
 
 TESTS = os.path.abspath(
     sys.argv[2] if len(sys.argv) > 2 else os.path.join(HERE, "..", "crates", "session_tests", "out", "session_tests_tests")
@@ -81,12 +81,6 @@ REPLIES = [
 SERVE_WORDS = [b"memory\n", b"disk\n", b"not-started\n", b"accept\n", b"bind\n", b"closed 0\n"]
 # One of so many requests of `serve` is refused: most of them are made while its file is opened.
 STEP = 1 if FULL else 41
-
-
-def free_port():
-    with contextlib.closing(socket.socket()) as probe:
-        probe.bind(("127.0.0.1", 0))
-        return probe.getsockname()[1]
 
 
 def compiler():

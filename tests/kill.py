@@ -27,7 +27,7 @@ import time
 FLAGS = [word for word in sys.argv[1:] if word.startswith("--")]
 sys.argv = [word for word in sys.argv if not word.startswith("--")]
 
-from trial import PROGRAM, SECONDS, call, change, opened
+from trial import PROGRAM, SECONDS, call, change, free_port, opened
 
 FULL = "--full" in FLAGS
 MEMORY = "/dev/shm" if os.path.isdir("/dev/shm") else None
@@ -363,12 +363,6 @@ def kill_growing(trial, folder, chance, kills):
 
 
 # Two sites and eight callers.
-
-
-def free_port():
-    with contextlib.closing(socket.socket()) as probe:
-        probe.bind(("127.0.0.1", 0))
-        return probe.getsockname()[1]
 
 
 def connected(port, program):

@@ -16,7 +16,7 @@ import sys
 import threading
 import time
 
-from trial import FORGED, PROGRAM, SECONDS, call, intact, make_sites, opened, same, try_each
+from trial import FORGED, PROGRAM, SECONDS, call, free_port, intact, make_sites, opened, same, try_each
 
 CALLERS = 8
 SALES = 20
@@ -25,12 +25,6 @@ NORTH = ["announce 1 gala", "release 2 gala 100", "cede 3 gala 40 1"]
 
 # What all sites sold, once both have sold all that they had.
 LINE = "gala released 100 sold 100 refunded 0 outstanding 100\n"
-
-
-def free_port():
-    with contextlib.closing(socket.socket()) as probe:
-        probe.bind(("127.0.0.1", 0))
-        return probe.getsockname()[1]
 
 
 def offices(folder):
