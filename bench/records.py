@@ -1,5 +1,5 @@
 #!/usr/bin/env python3
-"""Times durable sales on a file, and opening a file of many entries.
+"""Times durable sales on a file, opening a file of many entries, and taking a delta of many marks.
 
 usage: records.py PROGRAM [FOLDER]
 
@@ -8,6 +8,7 @@ answered. The lines come all at once, or each when the reply to the one before i
 compared with C SQLite (Python's sqlite3), which makes the same INSERTs one by one in WAL mode with synchronous=FULL, in
 the same run and FOLDER (where the files stand; a temporary one without it). Both are timed from before a file that is
 there is opened until it is closed, which moves its log into it. Each rate is the median of five runs, which take turns.
+The other times are the best of three.
 """
 import os
 import sqlite3
@@ -73,6 +74,37 @@ def theirs(path, sales):
     return time.perf_counter() - began
 
 
+def filled(program, path, sales):
+    """A file of so many sales behind two entries, which C SQLite writes in one transaction."""
+    released(program, path)
+    db = sqlite3.connect(path, isolation_level=None)
+    db.execute('BEGIN')
+    rows = ((2 + k, None, 3 + k, 'sell', 'gala', 1, None, 'done', None, 'used gala 0 %d\n' % (k + 1)) for k in range(sales))
+    db.executemany('INSERT INTO entries VALUES (?1, ?2, ?3, ?4, ?5, ?6, ?7, ?8, ?9, ?10)', rows)
+    db.execute('COMMIT')
+    db.close()
+
+
+def taking(program, path, marks):
+    """The shortest time of three imports of a delta of so many marks, and the greatest memory that one took, in bytes."""
+    text = 'delta 1 0 1\n' + ''.join('gave e%06d 1 1 %d\n' % (k, 1000 + k) for k in range(marks)) + 'end\n'
+    times, memory = [], 0
+    for _ in range(3):
+        fresh(path)
+        subprocess.run([program, 'init', path, '0', '2', '1000000'], stdout=subprocess.DEVNULL, check=True)
+        began = time.perf_counter()
+        with subprocess.Popen([program, 'import', path], stdin=subprocess.PIPE, stdout=subprocess.DEVNULL, text=True) as command:
+            command.stdin.write(text)
+            command.stdin.close()
+            _, status, used = os.wait4(command.pid, 0)
+            command.returncode = os.waitstatus_to_exitcode(status)
+        times.append(time.perf_counter() - began)
+        if command.returncode != 0:
+            sys.exit('a delta was not joined')
+        memory = max(memory, used.ru_maxrss * 1024)
+    return min(times), memory
+
+
 def opening(program, path):
     times = []
     for _ in range(3):
@@ -94,10 +126,15 @@ def main(words):
         for how, mine in (('all at once', at_once), ('each behind a reply', one_by_one)):
             rates = (how, sales / mine, sales / other, other / mine)
             print('durable sales, lines %s: %.0f a second, C SQLite %.0f, ratio %.2f' % rates)
-        for entries in (1000, 10000, 100000):
-            piped(program, path, entries - 2)
+        for entries in (1000, 10000, 100000, 1000000):
+            filled(program, path, entries - 2)
             took = opening(program, path)
             print('opening %d entries: %.3f s, %.1f us an entry' % (entries, took, took / entries * 1e6))
+        least, start = taking(program, path, 1)
+        for marks in (1000, 10000, 100000):
+            took, memory = taking(program, path, marks)
+            took, memory = (took - least) / marks * 1e6, (memory - start) / marks
+            print('taking a delta of %d marks: %.2f us a mark, %.0f bytes of memory a mark' % (marks, took, memory))
 
 
 main(sys.argv[1:])

@@ -60,6 +60,37 @@ def sites_of(sites, events, sends=True):
     return write
 
 
+def held(path):
+    """How many messages a script sends, and how many marks they hold in all, by the script alone: each is delivered at once,
+    and its acknowledgement too, and every sale is done."""
+    histories, acked, pending, sent, marks = {}, {}, {}, [], 0
+    with open(path) as script:
+        for words in map(str.split, script):
+            if words[0] == 'sites':
+                continue
+            if words[0] == 'send':
+                by, to = words[1:]
+                history = histories.setdefault(by, [])
+                cells, upto = pending.setdefault((by, to), (set(), acked.get((by, to), 0)))
+                cells.update(*history[upto:])
+                pending[by, to] = cells, len(history)
+                sent.append((by, to, frozenset(cells), len(history)))
+                marks += len(cells)
+            elif words[0] == 'deliver':
+                by, to, cells, upto = sent[int(words[1])]
+                if cells is None:
+                    acked[to, by] = upto
+                    pending.pop((to, by))
+                else:
+                    histories.setdefault(to, []).append(cells)
+                    sent.append((to, by, None, upto))
+            else:
+                site, verb, _number, event = words[:4]
+                cell = {'release': 'gave 0 0', 'sell': 'used ' + site}.get(verb, 'gave ' + site + ' ' + words[-1])
+                histories.setdefault(site, []).append(() if verb == 'announce' else ((event, cell),))
+    return sum(1 for message in sent if message[2] is not None), marks
+
+
 def best(words, path):
     """The shortest time of three runs, and what the last one printed."""
     times = []
@@ -83,6 +114,7 @@ def main(words):
         ('four sites', sites_of(4, 20), 20000),
         ('four sites', sites_of(4, 20), 200000),
         ('sixteen sites, 100 events', sites_of(16, 100), 20000),
+        ('sixteen sites, 1000 events', sites_of(16, 1000), 20000),
         ('four sites, 100 events, sales alone', sites_of(4, 100, False), 200000),
         ('sixty-four sites, 100 events, sales alone', sites_of(64, 100, False), 200000),
         ('sixty-four sites, 100 events', sites_of(64, 100), 20000),
@@ -93,6 +125,7 @@ def main(words):
         source = os.path.join(here, 'plain_world.rs')
         subprocess.run(['rustc', '--edition', '2021', '-O', '-C', 'target-cpu=x86-64-v2', source, '-o', plain], check=True)
         path = os.path.join(folder, 'script')
+        alone = {}
         for name, write, size in cases:
             with open(path, 'w') as out:
                 write(size, out)
@@ -104,6 +137,12 @@ def main(words):
                 sys.exit('%s, %d lines: the answers differ' % (name, lines))
             per_line = ours / lines * 1e6
             print('%s, %d lines: %.3f s, %.2f us a line, ratio to the plain program %.2f' % (name, lines, ours, per_line, ours / theirs))
+            if name.endswith(', sales alone'):
+                alone[name.removesuffix(', sales alone'), size] = ours
+            elif (name, size) in alone:
+                messages, marks = held(path)
+                more = ours - alone[name, size]
+                print('    %d messages of %.0f marks each: %.0f us a message beside the sales, %.3f us a mark' % (messages, marks / messages, more / messages * 1e6, more / marks * 1e6))
 
 
 main(sys.argv[1:])

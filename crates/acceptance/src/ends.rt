@@ -59,9 +59,9 @@ fn fails<R: Read + Drop>(rt: &(impl Abort + AllocGlobal), script: R, replies: &[
     let mut out = Vec::new(rt.alloc());
     let mut err = Vec::new(rt.alloc());
     let ended = world_script(rt.alloc(), script, &mut out, &mut err);
-    assert_eq!(rt; ended, Status::Failed);
-    assert_eq!(rt; out.as_slice(), replies);
-    assert_eq!(rt; err.as_slice(), word);
+    assert!(rt; ended == Status::Failed);
+    assert!(rt; out.as_slice() == replies);
+    assert!(rt; err.as_slice() == word);
 }
 
 #[test]
@@ -84,9 +84,9 @@ fn script_of_too_many_lines(rt: HostRuntime) -> Result<(), Fail> {
     let mut out = Vec::new(rt.alloc());
     let mut err = Vec::new(rt.alloc());
     let ended = world_script(rt.alloc(), script.as_slice(), &mut out, &mut err);
-    assert_eq!(rt; ended, Status::Failed);
-    assert_eq!(rt; out.len(), 8_999_991);
-    assert_eq!(rt; err.as_slice(), b"too-many-lines\n".as_slice());
+    assert!(rt; ended == Status::Failed);
+    assert!(rt; out.len() == 8_999_991);
+    assert!(rt; err.as_slice() == b"too-many-lines\n".as_slice());
     Ok(())
 }
 
@@ -101,9 +101,9 @@ fn script_whose_writer_is_short(rt: HostRuntime) {
         &mut short.as_mut_slice(),
         &mut err,
     );
-    assert_eq!(rt; ended, Status::Failed);
-    assert_eq!(rt; short.as_slice(), b"done\ndo".as_slice());
-    assert_eq!(rt; err.as_slice(), b"write\n".as_slice());
+    assert!(rt; ended == Status::Failed);
+    assert!(rt; short.as_slice() == b"done\ndo".as_slice());
+    assert!(rt; err.as_slice() == b"write\n".as_slice());
 }
 
 #[test]
@@ -116,8 +116,8 @@ fn script_whose_flush_fails(rt: HostRuntime) {
     let mut err = Vec::new(rt.alloc());
     let script = b"sites 1\n0 announce 1 gala\n";
     let ended = world_script(rt.alloc(), script.as_slice(), &mut out, &mut err);
-    assert_eq!(rt; ended, Status::Failed);
-    assert_eq!(rt; err.as_slice(), b"write\n".as_slice());
+    assert!(rt; ended == Status::Failed);
+    assert!(rt; err.as_slice() == b"write\n".as_slice());
 }
 
 // A session of three lines, over a writer that lets so many flushes through.
@@ -134,7 +134,7 @@ fn session(
     let me = SiteId::of(0).expect(rt, "a site");
     let sites = Sites::of(2).expect(rt, "a count of sites");
     let made = init_store(&mut conn, me, sites, Limit::greatest(), &mut out, &mut err);
-    assert_eq!(rt; made, Status::Done);
+    assert!(rt; made == Status::Done);
     let mut flushes = Flushes {
         bytes: Vec::new(rt.alloc()),
         count: 0,
@@ -149,10 +149,10 @@ fn session(
         &mut flushes,
         &mut err,
     );
-    assert_eq!(rt; ended, status);
+    assert!(rt; ended == status);
     assert!(rt; conn.is_some());
-    assert_eq!(rt; flushes.bytes.as_slice(), replies);
-    assert_eq!(rt; err.as_slice(), word);
+    assert!(rt; flushes.bytes.as_slice() == replies);
+    assert!(rt; err.as_slice() == word);
     Ok(flushes.count)
 }
 

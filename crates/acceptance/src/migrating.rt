@@ -67,9 +67,9 @@ fn migrate<S: Alter>(
     let mut out = Vec::new(alloc);
     let mut err = Vec::new(alloc);
     let ended = migrate_store(alloc, conn, &mut out, &mut err);
-    assert_eq!(rt; ended, status);
-    assert_eq!(rt; out.as_slice(), printed);
-    assert_eq!(rt; err.as_slice(), told);
+    assert!(rt; ended == status);
+    assert!(rt; out.as_slice() == printed);
+    assert!(rt; err.as_slice() == told);
 }
 
 #[test]
@@ -78,13 +78,13 @@ fn records_are_migrated_once(rt: HostRuntime) {
     let mut conn = in_memory(&rt, alloc);
     let before = rows(&rt, &mut conn);
     migrate(&rt, alloc, &mut conn, b"migrated\n", b"", Status::Done);
-    assert_eq!(rt; version(&rt, &mut conn), 2);
+    assert!(rt; version(&rt, &mut conn) == 2);
     assert!(rt; rows(&rt, &mut conn) == before);
     migrate(&rt, alloc, &mut conn, b"nothing\n", b"", Status::Refused);
     let Ok((_records, entries, _meta)) = Records::open(alloc, conn) else {
         panic!(rt; "the records can be opened")
     };
-    assert_eq!(rt; entries.len(), 4);
+    assert!(rt; entries.len() == 4);
 }
 
 // What is told of those records once this statement was run on them; the file is as it was.
@@ -124,7 +124,7 @@ fn other_records_are_not_migrated(rt: HostRuntime) {
 fn records_of_the_first_schema_are_not_opened(rt: HostRuntime) {
     let alloc = rt.alloc();
     let fault = Records::open(alloc, in_memory(&rt, alloc)).err();
-    assert_eq!(rt; fault, Some(OpenFault::OtherSchema { version: 1 }));
+    assert!(rt; fault == Some(OpenFault::OtherSchema { version: 1 }));
 }
 
 #[test]
@@ -133,7 +133,7 @@ fn records_are_not_migrated_in_an_open_transaction(rt: HostRuntime) {
     let mut conn = in_memory(&rt, alloc);
     change(&rt, &mut conn, "BEGIN");
     let fault = Records::migrate(alloc, &mut conn).err();
-    assert_eq!(rt; fault, Some(MigrateFault::Disk));
+    assert!(rt; fault == Some(MigrateFault::Disk));
     assert!(rt; !conn.is_autocommit());
 }
 

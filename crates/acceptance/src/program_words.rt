@@ -18,10 +18,7 @@ fn order<'a>(rt: &impl Abort, alloc: Global, words: &'a [&'a str]) -> Order<'a> 
 #[test]
 fn words(rt: HostRuntime) {
     let file = "a.db";
-    assert_eq!(rt;
-        order(&rt, rt.alloc(), &["boxoffice", "world"]),
-        Order::World
-    );
+    assert!(rt; order(&rt, rt.alloc(), &["boxoffice", "world"]) == Order::World);
     let init = Order::Init {
         file,
         me: SiteId::of(63).expect(&rt, "a site"),
@@ -29,40 +26,34 @@ fn words(rt: HostRuntime) {
         limit: Limit::of(1000).expect(&rt, "a limit"),
     };
     let words = ["boxoffice", "init", file, "63", "64", "1000"];
-    assert_eq!(rt; order(&rt, rt.alloc(), &words), init);
+    assert!(rt; order(&rt, rt.alloc(), &words) == init);
     let grow = Order::Grow {
         file,
         sites: Sites::of(21).expect(&rt, "a count of sites"),
     };
     let words = ["boxoffice", "grow", file, "21"];
-    assert_eq!(rt; order(&rt, rt.alloc(), &words), grow);
+    assert!(rt; order(&rt, rt.alloc(), &words) == grow);
     let find = Order::Find {
         file,
         number: RequestNumber::of(1_000_000_000_000).expect(&rt, "a number"),
     };
     let words = ["boxoffice", "find", file, "1000000000000"];
-    assert_eq!(rt; order(&rt, rt.alloc(), &words), find);
+    assert!(rt; order(&rt, rt.alloc(), &words) == find);
     let list = Order::List {
         file,
         event: "No event!",
     };
     let words = ["boxoffice", "list", file, "No event!"];
-    assert_eq!(rt; order(&rt, rt.alloc(), &words), list);
+    assert!(rt; order(&rt, rt.alloc(), &words) == list);
     let export = Order::Export {
         file,
         to: SiteId::of(0).expect(&rt, "a site"),
     };
-    assert_eq!(rt;
-        order(&rt, rt.alloc(), &["boxoffice", "export", file, "0"]),
-        export
-    );
+    assert!(rt; order(&rt, rt.alloc(), &["boxoffice", "export", file, "0"]) == export);
     let ask = Order::Ask { file };
-    assert_eq!(rt; order(&rt, rt.alloc(), &["boxoffice", "ask", file]), ask);
+    assert!(rt; order(&rt, rt.alloc(), &["boxoffice", "ask", file]) == ask);
     let import = Order::Import { file };
-    assert_eq!(rt;
-        order(&rt, rt.alloc(), &["boxoffice", "import", file]),
-        import
-    );
+    assert!(rt; order(&rt, rt.alloc(), &["boxoffice", "import", file]) == import);
 }
 
 // The files of several sites, in their order, or none for another command.
@@ -79,11 +70,11 @@ fn files<'a>(rt: &impl Abort, alloc: Global, words: &'a [&'a str]) -> Vec<&'a st
 fn words_of_several_files(rt: HostRuntime) {
     let words = ["boxoffice", "audit", "b.db", "a.db"];
     let found = files(&rt, rt.alloc(), &words);
-    assert_eq!(rt; found.as_slice(), ["b.db", "a.db"].as_slice());
+    assert!(rt; found.as_slice() == ["b.db", "a.db"].as_slice());
     let mut words = ["a.db"; 66];
     words[0] = "boxoffice";
     words[1] = "audit";
-    assert_eq!(rt; files(&rt, rt.alloc(), &words).len(), 64);
+    assert!(rt; files(&rt, rt.alloc(), &words).len() == 64);
 }
 
 // The port, the sessions and the rounds of the command that serves.
@@ -102,11 +93,11 @@ fn serving(rt: &impl Abort, alloc: Global, words: &[&str]) -> (u16, usize, u64) 
 #[test]
 fn words_of_serving(rt: HostRuntime) {
     let least = ["boxoffice", "serve", "1", "0", "0", "b.db", "a.db"];
-    assert_eq!(rt; serving(&rt, rt.alloc(), &least), (1, 0, 0));
+    assert!(rt; serving(&rt, rt.alloc(), &least) == (1, 0, 0));
     let found = files(&rt, rt.alloc(), &least);
-    assert_eq!(rt; found.as_slice(), ["b.db", "a.db"].as_slice());
+    assert!(rt; found.as_slice() == ["b.db", "a.db"].as_slice());
     let most = ["boxoffice", "serve", "65535", "1024", "1000000", "a.db"];
-    assert_eq!(rt; serving(&rt, rt.alloc(), &most), (65_535, 1024, 1_000_000));
+    assert!(rt; serving(&rt, rt.alloc(), &most) == (65_535, 1024, 1_000_000));
 }
 
 // What is told of words that are no command.
@@ -192,7 +183,7 @@ fn numbers_out_of_limit(rt: HostRuntime) -> Result<(), Fail> {
     ];
     for (words, wanted) in cases {
         let text = told(&rt, words)?;
-        assert_eq!(rt; text.as_str(), wanted);
+        assert!(rt; text.as_str() == wanted);
     }
     Ok(())
 }

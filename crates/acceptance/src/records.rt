@@ -29,8 +29,8 @@ pub(crate) fn init<S: Alter>(
     let mut out = Vec::new(alloc);
     let mut err = Vec::new(alloc);
     let ended = init_store(conn, site(rt, me), sites, limit, &mut out, &mut err);
-    assert_eq!(rt; ended, status);
-    assert_eq!(rt; out.as_slice(), printed);
+    assert!(rt; ended == status);
+    assert!(rt; out.as_slice() == printed);
     assert!(rt; err.is_empty());
 }
 
@@ -46,8 +46,8 @@ pub(crate) fn import<S: Alter + Drop>(
     let mut out = Vec::new(alloc);
     let mut err = Vec::new(alloc);
     let (ended, conn) = import_store(alloc, conn, text, &mut out, &mut err);
-    assert_eq!(rt; ended, status);
-    assert_eq!(rt; out.as_slice(), printed);
+    assert!(rt; ended == status);
+    assert!(rt; out.as_slice() == printed);
     assert!(rt; err.is_empty());
     conn.expect(rt, "the records are opened")
 }
@@ -106,8 +106,8 @@ pub(crate) fn session<S: Alter + Drop>(
     let mut out = Vec::new(alloc);
     let mut err = Vec::new(alloc);
     let (ended, conn) = ask_store(rt, alloc, conn, lines, &mut out, &mut err);
-    assert_eq!(rt; ended, Status::Done);
-    assert_eq!(rt; out.as_slice(), replies);
+    assert!(rt; ended == Status::Done);
+    assert!(rt; out.as_slice() == replies);
     assert!(rt; err.is_empty());
     conn.expect(rt, "the records are opened")
 }
@@ -124,8 +124,8 @@ fn find<S: Alter + Drop>(
     let mut out = Vec::new(alloc);
     let mut err = Vec::new(alloc);
     let (ended, conn) = find_store(alloc, conn, number(rt, asked), &mut out, &mut err);
-    assert_eq!(rt; ended, status);
-    assert_eq!(rt; out.as_slice(), printed);
+    assert!(rt; ended == status);
+    assert!(rt; out.as_slice() == printed);
     assert!(rt; err.is_empty());
     conn.expect(rt, "the records are opened")
 }
@@ -142,8 +142,8 @@ fn list<S: Alter + Drop>(
     let mut out = Vec::new(alloc);
     let mut err = Vec::new(alloc);
     let (ended, conn) = list_store(alloc, conn, event, &mut out, &mut err);
-    assert_eq!(rt; ended, status);
-    assert_eq!(rt; out.as_slice(), printed);
+    assert!(rt; ended == status);
+    assert!(rt; out.as_slice() == printed);
     assert!(rt; err.is_empty());
     conn.expect(rt, "the records are opened")
 }
@@ -182,8 +182,8 @@ fn export<S: Alter + Drop>(
     let mut out = Vec::new(alloc);
     let mut err = Vec::new(alloc);
     let (ended, conn) = export_store(alloc, conn, site(rt, to), &mut out, &mut err);
-    assert_eq!(rt; ended, status);
-    assert_eq!(rt; out.as_slice(), printed);
+    assert!(rt; ended == status);
+    assert!(rt; out.as_slice() == printed);
     assert!(rt; err.is_empty());
     conn.expect(rt, "the records are opened")
 }
@@ -286,10 +286,10 @@ fn no_records_are_not_ours(rt: HostRuntime) -> Result<(), Fail> {
     let mut out = Vec::new(rt.alloc());
     let mut err = Vec::new(rt.alloc());
     let (ended, conn) = find_store(rt.alloc(), conn, number(&rt, 1), &mut out, &mut err);
-    assert_eq!(rt; ended, Status::Failed);
+    assert!(rt; ended == Status::Failed);
     assert!(rt; conn.is_none());
     assert!(rt; out.is_empty());
-    assert_eq!(rt; err.as_slice(), b"not-ours\n".as_slice());
+    assert!(rt; err.as_slice() == b"not-ours\n".as_slice());
     Ok(())
 }
 
@@ -319,8 +319,8 @@ fn audit<S: Alter + Drop>(
     let mut out = Vec::new(alloc);
     let mut err = Vec::new(alloc);
     let ended = audit_stores(alloc, sites, &mut out, &mut err);
-    assert_eq!(rt; ended, status);
-    assert_eq!(rt; out.as_slice(), printed);
+    assert!(rt; ended == status);
+    assert!(rt; out.as_slice() == printed);
     assert!(rt; err.is_empty());
 }
 

@@ -2,7 +2,7 @@
 use Rattle.std.proofs.Common.{◌≡◌, ℕ, ◌+◌, ◌≤◌, ◌<◌, Bool, true, false, cond, not, List, [], ◌∷◌, ◌++◌, Option, Some, None, refl, sym, ap, ◌∙◌, subst, arith, leb-false, length}
 use Rattle.std.specs.Prelude.{nat_le, ◌==◌, IsSomeAnd}
 use Rattle.rights_lattice.specs.declared.cell.Cell.TheVariants.{Used, Back}
-use Rattle.rights_lattice.specs.Cells.{Key, Cells, Valued, max_value, value_at, all_zero, raise, raise_all, marks_of, greatest, value_in, is_of}
+use Rattle.rights_lattice.specs.Cells.{Key, Cells, Valued, greatest_value, value_at, all_zero, raise, raise_all, marks_of, greatest, value_in, is_of}
 use Rattle.rights_lattice.specs.Cells as cells
 use Rattle.rights_lattice.specs.State.{State, bottom, knows, names_in_order}
 use Rattle.rights_lattice.specs.RightsView.{IsCellOf, IsWithin}
@@ -15,7 +15,7 @@ use Rattle.request_ledger.specs.declared.reply.Reply.{Reply}
 use Rattle.request_ledger.specs.declared.reply.Reply.TheVariants.{Done, Unknown, ToSelf, NoSite}
 use Rattle.request_ledger.specs.declared.reply.SaleState.{SaleState}
 use Rattle.request_ledger.specs.Requests.{is_done}
-use Rattle.request_ledger.specs.Ledger.{Keeping, kept_under, rest_of, amount_back, IsRefundable}
+use Rattle.request_ledger.specs.Ledger.{KeptByNumber, kept_under, rest_of, amount_back, IsRefundable}
 use Rattle.event_catalogue.specs.Catalogue.{with_new}
 use Rattle.book_core.specs.declared.entry.Entry.{Entry}
 use Rattle.book_core.specs.declared.entry.Entry.TheVariants.{Asked, Joined, Grown}
@@ -88,7 +88,7 @@ marks_within office h entry ms me next is e c some =
     next_within office h entry me next e c
     (subst (λ (n : ℕ). 1 ≤ n) (ap (λ (l : List Valued). greatest l e c) is ∙ greatest-marks_of (delta_of entry).cells e c) some)
 
-pub entered : (office : Office) (h : List Entry) (entry : Entry) (n m : ℕ) (X Y : Cells) (ns ms : List (List ℕ)) (kept_before kept_after : Keeping)
+pub entered : (office : Office) (h : List Entry) (entry : Entry) (n m : ℕ) (X Y : Cells) (ns ms : List (List ℕ)) (kept_before kept_after : KeptByNumber)
     → IsInOrder office h n X ns kept_before → IsNext office h entry
     → m ≡ sites_after n entry
     → Y ≡ raise_all X (marks_of (delta_of entry).cells)
@@ -101,10 +101,10 @@ entered office h entry n m X Y ns ms kept_before kept_after before next m_is Y_i
   sites_are = m_is ∙ ap (λ k. sites_after k entry) before.sites_are ∙ sym (sites_of-push office h entry);
   cells_are = Y_is ∙ sym (join-marks X (delta_of entry).cells) ∙ ap (λ (Z : Cells). cells.join Z (delta_of entry).cells) before.cells_are ∙ sym (ap (λ (s : State). s.cells) (state_of-push h entry));
   names_are = ms_are ∙ ap (λ (known : List (List ℕ)). with_new known (names_in_order (delta_of entry).names)) before.names_are ∙ sym (names_of-push h entry);
-  kept_are = kept_is ∙ ap (λ (es : Keeping). es ++ asked_from (length h) (entry ∷ [])) before.kept_are ∙ sym (asked-push h entry);
+  kept_are = kept_is ∙ ap (λ (es : KeptByNumber). es ++ asked_from (length h) (entry ∷ [])) before.kept_are ∙ sym (asked-push h entry);
 }
 
-pub opening : (office : Office) (h : List Entry) (sites : ℕ) (cells : Cells) (names : List (List ℕ)) (ledger : Keeping)
+pub opening : (office : Office) (h : List Entry) (sites : ℕ) (cells : Cells) (names : List (List ℕ)) (ledger : KeptByNumber)
     → office.me < office.sites → h ≡ [] → sites ≡ office.sites → cells ≡ all_zero → names ≡ [] → ledger ≡ [] → IsInOrder office h sites cells names ledger
 opening office h sites cells names ledger me h_is sites_is cells_is names_is ledger_is =
     subst (λ (x : List Entry). IsInOrder office x sites cells names ledger) (sym h_is)
@@ -118,8 +118,8 @@ opening office h sites cells names ledger me h_is sites_is cells_is names_is led
     })
 
 -- the number of an entry that is next is new
-pub unkept : (office : Office) (h : List Entry) (entry : Entry) (es : Keeping) → es ≡ asked h → IsNext office h entry → IsUnkept es entry
-unkept office h (Asked number request reply delta) es is next = ap (λ (xs : Keeping). kept_under xs number) is ∙ next.new
+pub unkept : (office : Office) (h : List Entry) (entry : Entry) (es : KeptByNumber) → es ≡ asked h → IsNext office h entry → IsUnkept es entry
+unkept office h (Asked number request reply delta) es is next = ap (λ (xs : KeptByNumber). kept_under xs number) is ∙ next.new
 unkept office h (Joined peer delta) es is next = tt
 unkept office h (Grown sites) es is next = tt
 
@@ -132,14 +132,14 @@ refundable h (Refund sale part) Done office answer = of_sale (sale_of h sale) an
 refundable h _ _ office answer = tt
 
 -- a refund that is next and done is of a sale that is kept and gives back no more than is left of it
-pub keeps_refunds : (office : Office) (h : List Entry) (entry : Entry) (es : Keeping) → es ≡ asked h → IsNext office h entry → KeepsRefunds es entry
+pub keeps_refunds : (office : Office) (h : List Entry) (entry : Entry) (es : KeptByNumber) → es ≡ asked h → IsNext office h entry → KeepsRefunds es entry
 keeps_refunds office h (Asked number request reply delta) es is next =
-    subst (λ (xs : Keeping). IsRefundable xs request reply) (sym is) (refundable h request reply office next.answer)
+    subst (λ (xs : KeptByNumber). IsRefundable xs request reply) (sym is) (refundable h request reply office next.answer)
 keeps_refunds office h (Joined peer delta) es is next = tt
 keeps_refunds office h (Grown sites) es is next = tt
 
 -- a refund's mark is not above the greatest value
 pub refund_room : (office : Office) (h : List Entry) (number : ℕ) (sale : SaleState) (X : Cells) → IsLegal office h → sale_of h number ≡ Some sale → X ≡ (state_of h).cells
-    → value_at X sale.event (Used office.me) ≤ max_value → value_at X sale.event (Back office.me) + rest_of sale ≤ max_value
+    → value_at X sale.event (Used office.me) ≤ greatest_value → value_at X sale.event (Back office.me) + rest_of sale ≤ greatest_value
 refund_room office h number sale X legal found is most =
     omega (arith, most, refund_fits office h number sale legal found, ap (λ Y. value_at Y sale.event (Used office.me)) is, ap (λ Y. value_at Y sale.event (Back office.me)) is)

@@ -38,8 +38,8 @@ no_marks_listed = ap marks_of (sym cells_of-none) ∙ marks_of-cells_of [] refl 
 pub lists_of_nothing : HasLists bottom [] []
 lists_of_nothing = (no_names_listed, no_marks_listed)
 
-pub lists_of_name : (name : List ℕ) → HasLists (items.state_of (Name name)) (name ∷ []) []
+pub lists_of_name : (name : List ℕ) → HasLists (items.item_state (Name name)) (name ∷ []) []
 lists_of_name name = (ap names_in_order (sym (names_of-one name)) ∙ names_in_order-names_of (name ∷ []) refl, no_marks_listed)
 
-pub lists_of_mark : (mark : Valued) → 1 ≤ mark.value → HasLists (items.state_of (Cell mark)) [] (mark ∷ [])
+pub lists_of_mark : (mark : Valued) → 1 ≤ mark.value → HasLists (items.item_state (Cell mark)) [] (mark ∷ [])
 lists_of_mark mark some = (no_names_listed, ap marks_of (sym (cells_of-one mark some)) ∙ marks_of-cells_of (mark ∷ []) refl (some, tt))

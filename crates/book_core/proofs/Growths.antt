@@ -11,9 +11,6 @@ use Rattle.book_core.specs.Growing.{GrowDecision, Grows, NotMore, Full, grow_dec
 use Rattle.book_core.specs.Legal.{IsNextGrown}
 use Rattle.book_core.proofs.Next.{IsOwnNext}
 
-pub not_more : (office : Office) (h : List Entry) (sites : ℕ) → sites ≤ sites_of office h → grow_decision office h sites ≡ NotMore
-not_more office h sites le = ap (λ b. cond b NotMore (cond (nat_le office.limit (length h)) Full Grows)) (le-leb sites (sites_of office h) le)
-
 by_room : (office : Office) (h : List Entry) (sites : ℕ) → sites_of office h < sites → grow_decision office h sites ≡ cond (nat_le office.limit (length h)) Full Grows
 by_room office h sites more = ap (λ b. cond b NotMore (cond (nat_le office.limit (length h)) Full Grows)) (lt-leb sites (sites_of office h) more)
 
@@ -46,9 +43,3 @@ grow_own_next office h sites entry e = by_count (nat_le sites most_sites) refl e
     by_count : (b : Bool) → nat_le sites most_sites ≡ b → cond b (grown_if (grow_decision office h sites) sites) None ≡ Some entry → IsOwnNext office h entry
     by_count true few found = by_decision (leb-true sites most_sites few) (grow_decision office h sites) refl found
     by_count false few found = cc
-
--- where a growth is legal it is the entry that growing adds
-pub grown_entry : (office : Office) (h : List Entry) (sites : ℕ) → IsNextGrown office h sites → entry_of_grow office h sites ≡ Some (Grown sites)
-grown_entry office h sites next =
-    ap (λ b. cond b (grown_if (grow_decision office h sites) sites) None) (le-leb sites most_sites next.few)
-    ∙ ap (λ d. grown_if d sites) (grows office h sites next.more (lt-leb office.limit (length h) next.room))

@@ -5,7 +5,7 @@ use Rattle.rights_lattice.specs.State.{State}
 use Rattle.request_ledger.specs.declared.request.Request.{Request}
 use Rattle.request_ledger.specs.declared.reply.Reply.{Reply}
 use Rattle.request_ledger.specs.declared.reply.Kept.{Kept}
-use Rattle.request_ledger.specs.Ledger.{Keeping, kept_under}
+use Rattle.request_ledger.specs.Ledger.{KeptByNumber, kept_under}
 use Rattle.request_ledger.proofs.KeptLaws.{or_else, kept_under-push}
 use Rattle.book_core.specs.declared.entry.Entry.{Entry}
 use Rattle.book_core.specs.declared.entry.Entry.TheVariants.{Asked, Joined, Grown}
@@ -18,19 +18,19 @@ use Rattle.book_core.proofs.Kept.{asked-push}
 -- what is kept stays so
 stays : (h : List Entry) (entry : Entry) (number : ℕ) (k : Kept) → kept h number ≡ Some k → kept (h ++ entry ∷ []) number ≡ Some k
 stays h (Asked n request reply delta) number k is =
-    ap (λ (es : Keeping). kept_under es number) (asked-push h (Asked n request reply delta))
+    ap (λ (es : KeptByNumber). kept_under es number) (asked-push h (Asked n request reply delta))
     ∙ kept_under-push (asked h) n (record { place = length h; request = request; reply = reply }) number
     ∙ ap (λ o. or_else o (cond (nat_eq n number) (Some (record { place = length h; request = request; reply = reply })) None)) is
 stays h (Joined peer delta) number k is =
-    ap (λ (es : Keeping). kept_under es number) (asked-push h (Joined peer delta) ∙ append-nil (asked h)) ∙ is
+    ap (λ (es : KeptByNumber). kept_under es number) (asked-push h (Joined peer delta) ∙ append-nil (asked h)) ∙ is
 stays h (Grown sites) number k is =
-    ap (λ (es : Keeping). kept_under es number) (asked-push h (Grown sites) ∙ append-nil (asked h)) ∙ is
+    ap (λ (es : KeptByNumber). kept_under es number) (asked-push h (Grown sites) ∙ append-nil (asked h)) ∙ is
 
 -- a new one is kept at the end
 comes : (h : List Entry) (number : ℕ) (request : Request) (reply : Reply) (delta : State) → kept h number ≡ None
     → kept (h ++ Asked number request reply delta ∷ []) number ≡ Some (record { place = length h; request = request; reply = reply })
 comes h number request reply delta new =
-    ap (λ (es : Keeping). kept_under es number) (asked-push h (Asked number request reply delta))
+    ap (λ (es : KeptByNumber). kept_under es number) (asked-push h (Asked number request reply delta))
     ∙ kept_under-push (asked h) number (record { place = length h; request = request; reply = reply }) number
     ∙ ap (λ o. or_else o (cond (nat_eq number number) (Some (record { place = length h; request = request; reply = reply })) None)) new
     ∙ ap (λ b. cond b (Some (record { place = length h; request = request; reply = reply })) None) (eq-eqb number number refl)

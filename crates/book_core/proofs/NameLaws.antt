@@ -8,7 +8,7 @@ use Rattle.rights_lattice.proofs.StateLaws.{contains-union, knows-no_names}
 use Rattle.event_catalogue.specs.Catalogue.{with_new}
 use Rattle.event_catalogue.proofs.NameLaws.{any_in_order, any-with_new, or_false, or_assoc}
 use Rattle.book_core.specs.declared.entry.Entry.{Entry}
-use Rattle.book_core.specs.History.{delta_of, state_of, names_of}
+use Rattle.book_core.specs.History.{delta_of, state_of, names_known}
 
 -- the names of one entry more, where some are known
 abbrev more_names : List (List ℕ) → Entry → List (List ℕ)
@@ -26,9 +26,9 @@ known_along known (entry ∷ h) name =
     ∙ ap (λ b. here || b) (sym (contains-union (delta_of entry).names (state_of h).names name))
 
 -- a name is among those of the history where its state knows it
-pub known_names : (h : List Entry) (name : List ℕ) → list_any (same_event name) (names_of h) ≡ knows (state_of h).names name
+pub known_names : (h : List Entry) (name : List ℕ) → list_any (same_event name) (names_known h) ≡ knows (state_of h).names name
 known_names h name = known_along [] h name
 
 -- the names of a history with one more entry
-pub names_of-push : (h : List Entry) (entry : Entry) → names_of (h ++ entry ∷ []) ≡ with_new (names_of h) (names_in_order (delta_of entry).names)
+pub names_of-push : (h : List Entry) (entry : Entry) → names_known (h ++ entry ∷ []) ≡ with_new (names_known h) (names_in_order (delta_of entry).names)
 names_of-push h entry = fold_push more_names [] h entry

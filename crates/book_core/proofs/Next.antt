@@ -100,20 +100,3 @@ nothing_new office h peer delta e =
     go true None true full found = refl
     go true None false true found = cc
     go true None false false found = cc
-
--- what is legal next is the entry that asking adds
-pub asked_entry : (office : Office) (h : List Entry) (number : ℕ) (request : Request) (reply : Reply) (delta : State)
-    → IsNextAsked office h number request reply delta → entry_of_ask office h number request ≡ Some (Asked number request reply delta)
-asked_entry office h number request reply delta next =
-    ap (λ o. entry_if (decision_if o office h request) office h number request) next.new
-    ∙ ap (λ b. entry_if (cond b Full (Fresh (reply_to office h request))) office h number request) (lt-leb office.limit (length h) next.room)
-    ∙ ap (λ r. Some (Asked number request r (delta_for office h request r))) (sym next.answer)
-    ∙ ap (λ d. Some (Asked number request reply d)) (sym next.change)
-
--- and the one that joining adds
-pub joined_entry : (office : Office) (h : List Entry) (peer : ℕ) (delta : State) → IsNextJoined office h peer delta → entry_of_join office h peer delta ≡ Some (Joined peer delta)
-joined_entry office h peer delta next =
-    ap (λ b. joined_if (cond (not b) (Refuses join_fault.UnknownSite) (join_if (foreign office.me (state_of h).cells (marks_of delta.cells)) (is_within delta (state_of h)) (nat_le office.limit (length h)))) peer delta) ((sites_test (office_after office h) peer delta).1 (next.from_peer, next.sites))
-    ∙ ap (λ o. joined_if (join_if o (is_within delta (state_of h)) (nat_le office.limit (length h))) peer delta) ((row_test office.me delta (state_of h)).1 next.own_row)
-    ∙ ap (λ b. joined_if (join_if None b (nat_le office.limit (length h))) peer delta) (is_new delta (state_of h) next.news)
-    ∙ ap (λ b. joined_if (join_if None false b) peer delta) (lt-leb office.limit (length h) next.room)

@@ -17,7 +17,7 @@ use Rattle.request_ledger.specs.declared.reply.SaleState.{SaleState}
 use Rattle.request_ledger.specs.Requests.{is_done}
 use Rattle.book_core.specs.declared.entry.Entry.{Entry}
 use Rattle.book_core.specs.declared.entry.Entry.TheVariants.{Asked, Joined, Grown}
-use Rattle.request_ledger.specs.Ledger.{Keeping, kept_under, sale_in, sale_if_kept, part_counted, given_back, rest_of, amount_back}
+use Rattle.request_ledger.specs.Ledger.{KeptByNumber, kept_under, sale_in, sale_if_kept, part_counted, given_back, rest_of, amount_back}
 use Rattle.book_core.specs.History.{state_of, asked, asked_from, kept, sale_of}
 use Rattle.book_core.proofs.Kept.{asked-push}
 use Rattle.book_core.specs.Decision.{Office, Releasing, Selling, Refunding, Ceding, refund_of, refund_reply}
@@ -96,7 +96,7 @@ sales_found r q event le sale seats amount of less place (Asked m request reply 
 abbrev given : List Entry → ℕ → ℕ → ℕ
 given h sale seats = given_back (asked h) sale seats
 
-abbrev parts : Keeping → ℕ → ℕ → ℕ
+abbrev parts : KeptByNumber → ℕ → ℕ → ℕ
 parts es sale seats = sum_by (part_counted sale seats) es
 
 abbrev kept_seats : List Entry → ℕ → ℕ → ℕ
@@ -105,7 +105,7 @@ kept_seats h number seats = seats - given h number seats
 parts_push : (h : List Entry) (entry : Entry) (sale seats : ℕ)
     → parts (asked (h ++ entry ∷ [])) sale seats ≡ parts (asked h) sale seats + parts (asked_from (length h) (entry ∷ [])) sale seats
 parts_push h entry sale seats =
-    ap (λ (es : Keeping). parts es sale seats) (asked-push h entry) ∙ sum_by-append (part_counted sale seats) (asked h) (asked_from (length h) (entry ∷ []))
+    ap (λ (es : KeptByNumber). parts es sale seats) (asked-push h entry) ∙ sum_by-append (part_counted sale seats) (asked h) (asked_from (length h) (entry ∷ []))
 
 -- what is given back grows
 kept_less : (h : List Entry) (entry : Entry) (sale seats : ℕ) → kept_seats (h ++ entry ∷ []) sale seats ≤ kept_seats h sale seats

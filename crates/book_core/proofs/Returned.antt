@@ -10,7 +10,7 @@ use Rattle.request_ledger.specs.declared.reply.Kept.{Kept}
 use Rattle.request_ledger.specs.declared.reply.SaleState.{SaleState}
 use Rattle.request_ledger.specs.Requests.{is_done}
 use Rattle.request_ledger.specs.GivenBack.{seats_under, seats_if_kept, seats_in}
-use Rattle.request_ledger.specs.Ledger.{Keeping, part_asked, part_counted, given_back, rest_of, amount_back}
+use Rattle.request_ledger.specs.Ledger.{KeptByNumber, part_asked, part_counted, given_back, rest_of, amount_back}
 use Rattle.request_ledger.proofs.SumLaws.{Fits, one_more, seats_or_new}
 use Rattle.book_core.specs.declared.entry.Entry.{Entry}
 use Rattle.book_core.specs.declared.entry.Entry.TheVariants.{Asked, Joined, Grown}
@@ -35,7 +35,7 @@ returned_from-push sale before (e ∷ h) entry =
 returned_push : (sale : ℕ) (h : List Entry) (entry : Entry) → returned sale (h ++ entry ∷ []) ≡ returned sale h + returned_by sale h entry
 returned_push sale h entry = returned_from-push sale [] h entry
 
-abbrev parts : Keeping → ℕ → ℕ → ℕ
+abbrev parts : KeptByNumber → ℕ → ℕ → ℕ
 parts es sale seats = sum_by (part_counted sale seats) es
 
 -- a request that gives nothing back of the sale
@@ -97,7 +97,7 @@ gives office h sale n place (Refund other part) r answer = by_sale (other == sal
 gives office h sale n place q r answer = inl (idle h sale n place q r refl (λ seats. refl))
 
 -- of what is no sale nothing is given back; of a sale what its refunds gave back
-abbrev Even : ℕ → Keeping → ℕ → Option ℕ → Type 0
+abbrev Even : ℕ → KeptByNumber → ℕ → Option ℕ → Type 0
 Even count es sale None = (count ≡ 0) × ((seats : ℕ) → parts es sale seats ≡ 0)
 Even count es sale (Some seats) = count ≡ given_back es sale seats
 
@@ -105,7 +105,7 @@ abbrev AllEven : List Entry → Type 0
 AllEven h = (sale : ℕ) → Even (returned sale h) (asked h) sale (seats_under (asked h) sale)
 
 -- a request that gives nothing back
-stays : (es : Keeping) (sale n : ℕ) (k : Kept) (count : ℕ) → ((seats : ℕ) → part_counted sale seats (n, k) ≡ 0) → Even count es sale (seats_under es sale)
+stays : (es : KeptByNumber) (sale n : ℕ) (k : Kept) (count : ℕ) → ((seats : ℕ) → part_counted sale seats (n, k) ≡ 0) → Even count es sale (seats_under es sale)
     → Even count (es ++ (n, k) ∷ []) sale (seats_under (es ++ (n, k) ∷ []) sale)
 stays es sale n k count part before = elim (seats_or_new es n k sale) [
   | inl same ↦ subst (Even count (es ++ (n, k) ∷ []) sale) (sym same) (grow (seats_under es sale) before)
@@ -150,16 +150,16 @@ even_after : (office : Office) (h : List Entry) (entry : Entry) → AllEven h �
 even_after office h (Joined peer delta) before next sale =
     let count : returned sale h ≡ returned sale (h ++ Joined peer delta ∷ []) = omega (arith, returned_push sale h (Joined peer delta)) in
     let kept_is : asked h ≡ asked (h ++ Joined peer delta ∷ []) = sym (asked-push h (Joined peer delta) ∙ append-nil (asked h)) in
-    subst (λ (es : Keeping). Even (returned sale (h ++ Joined peer delta ∷ [])) es sale (seats_under es sale)) kept_is
+    subst (λ (es : KeptByNumber). Even (returned sale (h ++ Joined peer delta ∷ [])) es sale (seats_under es sale)) kept_is
     (subst (λ m. Even m (asked h) sale (seats_under (asked h) sale)) count (before sale))
 even_after office h (Grown sites) before next sale =
     let count : returned sale h ≡ returned sale (h ++ Grown sites ∷ []) = omega (arith, returned_push sale h (Grown sites)) in
     let kept_is : asked h ≡ asked (h ++ Grown sites ∷ []) = sym (asked-push h (Grown sites) ∙ append-nil (asked h)) in
-    subst (λ (es : Keeping). Even (returned sale (h ++ Grown sites ∷ [])) es sale (seats_under es sale)) kept_is
+    subst (λ (es : KeptByNumber). Even (returned sale (h ++ Grown sites ∷ [])) es sale (seats_under es sale)) kept_is
     (subst (λ m. Even m (asked h) sale (seats_under (asked h) sale)) count (before sale))
 even_after office h (Asked n q r d) before next sale =
     let k : Kept = record { place = length h; request = q; reply = r } in
-    subst (λ (es : Keeping). Even (returned sale (h ++ Asked n q r d ∷ [])) es sale (seats_under es sale)) (sym (asked-push h (Asked n q r d)))
+    subst (λ (es : KeptByNumber). Even (returned sale (h ++ Asked n q r d ∷ [])) es sale (seats_under es sale)) (sym (asked-push h (Asked n q r d)))
     (elim (gives office h sale n (length h) q r next.answer) [
       | inl none ↦ subst (λ m. Even m (asked h ++ (n, k) ∷ []) sale (seats_under (asked h ++ (n, k) ∷ []) sale)) (sym (returned_push sale h (Asked n q r d) ∙ ap (λ m. returned sale h + m) none.amount ∙ omega arith))
           (stays (asked h) sale n k (returned sale h) none.part (before sale))

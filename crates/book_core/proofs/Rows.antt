@@ -6,13 +6,13 @@ use Rattle.std.proofs.lemmas.List.Sums.{sum_by-append}
 use Rattle.rights_lattice.specs.declared.cell.Cell.{Cell}
 use Rattle.rights_lattice.specs.declared.cell.Cell.TheVariants.{Gave, Used, Back}
 use Rattle.rights_lattice.specs.Cell.{owner_of, same_cell, same_event}
-use Rattle.rights_lattice.specs.Cells.{Cells, value_at, all_zero}
+use Rattle.rights_lattice.specs.Cells.{Cells, value_at, all_zero, RowAtOrBelow}
 use Rattle.rights_lattice.specs.State.{State, bottom, At}
 use Rattle.rights_lattice.specs.Sums.{max_sites, sum_below}
 use Rattle.rights_lattice.proofs.CellLaws.{value_at-raise, value_at-all_zero}
 use Rattle.rights_lattice.proofs.SpotLaws.{same_event_is, same_cell_is, value_in-tests}
 use Rattle.delta_mutators.specs.Marks.{mark_plus}
-use Rattle.local_rights.specs.Rights.{ceded, gained, spent, left_of}
+use Rattle.local_rights.specs.Rights.{ceded_in, gained, spent, left_of}
 use Rattle.local_rights.proofs.Sums.{sum_below_le, sum_below-zero, sum_raised}
 use Rattle.request_ledger.specs.declared.request.Request.{Request}
 use Rattle.request_ledger.specs.declared.request.Request.TheVariants.{Announce, Release, Sell, Refund, Cede}
@@ -24,7 +24,6 @@ use Rattle.book_core.specs.declared.entry.Entry.{Entry}
 use Rattle.book_core.specs.declared.entry.Entry.TheVariants.{Asked, Joined, Grown}
 use Rattle.book_core.specs.History.{state_of, sale_of}
 use Rattle.book_core.specs.Decision.{Office, Kind, Releasing, Selling, Refunding, Ceding, Change, cell_of, change_of, refund_of, marked, addition_of, delta_for, reply_to, own_left}
-use Rattle.book_core.specs.Joining.{RowAtMost}
 use Rattle.book_core.specs.Legal.{IsNext, IsLegal}
 use Rattle.book_core.specs.Operations.{operations, operation_of, operation_if, counted, total, same_kind}
 use Rattle.book_core.proofs.Histories.{at-push, operations_push, legal_along}
@@ -139,7 +138,7 @@ asked_allowed office h request reply answer = by_test (is_done reply) refl
     by_test true q = done_allowed office h request (ap is_done (sym answer) ∙ q)
     by_test false q = tt
 
-ceded_le : (x y : Cells) (event : List ℕ) (i j : ℕ) → (j ≢ i → (value_at y event (Gave i j)) ≤ (value_at x event (Gave i j))) → ceded y event i j ≤ ceded x event i j
+ceded_le : (x y : Cells) (event : List ℕ) (i j : ℕ) → (j ≢ i → (value_at y event (Gave i j)) ≤ (value_at x event (Gave i j))) → ceded_in y event i j ≤ ceded_in x event i j
 ceded_le x y event i j h = by_test (i == j) refl
   where
     by_test : (b : Bool) → (i == j) ≡ b → cond b 0 ((value_at y event (Gave i j))) ≤ cond b 0 ((value_at x event (Gave i j)))
@@ -149,11 +148,11 @@ ceded_le x y event i j h = by_test (i == j) refl
 -- a state with no more in the cells that consume, and no less elsewhere, keeps rights not negative
 pub spent_le : (x y : Cells) (event : List ℕ) (i : ℕ) → (value_at y event (Used i)) ≤ (value_at x event (Used i))
     → ((j : ℕ) → j ≢ i → (value_at y event (Gave i j)) ≤ (value_at x event (Gave i j))) → spent y event i ≤ spent x event i
-spent_le x y event i used gave = omega (arith, used, sum_below_le max_sites (λ j. ceded y event i j) (λ j. ceded x event i j) (λ j l. ceded_le x y event i j (gave j)))
+spent_le x y event i used gave = omega (arith, used, sum_below_le max_sites (λ j. ceded_in y event i j) (λ j. ceded_in x event i j) (λ j l. ceded_le x y event i j (gave j)))
 
 pub gained_le : (x y : Cells) (event : List ℕ) (i : ℕ) → ((cell : Cell) → (value_at x event cell) ≤ (value_at y event cell)) → gained x event i ≤ gained y event i
 gained_le x y event i more =
-    omega (arith, more (Gave i i), more (Back i), sum_below_le max_sites (λ j. ceded x event j i) (λ j. ceded y event j i) (λ j l. ceded_le y x event j i (λ _. more (Gave j i))))
+    omega (arith, more (Gave i i), more (Back i), sum_below_le max_sites (λ j. ceded_in x event j i) (λ j. ceded_in y event j i) (λ j l. ceded_le y x event j i (λ _. more (Gave j i))))
 
 miss : (b c : Bool) (a : ℕ) → c ≡ false → cond (b && c) a 0 ≡ 0
 miss true c a q = ap (λ t. cond t a 0) q
@@ -188,15 +187,15 @@ spent_by_kind me x y Refunding of amount step may event before same =
           (λ j ne. omega (arith, step event (Gave me j), miss (same_event event of) false amount refl)),
     )
 spent_by_kind me x y Selling of amount step may event before same =
-    let gave : sum_below max_sites (λ j. ceded y event me j) ≤ sum_below max_sites (λ j. ceded x event me j) =
+    let gave : sum_below max_sites (λ j. ceded_in y event me j) ≤ sum_below max_sites (λ j. ceded_in x event me j) =
     sum_below_le max_sites _ _ (λ j l. ceded_le x y event me j (λ ne. omega (arith, step event (Gave me j), miss (same_event event of) false amount refl))) in
     let used : (value_at y event (Used me)) ≤ (value_at x event (Used me)) + amount =
     omega (arith, step event (Used me), part_le (same_event event of && (me == me)) amount) in
     let enough : amount ≤ left_of x event me = subst (λ e. amount ≤ left_of x e me) (sym same) may in
     omega (arith, before, gave, used, enough)
 spent_by_kind me x y (Ceding to) of amount step may event before same =
-    let gave : sum_below max_sites (λ j. ceded y event me j) ≤ sum_below max_sites (λ j. ceded x event me j) + amount =
-    sum_raised max_sites (λ j. ceded x event me j) (λ j. ceded y event me j) to amount
+    let gave : sum_below max_sites (λ j. ceded_in y event me j) ≤ sum_below max_sites (λ j. ceded_in x event me j) + amount =
+    sum_raised max_sites (λ j. ceded_in x event me j) (λ j. ceded_in y event me j) to amount
     (λ j ne. ceded_le x y event me j (λ _. omega (arith, step event (Gave me j), miss (same_event event of) ((me == me) && (j == to)) amount (and_right (me == me) (j == to) (ne_eqb j to ne)))))
     (ceded_more (me == to) (omega (arith, step event (Gave me to), part_le (same_event event of && ((me == me) && (to == to))) amount))) in
     let used : (value_at y event (Used me)) ≤ (value_at x event (Used me)) =
@@ -235,7 +234,7 @@ rights_after me x y (Some c) step may event before = by_test (same_event event c
         )
 
 -- a delta with no more on the own row than the state leaves that row
-pub joined_own : (me : ℕ) (h : List Entry) (peer : ℕ) (delta : State) → RowAtMost me delta (state_of h) → (event : List ℕ) (cell : Cell) → owner_of cell ≡ me
+pub joined_own : (me : ℕ) (h : List Entry) (peer : ℕ) (delta : State) → RowAtOrBelow me delta.cells (state_of h).cells → (event : List ℕ) (cell : Cell) → owner_of cell ≡ me
     → (value_at (state_of (h ++ Joined peer delta ∷ [])).cells event cell) ≡ (value_at (state_of h).cells event cell)
 joined_own me h peer delta row event cell own = omega (arith, at-push h (Joined peer delta) (At event cell), row event cell own)
 
@@ -250,7 +249,7 @@ zero_le false v h = omega (arith, h)
 -- local rights are never negative
 pub legal_rights : (office : Office) (h : List Entry) → IsLegal office h → (event : List ℕ) → spent (state_of h).cells event office.me ≤ gained (state_of h).cells event office.me
 legal_rights office = legal_along office (λ h. (event : List ℕ) → spent (state_of h).cells event office.me ≤ gained (state_of h).cells event office.me)
-    (λ event. omega (arith, value_at-all_zero event (Used office.me), sum_below_le max_sites (λ j. ceded (state_of []).cells event office.me j) (λ _. 0) (λ j l. zero_le (office.me == j) _ (value_at-all_zero event (Gave office.me j))), sum_below-zero max_sites))
+    (λ event. omega (arith, value_at-all_zero event (Used office.me), sum_below_le max_sites (λ j. ceded_in (state_of []).cells event office.me j) (λ _. 0) (λ j l. zero_le (office.me == j) _ (value_at-all_zero event (Gave office.me j))), sum_below-zero max_sites))
     more
   where
     more : (h : List Entry) (entry : Entry) → ((event : List ℕ) → spent (state_of h).cells event office.me ≤ gained (state_of h).cells event office.me) → IsNext office h entry

@@ -1,6 +1,6 @@
 -- What contracts see of a book. (Our own.)
 use Rattle.std.specs.Prelude.{◌≡◌, ℕ, ◌+◌, ◌≤◌, ◌<◌, List, length, take, None}
-use Rattle.request_ledger.specs.Ledger.{Keeping, kept_under, IsRefundable}
+use Rattle.request_ledger.specs.Ledger.{KeptByNumber, kept_under, IsRefundable}
 use Rattle.rights_lattice.specs.Cells.{Cells, Valued, RowAtOrBelow, raise_all, marks_of, greatest}
 use Rattle.rights_lattice.specs.RightsView.{IsCellOf}
 use Rattle.rights_lattice.specs.declared.cell.Cell.{Cell}
@@ -9,7 +9,7 @@ use Rattle.local_rights.specs.Rights.{HasRights}
 use Rattle.book_core.specs.declared.entry.Entry.{Entry}
 use Rattle.book_core.specs.declared.entry.Entry.TheVariants.{Asked, Joined, Grown}
 use Rattle.book_core.specs.Decision.{Office, sites_of}
-use Rattle.book_core.specs.History.{delta_of, state_of, names_of, asked}
+use Rattle.book_core.specs.History.{delta_of, state_of, names_known, asked}
 use Rattle.book_core.specs.Legal.{IsLegal}
 
 -- room for entries, for cells that are 0 now, for names, and for request numbers
@@ -60,13 +60,13 @@ pub record Spends (entry : Entry) (old new : Room) : Type 0 where
   pub numbers : old.numbers ≤ new.numbers + numbers_in entry
 
 -- the number of the entry, if it has one, is not kept yet
-abbrev pub IsUnkept : Keeping → Entry → Type 0
+abbrev pub IsUnkept : KeptByNumber → Entry → Type 0
 IsUnkept es (Asked number request reply delta) = kept_under es number ≡ None
 IsUnkept es (Joined peer delta) = Unit {0}
 IsUnkept es (Grown sites) = Unit {0}
 
 -- the entry, if it is a refund that was done, is of a sale that is kept and gives back no more than is left of it
-abbrev pub KeepsRefunds : Keeping → Entry → Type 0
+abbrev pub KeepsRefunds : KeptByNumber → Entry → Type 0
 KeepsRefunds es (Asked number request reply delta) = IsRefundable es request reply
 KeepsRefunds es (Joined peer delta) = Unit {0}
 KeepsRefunds es (Grown sites) = Unit {0}
@@ -80,10 +80,10 @@ abbrev pub MarksAreWithin : ℕ → List Valued → Type 0
 MarksAreWithin sites marks = (event : List ℕ) (cell : Cell) → 1 ≤ greatest marks event cell → IsCellOf sites cell
 
 -- the kept count of sites, cells, names and numbers are those of the history, which is legal
-pub record IsInOrder (office : Office) (history : List Entry) (sites : ℕ) (cells : Cells) (names : List (List ℕ)) (ledger : Keeping) : Type 0 where
+pub record IsInOrder (office : Office) (history : List Entry) (sites : ℕ) (cells : Cells) (names : List (List ℕ)) (ledger : KeptByNumber) : Type 0 where
   pub me_is_site : office.me < office.sites
   pub legal : IsLegal office history
   pub sites_are : sites ≡ sites_of office history
   pub cells_are : cells ≡ (state_of history).cells
-  pub names_are : names ≡ names_of history
+  pub names_are : names ≡ names_known history
   pub kept_are : ledger ≡ asked history

@@ -3,7 +3,7 @@ use Rattle.std.specs.Prelude.{ℕ, ◌+◌, Bool, Option, Some, None, if◌then�
 use Rattle.std.specs.List.{fold}
 use Rattle.rights_lattice.specs.declared.cell.Cell.{Cell}
 use Rattle.rights_lattice.specs.declared.cell.Cell.TheVariants.{Gave, Used, Back}
-use Rattle.rights_lattice.specs.Cells.{Cells, value_at, max_value}
+use Rattle.rights_lattice.specs.Cells.{Cells, value_at, greatest_value}
 use Rattle.rights_lattice.specs.State.{State, bottom, knows}
 use Rattle.delta_mutators.specs.Marks.{mark_plus}
 use Rattle.delta_mutators.specs.Items as items
@@ -69,16 +69,16 @@ change_of h (Cede event to n) = Some (record { kind = Ceding to; event = event; 
 -- the cell of a change at its old value plus the amount
 abbrev pub marked : ℕ → Cells → Option Change → State
 marked me X None = bottom
-marked me X (Some c) = items.state_of (item.Cell (mark_plus X c.event (cell_of me c.kind) c.amount))
+marked me X (Some c) = items.item_state (item.Cell (mark_plus X c.event (cell_of me c.kind) c.amount))
 
 -- the state of an item, if there is one
 abbrev pub state_of_item : Option Item → State
 state_of_item None = bottom
-state_of_item (Some i) = items.state_of i
+state_of_item (Some i) = items.item_state i
 
 -- what a request that is done adds to the state
 abbrev pub addition_of : Office → List Entry → Request → State
-addition_of office h (Announce event) = items.state_of (item.Name event)
+addition_of office h (Announce event) = items.item_state (item.Name event)
 addition_of office h request = marked office.me (state_of h).cells (change_of h request)
 
 -- the delta of a request with its reply
@@ -87,7 +87,7 @@ delta_for office h request reply = if is_done reply then addition_of office h re
 
 -- the cell has no room for the amount
 abbrev pub is_full : Cells → List ℕ → Cell → ℕ → Bool
-is_full X event cell n = nat_lt max_value (value_at X event cell + n)
+is_full X event cell n = nat_lt greatest_value (value_at X event cell + n)
 
 abbrev pub refund_reply : Option SaleState → Option ℕ → Reply
 refund_reply None part = NoSale

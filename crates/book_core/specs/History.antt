@@ -5,7 +5,7 @@ use Rattle.std.specs.List.{fold}
 use Rattle.rights_lattice.specs.State.{State, bottom, join, names_in_order}
 use Rattle.request_ledger.specs.declared.reply.Kept.{Kept}
 use Rattle.request_ledger.specs.declared.reply.SaleState.{SaleState}
-use Rattle.request_ledger.specs.Ledger.{Keeping, kept_under, sale_under}
+use Rattle.request_ledger.specs.Ledger.{KeptByNumber, kept_under, sale_under}
 use Rattle.event_catalogue.specs.Catalogue.{with_new}
 use Rattle.book_core.specs.declared.entry.Entry.{Entry}
 use Rattle.book_core.specs.declared.entry.Entry.TheVariants.{Asked, Joined, Grown}
@@ -26,14 +26,14 @@ abbrev pub interval : List Entry → ℕ → ℕ → State
 interval h a b = state_of (take (b - a) (drop a h))
 
 -- what the asked entries keep, where they stand from this place on
-abbrev pub asked_from : ℕ → List Entry → Keeping
+abbrev pub asked_from : ℕ → List Entry → KeptByNumber
 asked_from place [] = []
 asked_from place (Asked number request reply delta ∷ entries) =
     (number, record { place = place; request = request; reply = reply }) ∷ asked_from (place + 1) entries
 asked_from place (Joined peer delta ∷ entries) = asked_from (place + 1) entries
 asked_from place (Grown sites ∷ entries) = asked_from (place + 1) entries
 
-abbrev pub asked : List Entry → Keeping
+abbrev pub asked : List Entry → KeptByNumber
 asked h = asked_from 0 h
 
 -- the kept place, request and reply of a number
@@ -51,5 +51,5 @@ sites_after before (Joined peer delta) = before
 sites_after before (Grown sites) = sites
 
 -- the names of a history, by first appearance
-abbrev pub names_of : List Entry → List (List ℕ)
-names_of h = fold (λ known entry. with_new known (names_in_order (delta_of entry).names)) [] h
+abbrev pub names_known : List Entry → List (List ℕ)
+names_known h = fold (λ known entry. with_new known (names_in_order (delta_of entry).names)) [] h

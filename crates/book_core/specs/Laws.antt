@@ -1,6 +1,6 @@
--- What holds of every legal history, and of the tests by which a peer's delta is judged.
+-- What holds of every legal history, and of the tests by which a peer's delta is judged. (Our own.)
 use Rattle.std.specs.Prelude.{◌≡◌, ◌↔◌, ℕ, ◌≤◌, List, length, slice_get, Some, None, IsTrue}
-use Rattle.rights_lattice.specs.Cells.{marks_of}
+use Rattle.rights_lattice.specs.Cells.{RowAtOrBelow, marks_of}
 use Rattle.rights_lattice.specs.RightsView.{IsWithin}
 use Rattle.rights_lattice.specs.State.{State}
 use Rattle.local_rights.specs.Rights.{HasRights}
@@ -10,7 +10,7 @@ use Rattle.book_core.specs.declared.entry.Entry.{Entry}
 use Rattle.book_core.specs.declared.entry.Entry.TheVariants.{Asked}
 use Rattle.book_core.specs.Decision.{Office, Refunding, Selling}
 use Rattle.book_core.specs.History.{state_of, kept}
-use Rattle.book_core.specs.Joining.{IsPeer, RowAtMost, foreign, is_of_sites}
+use Rattle.book_core.specs.Joining.{IsPeer, foreign, is_of_sites}
 use Rattle.book_core.specs.Legal.{IsLegal}
 use Rattle.book_core.specs.Operations.{operations, total}
 
@@ -41,7 +41,7 @@ HistoryIsWithinLimit = (office : Office) (h : List Entry) → IsLegal office h �
 
 -- no mark of the own row is above the state exactly where the delta has no more on that row
 abbrev pub RowTestIsTheOrder : Type 0
-RowTestIsTheOrder = (site : ℕ) (D X : State) → (foreign site X.cells (marks_of D.cells) ≡ None) ↔ RowAtMost site D X
+RowTestIsTheOrder = (site : ℕ) (D X : State) → (foreign site X.cells (marks_of D.cells) ≡ None) ↔ RowAtOrBelow site D.cells X.cells
 
 -- the test of sites is that the peer is another site and that the cells name sites of the book
 abbrev pub SitesTestIsTheRange : Type 0

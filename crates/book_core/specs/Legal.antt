@@ -1,6 +1,7 @@
 -- Legal histories. (That a site alone changes its row: SRDS 2015; the order: RR-7506; the rest: our own.)
 use Rattle.std.specs.Prelude.{◌≡◌, ℕ, ◌<◌, ◌≤◌, List, length, take, slice_get, Some, None}
 use Rattle.rights_lattice.specs.Limits.{most_sites}
+use Rattle.rights_lattice.specs.Cells.{RowAtOrBelow}
 use Rattle.rights_lattice.specs.RightsView.{IsWithin}
 use Rattle.rights_lattice.specs.State.{State, AtOrBelow}
 use Rattle.request_ledger.specs.declared.request.Request.{Request}
@@ -9,7 +10,7 @@ use Rattle.book_core.specs.declared.entry.Entry.{Entry}
 use Rattle.book_core.specs.declared.entry.Entry.TheVariants.{Asked, Joined, Grown}
 use Rattle.book_core.specs.Decision.{Office, delta_for, office_after, reply_to, sites_of}
 use Rattle.book_core.specs.History.{state_of, kept}
-use Rattle.book_core.specs.Joining.{IsPeer, RowAtMost}
+use Rattle.book_core.specs.Joining.{IsPeer}
 
 -- a new number within the limit, with the reply and the delta that are due
 pub record IsNextAsked (office : Office) (h : List Entry) (number : ℕ) (request : Request) (reply : Reply) (delta : State) : Type 0 where
@@ -23,7 +24,7 @@ pub record IsNextJoined (office : Office) (h : List Entry) (peer : ℕ) (delta :
   pub room : length h < office.limit
   pub from_peer : IsPeer (office_after office h) peer
   pub sites : IsWithin (sites_of office h) delta.cells
-  pub own_row : RowAtMost office.me delta (state_of h)
+  pub own_row : RowAtOrBelow office.me delta.cells (state_of h).cells
   pub news : AtOrBelow delta (state_of h) → ⊥
 
 -- more sites than before, and no more than there can be, within the limit

@@ -1,13 +1,13 @@
 //! The book of a site.
 ghost use Rattle.std.specs.Prelude.{IsSome, IfSome, pos, vec_len, vec_capacity, nat_le, IsTrue, ◌↔◌, IsOk, IfOk, IfErr, OnOk, ◌++◌, ◌∷◌, ◌≡◌, ℕ, ◌<◌, ◌≤◌, [], ◌+◌, length, slice_get, Some, None};
 ghost use Rattle.std.specs.Option.{option_copied};
-ghost use Rattle.rights_lattice.specs.Cells.{value_at, raise_all, max_value};
+ghost use Rattle.rights_lattice.specs.Cells.{value_at, raise_all, greatest_value};
 ghost use Rattle.rights_lattice.specs.State.{knows};
 ghost use Rattle.rights_lattice.specs.RightsView.{IsWithin};
 ghost use Rattle.local_rights.specs.OpenSeats.{view_in};
 ghost use Rattle.local_rights.specs.Rights.{HasRights, IsPosition, paper_value};
 ghost use Rattle.request_ledger.specs.Ledger.{kept_under, IsRefundable};
-ghost use Rattle.book_core.specs.History.{state_of, kept, sale_of, names_of, asked_from, sites_after};
+ghost use Rattle.book_core.specs.History.{state_of, kept, sale_of, names_known, asked_from, sites_after};
 ghost use Rattle.book_core.specs.Decision.{own_left, sites_of};
 ghost use Rattle.book_core.specs.Legal.{IsLegal};
 ghost use Rattle.book_core.specs.BookView.{HasRoomFor, KeepsRoom, IsUnkept, KeepsRefunds, MakesNoRoom, Spends, KeepRights, MarksAreWithin, SeesWithin, numbers_in};
@@ -126,7 +126,7 @@ impl Book {
     /// The value of a cell: the greatest that an entry's delta gives it.
     pub fn cell(&self, event: Event, cell: Cell) -> u64
         ensures value { result ≡ value_at (state_of self.now.history).cells event cell }
-        ensures at_most_max { result ≤ max_value }
+        ensures at_most_max { result ≤ greatest_value }
     {
         self.rights.get(event, cell)
     }
@@ -140,14 +140,14 @@ impl Book {
 
     /// How many events are known.
     pub fn event_count(&self) -> usize
-        ensures { result ≡ length (names_of self.now.history) }
+        ensures { result ≡ length (names_known self.now.history) }
     {
         self.names.len()
     }
 
     /// The event that was the k-th to be known, from 0: by first appearance, rising within one delta.
     pub fn event_at(&self, k: usize) -> Option<Event>
-        ensures { result ≡ slice_get (names_of self.now.history) k }
+        ensures { result ≡ slice_get (names_known self.now.history) k }
     {
         self.names.at(k)
     }

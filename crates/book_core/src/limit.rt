@@ -1,6 +1,6 @@
 //! How long a history may become.
 ghost use Rattle.std.specs.Prelude.{◌≡◌, ◌≤◌, ◌↔◌, IsSome, IfSome};
-ghost use Rattle.book_core.specs.Limits.{greatest_limit};
+ghost use Rattle.book_core.specs.Limits.{greatest_limit, IsLimit};
 
 use std::marker::Model;
 
@@ -11,28 +11,28 @@ pub struct Limit {
 }
 
 impl Model for Limit {
-    ghost use Rattle.std.specs.Prelude.{ℕ, ◌≤◌};
-    ghost use Rattle.book_core.specs.Limits.{greatest_limit};
+    ghost use Rattle.std.specs.Prelude.{ℕ};
+    ghost use Rattle.book_core.specs.Limits.{IsLimit};
 
     ghost Value = { ℕ };
 
     ghost view = { λ l. l.entries };
 
-    ghost invariant = { λ l. (1 ≤ l.entries) × (l.entries ≤ greatest_limit) };
+    ghost invariant = { λ l. IsLimit l.entries };
 
     ghost inverse = { λ n. record { entries = n } };
 }
 
 impl Limit {
     /// The greatest limit, which a history has where none is given.
-    pub const MAX: u64 = 1_000_000;
+    pub const GREATEST: u64 = 1_000_000;
 
     /// This many entries, where they are 1 to 1,000,000.
     pub fn of(entries: u64) -> Option<Limit>
-        ensures in_range { IsSome result ↔ ((1 ≤ entries) × (entries ≤ greatest_limit)) }
+        ensures in_range { IsSome result ↔ IsLimit entries }
         ensures same { IfSome result (λ limit. limit ≡ entries) }
     {
-        if 1 <= entries && entries <= Limit::MAX {
+        if 1 <= entries && entries <= Limit::GREATEST {
             Some(Limit {
                 entries: entries as u32,
             })
@@ -46,7 +46,7 @@ impl Limit {
         ensures { result ≡ greatest_limit }
     {
         Limit {
-            entries: Limit::MAX as u32,
+            entries: Limit::GREATEST as u32,
         }
     }
 

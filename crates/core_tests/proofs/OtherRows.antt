@@ -7,7 +7,7 @@ use Rattle.rights_lattice.specs.Sums.{max_sites}
 use Rattle.rights_lattice.specs.declared.cell.Cell.{Cell}
 use Rattle.rights_lattice.specs.declared.cell.Cell.TheVariants.{Gave, Used}
 use Rattle.rights_lattice.proofs.CellLaws.{of_same, value_at-raise, value_at-all_zero}
-use Rattle.local_rights.specs.Rights.{ceded, HasRights}
+use Rattle.local_rights.specs.Rights.{ceded_in, HasRights}
 use Rattle.local_rights.proofs.Sums.{sum_below_same, sum_below-zero}
 
 -- the cells that the site owns are 0
@@ -33,7 +33,7 @@ pub has_rights-no_row : (X : Cells) (e : List ℕ) (i : ℕ) → HasNoRow X i �
 has_rights-no_row X e i none =
     omega (
       arith,
-      sum_below_same max_sites (λ j. ceded X e i j) (λ _. 0) (λ j l. ceded_none (nat_eq i j) _ (none e (Gave i j) refl)),
+      sum_below_same max_sites (λ j. ceded_in X e i j) (λ _. 0) (λ j l. ceded_none (nat_eq i j) _ (none e (Gave i j) refl)),
       sum_below-zero max_sites,
       none e (Used i) refl,
     )

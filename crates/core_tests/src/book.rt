@@ -1,4 +1,4 @@
-// What asking, joining and replaying answer, with ample memory; the expected values are worked out by hand.
+//! What asking, joining and replaying answer, with ample memory; the expected values are worked out by hand.
 use crate::values::{book_of, event, gave, join, mark, number, seats, site};
 use book_core::{
     Book, Entry, GrowFault, JoinDecision, JoinFault, Limit, Plan, PlanFault, ReplayFault,
@@ -221,7 +221,7 @@ fn limits_of_a_history(rt: HostRuntime) {
         let want = if is_one { Some(entries) } else { None };
         assert!(rt; limit == want, "{entries} entries");
     }
-    assert!(rt; Limit::greatest().entries() == Limit::MAX);
+    assert!(rt; Limit::greatest().entries() == Limit::GREATEST);
 }
 
 // What is left once these rows were asked of the only site.

@@ -1,3 +1,4 @@
+//! What a catalogue knows, in the order of first knowing; the expected values are worked out by hand.
 use event_catalogue::Catalogue;
 use rights_lattice::Event;
 

@@ -1,4 +1,4 @@
-// Each public call with ample memory; the expected values are worked out by hand.
+//! Each public call with ample memory; the expected values are worked out by hand.
 use rights_lattice::{
     Cell, Event, Mark, Rights, SiteId, Sites, key_order, merge_marks, merge_names, owner,
 };

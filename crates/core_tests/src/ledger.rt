@@ -1,3 +1,4 @@
+//! What is kept under numbers, and what refunds gave back; the expected values are worked out by hand.
 use request_ledger::{Kept, Ledger, Reply, Request, RequestNumber, SaleState};
 use rights_lattice::{Amount, Event};
 use std::process::Abort;

@@ -1,7 +1,7 @@
-// Each public call with ample memory; the expected values are worked out by hand.
+//! Each public call with ample memory; the expected values are worked out by hand.
 use crate::values::seats;
 use delta_mutators::{CellFull, Delta, Item, announce, cession, refund, release, sale};
-use rights_lattice::{Cell, Event, MAX_VALUE, Mark, Rights, SiteId, Sites};
+use rights_lattice::{Cell, Event, GREATEST_VALUE, Mark, Rights, SiteId, Sites};
 use std::alloc::Global;
 use std::process::Abort;
 
@@ -56,9 +56,9 @@ fn cell_at_its_greatest_value(rt: HostRuntime) {
     let all = Mark {
         event: gala,
         cell: Cell::Gave { by: me, to: me },
-        value: MAX_VALUE,
+        value: GREATEST_VALUE,
     };
-    assert!(rt; release(&rights, me, gala, seats(&rt, MAX_VALUE)) == Ok(all));
+    assert!(rt; release(&rights, me, gala, seats(&rt, GREATEST_VALUE)) == Ok(all));
     rights.raise(all);
     assert!(rt; release(&rights, me, gala, seats(&rt, 1)) == Err(CellFull));
 }

@@ -1,6 +1,6 @@
 //! The words of requests and replies, each read back.
 
-use delta_wire::{event_at, site_at, value_at};
+use delta_wire::{event_at, natural_at, site_at};
 use plain_words::{Words, numbered, word};
 use request_ledger::{Reply, Request, RequestNumber, Verb};
 use rights_lattice::{Amount, Event, SiteId};
@@ -89,11 +89,11 @@ fn words_of_a_mark(rt: HostRuntime) {
     assert!(rt; event.bytes() == b"gala".as_slice());
     let site = site_at(&mut words).expect(&rt, "a site");
     assert!(rt; site.number() == 63);
-    assert!(rt; value_at(&mut words) == Some(1_000_000_000_000));
-    assert!(rt; value_at(&mut words) == None);
+    assert!(rt; natural_at(&mut words) == Some(1_000_000_000_000));
+    assert!(rt; natural_at(&mut words) == None);
     assert!(rt; event_at(&mut Words::new(b"Gala")).is_none());
     assert!(rt; site_at(&mut Words::new(b"64")).is_none());
-    assert!(rt; value_at(&mut Words::new(b"0")).is_none());
+    assert!(rt; natural_at(&mut Words::new(b"0")).is_none());
 }
 
 #[test]

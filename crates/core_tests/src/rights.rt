@@ -1,3 +1,4 @@
+//! Rights, totals and open seats of states; the expected values are worked out by hand.
 use local_rights::{Totals, left, open_seats, paper_value, totals};
 use rights_lattice::{Cell, Event, Mark, Rights, Sites};
 

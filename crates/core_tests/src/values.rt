@@ -3,7 +3,7 @@
 use book_core::{Book, JoinFault, JoinPlan, Limit};
 use delta_mutators::Delta;
 use request_ledger::RequestNumber;
-use rights_lattice::{Amount, Cell, Event, MAX_VALUE, Mark, SiteId, Sites};
+use rights_lattice::{Amount, Cell, Event, GREATEST_VALUE, Mark, SiteId, Sites};
 use std::alloc::Global;
 use std::process::Abort;
 
@@ -31,7 +31,7 @@ pub(crate) fn gave(rt: &impl Abort, by: u64, to: u64) -> Cell {
 }
 
 pub(crate) fn mark(rt: &impl Abort, event: Event, cell: Cell, value: u64) -> Mark {
-    assert!(rt; 1 <= value && value <= MAX_VALUE);
+    assert!(rt; 1 <= value && value <= GREATEST_VALUE);
     Mark { event, cell, value }
 }
 

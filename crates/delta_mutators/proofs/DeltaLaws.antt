@@ -10,7 +10,7 @@ use Rattle.rights_lattice.proofs.StateLaws.{same_names, contains-union, knows-wi
 use Rattle.rights_lattice.proofs.MarkLaws.{cells_of-none, cells_of-one, names_of-none, names_of-one, merged_cells, merged_names}
 use Rattle.delta_mutators.specs.declared.delta.Item.TheVariants.{Name, Cell}
 use Rattle.delta_mutators.specs.Lists.{AreLists}
-use Rattle.delta_mutators.specs.Items.{state_of}
+use Rattle.delta_mutators.specs.Items.{item_state}
 use Rattle.delta_mutators.specs.Rises.{pushed}
 use Rattle.delta_mutators.specs.ApplyLaw.{ApplyingIsJoining, AddingIsJoining}
 
@@ -49,10 +49,10 @@ state_from ns ms = record { cells = cells_of ms; names = names_of ns }
 pub empty_state : (ns : List (List ℕ)) (ms : List Valued) → ns ≡ [] → ms ≡ [] → state_from ns ms ≡ bottom
 empty_state ns ms p q = λ i. record { cells = (ap cells_of q ∙ cells_of-none) i; names = (ap names_of p ∙ names_of-none) i }
 
-pub name_state : (ns : List (List ℕ)) (ms : List Valued) (n : List ℕ) → ns ≡ n ∷ [] → ms ≡ [] → state_from ns ms ≡ state_of (Name n)
+pub name_state : (ns : List (List ℕ)) (ms : List Valued) (n : List ℕ) → ns ≡ n ∷ [] → ms ≡ [] → state_from ns ms ≡ item_state (Name n)
 name_state ns ms n p q = λ i. record { cells = (ap cells_of q ∙ cells_of-none) i; names = (ap names_of p ∙ names_of-one n) i }
 
-pub mark_state : (ns : List (List ℕ)) (ms : List Valued) (m : Valued) → ns ≡ [] → ms ≡ m ∷ [] → 1 ≤ m.value → state_from ns ms ≡ state_of (Cell m)
+pub mark_state : (ns : List (List ℕ)) (ms : List Valued) (m : Valued) → ns ≡ [] → ms ≡ m ∷ [] → 1 ≤ m.value → state_from ns ms ≡ item_state (Cell m)
 mark_state ns ms m p q h = λ i. record { cells = (ap cells_of q ∙ cells_of-one m h) i; names = (ap names_of p ∙ names_of-none) i }
 
 -- the state of merged lists, where the merged lists are those of two states

@@ -4,7 +4,7 @@ use Rattle.rights_lattice.specs.Cells.{Cells, Valued, raise, all_zero}
 use Rattle.rights_lattice.specs.Cells as cells
 use Rattle.rights_lattice.specs.State.{State, join}
 use Rattle.delta_mutators.specs.declared.delta.Item.{Item}
-use Rattle.delta_mutators.specs.Items.{state_of}
+use Rattle.delta_mutators.specs.Items.{item_state}
 use Rattle.delta_mutators.specs.Rises.{pushed}
 
 -- to raise a cell by a mark is to join the state of the mark alone
@@ -13,4 +13,4 @@ ApplyingIsJoining = (X : Cells) (mark : Valued) → raise X mark ≡ cells.join 
 
 -- to add an item to a state, a name or a mark, is to join the state of the item alone
 abbrev pub AddingIsJoining : Type 0
-AddingIsJoining = (S : State) (item : Item) → pushed S item ≡ join S (state_of item)
+AddingIsJoining = (S : State) (item : Item) → pushed S item ≡ join S (item_state item)

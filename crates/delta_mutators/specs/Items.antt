@@ -5,6 +5,6 @@ use Rattle.delta_mutators.specs.declared.delta.Item.{Item}
 use Rattle.delta_mutators.specs.declared.delta.Item.TheVariants as item
 
 -- the name alone, or the cell alone at the mark's value
-abbrev pub state_of : Item → State
-state_of (item.Name name) = record { cells = all_zero; names = with_name no_names name }
-state_of (item.Cell mark) = record { cells = raise all_zero mark; names = no_names }
+abbrev pub item_state : Item → State
+item_state (item.Name name) = record { cells = all_zero; names = with_name no_names name }
+item_state (item.Cell mark) = record { cells = raise all_zero mark; names = no_names }

@@ -1,4 +1,4 @@
-// Deltas: states as rising lists.
+//! Deltas: states as rising lists.
 ghost use Rattle.std.specs.Prelude.{◌≡◌, ◌++◌, IfOk, OnOk, OnErr, IsTrue};
 ghost use Rattle.rights_lattice.specs.Cells.{marks_of};
 ghost use Rattle.rights_lattice.specs.Marks.{are_rising_marks, are_rising_names};
@@ -40,7 +40,7 @@ impl Model for Delta {
 }
 
 impl Delta {
-    ghost use Rattle.delta_mutators.specs.Items.{state_of};
+    ghost use Rattle.delta_mutators.specs.Items.{item_state};
 
     /// The delta of nothing.
     pub fn empty(alloc: Global) -> Delta
@@ -54,7 +54,7 @@ impl Delta {
 
     /// The delta of one item.
     pub fn of(alloc: Global, item: Item) -> Result<Delta, AllocError>
-        ensures { IfOk result (λ delta. delta ≡ state_of item) }
+        ensures { IfOk result (λ delta. delta ≡ item_state item) }
     {
         match item {
             Item::Name(event) => Ok(Delta {
@@ -119,7 +119,7 @@ impl Delta {
     pub fn push(&mut self, item: Item) -> Result<(), AllocError>
         requires { IsTrue (rises self.old item) }
         ensures ok { OnOk result (self.new ≡ pushed self.old item) }
-        ensures joined { OnOk result (self.new ≡ join self.old (state_of item)) }
+        ensures joined { OnOk result (self.new ≡ join self.old (item_state item)) }
         ensures names { OnOk result
             (names_in_order self.new.names ≡ names_in_order self.old.names ++ names_in item) }
         ensures marks { OnOk result (marks_of self.new.cells ≡ marks_of self.old.cells ++ marks_in item) }

@@ -1,12 +1,12 @@
-// The mark of one operation: the state of the mark alone is the least that has its effect.
+//! The mark of one operation: the state of the mark alone is the least that has its effect.
 ghost use Rattle.std.specs.Prelude.{◌≡◌, ◌≢◌, ◌+◌, ◌<◌, ◌≤◌, ◌↔◌, IfOk, IsErr};
 ghost use Rattle.rights_lattice.specs.declared.cell.Cell.TheVariants.{Gave, Used, Back};
-ghost use Rattle.rights_lattice.specs.Cells.{max_value, value_at};
+ghost use Rattle.rights_lattice.specs.Cells.{greatest_value, value_at};
 ghost use Rattle.delta_mutators.specs.declared.delta.Item.TheVariants.{Name};
 ghost use Rattle.delta_mutators.specs.Marks.{mark_plus};
 
 use crate::delta::Item;
-use rights_lattice::{Amount, Cell, Event, MAX_VALUE, Mark, Rights, SiteId};
+use rights_lattice::{Amount, Cell, Event, GREATEST_VALUE, Mark, Rights, SiteId};
 use thiserror::Error;
 
 /// The value of the cell would exceed the greatest value of a cell.
@@ -16,37 +16,37 @@ pub struct CellFull;
 
 /// The mark of a release of `amount` seats.
 ///
-/// `CellFull` where the site's released seats would exceed `MAX_VALUE`.
+/// `CellFull` where the site's released seats would exceed `GREATEST_VALUE`.
 pub fn release(rights: &Rights, me: SiteId, event: Event, amount: Amount) -> Result<Mark, CellFull>
     ensures mark { IfOk result (λ mark. mark ≡ mark_plus rights.now.cells event (Gave me me) amount) }
-    ensures full { IsErr result ↔ (max_value < value_at rights.now.cells event (Gave me me) + amount) }
+    ensures full { IsErr result ↔ (greatest_value < value_at rights.now.cells event (Gave me me) + amount) }
 {
     raised_by(rights, event, &Cell::Gave { by: me, to: me }, amount)
 }
 
 /// The mark of a sale of `amount` seats.
 ///
-/// `CellFull` where the site's sold seats would exceed `MAX_VALUE`.
+/// `CellFull` where the site's sold seats would exceed `GREATEST_VALUE`.
 pub fn sale(rights: &Rights, me: SiteId, event: Event, amount: Amount) -> Result<Mark, CellFull>
     ensures mark { IfOk result (λ mark. mark ≡ mark_plus rights.now.cells event (Used me) amount) }
-    ensures full { IsErr result ↔ (max_value < value_at rights.now.cells event (Used me) + amount) }
+    ensures full { IsErr result ↔ (greatest_value < value_at rights.now.cells event (Used me) + amount) }
 {
     raised_by(rights, event, &Cell::Used { by: me }, amount)
 }
 
 /// The mark of a refund of `amount` seats.
 ///
-/// `CellFull` where the seats that the site took back would exceed `MAX_VALUE`.
+/// `CellFull` where the seats that the site took back would exceed `GREATEST_VALUE`.
 pub fn refund(rights: &Rights, me: SiteId, event: Event, amount: Amount) -> Result<Mark, CellFull>
     ensures mark { IfOk result (λ mark. mark ≡ mark_plus rights.now.cells event (Back me) amount) }
-    ensures full { IsErr result ↔ (max_value < value_at rights.now.cells event (Back me) + amount) }
+    ensures full { IsErr result ↔ (greatest_value < value_at rights.now.cells event (Back me) + amount) }
 {
     raised_by(rights, event, &Cell::Back { by: me }, amount)
 }
 
 /// The mark of a cession of `amount` rights to another site.
 ///
-/// `CellFull` where the rights given to that site would exceed `MAX_VALUE`.
+/// `CellFull` where the rights given to that site would exceed `GREATEST_VALUE`.
 pub fn cession(
     rights: &Rights,
     me: SiteId,
@@ -56,7 +56,7 @@ pub fn cession(
 ) -> Result<Mark, CellFull>
     requires other { to ≢ me }
     ensures mark { IfOk result (λ mark. mark ≡ mark_plus rights.now.cells event (Gave me to) amount) }
-    ensures full { IsErr result ↔ (max_value < value_at rights.now.cells event (Gave me to) + amount) }
+    ensures full { IsErr result ↔ (greatest_value < value_at rights.now.cells event (Gave me to) + amount) }
 {
     raised_by(rights, event, &Cell::Gave { by: me, to }, amount)
 }
@@ -71,10 +71,10 @@ pub fn announce(event: Event) -> Item
 // The mark of a cell at its old value plus the amount.
 fn raised_by(rights: &Rights, event: Event, cell: &Cell, amount: Amount) -> Result<Mark, CellFull>
     ensures mark { IfOk result (λ mark. mark ≡ mark_plus rights.now.cells event cell.now amount) }
-    ensures full { IsErr result ↔ (max_value < value_at rights.now.cells event cell.now + amount) }
+    ensures full { IsErr result ↔ (greatest_value < value_at rights.now.cells event cell.now + amount) }
 {
     let value = rights.get(event, *cell) + amount.seats();
-    if value > MAX_VALUE {
+    if value > GREATEST_VALUE {
         return Err(CellFull);
     }
     Ok(Mark {

@@ -23,9 +23,6 @@ use Rattle.delta_wire.specs.Reading.{purpose_text}
 use Rattle.plain_words.specs.Input.{is_line_break}
 use Rattle.plain_words.proofs.NumberLaws.{own}
 
-pub lacks_break : List ℕ → Bool
-lacks_break w = list_all (λ b. not (is_line_break b)) w
-
 abbrev pub Lacks : List ℕ → Type 0
 Lacks w = list_all (λ b. not (is_line_break b)) w ≡ true
 

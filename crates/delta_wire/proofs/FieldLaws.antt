@@ -1,14 +1,14 @@
 -- An event, a site and a value in words: what is read is spelled so, and what is spelled so is read.
 use Rattle.std.proofs.Common.{◌≡◌, ℕ, true, List, ◌∷◌, Some, refl, ap, subst, ◌∙◌, arith, lit<}
 use Rattle.std.specs.Fmt.{decimal}
-use Rattle.rights_lattice.specs.Cells.{max_value, IsValue}
+use Rattle.rights_lattice.specs.Cells.{greatest_value, IsValue}
 use Rattle.rights_lattice.specs.EventName.{IsEventName, name_of}
 use Rattle.rights_lattice.specs.Limits.{greatest_site, IsSite}
 use Rattle.rights_lattice.proofs.EventLaws.{name_of_found, name_of_again}
 use Rattle.plain_words.specs.Words.{first_word, ◌>>=◌}
 use Rattle.plain_words.proofs.WordLaws.{lacks_space, bind_some, some_is, word_found}
 use Rattle.plain_words.proofs.NumberLaws.{number_at_found, number_at_again, decimal_lacks_space}
-use Rattle.delta_wire.specs.Fields.{event_at, site_at, value_at}
+use Rattle.delta_wire.specs.Fields.{event_at, site_at, natural_at}
 
 pub event_at_found : (words : List (List ℕ)) (x : List ℕ × List (List ℕ)) → event_at words ≡ Some x → (words ≡ x.0 ∷ x.1) × IsEventName x.0
 unfolding event_at
@@ -32,11 +32,11 @@ site_again n ws h = number_at_again 0 greatest_site n ws (lit< tt) (omega arith)
 pub site_lacks_space : (n : ℕ) → IsSite n → lacks_space (decimal n) ≡ true
 site_lacks_space n h = decimal_lacks_space n (omega arith)
 
-pub value_at_found : (words : List (List ℕ)) (x : ℕ × List (List ℕ)) → value_at words ≡ Some x → (words ≡ decimal x.0 ∷ x.1) × IsValue x.0
-value_at_found words x e = let f = number_at_found 1 max_value words x (lit< tt) e in (f.0, (f.1, f.2))
+pub value_at_found : (words : List (List ℕ)) (x : ℕ × List (List ℕ)) → natural_at words ≡ Some x → (words ≡ decimal x.0 ∷ x.1) × IsValue x.0
+value_at_found words x e = let f = number_at_found 1 greatest_value words x (lit< tt) e in (f.0, (f.1, f.2))
 
-pub value_again : (n : ℕ) (ws : List (List ℕ)) → IsValue n → value_at (decimal n ∷ ws) ≡ Some (n, ws)
-value_again n ws h = number_at_again 1 max_value n ws (lit< tt) h.0 h.1
+pub value_again : (n : ℕ) (ws : List (List ℕ)) → IsValue n → natural_at (decimal n ∷ ws) ≡ Some (n, ws)
+value_again n ws h = number_at_again 1 greatest_value n ws (lit< tt) h.0 h.1
 
 pub value_lacks_space : (n : ℕ) → IsValue n → lacks_space (decimal n) ≡ true
 value_lacks_space n h = decimal_lacks_space n (omega arith)

@@ -21,7 +21,7 @@ use Rattle.delta_wire.specs.declared.header.Purpose.TheVariants as purpose
 use Rattle.rights_lattice.specs.Cells.{IsValue}
 use Rattle.rights_lattice.specs.Limits.{IsSite}
 use Rattle.delta_wire.specs.Grammar.{cell_words, item_words, item_line, header_words, header_line, IsCell, IsUpto, IsItem}
-use Rattle.delta_wire.specs.Fields.{event_at, site_at, value_at}
+use Rattle.delta_wire.specs.Fields.{event_at, site_at, natural_at}
 use Rattle.delta_wire.specs.Reading.{kind_text, kind_of, kind_at, name_item, mark_item, gave_item, used_item, back_item, after_kind, item_of_words, item_of, purpose_text, purpose_of, purpose_at, upto_at, header_of_words, header_of}
 use Rattle.plain_words.proofs.NumberLaws.{number_at_found, number_at_again, decimal_lacks_space}
 use Rattle.plain_words.proofs.WordLaws.{lacks_space, split_join, bind_some, some_is, word_found, ended_found}
@@ -96,7 +96,7 @@ mark_item_found : (event : List ℕ) (cell : Cell) (words : List (List ℕ)) (i 
 unfolding mark_item
 mark_item_found event cell words i e =
     let mark : ℕ → Item = λ v. item.Cell (record { event = event; cell = cell; value = v }) in
-    let a = bind_some (value_at words) (λ v. ended (item.Cell (record { event = event; cell = cell; value = v.0 })) v.1) i e in
+    let a = bind_some (natural_at words) (λ v. ended (item.Cell (record { event = event; cell = cell; value = v.0 })) v.1) i e in
     let f = value_at_found words a.0 a.1 in
     let z = ended_found (mark a.0.0) i a.0.1 a.2 in
     (a.0.0, f.0 ∙ ap (λ (t : List (List ℕ)). decimal a.0.0 ∷ t) z.0, f.1, z.1)

@@ -9,7 +9,7 @@ use Rattle.std.proofs.lemmas.Slice.Eq.{bytes_eq-Decides}
 use Rattle.rights_lattice.specs.State.{State}
 use Rattle.site_exchange.specs.declared.message.Message.{Message}
 use Rattle.site_exchange.specs.declared.message.Message.TheVariants.{Delta, Ack}
-use Rattle.delta_wire.specs.declared.ending.Ending.TheVariants.{AtEndLine}
+use Rattle.delta_wire.specs.declared.items_end.Ending.TheVariants.{AtEndLine}
 use Rattle.delta_wire.specs.declared.fault.WireFault.{WireFault}
 use Rattle.delta_wire.specs.declared.fault.WireFault.TheVariants.{BadLine, Trailing}
 use Rattle.delta_wire.specs.declared.header.Header.{Header}
@@ -20,7 +20,7 @@ use Rattle.delta_wire.specs.Grammar.{items_of, header_line, delta_lines, message
 use Rattle.delta_wire.specs.Items.{all_names, all_marks}
 use Rattle.delta_wire.specs.Reading.{purpose_text, header_of}
 use Rattle.plain_words.specs.Input.{is_line_break}
-use Rattle.delta_wire.specs.Wire.{Gives, is_over, items_from, delta_of, ack_from, with_delta, for_purpose, after_header, message_from, message_of}
+use Rattle.delta_wire.specs.Wire.{Gives, is_over, items_from, delta_from_text, ack_from, with_delta, for_purpose, after_header, message_from, message_of}
 use Rattle.delta_wire.specs.TextLaws.{NoTextIsAPrefix, MessagesHaveTheirOwnTexts, DeltasHaveTheirOwnTexts}
 use Rattle.delta_wire.proofs.Pieces.{first_part}
 use Rattle.delta_wire.proofs.LineLaws.{header_found, header_again}
@@ -166,4 +166,4 @@ delta_ok_is : (x y : State) → ◌≡◌ {A = Result State WireFault} (Ok x) (O
 delta_ok_is x y e = cc
 
 pub deltas_have_their_own_texts : DeltasHaveTheirOwnTexts
-deltas_have_their_own_texts S T f g e = delta_ok_is S T (sym (delta_again S f) ∙ ap delta_of e ∙ delta_again T g)
+deltas_have_their_own_texts S T f g e = delta_ok_is S T (sym (delta_again S f) ∙ ap delta_from_text e ∙ delta_again T g)

@@ -6,11 +6,11 @@ use Rattle.rights_lattice.specs.State.{State}
 use Rattle.delta_mutators.specs.declared.delta.Item.{Item}
 use Rattle.delta_mutators.specs.Rises.{names_in, marks_in}
 use Rattle.delta_wire.specs.Items.{comes_next}
-use Rattle.delta_wire.specs.declared.ending.Ending.TheVariants.{AtEndOfBytes}
+use Rattle.delta_wire.specs.declared.items_end.Ending.TheVariants.{AtEndOfBytes}
 use Rattle.delta_wire.specs.declared.fault.WireFault.{WireFault}
 use Rattle.delta_wire.specs.declared.fault.WireFault.TheVariants.{Truncated, BadLine, OutOfOrder, Trailing, Memory}
 use Rattle.delta_wire.specs.Reading.{item_of}
-use Rattle.delta_wire.specs.Wire.{Gives, is_over, state_from, with_item, items_from, delta_of}
+use Rattle.delta_wire.specs.Wire.{Gives, is_over, state_from, with_item, items_from, delta_from_text}
 
 abbrev Trails : Result State WireFault → Type 0
 Trails r = r ≡ Err Trailing
@@ -36,7 +36,7 @@ no_item_trails n ns ms (line ∷ next ∷ more) e =
     at_item n ns ms (item_of line) (λ ns' ms'. items_from AtEndOfBytes (n + 1) ns' ms' (next ∷ more)) (λ ns' ms'. no_item_trails (n + 1) ns' ms' (next ∷ more)) e
 
 -- no reading of a delta answers that bytes follow
-pub never_trailing : (bytes : List ℕ) (r : Result State WireFault) → Gives r (delta_of bytes) → IfErr r (λ fault. fault ≢ Trailing)
+pub never_trailing : (bytes : List ℕ) (r : Result State WireFault) → Gives r (delta_from_text bytes) → IfErr r (λ fault. fault ≢ Trailing)
 never_trailing bytes (Ok S) given = tt
 never_trailing bytes (Err Truncated) given = λ e. cc
 never_trailing bytes (Err (BadLine n)) given = λ e. cc

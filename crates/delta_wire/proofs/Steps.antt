@@ -8,13 +8,13 @@ use Rattle.delta_mutators.specs.declared.delta.Item.{Item}
 use Rattle.delta_mutators.specs.Rises.{names_in, marks_in}
 use Rattle.rights_lattice.proofs.MarkLaws.{names_of-none, cells_of-none, names_in_order-names_of, marks_of-cells_of}
 use Rattle.delta_mutators.proofs.EndLaws.{state_again}
-use Rattle.delta_wire.specs.declared.ending.Ending.{Ending}
+use Rattle.delta_wire.specs.declared.items_end.Ending.{Ending}
 use Rattle.delta_wire.specs.declared.fault.WireFault.{WireFault}
 use Rattle.delta_wire.specs.declared.fault.WireFault.TheVariants.{Truncated, BadLine, OutOfOrder, Trailing, Memory}
 use Rattle.delta_wire.specs.Items.{comes_next}
 use Rattle.delta_wire.specs.Reading.{item_of}
 use Rattle.site_exchange.specs.declared.message.Message.{Message}
-use Rattle.delta_wire.specs.declared.ending.Ending.TheVariants.{AtEndLine, AtEndOfBytes}
+use Rattle.delta_wire.specs.declared.items_end.Ending.TheVariants.{AtEndLine, AtEndOfBytes}
 use Rattle.delta_wire.specs.Wire.{Gives, is_over, ends, at_last, with_item, items_from, ack_from, BeginsWithItem}
 
 abbrev pub Read : Type 0
@@ -118,19 +118,3 @@ cond_wants_none false S e = cc
 pub last_wants_none : (e : Ending) (pieces : List (List ℕ)) (S : State) → at_last e pieces S ≡ Err Memory → ⊥
 last_wants_none AtEndLine pieces S h = cc
 last_wants_none AtEndOfBytes pieces S h = cond_wants_none (is_over pieces) S h
-
-abbrev Whole : Type 0
-Whole = Result Message WireFault
-
-ack_cond : (b : Bool) (m : Message) (f : WireFault) → (f ≡ Memory → ⊥) → ◌≡◌ {A = Whole} (cond b (Ok m) (Err f)) (Err Memory) → ⊥
-ack_cond true m f h e = cc
-ack_cond false m f h e = h (let same : f ≡ Memory = cc in same)
-
-ack_or_bad : (b c : Bool) (m : Message) → ◌≡◌ {A = Whole} (cond b (cond c (Ok m) (Err Trailing)) (Err (BadLine 2))) (Err Memory) → ⊥
-ack_or_bad true c m e = ack_cond c m Trailing (λ f. cc) e
-ack_or_bad false c m e = cc
-
-pub ack_wants_none : (m : Message) (pieces : List (List ℕ)) → ack_from m pieces ≡ Err Memory → ⊥
-ack_wants_none m [] e = cc
-ack_wants_none m (last ∷ []) e = cc
-ack_wants_none m (line ∷ next ∷ more) e = ack_or_bad (bytes_eq line (codes "end")) (is_over (next ∷ more)) m e

@@ -13,15 +13,15 @@ use Rattle.rights_lattice.specs.Marks.{are_rising_marks, are_rising_names}
 use Rattle.delta_mutators.specs.Rises.{is_after_names, names_in, marks_in}
 use Rattle.rights_lattice.proofs.MarkLaws.{names_in_order-names_of, marks_of-cells_of}
 use Rattle.delta_mutators.proofs.EndLaws.{AreLists, lists_of, state_again, rising_names-end, rising_marks-end, AreMarks-end, name_after, mark_after}
-use Rattle.delta_wire.specs.declared.ending.Ending.{Ending}
-use Rattle.delta_wire.specs.declared.ending.Ending.TheVariants.{AtEndLine, AtEndOfBytes}
+use Rattle.delta_wire.specs.declared.items_end.Ending.{Ending}
+use Rattle.delta_wire.specs.declared.items_end.Ending.TheVariants.{AtEndLine, AtEndOfBytes}
 use Rattle.delta_wire.specs.declared.fault.WireFault.{WireFault}
 use Rattle.delta_wire.specs.declared.fault.WireFault.TheVariants.{Truncated, OutOfOrder, Trailing}
 use Rattle.delta_wire.specs.Grammar.{item_line, items_of, lines_text, delta_lines, delta_text, IsItem, IsDelta}
 use Rattle.delta_wire.specs.Items.{comes_next, all_names, all_marks, Extends}
 use Rattle.delta_wire.specs.Reading.{item_of}
 use Rattle.plain_words.specs.Input.{is_line_break}
-use Rattle.delta_wire.specs.Wire.{Gives, is_over, state_from, ends, at_last, with_item, items_from, delta_of}
+use Rattle.delta_wire.specs.Wire.{Gives, is_over, state_from, ends, at_last, with_item, items_from, delta_from_text}
 use Rattle.delta_wire.proofs.LineLaws.{item_found, item_again, item_is_not_end}
 use Rattle.delta_wire.proofs.Breaks.{Lacks, item_lacks, split_lines, text_of_lines}
 
@@ -244,7 +244,7 @@ spelled_delta e n pieces S h =
 pub read_delta_lines : (e : Ending) (n : ℕ) (S : State) (next : List ℕ) (more : List (List ℕ)) → IsDelta S → items_from e n [] [] (delta_lines S ++ next ∷ more) ≡ items_from e (n + length (items_of S)) (all_names (items_of S)) (all_marks (items_of S)) (next ∷ more)
 read_delta_lines e n S next more h = again_from e n [] [] (items_of S) next more (items_rise S h)
 
-pub delta_found : (bytes : List ℕ) (S : State) → delta_of bytes ≡ Ok S → IsDelta S × (bytes ≡ delta_text S)
+pub delta_found : (bytes : List ℕ) (S : State) → delta_from_text bytes ≡ Ok S → IsDelta S × (bytes ≡ delta_text S)
 delta_found bytes S h =
     let f = spelled_delta AtEndOfBytes 1 (slice_split is_line_break bytes) S h in
     (f.0, text_of_lines bytes (delta_lines S) f.1)
@@ -252,13 +252,13 @@ delta_found bytes S h =
 text_pieces : (lines : List (List ℕ)) → AllByRecursion Lacks lines → slice_split is_line_break (lines_text lines) ≡ lines ++ [] ∷ []
 text_pieces lines h = ap (slice_split is_line_break) (sym (append-nil (lines_text lines))) ∙ split_lines lines [] h
 
-pub delta_again : (S : State) → IsDelta S → delta_of (delta_text S) ≡ Ok S
+pub delta_again : (S : State) → IsDelta S → delta_from_text (delta_text S) ≡ Ok S
 unfolding items_from
 delta_again S h =
     ap (items_from AtEndOfBytes 1 [] []) (text_pieces (delta_lines S) (lines_lack (items_of S) h))
     ∙ read_delta_lines AtEndOfBytes 1 S [] [] h
     ∙ ap Ok (made_again S)
 
-pub is_found : (bytes : List ℕ) (r : Read) → Gives r (delta_of bytes) → IfOk r (λ S. IsDelta S × (bytes ≡ delta_text S))
+pub is_found : (bytes : List ℕ) (r : Read) → Gives r (delta_from_text bytes) → IfOk r (λ S. IsDelta S × (bytes ≡ delta_text S))
 is_found bytes (Ok S) given = delta_found bytes S given
 is_found bytes (Err e) given = tt

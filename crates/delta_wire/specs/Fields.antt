@@ -1,6 +1,6 @@
 -- The words that messages and requests share: an event, a site, a value. Our own.
 use Rattle.std.specs.Prelude.{ℕ, List, Option, Some}
-use Rattle.rights_lattice.specs.Cells.{max_value}
+use Rattle.rights_lattice.specs.Cells.{greatest_value}
 use Rattle.rights_lattice.specs.EventName.{name_of}
 use Rattle.rights_lattice.specs.Limits.{greatest_site}
 use Rattle.plain_words.specs.Number.{number_at}
@@ -17,5 +17,5 @@ abbrev pub site_at : List (List ℕ) → Option (ℕ × List (List ℕ))
 site_at words = number_at 0 greatest_site words
 
 -- the value of a cell, an amount or the number of a request
-abbrev pub value_at : List (List ℕ) → Option (ℕ × List (List ℕ))
-value_at words = number_at 1 max_value words
+abbrev pub natural_at : List (List ℕ) → Option (ℕ × List (List ℕ))
+natural_at words = number_at 1 greatest_value words

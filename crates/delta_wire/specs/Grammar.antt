@@ -9,7 +9,7 @@ use Rattle.rights_lattice.specs.Limits.{IsSite}
 use Rattle.rights_lattice.specs.State.{State, names_in_order}
 use Rattle.delta_mutators.specs.declared.delta.Item.{Item}
 use Rattle.delta_mutators.specs.declared.delta.Item.TheVariants as item
-use Rattle.book_core.specs.Limits.{greatest_limit}
+use Rattle.book_core.specs.Limits.{IsLimit}
 use Rattle.site_exchange.specs.declared.message.Message.{Message}
 use Rattle.site_exchange.specs.declared.message.Message.TheVariants.{Delta, Ack}
 use Rattle.rights_lattice.specs.EventName.{IsEventName}
@@ -66,8 +66,9 @@ IsCell (Gave by to) = IsSite by × IsSite to
 IsCell (Used by) = IsSite by
 IsCell (Back by) = IsSite by
 
+-- an interval ends behind the first entry or a later one, within the greatest limit
 abbrev pub IsUpto : ℕ → Type 0
-IsUpto n = (1 ≤ n) × (n ≤ greatest_limit)
+IsUpto = IsLimit
 
 abbrev pub IsItem : Item → Type 0
 IsItem (item.Name name) = IsEventName name

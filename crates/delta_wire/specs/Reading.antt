@@ -9,7 +9,7 @@ use Rattle.delta_mutators.specs.declared.delta.Item.TheVariants as item
 use Rattle.book_core.specs.Limits.{greatest_limit}
 use Rattle.plain_words.specs.Number.{number_at}
 use Rattle.plain_words.specs.Words.{first_word, is_space, ended, ◌>>=◌}
-use Rattle.delta_wire.specs.Fields.{event_at, site_at, value_at}
+use Rattle.delta_wire.specs.Fields.{event_at, site_at, natural_at}
 use Rattle.delta_wire.specs.declared.items.Kind.{Kind}
 use Rattle.delta_wire.specs.declared.items.Kind.TheVariants as kind
 use Rattle.delta_wire.specs.declared.header.Header.{Header}
@@ -45,7 +45,7 @@ name_item words = do
 -- the value of a cell of an event, which ends the line
 unfoldable pub mark_item : List ℕ → Cell → List (List ℕ) → Option Item
 mark_item event cell words = do
-  v ← value_at words
+  v ← natural_at words
   ended (item.Cell (record { event = event; cell = cell; value = v.0 })) v.1
 
 unfoldable pub gave_item : List (List ℕ) → Option Item

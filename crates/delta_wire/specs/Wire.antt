@@ -15,8 +15,8 @@ use Rattle.delta_wire.specs.Reading.{item_of, header_of}
 use Rattle.delta_wire.specs.declared.header.Header.{Header}
 use Rattle.delta_wire.specs.declared.header.Purpose.{Purpose}
 use Rattle.delta_wire.specs.declared.header.Purpose.TheVariants as purpose
-use Rattle.delta_wire.specs.declared.ending.Ending.{Ending}
-use Rattle.delta_wire.specs.declared.ending.Ending.TheVariants.{AtEndLine, AtEndOfBytes}
+use Rattle.delta_wire.specs.declared.items_end.Ending.{Ending}
+use Rattle.delta_wire.specs.declared.items_end.Ending.TheVariants.{AtEndLine, AtEndOfBytes}
 use Rattle.delta_wire.specs.declared.fault.WireFault.{WireFault}
 use Rattle.delta_wire.specs.declared.fault.WireFault.TheVariants.{Truncated, BadLine, OutOfOrder, Trailing, Memory}
 
@@ -66,8 +66,8 @@ items_from e n names marks (line ∷ next ∷ more) =
     else with_item n names marks (item_of line) (λ ns ms. items_from e (n + 1) ns ms (next ∷ more))
 
 -- the delta that the bytes spell, or the first fault from the top
-abbrev pub delta_of : List ℕ → Result State WireFault
-delta_of bytes = items_from AtEndOfBytes 1 [] [] (slice_split is_line_break bytes)
+abbrev pub delta_from_text : List ℕ → Result State WireFault
+delta_from_text bytes = items_from AtEndOfBytes 1 [] [] (slice_split is_line_break bytes)
 
 -- the end of an acknowledgement, in line 2
 abbrev pub ack_from : Message → List (List ℕ) → Result Message WireFault

@@ -1,11 +1,11 @@
 //! Reading the words that messages and requests share.
 ghost use Rattle.std.specs.Prelude.{◌≡◌, ◌≤◌, IfSome};
 ghost use Rattle.std.specs.Option.{option_map};
-ghost use Rattle.rights_lattice.specs.Cells.{max_value};
-ghost use Rattle.delta_wire.specs.Fields.{event_at, site_at, value_at};
+ghost use Rattle.rights_lattice.specs.Cells.{greatest_value};
+ghost use Rattle.delta_wire.specs.Fields.{event_at, site_at, natural_at};
 
 use plain_words::{Words, number_at};
-use rights_lattice::{Event, GREATEST_SITE, MAX_VALUE, SiteId};
+use rights_lattice::{Event, GREATEST_SITE, GREATEST_VALUE, SiteId};
 
 /// Takes the next word, and answers the event that it names.
 ///
@@ -34,9 +34,9 @@ pub fn site_at(words: &mut Words<'_>) -> Option<SiteId>
 /// spells.
 ///
 /// None where no word is left, or it is no number from 1 to 1,000,000,000,000.
-pub fn value_at(words: &mut Words<'_>) -> Option<u64>
-    ensures value { option_map (λ x. (x, words.new)) result ≡ value_at words.old }
-    ensures within { IfSome result (λ n. (1 ≤ n) × (n ≤ max_value)) }
+pub fn natural_at(words: &mut Words<'_>) -> Option<u64>
+    ensures value { option_map (λ x. (x, words.new)) result ≡ natural_at words.old }
+    ensures within { IfSome result (λ n. (1 ≤ n) × (n ≤ greatest_value)) }
 {
-    number_at(words, 1, MAX_VALUE)
+    number_at(words, 1, GREATEST_VALUE)
 }

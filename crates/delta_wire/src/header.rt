@@ -50,7 +50,7 @@ fn purpose_at(words: &mut Words<'_>) -> Option<Purpose>
 fn upto_at(words: &mut Words<'_>) -> Option<Upto>
     ensures { option_map (λ x. (x, words.new)) result ≡ upto_at words.old }
 {
-    let number = number_at(words, 1, Limit::MAX)?;
+    let number = number_at(words, 1, Limit::GREATEST)?;
     let upto = Upto::of(number)?;
     Some(upto)
 }

@@ -3,7 +3,7 @@ ghost use Rattle.std.specs.Prelude.{◌≡◌};
 ghost use Rattle.std.specs.Option.{option_map};
 ghost use Rattle.delta_wire.specs.Reading.{kind_of, kind_at, name_item, mark_item, gave_item, used_item, back_item, after_kind, item_of};
 
-use crate::fields::{event_at, site_at, value_at};
+use crate::fields::{event_at, natural_at, site_at};
 use delta_mutators::Item;
 use plain_words::Words;
 use rights_lattice::{Cell, Event, Mark};
@@ -59,7 +59,7 @@ fn name_item(words: &mut Words<'_>) -> Option<Item>
 fn mark_item(event: Event, cell: &Cell, words: &mut Words<'_>) -> Option<Item>
     ensures { result ≡ mark_item event cell.now words.old }
 {
-    let value = value_at(words)?;
+    let value = natural_at(words)?;
     if words.is_empty() {
         Some(Item::Cell(Mark {
             event,

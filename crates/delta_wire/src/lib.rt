@@ -5,11 +5,11 @@
 //! or `back E S V`: names rise, then marks rise. Each line ends with a line feed, and words stand one space apart.
 #![tactic(auto)]
 
-mod ending;
 mod fault;
 mod fields;
 mod header;
 mod items;
+mod items_end;
 pub mod laws;
 mod lines;
 mod reading;
@@ -20,6 +20,6 @@ mod writing;
 pub const MOST_BYTES: usize = 4_294_967_296;
 
 pub use fault::WireFault;
-pub use fields::{event_at, site_at, value_at};
+pub use fields::{event_at, natural_at, site_at};
 pub use reading::{read_delta, read_message};
 pub use writing::{delta_text, write_message};

@@ -7,14 +7,14 @@ ghost use Rattle.site_exchange.specs.declared.message.Message.{Message};
 ghost use Rattle.delta_wire.specs.Grammar.{IsDelta, delta_text, IsMessage, message_text};
 ghost use Rattle.std.specs.List.{slice_split};
 ghost use Rattle.plain_words.specs.Input.{is_line_break};
-ghost use Rattle.delta_wire.specs.Wire.{items_from, delta_of, message_of, Gives, ends, at_last, ack_from, with_delta, for_purpose, after_header, message_from, is_over, BeginsWithItem, HasItem, BeginsWithDelta};
+ghost use Rattle.delta_wire.specs.Wire.{items_from, delta_from_text, message_of, Gives, ends, at_last, ack_from, with_delta, for_purpose, after_header, message_from, is_over, BeginsWithItem, HasItem, BeginsWithDelta};
 ghost use Rattle.delta_wire.specs.Items.{comes_next};
 ghost use Rattle.delta_wire.specs.declared.fault.WireFault.TheVariants.{Trailing, Memory};
 
-use crate::ending::Ending;
 use crate::fault::WireFault;
 use crate::header::{Header, Purpose, header_of};
 use crate::items::item_of;
+use crate::items_end::Ending;
 use crate::lines::Lines;
 use delta_mutators::{Delta, Item};
 use site_exchange::Message;
@@ -147,8 +147,8 @@ fn message_of(alloc: Global, bytes: &[u8]) -> Result<Message, WireFault>
     }
 }
 
-fn delta_of(alloc: Global, bytes: &[u8]) -> Result<Delta, WireFault>
-    ensures exact { Gives result (delta_of bytes.now) }
+fn delta_from_text(alloc: Global, bytes: &[u8]) -> Result<Delta, WireFault>
+    ensures exact { Gives result (delta_from_text bytes.now) }
     ensures memory { result ≡ Err Memory → BeginsWithItem (slice_split is_line_break bytes.now) }
 {
     let mut lines = Lines::new(bytes);
@@ -165,12 +165,12 @@ pub fn read_delta(alloc: Global, bytes: &[u8]) -> Result<Delta, WireFault>
     // What is spelled so is read, unless memory runs out.
     ensures only { (delta : State) → IsDelta delta → bytes.now ≡ delta_text delta → Gives result (Ok delta) }
     // Which fault it is: the first from the top.
-    ensures exact { Gives result (delta_of bytes.now) }
+    ensures exact { Gives result (delta_from_text bytes.now) }
     ensures never_trailing { IfErr result (λ fault. fault ≢ Trailing) }
     // Memory is wanted for an item alone.
     ensures memory { result ≡ Err Memory → BeginsWithItem (slice_split is_line_break bytes.now) }
 {
-    delta_of(alloc, bytes)
+    delta_from_text(alloc, bytes)
 }
 
 /// The message that the bytes spell, read in one pass.

@@ -11,7 +11,7 @@ use Rattle.request_ledger.specs.Words.{verb_word, verb_of, request_verb}
 use Rattle.request_ledger.proofs.WordLaws.{verb_found, verb_again}
 use Rattle.plain_words.specs.Words.{ended, ◌>>=◌}
 use Rattle.plain_words.proofs.WordLaws.{lacks_space, some_is, bind_some, ended_found}
-use Rattle.delta_wire.specs.Fields.{event_at, site_at, value_at}
+use Rattle.delta_wire.specs.Fields.{event_at, site_at, natural_at}
 use Rattle.rights_lattice.specs.Cells.{IsValue}
 use Rattle.delta_wire.proofs.FieldLaws.{event_at_found, event_again, site_at_found, site_again, site_lacks_space, value_at_found, value_again, value_lacks_space}
 use Rattle.delta_wire.proofs.Names.{name_lacks_space}
@@ -24,8 +24,8 @@ use Rattle.desk_lines.specs.Requests.{sized_at, announce_at, release_at, sell_at
 sized_at_found : (words : List (List ℕ)) (x : (List ℕ × ℕ) × List (List ℕ)) → sized_at words ≡ Some x → (words ≡ x.0.0 ∷ decimal x.0.1 ∷ x.1) × IsEventName x.0.0 × IsValue x.0.1
 unfolding sized_at
 sized_at_found words x e =
-    let a = bind_some (event_at words) (λ v. value_at v.1 >>= λ n. Some ((v.0, n.0), n.1)) x e in
-    let b = bind_some (value_at a.0.1) (λ n. Some ((a.0.0, n.0), n.1)) x a.2 in
+    let a = bind_some (event_at words) (λ v. natural_at v.1 >>= λ n. Some ((v.0, n.0), n.1)) x e in
+    let b = bind_some (natural_at a.0.1) (λ n. Some ((a.0.0, n.0), n.1)) x a.2 in
     let p = event_at_found words a.0 a.1 in
     let q = value_at_found a.0.1 b.0 b.1 in
     subst (λ (y : (List ℕ × ℕ) × List (List ℕ)). (words ≡ y.0.0 ∷ decimal y.0.1 ∷ y.1) × IsEventName y.0.0 × IsValue y.0.1) (some_is ((a.0.0, b.0.0), b.0.1) x b.2)
@@ -71,7 +71,7 @@ SpellsPart words part = (words ≡ part_words part) × IsPart part
 last_amount_found : (words : List (List ℕ)) (part : Option ℕ) → last_amount_at words ≡ Some part → SpellsPart words part
 unfolding last_amount_at
 last_amount_found words part e =
-    let a = bind_some (value_at words) (λ n. ended (Some n.0) n.1) part e in
+    let a = bind_some (natural_at words) (λ n. ended (Some n.0) n.1) part e in
     let p = value_at_found words a.0 a.1 in
     let z = ended_found (Some a.0.0) part a.0.1 a.2 in
     subst (SpellsPart words) z.1 (p.0 ∙ ap (λ (t : List (List ℕ)). decimal a.0.0 ∷ t) z.0, p.1)
@@ -84,7 +84,7 @@ part_found (w ∷ ws) part e = last_amount_found (w ∷ ws) part e
 refund_found : (words : List (List ℕ)) (q : Request) → refund_at words ≡ Some q → Spells verb.Refund words q
 unfolding refund_at
 refund_found words q e =
-    let a = bind_some (value_at words) (λ m. part_at m.1 >>= λ part. Some (Refund m.0 part)) q e in
+    let a = bind_some (natural_at words) (λ m. part_at m.1 >>= λ part. Some (Refund m.0 part)) q e in
     let b = bind_some (part_at a.0.1) (λ part. Some (Refund a.0.0 part)) q a.2 in
     let p = value_at_found words a.0 a.1 in
     let r = part_found a.0.1 b.0 b.1 in
@@ -112,7 +112,7 @@ request_found verb.Cede words q e = cede_found words q e
 numbered_found : (v : Verb) (words : List (List ℕ)) (x : ℕ × Request) → numbered_at v words ≡ Some x → (verb_word v ∷ words ≡ request_words x.0 x.1) × IsValue x.0 × IsRequest x.1
 unfolding numbered_at
 numbered_found v words x e =
-    let a = bind_some (value_at words) (λ n. request_at v n.1 >>= λ q. Some (n.0, q)) x e in
+    let a = bind_some (natural_at words) (λ n. request_at v n.1 >>= λ q. Some (n.0, q)) x e in
     let b = bind_some (request_at v a.0.1) (λ q. Some (a.0.0, q)) x a.2 in
     let p = value_at_found words a.0 a.1 in
     let r = request_found v a.0.1 b.0 b.1 in

@@ -1,4 +1,4 @@
--- Reading a line that begins with a command.
+-- Reading a line that begins with a command. (Our own.)
 use Rattle.std.specs.Prelude.{ℕ, Bool, true, false, List, Option, Some, None, codes, if◌then◌else◌}
 use Rattle.std.specs.Str.{bytes_eq}
 use Rattle.plain_words.specs.Words.{first_word, ended, ◌>>=◌}

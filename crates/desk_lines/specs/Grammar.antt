@@ -1,4 +1,4 @@
--- The text of each line of a session and of a script.
+-- The text of each line of a session and of a script. (Our own.)
 use Rattle.std.specs.Prelude.{ℕ, ◌≤◌, Bool, true, false, ⊤, List, [], ◌∷◌, Option, Some, None, codes}
 use Rattle.std.specs.List.{join_with_byte}
 use Rattle.std.specs.Fmt.{decimal}
@@ -9,7 +9,6 @@ use Rattle.request_ledger.specs.declared.request.Request.{Request}
 use Rattle.request_ledger.specs.declared.request.Request.TheVariants.{Announce, Release, Sell, Refund, Cede}
 use Rattle.request_ledger.specs.Ranges.{IsRequest}
 use Rattle.request_ledger.specs.Words.{verb_word, request_verb}
-use Rattle.book_core.specs.Limits.{greatest_limit}
 use Rattle.world_steps.specs.declared.step.Input.{Input}
 use Rattle.world_steps.specs.declared.step.Input.TheVariants as input
 use Rattle.world_steps.specs.declared.step.Step.{Step}
@@ -128,7 +127,3 @@ abbrev pub IsScriptLine : ScriptLine → Type 0
 IsScriptLine (Make s) = IsStep s
 IsScriptLine (Left i e) = IsSite i × IsEventName e
 IsScriptLine (Totals i e) = IsSite i × IsEventName e
-
--- a limit of a history
-abbrev pub IsLimit : ℕ → Type 0
-IsLimit n = (1 ≤ n) × (n ≤ greatest_limit)

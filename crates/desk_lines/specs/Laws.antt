@@ -1,9 +1,10 @@
 -- How lines and their texts belong together, over the definitions alone. (Our own.)
 use Rattle.std.specs.Prelude.{◌≡◌, ℕ, List, Some}
 use Rattle.std.specs.List.{join_with_byte}
+use Rattle.book_core.specs.Limits.{IsLimit}
 use Rattle.desk_lines.specs.declared.line.Line.{Line}
 use Rattle.desk_lines.specs.declared.script_line.ScriptLine.{ScriptLine}
-use Rattle.desk_lines.specs.Grammar.{session_text, script_text, sites_words, limit_words, IsSessionLine, IsScriptLine, IsSites, IsLimit}
+use Rattle.desk_lines.specs.Grammar.{session_text, script_text, sites_words, limit_words, IsSessionLine, IsScriptLine, IsSites}
 use Rattle.desk_lines.specs.Reading.{session_line_of, line_of, sites_of, limit_of}
 
 -- each line of a session is read from its text

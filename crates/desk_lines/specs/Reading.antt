@@ -1,4 +1,4 @@
--- Reading a line of a session or of a script from left to right.
+-- Reading a line of a session or of a script from left to right. (Our own.)
 use Rattle.std.specs.Prelude.{ℕ, List, Option, Some, None, codes, if◌then◌else◌}
 use Rattle.std.specs.Str.{bytes_eq}
 use Rattle.std.specs.List.{slice_split}

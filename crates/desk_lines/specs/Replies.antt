@@ -1,4 +1,4 @@
--- What each answer of a session is written as, and what scripts and sessions both say.
+-- What each answer of a session is written as, and what scripts and sessions both say. (Our own.)
 use Rattle.std.specs.Prelude.{ℕ, List, [], ◌∷◌, ◌++◌, Option, Some, None, codes}
 use Rattle.std.specs.Fmt.{decimal}
 use Rattle.request_ledger.specs.declared.reply.Reply.{Reply}

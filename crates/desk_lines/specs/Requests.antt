@@ -1,4 +1,4 @@
--- Reading a request from left to right.
+-- Reading a request from left to right. (Our own.)
 use Rattle.std.specs.Prelude.{ℕ, List, Option, Some, None, if◌then◌else◌}
 use Rattle.request_ledger.specs.declared.request.Request.{Request}
 use Rattle.request_ledger.specs.declared.request.Request.TheVariants.{Announce, Release, Sell, Refund, Cede}
@@ -6,13 +6,13 @@ use Rattle.request_ledger.specs.declared.verb.Verb.{Verb}
 use Rattle.request_ledger.specs.declared.verb.Verb.TheVariants as verb
 use Rattle.request_ledger.specs.Words.{verb_of}
 use Rattle.plain_words.specs.Words.{ended, is_nil, ◌>>=◌}
-use Rattle.delta_wire.specs.Fields.{event_at, site_at, value_at}
+use Rattle.delta_wire.specs.Fields.{event_at, site_at, natural_at}
 
 -- an event and an amount
 unfoldable pub sized_at : List (List ℕ) → Option ((List ℕ × ℕ) × List (List ℕ))
 sized_at words = do
   e ← event_at words
-  a ← value_at e.1
+  a ← natural_at e.1
   Some ((e.0, a.0), a.1)
 
 -- All the words that are left.
@@ -34,7 +34,7 @@ sell_at words = do
 -- an amount, and no word behind it
 unfoldable pub last_amount_at : List (List ℕ) → Option (Option ℕ)
 last_amount_at words = do
-  a ← value_at words
+  a ← natural_at words
   ended (Some a.0) a.1
 
 -- the part of a sale: none where no word is left
@@ -43,7 +43,7 @@ part_at words = if is_nil words then Some None else last_amount_at words
 
 unfoldable pub refund_at : List (List ℕ) → Option Request
 refund_at words = do
-  s ← value_at words
+  s ← natural_at words
   part ← part_at s.1
   Some (Refund s.0 part)
 
@@ -64,7 +64,7 @@ request_at verb.Cede words = cede_at words
 -- a request with this verb, and its number
 unfoldable pub numbered_at : Verb → List (List ℕ) → Option (ℕ × Request)
 numbered_at v words = do
-  n ← value_at words
+  n ← natural_at words
   q ← request_at v n.1
   Some (n.0, q)
 

@@ -1,4 +1,4 @@
--- What each answer of a script is written as.
+-- What each answer of a script is written as. (Our own.)
 use Rattle.std.specs.Prelude.{ℕ, List, [], ◌∷◌, ◌++◌, codes}
 use Rattle.std.specs.Fmt.{decimal}
 use Rattle.book_core.specs.declared.plan.PlanFault.{PlanFault}
@@ -39,5 +39,5 @@ answer_text NoSuchSite = codes "no-such-site"
 answer_text NoSuchMessage = codes "no-message"
 answer_text Unread = answered_text session.Unread
 
-abbrev pub reply_line : ScriptAnswer → List ℕ
-reply_line answer = answer_text answer ++ 10 ∷ []
+abbrev pub script_reply_line : ScriptAnswer → List ℕ
+script_reply_line answer = answer_text answer ++ 10 ∷ []

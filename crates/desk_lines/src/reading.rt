@@ -6,8 +6,9 @@ ghost use Rattle.std.specs.List.{join_with_byte, slice_split};
 ghost use Rattle.rights_lattice.specs.Limits.{greatest_site};
 ghost use Rattle.plain_words.specs.Words.{is_space};
 ghost use Rattle.plain_words.specs.Number.{number_of};
+ghost use Rattle.book_core.specs.Limits.{IsLimit};
 ghost use Rattle.desk_lines.specs.declared.script_line.ScriptLine.{ScriptLine};
-ghost use Rattle.desk_lines.specs.Grammar.{script_text, IsScriptLine, sites_words, IsSites, limit_words, IsLimit};
+ghost use Rattle.desk_lines.specs.Grammar.{script_text, IsScriptLine, sites_words, IsSites, limit_words};
 ghost use Rattle.desk_lines.specs.Reading.{at_site, line_of, named_number, sites_of, limit_of};
 
 use crate::commands::commanded;
@@ -101,7 +102,7 @@ pub fn read_limit(bytes: &[u8]) -> Option<Limit>
     ensures only { (n : ℕ) → IsLimit n → bytes.now ≡ join_with_byte 32 (limit_words n) → result ≡ Some n }
     ensures exact { result ≡ limit_of bytes.now }
 {
-    let entries = named_number(b"limit", Limit::MAX, bytes)?;
+    let entries = named_number(b"limit", Limit::GREATEST, bytes)?;
     let limit = Limit::of(entries)?;
     Some(limit)
 }

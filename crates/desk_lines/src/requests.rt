@@ -2,26 +2,26 @@
 
 ghost use Rattle.std.specs.Prelude.{◌≡◌};
 ghost use Rattle.std.specs.Option.{option_map};
-ghost use Rattle.delta_wire.specs.Fields.{value_at};
+ghost use Rattle.delta_wire.specs.Fields.{natural_at};
 ghost use Rattle.desk_lines.specs.Requests.{sized_at, announce_at, release_at, sell_at, last_amount_at, part_at, refund_at, cede_at, request_at, numbered_at, request_from};
 
-use delta_wire::{event_at, site_at, value_at};
+use delta_wire::{event_at, natural_at, site_at};
 use plain_words::Words;
 use request_ledger::{Request, RequestNumber, Verb};
 use rights_lattice::{Amount, Event};
 
 fn request_number_at(words: &mut Words<'_>) -> Option<RequestNumber>
-    ensures { option_map (λ n. (n, words.new)) result ≡ value_at words.old }
+    ensures { option_map (λ n. (n, words.new)) result ≡ natural_at words.old }
 {
-    let number = value_at(words)?;
+    let number = natural_at(words)?;
     let number = RequestNumber::of(number)?;
     Some(number)
 }
 
 fn amount_at(words: &mut Words<'_>) -> Option<Amount>
-    ensures { option_map (λ a. (a, words.new)) result ≡ value_at words.old }
+    ensures { option_map (λ a. (a, words.new)) result ≡ natural_at words.old }
 {
-    let seats = value_at(words)?;
+    let seats = natural_at(words)?;
     let amount = Amount::of(seats)?;
     Some(amount)
 }

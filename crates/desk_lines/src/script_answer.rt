@@ -4,7 +4,7 @@ ghost use Rattle.std.specs.Prelude.{◌≡◌, ◌≤◌};
 ghost use Rattle.arrayvec.specs.ArrayVec.{array_vec_len};
 ghost use Rattle.plain_words.specs.Input.{longest_line};
 ghost use Rattle.plain_words.specs.Writing.{Writes};
-ghost use Rattle.desk_lines.specs.ScriptReplies.{refusal_text, outcome_text, answer_text, reply_line};
+ghost use Rattle.desk_lines.specs.ScriptReplies.{refusal_text, outcome_text, answer_text, script_reply_line};
 
 use crate::answered::{Answered, answered_text};
 use crate::texts::{ask_fault_text, grow_fault_text, reply_text, take_fault_text};
@@ -83,7 +83,7 @@ fn answer_text(answer: ScriptAnswer) -> Text
 /// Writes the line that answers a line of a script, with its line break, or after a fault a front
 /// of it.
 pub fn write_answer<W: Write>(answer: ScriptAnswer, out: &mut W) -> Result<(), WriteFault>
-    ensures { Writes (W.contents out.old) (W.contents out.new) result (reply_line answer) }
+    ensures { Writes (W.contents out.old) (W.contents out.new) result (script_reply_line answer) }
 {
     let mut text = answer_text(answer);
     put(&mut text, b"\n");

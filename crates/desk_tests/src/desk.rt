@@ -101,12 +101,12 @@ fn stopped(rt: &impl Abort, alloc: Global, is_stored: bool) -> Vec<Entry> {
     let gala = event(rt, b"gala");
     let mut book = failing_book(rt, alloc, 2, is_stored);
     let first = ask(rt, alloc, &mut book, 1, &Request::Announce { event: gala });
-    assert_eq!(rt; first, answered(Reply::Done, 0, true));
+    assert!(rt; first == answered(Reply::Done, 0, true));
     let second = ask(rt, alloc, &mut book, 2, &release(rt, gala, 5));
-    assert_eq!(rt; second, Err(AskFault::Store));
+    assert!(rt; second == Err(AskFault::Store));
     let third = ask(rt, alloc, &mut book, 3, &sell(rt, gala, 1));
-    assert_eq!(rt; third, Err(AskFault::Closed));
-    assert_eq!(rt; book.look(gala), Err(LookFault::Closed));
+    assert!(rt; third == Err(AskFault::Closed));
+    assert!(rt; book.look(gala) == Err(LookFault::Closed));
     book.into_keeper().into_entries()
 }
 
@@ -126,17 +126,17 @@ fn asked_again(
 #[test]
 fn keeper_fails_and_restarts_with_the_entry_lost(rt: HostRuntime) {
     let entries = stopped(&rt, rt.alloc(), false);
-    assert_eq!(rt; entries.len(), 1);
+    assert!(rt; entries.len() == 1);
     let again = asked_again(&rt, rt.alloc(), entries);
-    assert_eq!(rt; again, (answered(Reply::Done, 1, true), 5, 2));
+    assert!(rt; again == (answered(Reply::Done, 1, true), 5, 2));
 }
 
 #[test]
 fn keeper_fails_and_restarts_with_the_entry_kept(rt: HostRuntime) {
     let entries = stopped(&rt, rt.alloc(), true);
-    assert_eq!(rt; entries.len(), 2);
+    assert!(rt; entries.len() == 2);
     let again = asked_again(&rt, rt.alloc(), entries);
-    assert_eq!(rt; again, (answered(Reply::Done, 1, false), 5, 2));
+    assert!(rt; again == (answered(Reply::Done, 1, false), 5, 2));
 }
 
 // Announced, 50 seats released, 8 sold, and a sale of 100 refused.
@@ -150,7 +150,7 @@ fn selling_book(rt: &impl Abort, alloc: Global, gala: Event) -> SiteBook<ListKee
     ];
     for (place, (asked, request, reply)) in rows.iter().enumerate() {
         let answer = ask(rt, alloc, &mut book, *asked, request);
-        assert_eq!(rt; answer, answered(*reply, place, true), "request {asked}");
+        assert!(rt; answer == answered(*reply, place, true), "request {asked}");
     }
     book
 }
@@ -171,12 +171,12 @@ fn book_sells_and_shows(rt: HostRuntime) {
         totals,
         at: 4,
     };
-    assert_eq!(rt; book.look(gala), Ok(seen));
-    assert_eq!(rt; book.look(event(&rt, b"expo")), Err(LookFault::Unknown));
+    assert!(rt; book.look(gala) == Ok(seen));
+    assert!(rt; book.look(event(&rt, b"expo")) == Err(LookFault::Unknown));
     let again = ask(&rt, rt.alloc(), &mut book, 3, &sell(&rt, gala, 8));
-    assert_eq!(rt; again, answered(Reply::Done, 2, false));
+    assert!(rt; again == answered(Reply::Done, 2, false));
     let other = ask(&rt, rt.alloc(), &mut book, 3, &sell(&rt, gala, 9));
-    assert_eq!(rt; other, Err(AskFault::Reused { place: 2 }));
+    assert!(rt; other == Err(AskFault::Reused { place: 2 }));
     assert!(rt; !book.is_closed());
 }
 
@@ -227,23 +227,23 @@ fn book_gives_what_is_due(rt: HostRuntime) {
     let mut book = selling_book(&rt, rt.alloc(), gala);
     let due = book.next(rt.alloc(), site(&rt, 0)).expect(&rt, "memory");
     let message = due.expect(&rt, "a message");
-    assert_eq!(rt; header(&message), (1, 0, 4));
+    assert!(rt; header(&message) == (1, 0, 4));
     let Message::Delta { delta, .. } = &message else {
         panic!(rt; "an acknowledgement")
     };
-    assert_eq!(rt; delta.names().len(), 1);
-    assert_eq!(rt; delta.marks().len(), 2);
+    assert!(rt; delta.names().len() == 1);
+    assert!(rt; delta.marks().len() == 2);
     let own = book.next(rt.alloc(), site(&rt, 1)).err();
-    assert_eq!(rt; own, Some(NextFault::NoSite));
+    assert!(rt; own == Some(NextFault::NoSite));
     let past = book.next(rt.alloc(), site(&rt, 2)).err();
-    assert_eq!(rt; past, Some(NextFault::NoSite));
+    assert!(rt; past == Some(NextFault::NoSite));
 }
 
 #[test]
 fn book_takes_acknowledgements(rt: HostRuntime) {
     let mut book = selling_book(&rt, rt.alloc(), event(&rt, b"gala"));
     let stray = book.take(ack(&rt, 9)).err();
-    assert_eq!(rt; stray, Some(TakeFault::StrayAck { len: 4 }));
+    assert!(rt; stray == Some(TakeFault::StrayAck { len: 4 }));
     let acked = book.take(ack(&rt, 4)).expect(&rt, "an answer");
     assert!(rt; matches!(acked, Taken::Acked));
     let due = book
@@ -257,10 +257,10 @@ fn book_joins_deltas(rt: HostRuntime) {
     let expo = event(&rt, b"expo");
     let mut book = selling_book(&rt, rt.alloc(), event(&rt, b"gala"));
     let message = delta(&rt, rt.alloc(), announce(expo));
-    assert_eq!(rt; taken(&rt, &mut book, message), (true, (1, 0, 1)));
+    assert!(rt; taken(&rt, &mut book, message) == (true, (1, 0, 1)));
     let message = delta(&rt, rt.alloc(), announce(expo));
-    assert_eq!(rt; taken(&rt, &mut book, message), (false, (1, 0, 1)));
-    assert_eq!(rt; book.book().len(), 5);
+    assert!(rt; taken(&rt, &mut book, message) == (false, (1, 0, 1)));
+    assert!(rt; book.book().len() == 5);
     assert!(rt; book.book().knows(expo));
 }
 
@@ -274,8 +274,8 @@ fn book_meets_a_forged_delta(rt: HostRuntime) {
         value: 9,
     };
     let refused = book.take(delta(&rt, rt.alloc(), Item::Cell(forged))).err();
-    assert_eq!(rt; refused, Some(TakeFault::ForeignRow { mark: forged }));
-    assert_eq!(rt; book.book().left(gala), 42);
+    assert!(rt; refused == Some(TakeFault::ForeignRow { mark: forged }));
+    assert!(rt; book.book().left(gala) == 42);
 }
 
 // What growing to 21 sites is answered twice, and how many sites the book then counts.

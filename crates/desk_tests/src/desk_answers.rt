@@ -117,7 +117,7 @@ fn ask_all<R: Wait + Abort, L: Opens>(
 ) {
     for row in rows {
         let given = desk.ask(rt, alloc, gate, seat, number(rt, row.0), &row.1);
-        assert_eq!(rt; given, answered(rt, row));
+        assert!(rt; given == answered(rt, row));
     }
 }
 
@@ -166,10 +166,10 @@ fn filled<R: Wait + Abort, L: Opens>(
     ];
     ask_all(rt, alloc, &desk, &gate, &mut seat, &kept);
     let reused = desk.ask(rt, alloc, &gate, &mut seat, number(rt, 10), &sell(rt, 4));
-    assert_eq!(rt; reused, Err(AskFault::Reused { place: 2 }));
+    assert!(rt; reused == Err(AskFault::Reused { place: 2 }));
     let full = desk.ask(rt, alloc, &gate, &mut seat, number(rt, 12), &sell(rt, 1));
-    assert_eq!(rt; full, Err(AskFault::Full));
-    assert_eq!(rt; (gate.count(), seat.count()), (9, 4));
+    assert!(rt; full == Err(AskFault::Full));
+    assert!(rt; (gate.count(), seat.count()) == (9, 4));
     book_behind(rt, alloc, desk, seat)
 }
 
@@ -180,7 +180,7 @@ fn desk_answers_again_until_full(rt: HostRuntime) {
     let alloc = rt.alloc();
     let book = book_of_four(&rt, alloc);
     let book = filled::<_, Brand>(&rt, alloc, book, Blank::new(1));
-    assert_eq!(rt; (book.is_closed(), book.book().len()), (false, 4));
+    assert!(rt; (book.is_closed(), book.book().len()) == (false, 4));
 }
 
 // The one entry is due to site 0 until it acknowledges it.
@@ -202,15 +202,15 @@ fn exchanged<R: Wait + Abort, L: Opens>(
     let row = (1, announce(rt), Reply::Done, 0, true);
     ask_all(rt, alloc, &desk, &Inside::new(), &mut seat, &[row]);
     let unknown = desk.look(rt, &seat, event(rt, b"expo"));
-    assert_eq!(rt; unknown, Err(LookFault::Unknown));
+    assert!(rt; unknown == Err(LookFault::Unknown));
     let itself = desk.next(rt, alloc, site(rt, 1)).err();
-    assert_eq!(rt; itself, Some(NextFault::NoSite));
+    assert!(rt; itself == Some(NextFault::NoSite));
     let beyond = desk.next(rt, alloc, site(rt, 2)).err();
-    assert_eq!(rt; beyond, Some(NextFault::NoSite));
+    assert!(rt; beyond == Some(NextFault::NoSite));
     let elsewhere = desk.take(rt, ack(rt, 1, 0, 1)).err();
-    assert_eq!(rt; elsewhere, Some(TakeFault::NotForMe));
+    assert!(rt; elsewhere == Some(TakeFault::NotForMe));
     let stray = desk.take(rt, ack(rt, 0, 1, 2)).err();
-    assert_eq!(rt; stray, Some(TakeFault::StrayAck { len: 1 }));
+    assert!(rt; stray == Some(TakeFault::StrayAck { len: 1 }));
     assert!(rt; matches!(desk.next(rt, alloc, zero), Ok(Some(_))));
     assert!(rt; matches!(desk.take(rt, ack(rt, 0, 1, 1)), Ok(Taken::Acked)));
     assert!(rt; matches!(desk.next(rt, alloc, zero), Ok(None)));
@@ -224,7 +224,7 @@ fn desk_gives_what_is_due_and_refuses_the_rest(rt: HostRuntime) {
     let alloc = rt.alloc();
     let book = restarted(&rt, alloc, Vec::new(alloc));
     let book = exchanged::<_, Brand>(&rt, alloc, book, Blank::new(1));
-    assert_eq!(rt; (book.is_closed(), book.book().len()), (false, 1));
+    assert!(rt; (book.is_closed(), book.book().len()) == (false, 1));
 }
 
 // The second append fails, and from then on the desk is closed.
@@ -245,15 +245,15 @@ fn closed<R: Wait + Abort, L: Opens>(
     let row = (1, announce(rt), Reply::Done, 0, true);
     ask_all(rt, alloc, &desk, &gate, &mut seat, &[row]);
     let failed = desk.ask(rt, alloc, &gate, &mut seat, number(rt, 2), &release(rt, 5));
-    assert_eq!(rt; failed, Err(AskFault::Store));
+    assert!(rt; failed == Err(AskFault::Store));
     let again = desk.ask(rt, alloc, &gate, &mut seat, number(rt, 1), &announce(rt));
-    assert_eq!(rt; again, Err(AskFault::Closed));
-    assert_eq!(rt; (gate.count(), seat.count()), (3, 1));
-    assert_eq!(rt; desk.look(rt, &seat, gala(rt)), Err(LookFault::Closed));
+    assert!(rt; again == Err(AskFault::Closed));
+    assert!(rt; (gate.count(), seat.count()) == (3, 1));
+    assert!(rt; desk.look(rt, &seat, gala(rt)) == Err(LookFault::Closed));
     let due = desk.next(rt, alloc, site(rt, 0)).err();
-    assert_eq!(rt; due, Some(NextFault::Closed));
+    assert!(rt; due == Some(NextFault::Closed));
     let taken = desk.take(rt, ack(rt, 0, 1, 1)).err();
-    assert_eq!(rt; taken, Some(TakeFault::Closed));
+    assert!(rt; taken == Some(TakeFault::Closed));
     book_behind(rt, alloc, desk, seat)
 }
 
@@ -263,5 +263,5 @@ fn desk_is_closed_once_its_keeper_failed(rt: HostRuntime) {
     let alloc = rt.alloc();
     let book = failing_book(&rt, alloc, 2, false);
     let book = closed::<_, Brand>(&rt, alloc, book, Blank::new(1));
-    assert_eq!(rt; (book.is_closed(), book.book().len()), (true, 1));
+    assert!(rt; (book.is_closed(), book.book().len()) == (true, 1));
 }

@@ -24,12 +24,12 @@ fn second_append_fails_and_shuts(rt: HostRuntime) {
         peer: site(&rt, 3),
         delta: Delta::empty(alloc),
     };
-    assert_eq!(rt; keeper.append(&entry), Ok(()));
-    assert_eq!(rt; keeper.append(&entry), Err(KeepFault::Disk));
-    assert_eq!(rt; keeper.failures(), 1);
-    assert_eq!(rt; keeper.append(&entry), Err(KeepFault::Shut));
+    assert!(rt; keeper.append(&entry) == Ok(()));
+    assert!(rt; keeper.append(&entry) == Err(KeepFault::Disk));
+    assert!(rt; keeper.failures() == 1);
+    assert!(rt; keeper.append(&entry) == Err(KeepFault::Shut));
     let again = ListKeeper::from(alloc, keeper.into_entries());
-    assert_eq!(rt; again.into_entries().len(), 2);
+    assert!(rt; again.into_entries().len() == 2);
 }
 
 fn delta(rt: &impl Abort, alloc: Global, text: &[u8]) -> Delta {
@@ -121,7 +121,7 @@ fn made(rt: &impl Abort, alloc: Global) -> Connection<MemStore>
     let mut conn = Connection::open_in_memory(alloc).expect(rt, "a database");
     let Meta { me, sites, limit } = numbers(rt);
     assert!(rt; me.number() < sites.count());
-    assert_eq!(rt; Records::init(&mut conn, me, sites, limit), Ok(()));
+    assert!(rt; Records::init(&mut conn, me, sites, limit) == Ok(()));
     conn
 }
 
@@ -133,18 +133,18 @@ fn opened(
     let Ok((records, entries, meta)) = Records::open(alloc, conn) else {
         panic!(rt; "no records")
     };
-    assert_eq!(rt; meta, numbers(rt));
+    assert!(rt; meta == numbers(rt));
     (records, entries)
 }
 
 fn append(rt: &impl Abort, records: &mut Records<MemStore>, entry: Entry) {
-    assert_eq!(rt; records.append(&entry), Ok(()));
-    assert_eq!(rt; records.failures(), 0);
+    assert!(rt; records.append(&entry) == Ok(()));
+    assert!(rt; records.failures() == 0);
 }
 
 fn assert_same(rt: &impl Abort, left: &Entry, right: &Entry) {
-    assert_eq!(rt; left.delta().names(), right.delta().names());
-    assert_eq!(rt; left.delta().marks(), right.delta().marks());
+    assert!(rt; left.delta().names() == right.delta().names());
+    assert!(rt; left.delta().marks() == right.delta().marks());
     match (left, right) {
         (
             Entry::Asked {
@@ -160,12 +160,12 @@ fn assert_same(rt: &impl Abort, left: &Entry, right: &Entry) {
                 ..
             },
         ) => {
-            assert_eq!(rt; number, other_number);
-            assert_eq!(rt; request, other_request);
-            assert_eq!(rt; reply, other_reply);
+            assert!(rt; number == other_number);
+            assert!(rt; request == other_request);
+            assert!(rt; reply == other_reply);
         }
         (Entry::Joined { peer, .. }, Entry::Joined { peer: other, .. }) => {
-            assert_eq!(rt; peer, other);
+            assert!(rt; peer == other);
         }
         _ => panic!(rt; "entries of two kinds"),
     }
@@ -176,7 +176,7 @@ fn assert_same(rt: &impl Abort, left: &Entry, right: &Entry) {
 fn records_open_with_what_was_kept(rt: HostRuntime) {
     let alloc = rt.alloc();
     let (mut records, none) = opened(&rt, alloc, made(&rt, alloc));
-    assert_eq!(rt; none.len(), 0);
+    assert!(rt; none.len() == 0);
     append(&rt, &mut records, announced(&rt, alloc));
     append(&rt, &mut records, released(&rt, alloc));
     append(&rt, &mut records, sold(&rt, alloc));
@@ -194,7 +194,7 @@ fn records_open_with_what_was_kept(rt: HostRuntime) {
         ceded(&rt, alloc),
         joined(&rt, alloc),
     ];
-    assert_eq!(rt; entries.len(), want.len());
+    assert!(rt; entries.len() == want.len());
     for (entry, other) in entries.iter().zip(&want) {
         assert_same(&rt, entry, other);
     }
@@ -243,9 +243,9 @@ fn rows_have_the_columns_of_their_entries(rt: HostRuntime) {
         "5|null|6|cede|gala|40|1|done|null|gave gala 0 1 40\n|",
         "6|1|null|null|null|null|null|null|null|name expo\nused gala 1 8\n|",
     ];
-    assert_eq!(rt; rows.len(), want.len());
+    assert!(rt; rows.len() == want.len());
     for (row, text) in rows.iter().zip(want) {
-        assert_eq!(rt; columns(&rt, alloc, row).as_str(), text);
+        assert!(rt; columns(&rt, alloc, row).as_str() == text);
     }
 }
 
@@ -256,7 +256,7 @@ fn records_are_made_once(rt: HostRuntime) {
     let Meta { me, sites, limit } = numbers(&rt);
     assert!(rt; me.number() < sites.count());
     let again = Records::init(&mut conn, me, sites, limit);
-    assert_eq!(rt; again, Err(InitFault::AlreadyThere));
+    assert!(rt; again == Err(InitFault::AlreadyThere));
 }
 
 #[test]
@@ -264,7 +264,7 @@ fn empty_database_is_not_ours(rt: HostRuntime) {
     let alloc = rt.alloc();
     let conn = Connection::open_in_memory(alloc).expect(&rt, "a database");
     let fault = Records::open(alloc, conn).err();
-    assert_eq!(rt; fault, Some(OpenFault::NotOurs));
+    assert!(rt; fault == Some(OpenFault::NotOurs));
 }
 
 fn execute(rt: &impl Abort, conn: &mut Connection<MemStore>, sql: &str) {
@@ -279,7 +279,7 @@ fn records_are_not_made_in_an_open_transaction(rt: HostRuntime) {
     let Meta { me, sites, limit } = numbers(&rt);
     assert!(rt; me.number() < sites.count());
     let fault = Records::init(&mut conn, me, sites, limit);
-    assert_eq!(rt; fault, Err(InitFault::Disk));
+    assert!(rt; fault == Err(InitFault::Disk));
 }
 
 #[test]
@@ -288,7 +288,7 @@ fn records_are_not_opened_in_an_open_transaction(rt: HostRuntime) {
     let mut conn = made(&rt, alloc);
     execute(&rt, &mut conn, "BEGIN");
     let fault = Records::open(alloc, conn).err();
-    assert_eq!(rt; fault, Some(OpenFault::Disk));
+    assert!(rt; fault == Some(OpenFault::Disk));
 }
 
 // Records of three entries: an event announced, seats of it released, and some of them sold.
@@ -311,13 +311,13 @@ fn fault_after(rt: &impl Abort, alloc: Global, sql: &str) -> Option<OpenFault> {
 fn records_that_others_changed_are_refused(rt: HostRuntime) {
     let alloc = rt.alloc();
     let later = fault_after(&rt, alloc, "UPDATE meta SET version = 3");
-    assert_eq!(rt; later, Some(OpenFault::OtherSchema { version: 3 }));
+    assert!(rt; later == Some(OpenFault::OtherSchema { version: 3 }));
     let strange = fault_after(&rt, alloc, "UPDATE meta SET me = 2");
-    assert_eq!(rt; strange, Some(OpenFault::NotOurs));
+    assert!(rt; strange == Some(OpenFault::NotOurs));
     let hole = fault_after(&rt, alloc, "DELETE FROM entries WHERE pos = 1");
-    assert_eq!(rt; hole, Some(OpenFault::Damaged { place: 1 }));
+    assert!(rt; hole == Some(OpenFault::Damaged { place: 1 }));
     let row = fault_after(&rt, alloc, "UPDATE entries SET verb = 'gift' WHERE pos = 2");
-    assert_eq!(rt; row, Some(OpenFault::Damaged { place: 2 }));
+    assert!(rt; row == Some(OpenFault::Damaged { place: 2 }));
 }
 
 #[test]
@@ -328,8 +328,8 @@ fn records_find_what_is_kept(rt: HostRuntime) {
         place: 2,
         reply: Reply::Done,
     };
-    assert_eq!(rt; records.find(number(&rt, 3)), Ok(Some(found)));
-    assert_eq!(rt; records.find(number(&rt, 4)), Ok(None));
+    assert!(rt; records.find(number(&rt, 3)) == Ok(Some(found)));
+    assert!(rt; records.find(number(&rt, 4)) == Ok(None));
 }
 
 fn listed(place: u64, number: RequestNumber, request: Request) -> Listed {
@@ -355,10 +355,10 @@ fn records_list_what_names_the_event(rt: HostRuntime) {
         amount: seats(&rt, 3),
     };
     let rows = records.list(event).expect(&rt, "rows");
-    assert_eq!(rt; rows.len(), 3);
-    assert_eq!(rt; rows.get(0), Some(&listed(0, number(&rt, 1), announce)));
-    assert_eq!(rt; rows.get(1), Some(&listed(1, number(&rt, 2), release)));
-    assert_eq!(rt; rows.get(2), Some(&listed(2, number(&rt, 3), sell)));
+    assert!(rt; rows.len() == 3);
+    assert!(rt; rows.get(0) == Some(&listed(0, number(&rt, 1), announce)));
+    assert!(rt; rows.get(1) == Some(&listed(1, number(&rt, 2), release)));
+    assert!(rt; rows.get(2) == Some(&listed(2, number(&rt, 3), sell)));
 }
 
 // The number of a request is kept once.
@@ -366,10 +366,10 @@ fn records_list_what_names_the_event(rt: HostRuntime) {
 fn failed_append_shuts_the_records(rt: HostRuntime) {
     let alloc = rt.alloc();
     let mut records = selling(&rt, alloc);
-    assert_eq!(rt; records.append(&sold(&rt, alloc)), Err(KeepFault::Disk));
-    assert_eq!(rt; records.failures(), 1);
-    assert_eq!(rt; records.append(&refused(&rt, alloc)), Err(KeepFault::Shut));
-    assert_eq!(rt; records.find(number(&rt, 3)), Err(FindFault::Shut));
+    assert!(rt; records.append(&sold(&rt, alloc)) == Err(KeepFault::Disk));
+    assert!(rt; records.failures() == 1);
+    assert!(rt; records.append(&refused(&rt, alloc)) == Err(KeepFault::Shut));
+    assert!(rt; records.find(number(&rt, 3)) == Err(FindFault::Shut));
 }
 
 #[test]
@@ -379,6 +379,6 @@ fn stop_leaves_what_was_kept(rt: HostRuntime) {
     let Ok((_records, entries, meta)) = Records::open_after_stop(alloc, conn) else {
         panic!(rt; "no records")
     };
-    assert_eq!(rt; meta, numbers(&rt));
-    assert_eq!(rt; entries.len(), 3);
+    assert!(rt; meta == numbers(&rt));
+    assert!(rt; entries.len() == 3);
 }

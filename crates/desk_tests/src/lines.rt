@@ -165,7 +165,7 @@ fn reply_lines(rt: HostRuntime) -> Result<(), Fail> {
     for (answered, wanted) in cases {
         let mut out = Vec::new(rt.alloc());
         reply_line(&answered, &mut out)?;
-        assert_eq!(rt; out.as_slice(), wanted);
+        assert!(rt; out.as_slice() == wanted);
     }
     Ok(())
 }
@@ -202,7 +202,7 @@ fn request_lines(rt: HostRuntime) -> Result<(), Fail> {
     for (request, wanted) in cases {
         let mut out = Vec::new(rt.alloc());
         request_line(number(7)?, &request, &mut out)?;
-        assert_eq!(rt; out.as_slice(), wanted);
+        assert!(rt; out.as_slice() == wanted);
     }
     Ok(())
 }

@@ -82,7 +82,7 @@ fn sell_and_look<R: Wait + Abort, K: Keeper, L: Opens>(
     let answered = desk.ask(rt, alloc, &NoGate, seat, number(rt, asked), &sell);
     let (answer, receipt) = answered.expect(rt, "an answer");
     assert!(rt; answer.fresh);
-    assert_eq!(rt; answer.reply, Reply::Done);
+    assert!(rt; answer.reply == Reply::Done);
     let seen = desk.look(rt, seat, gala(rt)).expect(rt, "a look");
     (receipt, seen)
 }
@@ -110,7 +110,7 @@ fn two_sessions<R: Threads + Wait + Abort + Sync, L: Opens + Send + Sync>(
     let last = seen_of(gala(rt), 93, 7, 4);
     assert!(rt; first.1 == seen_of(gala(rt), 97, 3, 3) || first.1 == last);
     assert!(rt; second.1 == seen_of(gala(rt), 96, 4, 3) || second.1 == last);
-    assert_eq!(rt; (zero.count(), one.count()), (1, 1));
+    assert!(rt; (zero.count(), one.count()) == (1, 1));
     let mut seats = Vec::new(alloc);
     seats.push(zero).expect(rt, "memory");
     seats.push(one).expect(rt, "memory");
@@ -126,8 +126,8 @@ fn two_sessions_sell_at_once(rt: HostRuntime) {
     let alloc = rt.alloc();
     let book = selling_book(&rt, alloc);
     let book = two_sessions::<_, Brand>(&rt, alloc, book, Blank::new(2));
-    assert_eq!(rt; book.book().len(), 4);
-    assert_eq!(rt; book.look(gala(&rt)), Ok(seen_of(gala(&rt), 93, 7, 4)));
+    assert!(rt; book.book().len() == 4);
+    assert!(rt; book.look(gala(&rt)) == Ok(seen_of(gala(&rt), 93, 7, 4)));
     assert!(rt; !book.is_closed());
 }
 
@@ -260,12 +260,12 @@ fn two_sessions_meet<R: Threads + Wait + Abort + Sync, L: Opens + Send + Sync>(
     for (gate, place) in [(&first, places.0), (&second, places.1)] {
         let turn = gate.turn.load(Ordering::SeqCst);
         assert!(rt; turn < 2);
-        assert_eq!(rt; place, 2 + turn);
-        assert_eq!(rt; gate.met.load(Ordering::SeqCst), 0);
-        assert_eq!(rt; gate.elsewhere.load(Ordering::SeqCst), 0);
+        assert!(rt; place == 2 + turn);
+        assert!(rt; gate.met.load(Ordering::SeqCst) == 0);
+        assert!(rt; gate.elsewhere.load(Ordering::SeqCst) == 0);
         assert!(rt; gate.answers.load(Ordering::SeqCst) <= turn);
     }
-    assert_eq!(rt; meeting.entered.load(Ordering::SeqCst), 2);
+    assert!(rt; meeting.entered.load(Ordering::SeqCst) == 2);
 }
 
 // A desk that passes the gate before it has the lock, or once it let go of it, fails here where the other session comes
@@ -296,8 +296,8 @@ fn finished_with<R: Wait + Abort, L: Opens>(
 {
     let (desk, mut seat) = Desk::<ListKeeper, L>::new(book, blank);
     let (receipt, seen) = sell_and_look(rt, alloc, &desk, &mut seat, 10, 3);
-    assert_eq!(rt; receipt.place, 2);
-    assert_eq!(rt; seen, seen_of(gala(rt), 97, 3, 3));
+    assert!(rt; receipt.place == 2);
+    assert!(rt; seen == seen_of(gala(rt), 97, 3, 3));
     let mut seats = Vec::new(alloc);
     if has_seat {
         seats.push(seat).expect(rt, "memory");
@@ -327,7 +327,7 @@ fn finished(
         reply,
         left,
     );
-    assert_eq!(rt; len, 3);
+    assert!(rt; len == 3);
     fault
 }
 
@@ -338,12 +338,12 @@ fn finish_finds_the_first_fault(rt: HostRuntime) {
     let seats_out = Some(FinishFault::SeatsOut);
     let stranger = Some(FinishFault::Stranger { at: 0 });
     let stranger_seen = Some(FinishFault::StrangerSeen { at: 0 });
-    assert_eq!(rt; finished(&rt, alloc, true, Reply::Done, 97), None);
-    assert_eq!(rt; finished(&rt, alloc, false, Reply::Done, 97), seats_out);
-    assert_eq!(rt; finished(&rt, alloc, true, other, 97), stranger);
-    assert_eq!(rt; finished(&rt, alloc, true, Reply::Done, 96), stranger_seen);
-    assert_eq!(rt; finished(&rt, alloc, true, other, 96), stranger);
-    assert_eq!(rt; finished(&rt, alloc, false, other, 96), seats_out);
+    assert!(rt; finished(&rt, alloc, true, Reply::Done, 97) == None);
+    assert!(rt; finished(&rt, alloc, false, Reply::Done, 97) == seats_out);
+    assert!(rt; finished(&rt, alloc, true, other, 97) == stranger);
+    assert!(rt; finished(&rt, alloc, true, Reply::Done, 96) == stranger_seen);
+    assert!(rt; finished(&rt, alloc, true, other, 96) == stranger);
+    assert!(rt; finished(&rt, alloc, false, other, 96) == seats_out);
 }
 
 fn gave(rt: &impl Abort, to: u64, value: u64) -> Mark {
@@ -393,22 +393,22 @@ fn messages_pass<R: Wait + Abort, L: Opens>(
     let Taken::Joined { ack } = &taken else {
         panic!(rt; "the delta is new")
     };
-    assert_eq!(rt; header(ack), (1, 0, 4));
+    assert!(rt; header(ack) == (1, 0, 4));
     let seen = desk.look(rt, &seat, gala(rt)).expect(rt, "a look");
-    assert_eq!(rt; seen, seen_of(gala(rt), 40, 0, 1));
+    assert!(rt; seen == seen_of(gala(rt), 40, 0, 1));
     let again = desk
         .take(rt, given_rights(rt, alloc))
         .expect(rt, "an answer");
     assert!(rt; matches!(again, Taken::NothingNew { .. }));
     let due = desk.next(rt, alloc, site(rt, 0)).expect(rt, "memory");
     let message = due.expect(rt, "a message");
-    assert_eq!(rt; header(&message), (1, 0, 1));
+    assert!(rt; header(&message) == (1, 0, 1));
     let Message::Delta { delta, .. } = &message else {
         panic!(rt; "an acknowledgement")
     };
-    assert_eq!(rt; delta.names(), [gala(rt)].as_slice());
+    assert!(rt; delta.names() == [gala(rt)].as_slice());
     let given = [gave(rt, 0, 100), gave(rt, 1, 40)];
-    assert_eq!(rt; delta.marks(), given.as_slice());
+    assert!(rt; delta.marks() == given.as_slice());
     let mut seats = Vec::new(alloc);
     seats.push(seat).expect(rt, "memory");
     match desk.finish(seats, &[], &[seen]) {
@@ -423,5 +423,5 @@ fn desk_takes_and_gives_messages(rt: HostRuntime) {
     let alloc = rt.alloc();
     let book = empty_book(&rt, alloc, 1);
     let entries = messages_pass::<_, Brand>(&rt, alloc, book, Blank::new(1));
-    assert_eq!(rt; entries, 1);
+    assert!(rt; entries == 1);
 }

@@ -23,11 +23,11 @@ fn is_written(rt: &(impl Abort + AllocGlobal), message: Option<&Message>, wanted
     let message = message.expect(rt, "a message");
     write_message(message, &mut text).expect(rt, "memory");
     assert!(rt; text.len() <= 1000);
-    assert_eq!(rt; text.as_slice(), wanted);
+    assert!(rt; text.as_slice() == wanted);
     let read = read_message(rt.alloc(), text.as_slice()).expect(rt, "a message");
     let mut again = Vec::new(rt.alloc());
     write_message(&read, &mut again).expect(rt, "memory");
-    assert_eq!(rt; again.as_slice(), wanted);
+    assert!(rt; again.as_slice() == wanted);
 }
 
 fn step_each(rt: &(impl Abort + AllocGlobal), world: &mut World, steps: &[Step]) {

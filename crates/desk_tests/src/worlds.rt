@@ -49,10 +49,7 @@ const SOLD: Totals = Totals {
 fn sold_world(rt: &(impl Abort + AllocGlobal), count: u64) -> World {
     let mut world = world_of(rt, count);
     for step in selling(rt) {
-        assert_eq!(rt;
-            world.step(rt.alloc(), step),
-            Ok(Outcome::Answered(Reply::Done))
-        );
+        assert!(rt; world.step(rt.alloc(), step) == Ok(Outcome::Answered(Reply::Done)));
     }
     world
 }
@@ -61,12 +58,12 @@ fn sold_world(rt: &(impl Abort + AllocGlobal), count: u64) -> World {
 fn one_site_sells_step_by_step(rt: HostRuntime) {
     let gala = gala(&rt);
     let world = sold_world(&rt, 1);
-    assert_eq!(rt; world.totals(gala), SOLD);
+    assert!(rt; world.totals(gala) == SOLD);
     let events = world.events(rt.alloc()).expect(&rt, "memory");
-    assert_eq!(rt; events.as_slice(), [gala].as_slice());
+    assert!(rt; events.as_slice() == [gala].as_slice());
     let book = world.book(site(&rt, 0)).expect(&rt, "a book");
-    assert_eq!(rt; book.left(gala), 97);
-    assert_eq!(rt; book.len(), 3);
+    assert!(rt; book.left(gala) == 97);
+    assert!(rt; book.len() == 3);
 }
 
 #[test]
@@ -76,10 +73,10 @@ fn one_site_sells_as_a_list(rt: HostRuntime) {
     let mut world = world_of(&rt, 1);
     let steps = Vec::from_array(rt.alloc(), selling(&rt)).expect(&rt, "memory");
     match world.run(rt.alloc(), steps) {
-        Ok(outcomes) => assert_eq!(rt; outcomes.len(), 3),
+        Ok(outcomes) => assert!(rt; outcomes.len() == 3),
         Err(_) => panic!(rt; "the steps were made"),
     }
-    assert_eq!(rt; world.totals(gala(&rt)), SOLD);
+    assert!(rt; world.totals(gala(&rt)) == SOLD);
 }
 
 #[test]
@@ -97,12 +94,12 @@ fn list_ends_at_the_first_step_that_is_not_made(rt: HostRuntime) {
     match world.run(rt.alloc(), steps) {
         Ok(_) => panic!(rt; "a step of no site"),
         Err((place, fault)) => {
-            assert_eq!(rt; place, 1);
-            assert_eq!(rt; fault, WorldFault::NoSite);
+            assert!(rt; place == 1);
+            assert!(rt; fault == WorldFault::NoSite);
         }
     }
     let book = world.book(site(&rt, 0)).expect(&rt, "a book");
-    assert_eq!(rt; book.len(), 1);
+    assert!(rt; book.len() == 1);
 }
 
 #[test]
@@ -110,13 +107,12 @@ fn refused_steps_change_nothing(rt: HostRuntime) {
     let event = gala(&rt);
     let mut world = sold_world(&rt, 1);
     let strange = ask(&rt, 1, 1, Request::Announce { event });
-    assert_eq!(rt; world.step(rt.alloc(), strange), Err(WorldFault::NoSite));
+    assert!(rt; world.step(rt.alloc(), strange) == Err(WorldFault::NoSite));
     let reused = ask(&rt, 0, 3, Request::Announce { event });
-    assert_eq!(rt;
-        world.step(rt.alloc(), reused),
-        Ok(Outcome::Refused(PlanFault::Reused { place: 2 }))
+    assert!(rt;
+        world.step(rt.alloc(), reused) == Ok(Outcome::Refused(PlanFault::Reused { place: 2 }))
     );
-    assert_eq!(rt; world.totals(event), SOLD);
+    assert!(rt; world.totals(event) == SOLD);
 }
 
 #[test]
@@ -145,9 +141,9 @@ fn two_sites_step_by_step(rt: HostRuntime) {
         (Step::Send { by, to }, Ok(Outcome::Sent { index: 3 })),
     ];
     for (step, outcome) in made {
-        assert_eq!(rt; world.step(rt.alloc(), step), outcome);
+        assert!(rt; world.step(rt.alloc(), step) == outcome);
     }
-    assert_eq!(rt; world.totals(gala(&rt)), SOLD);
+    assert!(rt; world.totals(gala(&rt)) == SOLD);
     let book = world.book(to).expect(&rt, "a book");
     let seen = ViewTotals {
         released: 100,
@@ -156,7 +152,7 @@ fn two_sites_step_by_step(rt: HostRuntime) {
         open_seats: Some(97),
     };
     assert!(rt; book.totals(gala(&rt)) == seen);
-    assert_eq!(rt; book.left(gala(&rt)), 0);
+    assert!(rt; book.left(gala(&rt)) == 0);
 }
 
 #[test]

@@ -15,7 +15,7 @@ use Rattle.rights_lattice.proofs.SpotLaws.{same_cell_is, same_event_self, value_
 use Rattle.local_rights.specs.declared.effect.Effect.{Effect}
 use Rattle.local_rights.specs.declared.effect.Effect.TheVariants.{Adds, Takes, Leaves}
 use Rattle.local_rights.specs.Effects.{effect_of, left_after}
-use Rattle.local_rights.specs.Rights.{ceded, gained, spent, HasRights}
+use Rattle.local_rights.specs.Rights.{ceded_in, gained, spent, HasRights}
 use Rattle.local_rights.proofs.Sums.{sum_below_same, sum_below-add}
 
 -- one cell of an event has risen by so much, and no other
@@ -127,9 +127,9 @@ loss-adds more = refl
 -- the cell of one kind rises: what was gained, or what was spent, rises with it
 pub moves : (X Y : Cells) (e : List ℕ) (d : Cell) (n me more : ℕ) → Rises X Y e d more → IsCellOf n d → n ≤ max_sites → Moves X Y e me (effect_of d me) more
 moves X Y e (Used by) n me more rises of few =
-    let got : sum_below max_sites (λ j. ceded Y e j me) ≡ sum_below max_sites (λ j. ceded X e j me) =
+    let got : sum_below max_sites (λ j. ceded_in Y e j me) ≡ sum_below max_sites (λ j. ceded_in X e j me) =
     sum_below_same max_sites _ _ (λ j l. ap (cond (j == me) 0) (let same : value_at Y e (Gave j me) ≡ value_at X e (Gave j me) = omega (arith, rises.at (Gave j me)) in same)) in
-    let gave : sum_below max_sites (λ j. ceded Y e me j) ≡ sum_below max_sites (λ j. ceded X e me j) =
+    let gave : sum_below max_sites (λ j. ceded_in Y e me j) ≡ sum_below max_sites (λ j. ceded_in X e me j) =
     sum_below_same max_sites _ _ (λ j l. ap (cond (me == j) 0) (let same : value_at Y e (Gave me j) ≡ value_at X e (Gave me j) = omega (arith, rises.at (Gave me j)) in same)) in
     let turned : cond (me == by) more 0 ≡ cond (by == me) more 0 = ap (λ b. cond b more 0) (nat_eq_equiv.symm me by) in
     record {
@@ -137,9 +137,9 @@ moves X Y e (Used by) n me more rises of few =
       spent_is = omega (arith, gave, turned, takes_loss (by == me) more, rises.at (Used me));
     }
 moves X Y e (Back by) n me more rises of few =
-    let got : sum_below max_sites (λ j. ceded Y e j me) ≡ sum_below max_sites (λ j. ceded X e j me) =
+    let got : sum_below max_sites (λ j. ceded_in Y e j me) ≡ sum_below max_sites (λ j. ceded_in X e j me) =
     sum_below_same max_sites _ _ (λ j l. ap (cond (j == me) 0) (let same : value_at Y e (Gave j me) ≡ value_at X e (Gave j me) = omega (arith, rises.at (Gave j me)) in same)) in
-    let gave : sum_below max_sites (λ j. ceded Y e me j) ≡ sum_below max_sites (λ j. ceded X e me j) =
+    let gave : sum_below max_sites (λ j. ceded_in Y e me j) ≡ sum_below max_sites (λ j. ceded_in X e me j) =
     sum_below_same max_sites _ _ (λ j l. ap (cond (me == j) 0) (let same : value_at Y e (Gave me j) ≡ value_at X e (Gave me j) = omega (arith, rises.at (Gave me j)) in same)) in
     let turned : cond (me == by) more 0 ≡ cond (by == me) more 0 = ap (λ b. cond b more 0) (nat_eq_equiv.symm me by) in
     record {
@@ -148,16 +148,16 @@ moves X Y e (Back by) n me more rises of few =
     }
 moves X Y e (Gave by to) n me more rises of few = by_sites (eqb_tells to me) (eqb_tells by me)
   where
-    got_each : (u : ℕ → ℕ) → ((j : ℕ) → cond (j == me) 0 (value_at X e (Gave j me) + cond ((j == by) && (me == to)) more 0) ≡ ceded X e j me + u j) → sum_below max_sites (λ j. ceded Y e j me) ≡ sum_below max_sites (λ j. ceded X e j me) + sum_below max_sites u
-    got_each u each = sum_below_same max_sites _ _ (λ j l. ap (cond (j == me) 0) (rises.at (Gave j me)) ∙ each j) ∙ sum_below-add max_sites (λ j. ceded X e j me) u
+    got_each : (u : ℕ → ℕ) → ((j : ℕ) → cond (j == me) 0 (value_at X e (Gave j me) + cond ((j == by) && (me == to)) more 0) ≡ ceded_in X e j me + u j) → sum_below max_sites (λ j. ceded_in Y e j me) ≡ sum_below max_sites (λ j. ceded_in X e j me) + sum_below max_sites u
+    got_each u each = sum_below_same max_sites _ _ (λ j l. ap (cond (j == me) 0) (rises.at (Gave j me)) ∙ each j) ∙ sum_below-add max_sites (λ j. ceded_in X e j me) u
 
-    gave_each : (u : ℕ → ℕ) → ((j : ℕ) → cond (me == j) 0 (value_at X e (Gave me j) + cond ((me == by) && (j == to)) more 0) ≡ ceded X e me j + u j) → sum_below max_sites (λ j. ceded Y e me j) ≡ sum_below max_sites (λ j. ceded X e me j) + sum_below max_sites u
-    gave_each u each = sum_below_same max_sites _ _ (λ j l. ap (cond (me == j) 0) (rises.at (Gave me j)) ∙ each j) ∙ sum_below-add max_sites (λ j. ceded X e me j) u
+    gave_each : (u : ℕ → ℕ) → ((j : ℕ) → cond (me == j) 0 (value_at X e (Gave me j) + cond ((me == by) && (j == to)) more 0) ≡ ceded_in X e me j + u j) → sum_below max_sites (λ j. ceded_in Y e me j) ≡ sum_below max_sites (λ j. ceded_in X e me j) + sum_below max_sites u
+    gave_each u each = sum_below_same max_sites _ _ (λ j l. ap (cond (me == j) 0) (rises.at (Gave me j)) ∙ each j) ∙ sum_below-add max_sites (λ j. ceded_in X e me j) u
 
-    got_none : ((j : ℕ) → cond (j == me) 0 (value_at X e (Gave j me) + cond ((j == by) && (me == to)) more 0) ≡ ceded X e j me) → sum_below max_sites (λ j. ceded Y e j me) ≡ sum_below max_sites (λ j. ceded X e j me)
+    got_none : ((j : ℕ) → cond (j == me) 0 (value_at X e (Gave j me) + cond ((j == by) && (me == to)) more 0) ≡ ceded_in X e j me) → sum_below max_sites (λ j. ceded_in Y e j me) ≡ sum_below max_sites (λ j. ceded_in X e j me)
     got_none each = sum_below_same max_sites _ _ (λ j l. ap (cond (j == me) 0) (rises.at (Gave j me)) ∙ each j)
 
-    gave_none : ((j : ℕ) → cond (me == j) 0 (value_at X e (Gave me j) + cond ((me == by) && (j == to)) more 0) ≡ ceded X e me j) → sum_below max_sites (λ j. ceded Y e me j) ≡ sum_below max_sites (λ j. ceded X e me j)
+    gave_none : ((j : ℕ) → cond (me == j) 0 (value_at X e (Gave me j) + cond ((me == by) && (j == to)) more 0) ≡ ceded_in X e me j) → sum_below max_sites (λ j. ceded_in Y e me j) ≡ sum_below max_sites (λ j. ceded_in X e me j)
     gave_none each = sum_below_same max_sites _ _ (λ j l. ap (cond (me == j) 0) (rises.at (Gave me j)) ∙ each j)
 
     effect : (b d : Bool) → (to == me) ≡ b → (by == me) ≡ d → effect_of (Gave by to) me ≡ cond b Adds (cond d Takes Leaves)

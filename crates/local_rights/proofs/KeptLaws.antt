@@ -8,12 +8,12 @@ use Rattle.std.proofs.lemmas.Bool.Decides.{nat_tests}
 use Rattle.rights_lattice.specs.declared.cell.Cell.{Cell}
 use Rattle.rights_lattice.specs.declared.cell.Cell.TheVariants.{Gave, Used, Back}
 use Rattle.rights_lattice.specs.Cell.{same_cell, same_event}
-use Rattle.rights_lattice.specs.Cells.{Cells, Valued, max_value, value_at, all_zero, raise, is_of, value_in}
+use Rattle.rights_lattice.specs.Cells.{Cells, Valued, greatest_value, value_at, all_zero, raise, is_of, value_in}
 use Rattle.rights_lattice.specs.Limits.{most_sites}
 use Rattle.rights_lattice.specs.Sums.{max_sites, sum_below}
 use Rattle.rights_lattice.proofs.CellLaws.{value_at-raise, value_at-all_zero}
 use Rattle.rights_lattice.proofs.SpotLaws.{same_event_is, same_event_self, value_in-tests}
-use Rattle.local_rights.specs.Rights.{ceded, gained, spent, HasRights}
+use Rattle.local_rights.specs.Rights.{ceded_in, gained, spent, HasRights}
 use Rattle.local_rights.specs.Counted.{left_in, AreKept}
 use Rattle.local_rights.specs.declared.effect.Effect.{Effect}
 use Rattle.local_rights.specs.declared.effect.Effect.TheVariants.{Takes, Leaves}
@@ -24,14 +24,14 @@ use Rattle.local_rights.proofs.Within.{few_sites}
 use Rattle.local_rights.proofs.Sums.{sum_below_same, sum_below-zero}
 
 -- equal cells of an event have equal sums
-same_ceded : (X Y : Cells) (e : List ℕ) (i j : ℕ) → value_at X e (Gave i j) ≡ value_at Y e (Gave i j) → ceded X e i j ≡ ceded Y e i j
+same_ceded : (X Y : Cells) (e : List ℕ) (i j : ℕ) → value_at X e (Gave i j) ≡ value_at Y e (Gave i j) → ceded_in X e i j ≡ ceded_in Y e i j
 same_ceded X Y e i j h = ap (cond (i == j) 0) h
 
 same_gained : (X Y : Cells) (e : List ℕ) (me : ℕ) → ((c : Cell) → value_at X e c ≡ value_at Y e c) → gained X e me ≡ gained Y e me
-same_gained X Y e me h = omega (arith, h (Gave me me), h (Back me), sum_below_same max_sites (λ j. ceded X e j me) (λ j. ceded Y e j me) (λ j l. same_ceded X Y e j me (h (Gave j me))))
+same_gained X Y e me h = omega (arith, h (Gave me me), h (Back me), sum_below_same max_sites (λ j. ceded_in X e j me) (λ j. ceded_in Y e j me) (λ j l. same_ceded X Y e j me (h (Gave j me))))
 
 same_spent : (X Y : Cells) (e : List ℕ) (me : ℕ) → ((c : Cell) → value_at X e c ≡ value_at Y e c) → spent X e me ≡ spent Y e me
-same_spent X Y e me h = omega (arith, h (Used me), sum_below_same max_sites (λ j. ceded X e me j) (λ j. ceded Y e me j) (λ j l. same_ceded X Y e me j (h (Gave me j))))
+same_spent X Y e me h = omega (arith, h (Used me), sum_below_same max_sites (λ j. ceded_in X e me j) (λ j. ceded_in Y e me j) (λ j l. same_ceded X Y e me j (h (Gave me j))))
 
 -- nothing is gained and spent where every cell is 0
 none_ceded : (b : Bool) (v : ℕ) → v ≡ 0 → cond b 0 v ≡ 0
@@ -47,8 +47,8 @@ kept_new kept n m me X empty same all lt few =
       are_values = λ e c. omega (arith, at e c);
       are_left = λ e.
           let left : left_in kept e ≡ 0 = ap (λ (l : List (List ℕ × ℕ)). left_in l e) empty in
-          let got : sum_below max_sites (λ j. ceded X e j me) ≡ 0 = sum_below_same max_sites (λ j. ceded X e j me) (λ _. 0) (λ j l. none_ceded (j == me) _ (at e (Gave j me))) ∙ sum_below-zero max_sites in
-          let gave : sum_below max_sites (λ j. ceded X e me j) ≡ 0 = sum_below_same max_sites (λ j. ceded X e me j) (λ _. 0) (λ j l. none_ceded (me == j) _ (at e (Gave me j))) ∙ sum_below-zero max_sites in
+          let got : sum_below max_sites (λ j. ceded_in X e j me) ≡ 0 = sum_below_same max_sites (λ j. ceded_in X e j me) (λ _. 0) (λ j l. none_ceded (j == me) _ (at e (Gave j me))) ∙ sum_below-zero max_sites in
+          let gave : sum_below max_sites (λ j. ceded_in X e me j) ≡ 0 = sum_below_same max_sites (λ j. ceded_in X e me j) (λ _. 0) (λ j l. none_ceded (me == j) _ (at e (Gave me j))) ∙ sum_below-zero max_sites in
           omega (arith, left, got, gave, at e (Gave me me), at e (Back me), at e (Used me));
       are_all = λ e c some. absurd (omega (arith, some, at e c));
     }
@@ -79,7 +79,7 @@ elsewhere X m e c apart =
     by_test false f = value_in-tests m e c ∙ ap (λ b. cond (b && same_cell c m.cell) m.value 0) f
 
 -- a raise leaves no cell above the greatest value
-raised_value : (X : Cells) (m : Valued) (e : List ℕ) (c : Cell) → m.value ≤ max_value → value_at X e c ≤ max_value → value_at (raise X m) e c ≤ max_value
+raised_value : (X : Cells) (m : Valued) (e : List ℕ) (c : Cell) → m.value ≤ greatest_value → value_at X e c ≤ greatest_value → value_at (raise X m) e c ≤ greatest_value
 raised_value X m e c most old =
     let said : value_in m e c ≤ m.value = by_test (is_of m e c) in
     omega (arith, value_at-raise X m e c, said, most, old)
@@ -88,12 +88,12 @@ raised_value X m e c most old =
     by_test true = omega arith
     by_test false = omega arith
 
-pub kept_raise : (kept now : List (List ℕ × ℕ)) (n k me left : ℕ) (X Y : Cells) (m : Valued) → AreKept kept n me X → k ≡ n → Y ≡ raise X m → m.value ≤ max_value → left + spent Y m.event me ≡ gained Y m.event me
+pub kept_raise : (kept now : List (List ℕ × ℕ)) (n k me left : ℕ) (X Y : Cells) (m : Valued) → AreKept kept n me X → k ≡ n → Y ≡ raise X m → m.value ≤ greatest_value → left + spent Y m.event me ≡ gained Y m.event me
     → ((e : List ℕ) → lookup (same_event e) now ≡ cond (same_event m.event e) (Some left) (lookup (same_event e) kept)) → AreKept now k me Y
 kept_raise kept now n k me left X Y m h k_is Y_is most split found = record {
   me_is_site = subst (λ (j : ℕ). me < j) (sym k_is) h.me_is_site;
   are_few = subst (λ (j : ℕ). j ≤ most_sites) (sym k_is) h.are_few;
-  are_values = λ e c. subst (λ (Z : Cells). value_at Z e c ≤ max_value) (sym Y_is) (raised_value X m e c most (h.are_values e c));
+  are_values = λ e c. subst (λ (Z : Cells). value_at Z e c ≤ greatest_value) (sym Y_is) (raised_value X m e c most (h.are_values e c));
   are_left = λ e. left_at e (same_event m.event e) refl;
   are_all = λ e c some. all_at e c (same_event m.event e) refl some;
 }
@@ -113,13 +113,6 @@ kept_raise kept now n k me left X Y m h k_is Y_is most split found = record {
         let before : 1 ≤ value_at X e c = omega (arith, some, ap (λ (Z : Cells). value_at Z e c) Y_is, elsewhere X m e c f) in
         subst IsSome (sym (found e ∙ ap (λ b. cond b (Some left) (lookup (same_event e) kept)) f)) (h.are_all e c before)
 
--- an event that is not kept has no cell
-pub not_kept : (kept : List (List ℕ × ℕ)) (n me : ℕ) (X : Cells) (e : List ℕ) (c : Cell) → AreKept kept n me X → lookup (same_event e) kept ≡ None → value_at X e c ≡ 0
-not_kept kept n me X e c h none = elim (cases_lt 0 (value_at X e c)) [
-  | inl l ↦ let some = subst IsSome none (h.are_all e c l) in cc
-  | inr l ↦ omega (arith, l)
-]
-
 -- the room that is left
 pub room_taken : (b : Bool) (room old new : ℕ) → room ≤ old → old ≤ new + cond b 1 0 → room - 1 ≤ new
 room_taken true room old new p q = omega arith
@@ -130,16 +123,16 @@ room_kept zero room old new some p q = absurd (omega arith)
 room_kept (suc value) room old new some p q = grind (arith, nat_tests)
 
 -- what is kept of an event is at most what its cells can make
-pub kept_fits : (kept : List (List ℕ × ℕ)) (n me : ℕ) (X : Cells) (e : List ℕ) → AreKept kept n me X → left_in kept e ≤ (max_sites + 2) * max_value
+pub kept_fits : (kept : List (List ℕ × ℕ)) (n me : ℕ) (X : Cells) (e : List ℕ) → AreKept kept n me X → left_in kept e ≤ (max_sites + 2) * greatest_value
 kept_fits kept n me X e h =
-    let got : sum_below max_sites (λ j. ceded X e j me) ≤ max_sites * max_value = sum_most max_sites (λ j. ceded X e j me) (λ j. one (j == me) _ (h.are_values e (Gave j me))) in
+    let got : sum_below max_sites (λ j. ceded_in X e j me) ≤ max_sites * greatest_value = sum_most max_sites (λ j. ceded_in X e j me) (λ j. one (j == me) _ (h.are_values e (Gave j me))) in
     omega (arith, h.are_left e, got, h.are_values e (Gave me me), h.are_values e (Back me))
   where
-    one : (b : Bool) (v : ℕ) → v ≤ max_value → cond b 0 v ≤ max_value
+    one : (b : Bool) (v : ℕ) → v ≤ greatest_value → cond b 0 v ≤ greatest_value
     one true v l = omega arith
     one false v l = l
 
-    sum_most : (n : ℕ) (f : ℕ → ℕ) → ((j : ℕ) → f j ≤ max_value) → sum_below n f ≤ n * max_value
+    sum_most : (n : ℕ) (f : ℕ → ℕ) → ((j : ℕ) → f j ≤ greatest_value) → sum_below n f ≤ n * greatest_value
     sum_most zero f l = omega arith
     sum_most (suc n) f l = omega (arith, sum_most n f l, l n)
 
@@ -158,7 +151,7 @@ kept_split kept n me X m h of has =
     split_after X (raise X m) m.event me (effect_of m.cell me) (m.value - value_at X m.event m.cell) (left_in kept m.event) (kept_moves kept n me X m h of) (h.are_left m.event) has
 
 -- what is kept once a mark was raised, where it is what is left after that
-pub kept_after : (kept now : List (List ℕ × ℕ)) (n k me : ℕ) (X Y : Cells) (m : Valued) (event : List ℕ) (effect : Effect) (more : ℕ) → AreKept kept n me X → k ≡ n → Y ≡ raise X m → m.value ≤ max_value → IsCellOf n m.cell
+pub kept_after : (kept now : List (List ℕ × ℕ)) (n k me : ℕ) (X Y : Cells) (m : Valued) (event : List ℕ) (effect : Effect) (more : ℕ) → AreKept kept n me X → k ≡ n → Y ≡ raise X m → m.value ≤ greatest_value → IsCellOf n m.cell
     → HasRights (raise X m) m.event me → event ≡ m.event → effect ≡ effect_of m.cell me → more ≡ m.value - value_at X m.event m.cell
     → ((e : List ℕ) → lookup (same_event e) now ≡ cond (same_event event e) (Some (left_after effect (left_in kept event) more)) (lookup (same_event e) kept)) → AreKept now k me Y
 kept_after kept now n k me X Y m event effect more h k_is Y_is most of has event_is effect_is more_is found =
@@ -175,7 +168,7 @@ some_is None h = cc
 some_is (Some v) h = refl
 
 -- a cell of other sites that was not 0 leaves what is kept as it is
-pub kept_alone : (kept : List (List ℕ × ℕ)) (n k me : ℕ) (X Y : Cells) (m : Valued) → AreKept kept n me X → k ≡ n → Y ≡ raise X m → m.value ≤ max_value → IsCellOf n m.cell
+pub kept_alone : (kept : List (List ℕ × ℕ)) (n k me : ℕ) (X Y : Cells) (m : Valued) → AreKept kept n me X → k ≡ n → Y ≡ raise X m → m.value ≤ greatest_value → IsCellOf n m.cell
     → HasRights (raise X m) m.event me → Leaves ≡ effect_of m.cell me → 1 ≤ value_at X m.event m.cell → AreKept kept k me Y
 kept_alone kept n k me X Y m h k_is Y_is most of has effect some =
     kept_after kept kept n k me X Y m m.event Leaves (m.value - value_at X m.event m.cell) h k_is Y_is most of has refl effect refl (λ e. by_test e (same_event m.event e) refl)

@@ -7,7 +7,7 @@ use Rattle.rights_lattice.specs.declared.cell.Cell.TheVariants.{Gave, Used, Back
 use Rattle.rights_lattice.specs.Cells.{Cells, value_at}
 use Rattle.rights_lattice.specs.RightsView.{IsWithin}
 use Rattle.rights_lattice.specs.Sums.{max_sites, sum_below}
-use Rattle.local_rights.specs.Rights.{ceded, gained, spent, HasRights, IsPosition, released_in, sold_in, refunded_in, paper_value}
+use Rattle.local_rights.specs.Rights.{ceded_in, gained, spent, HasRights, IsPosition, released_in, sold_in, refunded_in, paper_value}
 use Rattle.local_rights.specs.OpenSeats.{all_below, is_position, open_seats_in, OpenSeatsAreTheCounters}
 use Rattle.local_rights.proofs.CounterLaws.{whole_difference}
 use Rattle.local_rights.proofs.Sums.{balance, sum_below-add}
@@ -60,9 +60,9 @@ test_of_position X e position = all_of_each max_sites (λ j. nat_le (spent X e j
 pub sold_within : (X : Cells) (e : List ℕ) → IsPosition X e → sold_in X e ≤ released_in X e + refunded_in X e
 sold_within X e position =
     let all =
-    balance max_sites (λ i. value_at X e (Gave i i) + value_at X e (Back i)) (λ i. value_at X e (Used i)) (λ i j. ceded X e i j) (λ i j. ceded X e j i)
-    (λ i j l m. let same : ceded X e j i ≤ ceded X e j i = omega arith in same)
-    (λ i l. let split : sum_below max_sites (λ j. ceded X e i j) + value_at X e (Used i) ≤ value_at X e (Gave i i) + value_at X e (Back i) + sum_below max_sites (λ j. ceded X e j i) = omega (arith, position i) in split) in
+    balance max_sites (λ i. value_at X e (Gave i i) + value_at X e (Back i)) (λ i. value_at X e (Used i)) (λ i j. ceded_in X e i j) (λ i j. ceded_in X e j i)
+    (λ i j l m. let same : ceded_in X e j i ≤ ceded_in X e j i = omega arith in same)
+    (λ i l. let split : sum_below max_sites (λ j. ceded_in X e i j) + value_at X e (Used i) ≤ value_at X e (Gave i i) + value_at X e (Back i) + sum_below max_sites (λ j. ceded_in X e j i) = omega (arith, position i) in split) in
     omega (arith, all, sum_below-add max_sites (λ i. value_at X e (Gave i i)) (λ i. value_at X e (Back i)))
 
 pub open_at : (X : Cells) (e : List ℕ) → IsPosition X e → open_seats_in X e ≡ Some (released_in X e + refunded_in X e - sold_in X e)

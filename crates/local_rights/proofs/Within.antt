@@ -8,7 +8,7 @@ use Rattle.rights_lattice.specs.Cells.{Cells, value_at}
 use Rattle.rights_lattice.specs.Limits.{most_sites}
 use Rattle.rights_lattice.specs.RightsView.{IsCellOf, IsWithin}
 use Rattle.rights_lattice.specs.Sums.{max_sites, sum_below}
-use Rattle.local_rights.specs.Rights.{ceded, spent, HasRights, IsPosition, released_in, sold_in, refunded_in}
+use Rattle.local_rights.specs.Rights.{ceded_in, spent, HasRights, IsPosition, released_in, sold_in, refunded_in}
 use Rattle.local_rights.proofs.Sums.{sum_below_more, sum_below_same, sum_below-zero}
 
 pub few_sites : (n : ℕ) → n ≤ most_sites → n ≤ max_sites
@@ -26,13 +26,13 @@ or_zero true v h = refl
 or_zero false v h = h
 
 -- the sums over the sites below n are the sums over all sites
-pub got_by : (n m : ℕ) (X : Cells) (e : List ℕ) (i : ℕ) → IsWithin n X → n ≤ m → m ≤ max_sites → sum_below max_sites (λ j. ceded X e j i) ≡ sum_below m (λ j. ceded X e j i)
+pub got_by : (n m : ℕ) (X : Cells) (e : List ℕ) (i : ℕ) → IsWithin n X → n ≤ m → m ≤ max_sites → sum_below max_sites (λ j. ceded_in X e j i) ≡ sum_below m (λ j. ceded_in X e j i)
 got_by n m X e i within le few =
-    sum_below_more m max_sites (λ j. ceded X e j i) few (λ j l. or_zero (j == i) _ (outside n X e (Gave j i) within (λ h. omega (arith, h.0, l, le))))
+    sum_below_more m max_sites (λ j. ceded_in X e j i) few (λ j l. or_zero (j == i) _ (outside n X e (Gave j i) within (λ h. omega (arith, h.0, l, le))))
 
-pub given_by : (n m : ℕ) (X : Cells) (e : List ℕ) (i : ℕ) → IsWithin n X → n ≤ m → m ≤ max_sites → sum_below max_sites (λ j. ceded X e i j) ≡ sum_below m (λ j. ceded X e i j)
+pub given_by : (n m : ℕ) (X : Cells) (e : List ℕ) (i : ℕ) → IsWithin n X → n ≤ m → m ≤ max_sites → sum_below max_sites (λ j. ceded_in X e i j) ≡ sum_below m (λ j. ceded_in X e i j)
 given_by n m X e i within le few =
-    sum_below_more m max_sites (λ j. ceded X e i j) few (λ j l. or_zero (i == j) _ (outside n X e (Gave i j) within (λ h. omega (arith, h.1, l, le))))
+    sum_below_more m max_sites (λ j. ceded_in X e i j) few (λ j l. or_zero (i == j) _ (outside n X e (Gave i j) within (λ h. omega (arith, h.1, l, le))))
 
 pub released_by : (n m : ℕ) (X : Cells) (e : List ℕ) → IsWithin n X → n ≤ m → m ≤ max_sites → released_in X e ≡ sum_below m (λ i. value_at X e (Gave i i))
 released_by n m X e within le few =
@@ -51,7 +51,7 @@ pub spent_past : (n : ℕ) (X : Cells) (e : List ℕ) (i : ℕ) → IsWithin n X
 spent_past n X e i within past =
     omega (
       arith,
-      sum_below_same max_sites (λ j. ceded X e i j) (λ _. 0) (λ j l. or_zero (i == j) _ (outside n X e (Gave i j) within (λ h. omega (arith, h.0, past)))),
+      sum_below_same max_sites (λ j. ceded_in X e i j) (λ _. 0) (λ j l. or_zero (i == j) _ (outside n X e (Gave i j) within (λ h. omega (arith, h.0, past)))),
       sum_below-zero max_sites,
       outside n X e (Used i) within (λ h. omega (arith, h, past)),
     )

@@ -4,7 +4,7 @@ use Rattle.std.specs.Coded.{Coded, code_by, coded_ℕ, coded×}
 use Rattle.std.specs.Map.{lookup}
 use Rattle.std.specs.Option.{unwrap_or}
 use Rattle.rights_lattice.specs.Cell.{same_event}
-use Rattle.rights_lattice.specs.Cells.{Cells, coded_cells, max_value, value_at}
+use Rattle.rights_lattice.specs.Cells.{Cells, coded_cells, greatest_value, value_at}
 use Rattle.rights_lattice.specs.Limits.{most_sites}
 use Rattle.rights_lattice.specs.declared.cell.Cell.{Cell}
 use Rattle.local_rights.specs.Rights.{gained, spent}
@@ -27,6 +27,6 @@ left_in kept event = unwrap_or (lookup (same_event event) kept) 0
 pub record AreKept (kept : List (List ℕ × ℕ)) (sites me : ℕ) (X : Cells) : Type 0 where
   pub me_is_site : me < sites
   pub are_few : sites ≤ most_sites
-  pub are_values : (event : List ℕ) (cell : Cell) → value_at X event cell ≤ max_value
+  pub are_values : (event : List ℕ) (cell : Cell) → value_at X event cell ≤ greatest_value
   pub are_left : (event : List ℕ) → left_in kept event + spent X event me ≡ gained X event me
   pub are_all : (event : List ℕ) (cell : Cell) → 1 ≤ value_at X event cell → IsSome (lookup (same_event event) kept)

@@ -6,16 +6,16 @@ use Rattle.rights_lattice.specs.Cells.{Cells, value_at}
 use Rattle.rights_lattice.specs.Sums.{max_sites, sum_below}
 
 -- what site i gave to another site j
-abbrev pub ceded : Cells → List ℕ → ℕ → ℕ → ℕ
-ceded X event i j = if i == j then 0 else value_at X event (Gave i j)
+abbrev pub ceded_in : Cells → List ℕ → ℕ → ℕ → ℕ
+ceded_in X event i j = if i == j then 0 else value_at X event (Gave i j)
 
 -- what site i released, got from others and took back
 abbrev pub gained : Cells → List ℕ → ℕ → ℕ
-gained X event i = value_at X event (Gave i i) + sum_below max_sites (λ j. ceded X event j i) + value_at X event (Back i)
+gained X event i = value_at X event (Gave i i) + sum_below max_sites (λ j. ceded_in X event j i) + value_at X event (Back i)
 
 -- what site i gave to others and sold
 abbrev pub spent : Cells → List ℕ → ℕ → ℕ
-spent X event i = sum_below max_sites (λ j. ceded X event i j) + value_at X event (Used i)
+spent X event i = sum_below max_sites (λ j. ceded_in X event i j) + value_at X event (Used i)
 
 -- the rights of the site, which may be negative
 abbrev pub rights_of : Cells → List ℕ → ℕ → ℤ

@@ -3,7 +3,7 @@ ghost use Rattle.std.specs.Prelude.{◌≡◌, ℕ, ◌+◌, ◌^◌, ◌<◌, �
 ghost use Rattle.std.specs.Map.{lookup};
 ghost use Rattle.indexmap.specs.IndexMap.{spare};
 ghost use Rattle.rights_lattice.specs.Cell.{same_event};
-ghost use Rattle.rights_lattice.specs.Cells.{max_value, value_at, all_zero, raise};
+ghost use Rattle.rights_lattice.specs.Cells.{greatest_value, value_at, all_zero, raise};
 ghost use Rattle.rights_lattice.specs.RightsView.{IsCellOf};
 ghost use Rattle.local_rights.specs.declared.effect.Effect.TheVariants.{Takes};
 ghost use Rattle.local_rights.specs.Counted.{left_in};
@@ -89,7 +89,7 @@ impl Counted {
     /// The value of a cell, which is 0 where the cell names a site past the count.
     pub fn get(&self, event: Event, cell: Cell) -> u64
         ensures value { result ≡ value_at self.now.cells event cell }
-        ensures at_most_max { result ≤ max_value }
+        ensures at_most_max { result ≤ greatest_value }
     {
         self.rights.get(event, cell)
     }

@@ -1,6 +1,6 @@
 //! Sums of the cells of an event.
 ghost use Rattle.std.specs.Prelude.{◌≡◌, ◌*◌, ◌≤◌, pos};
-ghost use Rattle.rights_lattice.specs.Cells.{max_value};
+ghost use Rattle.rights_lattice.specs.Cells.{greatest_value};
 ghost use Rattle.rights_lattice.specs.Limits.{site_numbers};
 ghost use Rattle.local_rights.specs.Rights.{HasRights, gained, spent, left_of, rights_of, released_in, sold_in, refunded_in, paper_value};
 
@@ -44,9 +44,9 @@ pub fn totals(rights: &Rights, event: Event) -> Totals
     ensures refunded { result.refunded ≡ refunded_in rights.now.cells event }
 
     // A caller may add them.
-    ensures released_bound { result.released ≤ site_numbers * max_value }
-    ensures sold_bound { result.sold ≤ site_numbers * max_value }
-    ensures refunded_bound { result.refunded ≤ site_numbers * max_value }
+    ensures released_bound { result.released ≤ site_numbers * greatest_value }
+    ensures sold_bound { result.sold ≤ site_numbers * greatest_value }
+    ensures refunded_bound { result.refunded ≤ site_numbers * greatest_value }
 {
     let mut released = 0;
     let mut sold = 0;

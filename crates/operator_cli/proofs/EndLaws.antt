@@ -75,6 +75,9 @@ pub fails_for : (P : StoreFault → Type 0) (a b : Option (List ℕ)) (came : Re
 fails_for P a b (Ok s) status cause write lives line flush = λ failed. (fault.Write, write, flush (λ same. lives (sym same ∙ failed)))
 fails_for P a b (Err f) status cause write lives line flush = λ failed. (f, cause, line)
 
+pub fails_as : (P Q : StoreFault → Type 0) (a b : Option (List ℕ)) (status : Status) → ((f : StoreFault) → P f → Q f) → FailsFor P a b status → FailsFor Q a b status
+fails_as P Q a b status to h failed = let e = h failed in (e.0, to e.0 e.1, e.2)
+
 pub weaker : (P Q : StoreFault → Type 0) (r : Result Status StoreFault) → ((f : StoreFault) → P f → Q f) → IfErr r P → IfErr r Q
 weaker P Q (Ok s) to h = tt
 weaker P Q (Err f) to h = to f h
@@ -82,6 +85,15 @@ weaker P Q (Err f) to h = to f h
 pub both_err : (r : Result Status StoreFault) (P Q R : StoreFault → Type 0) → ((f : StoreFault) → P f → Q f → R f) → IfErr r P → IfErr r Q → IfErr r R
 both_err (Ok s) P Q R to p q = tt
 both_err (Err f) P Q R to p q = to f p q
+
+pub both_ok : (r : Result Status StoreFault) (P Q : Type 0) → OnOk r P → OnOk r Q → OnOk r (P × Q)
+both_ok (Ok s) P Q p q = (p, q)
+both_ok (Err f) P Q p q = tt
+
+pub on_ok_some : {A : Type 0} (r : Result Status StoreFault) (o : Option A) (P : A → Type 0) → IfSome o (λ a. OnOk r (P a)) → OnOk r (IfSome o P)
+on_ok_some (Ok s) None P h = tt
+on_ok_some (Ok s) (Some a) P h = h
+on_ok_some (Err f) o P h = tt
 
 -- a connection that came back
 pub if_back : {A : Type 0} (o : Option A) (P : Type 0) (Q R : A → Type 0) → MatchOption o P Q → ((a : A) → Q a → R a) → IfSome o R

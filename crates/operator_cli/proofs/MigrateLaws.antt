@@ -1,5 +1,5 @@
 -- What is told of records whose version was to be raised.
-use Rattle.std.proofs.Common.{◌≡◌, inl, inr, IfOk, IfErr, refl}
+use Rattle.std.proofs.Common.{◌≡◌, ◌≢◌, IfOk, IfErr, refl}
 use Rattle.sqlite.specs.Store.{Ghosts}
 use Rattle.sqlite.specs.Held.{Held, state}
 use Rattle.sql_records.specs.declared.fault.MigrateFault.{MigrateFault}
@@ -11,15 +11,15 @@ use Rattle.operator_cli.specs.declared.told.Told.{Told}
 use Rattle.operator_cli.specs.declared.told.Told.TheVariants.{Migrated, Nothing}
 use Rattle.operator_cli.specs.Told.{told_status, ended_by_migrate}
 use Rattle.operator_cli.specs.Printed.{IsOfMigrating}
-use Rattle.operator_cli.specs.Opened.{IsMigrateEnd}
+use Rattle.operator_cli.specs.Opened.{IsMigrateEnd, IsMigrationTold}
 
--- where it is not written, the records were migrated, or had the version already
-pub unsaid : {S : Type 0} (g : Ghosts S) (conn after : Held S) (told : Told) → IsOfMigrating told → (told_status told ≡ Done → IsLegalFirst (state g conn).now.trees)
+-- what is told goes with what is left: the records were migrated, or had the version already
+pub migration_told : {S : Type 0} (g : Ghosts S) (conn after : Held S) (told : Told) → IsOfMigrating told → (told_status told ≡ Done → IsLegalFirst (state g conn).now.trees)
     → (told_status told ≡ Done → IsMigrated (state g conn).now.trees (state g after).now.trees) → (told_status told ≡ Refused → IsAsBefore (state g conn) (state g after))
-    → (told_status told ≡ Refused → IsMigrateFault g conn after migrating.Nothing) → IsMigrateEnd g conn after Write
-unsaid g conn after Migrated is first set kept nothing = inl (first refl, set refl)
-unsaid g conn after Nothing is first set kept nothing = inr (kept refl, nothing refl)
-unsaid g conn after _ is first set kept nothing = absurd is
+    → (told_status told ≡ Refused → IsMigrateFault g conn after migrating.Nothing) → IsMigrationTold g conn after told
+migration_told g conn after Migrated is first set kept nothing = (first refl, set refl)
+migration_told g conn after Nothing is first set kept nothing = (kept refl, nothing refl)
+migration_told g conn after _ is first set kept nothing = absurd is
 
 -- ---- what is told of records that are not migrated
 
@@ -30,6 +30,14 @@ refusal_told (migrating.OtherSchema version) = tt
 refusal_told (migrating.Damaged place) = tt
 refusal_told migrating.Memory = tt
 refusal_told migrating.Disk = tt
+
+pub refusal_unwritten : (f : MigrateFault) → IfErr (ended_by_migrate f) (λ told. told ≢ Write)
+refusal_unwritten migrating.Nothing = tt
+refusal_unwritten migrating.NotOurs = λ is. cc
+refusal_unwritten (migrating.OtherSchema version) = λ is. cc
+refusal_unwritten (migrating.Damaged place) = λ is. cc
+refusal_unwritten migrating.Memory = λ is. cc
+refusal_unwritten migrating.Disk = λ is. cc
 
 pub refusal_done : (P : Type 0) (f : MigrateFault) → IfOk (ended_by_migrate f) (λ told. told_status told ≡ Done → P)
 refusal_done P migrating.Nothing = λ e. absurd (let is = e in cc)

@@ -11,7 +11,7 @@ use Rattle.desk_lines.specs.Grammar.{IsSites}
 use Rattle.desk_lines.specs.Reading.{line_of, limit_of}
 use Rattle.operator_cli.specs.Answering.{answer_to}
 use Rattle.book_core.specs.Limits.{greatest_limit}
-use Rattle.operator_cli.specs.Script.{world_behind, opened, opened_by}
+use Rattle.operator_cli.specs.Script.{world_behind, opened_world, opened_by}
 use Rattle.operator_cli.specs.Laws.{step_of, steps_of, ScriptsMakeSteps, IsNotOversold, TotalsAreNotOversold}
 use Rattle.std.specs.Prelude.{replicate}
 use Rattle.std.proofs.lemmas.List.{length-replicate}
@@ -43,7 +43,7 @@ pub totals_are_not_oversold : TotalsAreNotOversold
 totals_are_not_oversold sites lines event h =
     let w = scripts_make_steps sites lines in
     let limits = replicate sites w.0 in
-    let steps = steps_of (opened sites lines).1 in
+    let steps = steps_of (opened_world sites lines).1 in
     let sound = sound_reached limits steps in
     let few : count (reached limits steps) ≤ max_sites = few_reached limits steps (fits sites (length limits) h (length-replicate sites w.0)) in
     subst (λ (v : World). IsNotOversold (totals_of v event)) (sym w.1)

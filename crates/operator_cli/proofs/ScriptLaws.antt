@@ -18,11 +18,11 @@ use Rattle.rights_lattice.specs.Limits.{most_sites}
 use Rattle.book_core.specs.Limits.{greatest_limit}
 use Rattle.desk_lines.specs.Grammar.{most_lines, IsSites, sites_words}
 use Rattle.desk_lines.specs.Reading.{line_of, sites_of, limit_of}
-use Rattle.desk_lines.specs.ScriptReplies.{reply_line}
+use Rattle.desk_lines.specs.ScriptReplies.{script_reply_line}
 use Rattle.operator_cli.specs.Answering.{answer_to}
 use Rattle.operator_cli.specs.Faults.{IsOutFault, of_line_fault}
-use Rattle.operator_cli.specs.Script.{answers, world_behind, run, opened_by, replies_at, run_at, replies_started, run_started, replies, total_lines, bad_line, script, script_of_lines}
-use Rattle.operator_cli.specs.Ran.{StartsWell, MayGoOn, Always, printed, EndsEarly, NextRan, AllAnswered, RestRan, Opens, OpenRan, SecondRan, SitesRan, StartRan, ScriptRan}
+use Rattle.operator_cli.specs.Script.{answers, world_behind, replies_and_totals, opened_by, replies_at, run_at, replies_started, run_started, replies, total_lines, bad_line, script, script_of_lines}
+use Rattle.operator_cli.specs.Ran.{StartsWell, MayGoOn, Always, printed, EndsEarly, NextRan, AllAnswered, RestRan, OpensWorld, OpenRan, SecondRan, SitesRan, StartRan, ScriptRan}
 use Rattle.desk_lines.proofs.ReadingLaws.{named_takes}
 
 -- the exit of a `?`
@@ -48,9 +48,9 @@ line_broken goes some whole (Some x) (Some y) line line_fault.LineTooLong start 
     subst (λ (t : Taken). EndsEarly goes some whole t out out fault.LineTooLong) (sym (taken-long more (lines_of x) h.1)) (refl, start, subst (Appends out out) (sym none) (Appends-nil out))
 
 pub next_unread : (w : World) (a b old : Option Text) (line : Text) (f : LineFault) → LineGives a b line (Err f)
-    → IfSome a (λ xs. (more : ℕ) → EndsEarly Always (answers w) (run w) (taken (suc more) (lines_of xs)) old old (of_line_fault f))
+    → IfSome a (λ xs. (more : ℕ) → EndsEarly Always (answers w) (replies_and_totals w) (taken (suc more) (lines_of xs)) old old (of_line_fault f))
 next_unread w None b old line f h = tt
-next_unread w (Some x) b old line f h = λ more. line_broken Always (answers w) (run w) (Some x) b line f tt refl h more old
+next_unread w (Some x) b old line f h = λ more. line_broken Always (answers w) (replies_and_totals w) (Some x) b line f tt refl h more old
 
 pub sites_unread : (most sites : ℕ) (a b old : Option Text) (line : Text) (f : LineFault) → LineGives a b line (Err f) → SitesRan (suc most) sites a old old (Err (of_line_fault f))
 sites_unread most sites None b old line f h = tt
@@ -105,14 +105,14 @@ printed_longer AtTooMany some whole lines rest a b e p = p
 
 -- a reply line that went out in part
 pub reply_broken : (a b old new : Option Text) (w : World) (line : Text) (f : ScriptFault) → length line ≤ longest_line → Between a b (λ xs ys. lines_of xs ≡ line ∷ lines_of ys)
-    → AppendsFront old new (reply_line (answer_to w (line_of line)).0) → IsOutFault f → IfSome a (λ xs. (more : ℕ) → EndsEarly Always (answers w) (run w) (taken (suc more) (lines_of xs)) old new f)
+    → AppendsFront old new (script_reply_line (answer_to w (line_of line)).0) → IsOutFault f → IfSome a (λ xs. (more : ℕ) → EndsEarly Always (answers w) (replies_and_totals w) (taken (suc more) (lines_of xs)) old new f)
 reply_broken None b old new w line f short p q h = tt
 reply_broken (Some x) None old new w line f short p q h = absurd p
 reply_broken (Some x) (Some y) old new w line f short p q h = λ more.
     let t = taken more (lines_of y) in
-    let front = AppendsFront-longer old new (reply_line (answer_to w (line_of line)).0) (answers (answer_to w (line_of line)).1 t.lines) q in
-    subst (λ (u : Taken). EndsEarly Always (answers w) (run w) u old new f) (sym (ap (taken (suc more)) p ∙ taken-line more line (lines_of y) short))
-    (out_broken Always (answers w) (run w) (with_line line t) old new f h (printed_longer t.end (answers w) (run w) (line ∷ t.lines) (total_lines (world_behind w (line ∷ t.lines))) old new refl front))
+    let front = AppendsFront-longer old new (script_reply_line (answer_to w (line_of line)).0) (answers (answer_to w (line_of line)).1 t.lines) q in
+    subst (λ (u : Taken). EndsEarly Always (answers w) (replies_and_totals w) u old new f) (sym (ap (taken (suc more)) p ∙ taken-line more line (lines_of y) short))
+    (out_broken Always (answers w) (replies_and_totals w) (with_line line t) old new f h (printed_longer t.end (answers w) (replies_and_totals w) (line ∷ t.lines) (total_lines (world_behind w (line ∷ t.lines))) old new refl front))
 
 -- ---- the first line
 
@@ -140,7 +140,7 @@ start_ran (Some x) (Some y) line (Some n) short p found only exact = (line, p, s
 answers-append : (w : World) (front lines : Lines) → answers w (front ++ lines) ≡ answers w front ++ answers (world_behind w front) lines
 answers-append w [] lines = refl
 answers-append w (line ∷ front) lines =
-    let reply = reply_line (answer_to w (line_of line)).0 in
+    let reply = script_reply_line (answer_to w (line_of line)).0 in
     let next = (answer_to w (line_of line)).1 in
     ap (λ (t : Text). reply ++ t) (answers-append next front lines) ∙ sym (append_assoc reply (answers next front) (answers (world_behind next front) lines))
 
@@ -148,8 +148,8 @@ world_behind-append : (w : World) (front lines : Lines) → world_behind w (fron
 world_behind-append w [] lines = refl
 world_behind-append w (line ∷ front) lines = world_behind-append (answer_to w (line_of line)).1 front lines
 
-run-append : (w : World) (front lines : Lines) → run w (front ++ lines) ≡ answers w front ++ run (world_behind w front) lines
-run-append w front lines =
+replies_and_totals-append : (w : World) (front lines : Lines) → replies_and_totals w (front ++ lines) ≡ answers w front ++ replies_and_totals (world_behind w front) lines
+replies_and_totals-append w front lines =
     (λ i. answers-append w front lines i ++ total_lines (world_behind-append w front lines i))
     ∙ append_assoc (answers w front) (answers (world_behind w front) lines) (total_lines (world_behind (world_behind w front) lines))
 
@@ -187,7 +187,7 @@ read_more (Some x) (Some y) (Some z) lines line p q = p ∙ ap (λ (t : Lines). 
 pub goes_on : (input rest rest' old new new' : Option Text) (start mid now : World) (count : ℕ) → SoFar input rest old new start mid count → NextRan rest rest' new new' mid now (Ok true)
     → SoFar input rest' old new' start now (count + 1)
 goes_on input rest rest' old new new' start mid now count h k =
-    let reply : World → Text = λ w. reply_line (answer_to w (line_of k.0)).0 in
+    let reply : World → Text = λ w. script_reply_line (answer_to w (line_of k.0)).0 in
     let text : answers start (h.lines ++ k.0 ∷ []) ≡ answers start h.lines ++ reply mid =
     answers-append start h.lines (k.0 ∷ []) ∙ ap (λ (w : World). answers start h.lines ++ (reply w ++ [])) (sym h.made) ∙ ap (λ (t : Text). answers start h.lines ++ t) (append-nil (reply mid)) in
     record {
@@ -206,17 +206,17 @@ taken_after most more xs ys lines count read short counted most_is =
 
 -- a fault behind the lines so far
 broken_after : (most more : ℕ) (x y : Text) (old new new' : Option Text) (start now : World) (count : ℕ) (f : ScriptFault) → SoFar (Some x) (Some y) old new start now count → most ≡ count + more
-    → EndsEarly Always (answers now) (run now) (taken more (lines_of y)) new new' f → EndsEarly Always (answers start) (run start) (taken most (lines_of x)) old new' f
+    → EndsEarly Always (answers now) (replies_and_totals now) (taken more (lines_of y)) new new' f → EndsEarly Always (answers start) (replies_and_totals start) (taken most (lines_of x)) old new' f
 broken_after most more x y old new new' start now count f h most_is e =
     let some = answered start now h.lines h.made in
-    let whole : (l : Lines) → run start (h.lines ++ l) ≡ answers start h.lines ++ run now l = λ l. run-append start h.lines l ∙ ap (λ (w : World). answers start h.lines ++ run w l) (sym h.made) in
-    subst (λ (t : Taken). EndsEarly Always (answers start) (run start) t old new' f) (sym (taken_after most more (lines_of x) (lines_of y) h.lines count h.read h.short h.counted most_is))
-    (behind_lines Always Always (answers start) (run start) h.lines (taken more (lines_of y)) old new' f (always h.lines)
-    (after_text Always (answers now) (run now) (λ l. answers start (h.lines ++ l)) (λ l. run start (h.lines ++ l)) (taken more (lines_of y)) (answers start h.lines) old new new' f some whole h.written e))
+    let whole : (l : Lines) → replies_and_totals start (h.lines ++ l) ≡ answers start h.lines ++ replies_and_totals now l = λ l. replies_and_totals-append start h.lines l ∙ ap (λ (w : World). answers start h.lines ++ replies_and_totals w l) (sym h.made) in
+    subst (λ (t : Taken). EndsEarly Always (answers start) (replies_and_totals start) t old new' f) (sym (taken_after most more (lines_of x) (lines_of y) h.lines count h.read h.short h.counted most_is))
+    (behind_lines Always Always (answers start) (replies_and_totals start) h.lines (taken more (lines_of y)) old new' f (always h.lines)
+    (after_text Always (answers now) (replies_and_totals now) (λ l. answers start (h.lines ++ l)) (λ l. replies_and_totals start (h.lines ++ l)) (taken more (lines_of y)) (answers start h.lines) old new new' f some whole h.written e))
 
 -- a fault at the next line
 pub breaks_off : (most : ℕ) (input rest old new new' : Option Text) (start now : World) (count : ℕ) (f : ScriptFault) → SoFar input rest old new start now count → count < most
-    → IfSome rest (λ ys. (more : ℕ) → EndsEarly Always (answers now) (run now) (taken (suc more) (lines_of ys)) new new' f) → RestRan most input old new' start now (Err f)
+    → IfSome rest (λ ys. (more : ℕ) → EndsEarly Always (answers now) (replies_and_totals now) (taken (suc more) (lines_of ys)) new new' f) → RestRan most input old new' start now (Err f)
 breaks_off most None rest old new new' start now count f h lt k = tt
 breaks_off most (Some x) None old new new' start now count f h lt k = absurd h.read
 breaks_off most (Some x) (Some y) old new new' start now count f h lt k = broken_after most (suc (most - count - 1)) x y old new new' start now count f h (omega (arith, lt)) (k (most - count - 1))
@@ -236,7 +236,7 @@ one_too_many most (Some x) None rest' old new start now h k = absurd h.read
 one_too_many most (Some x) (Some y) None old new start now h k = absurd k
 one_too_many most (Some x) (Some y) (Some z) old new start now h k =
     broken_after most 0 x y old new new start now most fault.TooManyLines h (omega arith)
-    (subst (λ (t : Taken). EndsEarly Always (answers now) (run now) t new new fault.TooManyLines) (sym (taken-too-many (lines_of y) k)) (refl, tt, Appends-nil new))
+    (subst (λ (t : Taken). EndsEarly Always (answers now) (replies_and_totals now) t new new fault.TooManyLines) (sym (taken-too-many (lines_of y) k)) (refl, tt, Appends-nil new))
 
 -- no line is left
 pub all_answered : (most : ℕ) (input rest rest' old new new' : Option Text) (start now now' : World) (count : ℕ) → SoFar input rest old new start now count → count ≤ most → Between rest rest' (λ ys zs. lines_of ys ≡ [])
@@ -262,31 +262,31 @@ pub open_unmade : (sites : ℕ) (second : Text) (old : Option Text) (f : ScriptF
 open_unmade sites second old f e = rw e (tt, λ more. AppendsFront-nothing old old _ (Keeps-refl old))
 
 limited_by : (sites : ℕ) (second : Text) (o : Option ℕ) → limit_of second ≡ o → (more : Lines)
-    → (replies_at sites (second ∷ more) ≡ answers (opened_by sites o second more).0 (opened_by sites o second more).1) × (run_at sites (second ∷ more) ≡ run (opened_by sites o second more).0 (opened_by sites o second more).1)
+    → (replies_at sites (second ∷ more) ≡ answers (opened_by sites o second more).0 (opened_by sites o second more).1) × (run_at sites (second ∷ more) ≡ replies_and_totals (opened_by sites o second more).0 (opened_by sites o second more).1)
 limited_by sites second o known more =
-    (ap (λ (l : Option ℕ). answers (opened_by sites l second more).0 (opened_by sites l second more).1) known, ap (λ (l : Option ℕ). run (opened_by sites l second more).0 (opened_by sites l second more).1) known)
+    (ap (λ (l : Option ℕ). answers (opened_by sites l second more).0 (opened_by sites l second more).1) known, ap (λ (l : Option ℕ). replies_and_totals (opened_by sites l second more).0 (opened_by sites l second more).1) known)
 
 -- it gives the limit
 pub opens_limited : (sites limit : ℕ) (second : Text) (old : Option Text) (w : World) → limit_of second ≡ Some limit → w ≡ opening sites limit → OpenRan sites second old old (Ok w)
 opens_limited sites limit second old w known is =
-    ([], Appends-nil old, λ more. let e = limited_by sites second (Some limit) known more in (e.0 ∙ ap (λ (v : World). answers v more) (sym is), e.1 ∙ ap (λ (v : World). run v more) (sym is)))
+    ([], Appends-nil old, λ more. let e = limited_by sites second (Some limit) known more in (e.0 ∙ ap (λ (v : World). answers v more) (sym is), e.1 ∙ ap (λ (v : World). replies_and_totals v more) (sym is)))
 
 -- it is the first to be answered
 pub opens_answered : (sites : ℕ) (second : Text) (old new : Option Text) (w w' : World) → limit_of second ≡ None → w ≡ opening sites greatest_limit
-    → Appends old new (reply_line (answer_to w (line_of second)).0) → w' ≡ (answer_to w (line_of second)).1 → OpenRan sites second old new (Ok w')
+    → Appends old new (script_reply_line (answer_to w (line_of second)).0) → w' ≡ (answer_to w (line_of second)).1 → OpenRan sites second old new (Ok w')
 opens_answered sites second old new w w' known is out after =
-    let reply = reply_line (answer_to w (line_of second)).0 in
+    let reply = script_reply_line (answer_to w (line_of second)).0 in
     let next = (answer_to w (line_of second)).1 in (
       reply,
       out,
       λ more. let e = limited_by sites second None known more in (
         e.0 ∙ ap (λ (v : World). answers v (second ∷ more)) (sym is) ∙ ap (λ (v : World). reply ++ answers v more) (sym after),
-        e.1 ∙ ap (λ (v : World). run v (second ∷ more)) (sym is) ∙ append_assoc reply (answers next more) (total_lines (world_behind next more)) ∙ ap (λ (v : World). reply ++ run v more) (sym after),
+        e.1 ∙ ap (λ (v : World). replies_and_totals v (second ∷ more)) (sym is) ∙ append_assoc reply (answers next more) (total_lines (world_behind next more)) ∙ ap (λ (v : World). reply ++ replies_and_totals v more) (sym after),
       ),
     )
 
 pub open_broken : (sites : ℕ) (second : Text) (old new : Option Text) (w : World) (f : ScriptFault) → limit_of second ≡ None → w ≡ opening sites greatest_limit
-    → AppendsFront old new (reply_line (answer_to w (line_of second)).0) → IsOutFault f → OpenRan sites second old new (Err f)
+    → AppendsFront old new (script_reply_line (answer_to w (line_of second)).0) → IsOutFault f → OpenRan sites second old new (Err f)
 open_broken sites second old new w f known is out h =
     (h, λ more. subst (AppendsFront old new) (sym ((limited_by sites second None known more).0 ∙ ap (λ (v : World). answers v (second ∷ more)) (sym is))) (AppendsFront-longer old new _ _ out))
 
@@ -302,10 +302,10 @@ second_unopened most sites second (Some x) old new f h =
 pub second_broken : (most sites : ℕ) (second : Text) (a old mid new : Option Text) (w w' : World) (f : ScriptFault) → OpenRan sites second old mid (Ok w) → RestRan most a mid new w w' (Err f) → SecondRan most sites second a old new (Err f)
 second_broken most sites second None old mid new w w' f h k = tt
 second_broken most sites second (Some x) old mid new w w' f h k =
-    after_text Always (answers w) (run w) (λ l. replies_at sites (second ∷ l)) (λ l. run_at sites (second ∷ l)) (taken most (lines_of x)) h.0 old mid new f (λ l. (h.2 l).0) (λ l. (h.2 l).1) h.1 k
+    after_text Always (answers w) (replies_and_totals w) (λ l. replies_at sites (second ∷ l)) (λ l. run_at sites (second ∷ l)) (taken most (lines_of x)) h.0 old mid new f (λ l. (h.2 l).0) (λ l. (h.2 l).1) h.1 k
 
 -- all of it, with the totals
-second_text : (sites : ℕ) (second : Text) (w w' : World) (text : Text) (lines : Lines) → Opens sites second text w → w' ≡ world_behind w lines → (text ++ answers w lines) ++ total_lines w' ≡ run_at sites (second ∷ lines)
+second_text : (sites : ℕ) (second : Text) (w w' : World) (text : Text) (lines : Lines) → OpensWorld sites second text w → w' ≡ world_behind w lines → (text ++ answers w lines) ++ total_lines w' ≡ run_at sites (second ∷ lines)
 second_text sites second w w' text lines h after =
     append_assoc text (answers w lines) (total_lines w') ∙ ap (λ (v : World). text ++ (answers w lines ++ total_lines v)) after ∙ sym (h lines).1
 

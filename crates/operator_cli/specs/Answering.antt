@@ -1,4 +1,4 @@
--- What a line is answered in a world, and the world after it.
+-- What a line is answered in a world, and the world after it. (Our own.)
 use Rattle.std.specs.Prelude.{ℕ, Bool, List, Option, Some, None, Result, Ok, Err, if◌then◌else◌, nat_lt}
 use Rattle.rights_lattice.specs.State.{knows}
 use Rattle.local_rights.specs.OpenSeats.{view_in}

@@ -1,4 +1,4 @@
--- The exit status of each end of a command.
+-- The exit status of each end of a command. (Our own.)
 use Rattle.std.specs.Prelude.{ℕ}
 use Rattle.operator_cli.specs.declared.status.Status.{Status}
 use Rattle.operator_cli.specs.declared.status.Status.TheVariants.{Done, Refused, NotUnderstood, Failed}

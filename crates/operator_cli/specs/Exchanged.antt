@@ -1,4 +1,4 @@
--- What exporting and importing come to, by the records that were opened. (Our own.)
+-- What exporting, importing and growing come to, by the records that were opened. (Our own.)
 use Rattle.std.specs.Prelude.{◌≡◌, ◌⊎◌, ⊤, IfSome, ℕ, ◌<◌, ◌≤◌, Bool, true, false, IsTrue, IsSome, if◌then◌else◌, nat_lt, List, length, Option, Some, None, Result, Ok, Err}
 use Rattle.sqlite.specs.Tree.{Trees}
 use Rattle.sqlite.specs.State.{State}
@@ -18,16 +18,16 @@ use Rattle.delta_wire.specs.Wire.{message_of}
 use Rattle.sql_records.specs.declared.meta.Meta.{Meta}
 use Rattle.sql_records.specs.Held.{MayLeaveIn, history_in}
 use Rattle.sql_records.specs.Keeping.{Keeps}
-use Rattle.sql_records.specs.Layout.{HasMeta}
+use Rattle.sql_records.specs.Layout.{HasMeta, office_of}
 use Rattle.site_desk.specs.Answers.{is_peer}
-use Rattle.site_desk.specs.SiteView.{SiteView, office_of}
+use Rattle.site_desk.specs.SiteView.{SiteView}
 use Rattle.operator_cli.specs.declared.status.Status.{Status}
 use Rattle.operator_cli.specs.declared.status.Status.TheVariants.{Done}
 use Rattle.operator_cli.specs.declared.store_fault.StoreFault.{StoreFault}
 use Rattle.operator_cli.specs.declared.store_fault.StoreFault.TheVariants as fault
 use Rattle.operator_cli.specs.declared.told.Told.{Told}
 use Rattle.operator_cli.specs.declared.told.Told.TheVariants.{Joined, NothingNew, Acked, NoSite, Nothing, TooLong, Unread, NotTaken, Grown, NotGrown}
-use Rattle.operator_cli.specs.Printed.{IsTellingOf}
+use Rattle.operator_cli.specs.Printed.{IsOfTaking, IsTellingOf}
 
 -- the book is that of the records in this database, which are a site's, as they are opened: with their history, which is legal, and nothing acknowledged
 pub record IsBookOf {K : Type 0} (db : Trees) (book : SiteView K) : Type 0 where
@@ -58,6 +58,10 @@ behind_read office h (Err fault) = h
 abbrev pub told_of_bytes : Office → List Entry → List ℕ → Told
 told_of_bytes office h bytes = if nat_lt most_bytes (length bytes) then TooLong else told_of_read office h (message_of bytes)
 
+-- what may be told of an input; where its bytes are known, what they come to
+abbrev pub IsTakenOf : Office → List Entry → Option (List ℕ) → Told → Type 0
+IsTakenOf office h input told = IsOfTaking told × IfSome input (λ bytes. told ≡ told_of_bytes office h bytes)
+
 -- the history behind the bytes of an input
 abbrev pub behind_bytes : Office → List Entry → List ℕ → List Entry
 behind_bytes office h bytes = if nat_lt most_bytes (length bytes) then h else behind_read office h (message_of bytes)
@@ -86,9 +90,9 @@ IsDueText office site to Done text = (message : Message) × (IsTrue (is_peer off
 IsDueText office site to status text =
     IsTellingOf (λ told. (told ≡ (if is_peer office site.history to then Nothing else NoSite)) × (IsTrue (is_peer office site.history to) → next office.me site to ≡ None)) status text
 
--- the site that records tell, with these numbers
-abbrev pub site_in : Trees → Site
-site_in db = record { history = history_in db; acked = zeros }
+-- the site that records tell: their history, and nothing acknowledged
+abbrev pub stored_site : Trees → Site
+stored_site db = record { history = history_in db; acked = zeros }
 
 -- the input is so long, or all of it was read
 abbrev pub IsInput : List ℕ → Option (List ℕ) → Type 0
@@ -114,17 +118,30 @@ LeavesAsItWas fault.Memory old new = new ≡ old
 LeavesAsItWas fault.Read old new = new ≡ old
 LeavesAsItWas _ old new = ⊤
 
--- what ends an import early: the bytes that were read are a delta that was not stored, memory is wanted, the input fails, or what is told is not written
-abbrev pub IsInputEnd : Office → List Entry → Option (List ℕ) → StoreFault → Type 0
-IsInputEnd office h input fault.Store = IfSome input (λ bytes. told_of_bytes office h bytes ≡ Joined)
-IsInputEnd office h input fault.Memory = ⊤
-IsInputEnd office h input fault.Read = ⊤
-IsInputEnd office h input fault.Write = ⊤
-IsInputEnd office h input _ = ⊥
+-- What ends an import early: the bytes that were read are a delta that was not stored; memory is wanted, or the input fails, and
+-- the history is held as it was; or what is told is not written, and the history behind the bytes is held.
+abbrev pub IsInputEnd : Office → List Entry → Option (List ℕ) → (List Entry → Type 0) → StoreFault → Type 0
+IsInputEnd office h input Holds fault.Store = IfSome input (λ bytes. told_of_bytes office h bytes ≡ Joined)
+IsInputEnd office h input Holds fault.Memory = Holds h
+IsInputEnd office h input Holds fault.Read = Holds h
+IsInputEnd office h input Holds fault.Write = IfSome input (λ bytes. Holds (behind_bytes office h bytes))
+IsInputEnd office h input Holds _ = ⊥
 
--- what ends the command `grow` early: the growth is not stored, memory is wanted for it, or what is told is not written
-abbrev pub IsGrowingEnd : Office → List Entry → ℕ → StoreFault → Type 0
-IsGrowingEnd office h sites fault.Store = grow_decision office h sites ≡ grow.Grows
-IsGrowingEnd office h sites fault.Memory = grow_decision office h sites ≡ grow.Grows
-IsGrowingEnd office h sites fault.Write = ⊤
-IsGrowingEnd office h sites _ = ⊥
+-- What ends the command `grow` early: the growth is not stored; memory is wanted for it, and the history is held as it was; or
+-- what is told is not written, and the history behind the count of sites is held.
+abbrev pub IsGrowingEnd : Office → List Entry → ℕ → (List Entry → Type 0) → StoreFault → Type 0
+IsGrowingEnd office h sites Holds fault.Store = grow_decision office h sites ≡ grow.Grows
+IsGrowingEnd office h sites Holds fault.Memory = (grow_decision office h sites ≡ grow.Grows) × Holds h
+IsGrowingEnd office h sites Holds fault.Write = Holds (behind_growth office h sites)
+IsGrowingEnd office h sites Holds _ = ⊥
+
+-- ---- what the commands tell, by the records of this database, which have one row of numbers
+
+abbrev pub IsGrowthTold : Trees → ℕ → Status → List ℕ → Type 0
+IsGrowthTold db sites = IsTellingOf (λ told. (meta : Meta) → HasMeta meta db → told ≡ told_of_growth (grow_decision (office_of meta) (history_in db) sites))
+
+abbrev pub IsInputTold : Trees → Option (List ℕ) → Status → List ℕ → Type 0
+IsInputTold db input = IsTellingOf (λ told. (meta : Meta) → HasMeta meta db → IsTakenOf (office_of meta) (history_in db) input told)
+
+abbrev pub IsDueTold : Trees → ℕ → Status → List ℕ → Type 0
+IsDueTold db to status text = (meta : Meta) → HasMeta meta db → IsDueText (office_of meta) (stored_site db) to status text

@@ -7,7 +7,7 @@ use Rattle.desk_lines.specs.declared.script_line.ScriptLine.{ScriptLine}
 use Rattle.desk_lines.specs.declared.script_line.ScriptLine.TheVariants.{Make, Left, Totals as ScriptTotals}
 use Rattle.desk_lines.specs.Grammar.{IsSites}
 use Rattle.desk_lines.specs.Reading.{line_of}
-use Rattle.operator_cli.specs.Script.{world_behind, opened, replies_at, run_at, total_lines}
+use Rattle.operator_cli.specs.Script.{world_behind, opened_world, replies_at, run_at, total_lines}
 
 -- the step that a line makes, if it makes one
 abbrev pub step_of : Option ScriptLine → List Step
@@ -22,11 +22,11 @@ steps_of (line ∷ lines) = step_of (line_of line) ++ steps_of lines
 
 -- the world behind the lines of a script after its first
 abbrev pub world_at : ℕ → List (List ℕ) → World
-world_at sites lines = world_behind (opened sites lines).0 (opened sites lines).1
+world_at sites lines = world_behind (opened_world sites lines).0 (opened_world sites lines).1
 
 -- the steps of its lines lead there
 abbrev pub ScriptsMakeSteps : Type 0
-ScriptsMakeSteps = (sites : ℕ) (lines : List (List ℕ)) → (limit : ℕ) × (world_at sites lines ≡ reached (replicate sites limit) (steps_of (opened sites lines).1))
+ScriptsMakeSteps = (sites : ℕ) (lines : List (List ℕ)) → (limit : ℕ) × (world_at sites lines ≡ reached (replicate sites limit) (steps_of (opened_world sites lines).1))
 
 -- behind the replies stand the totals of that world
 abbrev pub TotalsAreThose : Type 0

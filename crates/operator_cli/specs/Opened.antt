@@ -21,13 +21,15 @@ use Rattle.sql_records.specs.Faults.{HasDiskCause, IsUndoneForMemory}
 use Rattle.sql_records.specs.Making.{IsInitFault}
 use Rattle.sql_records.specs.Held.{IsNew, MayLeaveIn, history_in}
 use Rattle.sql_records.specs.Keeping.{LeavesOnly}
-use Rattle.sql_records.specs.Layout.{has_our_table, HasMeta}
+use Rattle.sql_records.specs.Layout.{has_our_table, HasMeta, office_of}
 use Rattle.sql_records.specs.Lookups.{listed_in}
 use Rattle.sql_records.specs.Opening.{IsOpenFault}
-use Rattle.site_desk.specs.SiteView.{office_of}
-use Rattle.operator_cli.specs.Exchanged.{IsGrowingEnd, IsInputEnd, IsNextEnd, LeavesAsItWas, site_in}
+use Rattle.operator_cli.specs.Exchanged.{HoldsOnly, IsGrowingEnd, IsInputEnd, IsNextEnd, LeavesAsItWas, stored_site}
 use Rattle.operator_cli.specs.declared.store_fault.StoreFault.{StoreFault}
 use Rattle.operator_cli.specs.declared.store_fault.StoreFault.TheVariants as fault
+use Rattle.operator_cli.specs.declared.told.Told.{Told}
+use Rattle.operator_cli.specs.declared.told.Told.TheVariants.{Migrated, Nothing}
+use Rattle.operator_cli.specs.Printed.{Unsaid}
 use Rattle.operator_cli.specs.Told.{of_open_fault, of_replay_fault, store_fault_line}
 
 -- a site with a number below its count, and no table of ours
@@ -49,16 +51,21 @@ IsMakeEnd g conn after meta fault.Disk = IsUnmade g conn after meta making.Disk
 IsMakeEnd g conn after meta fault.Write = (MayBeMade conn meta × IsNew meta (state g after).now) ⊎ ((MayBeMade conn meta → ⊥) × (after ≡ conn))
 IsMakeEnd g conn after meta _ = ⊥
 
+-- what raising the version tells, by what it leaves: they were migrated, or had the version already and are as they were
+abbrev pub IsMigrationTold : {S : Type 0} → Ghosts S → Held S → Held S → Told → Type 0
+IsMigrationTold g conn after Migrated = IsLegalFirst (state g conn).now.trees × IsMigrated (state g conn).now.trees (state g after).now.trees
+IsMigrationTold g conn after Nothing = IsAsBefore (state g conn) (state g after) × IsMigrateFault g conn after migrating.Nothing
+IsMigrationTold g conn after _ = ⊥
+
 -- What ends raising the version early. A connection that is still open shows the records as they were, save where what is
--- told is not written: then they were migrated, or had the version already.
+-- told is not written.
 abbrev pub IsMigrateEnd : {S : Type 0} → Ghosts S → Held S → Held S → StoreFault → Type 0
 IsMigrateEnd g conn after fault.NotOurs = IsAsBefore (state g conn) (state g after) × IsMigrateFault g conn after migrating.NotOurs
 IsMigrateEnd g conn after (fault.OtherSchema version) = IsAsBefore (state g conn) (state g after) × IsMigrateFault g conn after (migrating.OtherSchema version)
 IsMigrateEnd g conn after (fault.Damaged place) = IsAsBefore (state g conn) (state g after) × IsMigrateFault g conn after (migrating.Damaged place)
 IsMigrateEnd g conn after fault.Memory = IsAsBefore (state g conn) (state g after) × IsMigrateFault g conn after migrating.Memory
 IsMigrateEnd g conn after fault.Disk = IsAsBefore (state g conn) (state g after) × IsMigrateFault g conn after migrating.Disk
-IsMigrateEnd g conn after fault.Write = (IsLegalFirst (state g conn).now.trees × IsMigrated (state g conn).now.trees (state g after).now.trees)
-    ⊎ (IsAsBefore (state g conn) (state g after) × IsMigrateFault g conn after migrating.Nothing)
+IsMigrateEnd g conn after fault.Write = (told : Told) × IsMigrationTold g conn after told
 IsMigrateEnd g conn after _ = ⊥
 
 -- what ends looking a number up early: the store wants memory, the disk is at fault, or what is found is not written and the records are as they were
@@ -75,15 +82,17 @@ IsListEnd event old new cause = IsFindEnd old new cause
 
 -- what ends an export early: memory is wanted for the message that is due, or what is told is not written
 abbrev pub IsExportEnd : ℕ → State → State → StoreFault → Type 0
-IsExportEnd to old new cause = (meta : Meta) → HasMeta meta old.now.trees → IsNextEnd false (office_of meta) (site_in old.now.trees) to cause
+IsExportEnd to old new cause = (meta : Meta) → HasMeta meta old.now.trees → IsNextEnd false (office_of meta) (stored_site old.now.trees) to cause
 
 -- what ends an import early; behind want of memory and a failed read the records are as they were
 abbrev pub IsImportEnd : Option (List ℕ) → State → State → StoreFault → Type 0
-IsImportEnd input old new cause = LeavesAsItWas cause old.now new.now × ((meta : Meta) → HasMeta meta old.now.trees → IsInputEnd (office_of meta) (history_in old.now.trees) input cause)
+IsImportEnd input old new cause =
+    LeavesAsItWas cause old.now new.now × ((meta : Meta) → HasMeta meta old.now.trees → IsInputEnd (office_of meta) (history_in old.now.trees) input (HoldsOnly new) cause)
 
 -- what ends the command `grow` early; behind want of memory the records are as they were
 abbrev pub IsGrowEnd : ℕ → State → State → StoreFault → Type 0
-IsGrowEnd sites old new cause = LeavesAsItWas cause old.now new.now × ((meta : Meta) → HasMeta meta old.now.trees → IsGrowingEnd (office_of meta) (history_in old.now.trees) sites cause)
+IsGrowEnd sites old new cause =
+    LeavesAsItWas cause old.now new.now × ((meta : Meta) → HasMeta meta old.now.trees → IsGrowingEnd (office_of meta) (history_in old.now.trees) sites (HoldsOnly new) cause)
 
 -- a command failed for one of these causes, and told which
 abbrev pub FailsFor : (StoreFault → Type 0) → Option (List ℕ) → Option (List ℕ) → Status → Type 0
@@ -126,14 +135,21 @@ module _ {S : Type 0} (g : Ghosts S) (conn : Held S) where
       HasCleanDisk (state g after) → (meta : Meta) → HasMeta meta (state g conn).now.trees → (IsLegal (office_of meta) (history_in (state g conn).now.trees) → ⊥)
       → FailsAsIllegal after old_out new_out old_err new_err status
 
-  -- the records were opened, their history being legal, and what was done over them ended so
+  -- the records were opened, which changed nothing, their history being legal, and what was done over them ended so; faults of
+  -- the disk before that are not counted
   pub record EndsOpened (Ends : State → State → StoreFault → Type 0) (after : Held S) (fault : StoreFault) : Type 0 where
     pub opened : Held S
-    pub same : (state g opened).now ≡ (state g conn).now
+    pub unchanged : IsUnchanged (state g conn) (state g opened)
     pub limit : opened.step_limit ≡ conn.step_limit
     pub ours : (meta : Meta) × HasMeta meta (state g conn).now.trees
     pub legal : (meta : Meta) → HasMeta meta (state g conn).now.trees → IsLegal (office_of meta) (history_in (state g conn).now.trees)
     pub ended : Ends (state g opened) (state g after) fault
+
+  -- Where a command failed over a disk that is not at fault, it told for which of these causes, and wrote nothing, or a front of
+  -- such a text where that could not be written.
+  abbrev pub FailsOpened : (State → State → StoreFault → Type 0) → (Status → List ℕ → Type 0) → Held S → Option (List ℕ) → Option (List ℕ) → Option (List ℕ) → Option (List ℕ) → Status → Type 0
+  FailsOpened Ends Says after old_out new_out old_err new_err status =
+      HasCleanDisk (state g after) → FailsFor (λ fault. (IsIllegal after fault ⊎ EndsOpened Ends after fault) × Unsaid Says old_out new_out fault) old_err new_err status
 
   -- a command has no connection to give back: its records were refused, it wrote nothing, and that is what it told
   pub record IsLost (old_out new_out old_err new_err : Option (List ℕ)) (status : Status) : Type 0 where

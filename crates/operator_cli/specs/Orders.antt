@@ -6,7 +6,7 @@ use Rattle.std.specs.Str.{bytes_eq}
 use Rattle.clap.specs.Words.{App, Row, Rule, Text, all_of, first_of, new_app, new_rule, with_rule, with_subcommand, subcommand_of, fault_of}
 use Rattle.plain_words.specs.Words.{◌>>=◌}
 use Rattle.plain_words.specs.Number.{number_of}
-use Rattle.rights_lattice.specs.Cells.{max_value}
+use Rattle.rights_lattice.specs.Cells.{greatest_value}
 use Rattle.rights_lattice.specs.Limits.{greatest_site, most_sites}
 use Rattle.book_core.specs.Limits.{greatest_limit}
 use Rattle.operator_cli.specs.declared.orders.Order.{Order}
@@ -146,7 +146,7 @@ ask_in rows = do
 unfoldable pub find_in : List Row → Option Said
 find_in rows = do
   file ← first_of (codes "FILE") rows
-  number ← number_in (codes "NUMBER") 1 max_value rows
+  number ← number_in (codes "NUMBER") 1 greatest_value rows
   Some (SaysFind file number)
 
 unfoldable pub list_in : List Row → Option Said
@@ -244,7 +244,7 @@ fits rows Event = is_some (first_of (codes "EVENT") rows)
 fits rows Me = is_some (number_in (codes "ME") 0 greatest_site rows)
 fits rows Sites = is_some (number_in (codes "SITES") 1 most_sites rows)
 fits rows Limit = is_some (number_in (codes "LIMIT") 1 greatest_limit rows)
-fits rows Number = is_some (number_in (codes "NUMBER") 1 max_value rows)
+fits rows Number = is_some (number_in (codes "NUMBER") 1 greatest_value rows)
 fits rows To = is_some (number_in (codes "TO") 0 greatest_site rows)
 fits rows Files = is_some (files_in most_sites rows)
 fits rows Desks = is_some (files_in most_desks rows)

@@ -1,5 +1,5 @@
 -- What the commands over records print on standard output, status by status. (Our own.)
-use Rattle.std.specs.Prelude.{◌≡◌, ℕ, ◌<◌, Bool, nat_le, if◌then◌else◌, ⊤, List, [], length, Option, Some, None}
+use Rattle.std.specs.Prelude.{◌≡◌, ℕ, ◌<◌, Bool, nat_le, if◌then◌else◌, ⊤, List, [], length, Option, Some, None, Ok}
 use Rattle.std.specs.List.{flat_map}
 use Rattle.std.specs.Io.KnownBytes.{Appends, Keeps}
 use Rattle.plain_words.specs.Writing.{AppendsFront}
@@ -18,7 +18,7 @@ use Rattle.operator_cli.specs.declared.status.Status.TheVariants.{Done, Refused,
 use Rattle.operator_cli.specs.declared.store_fault.StoreFault.{StoreFault}
 use Rattle.operator_cli.specs.declared.store_fault.StoreFault.TheVariants as fault
 use Rattle.operator_cli.specs.Records.{found_line, listed_line}
-use Rattle.operator_cli.specs.Told.{told_line, told_status}
+use Rattle.operator_cli.specs.Told.{ended_by_grow, ended_by_take, ended_by_wire, told_line, told_status}
 
 -- what went out is a text that goes with the status; of status 3 nothing is said
 abbrev pub Printed : (Status → List ℕ → Type 0) → Option (List ℕ) → Option (List ℕ) → Status → Type 0
@@ -64,20 +64,20 @@ IsOfSending Nothing = ⊤
 IsOfSending NoSite = ⊤
 IsOfSending _ = ⊥
 
--- what taking a message may tell
+-- what taking a message may tell: a fault only where it does not end the command
 abbrev pub IsOfTaking : Told → Type 0
 IsOfTaking Joined = ⊤
 IsOfTaking NothingNew = ⊤
 IsOfTaking Acked = ⊤
 IsOfTaking TooLong = ⊤
-IsOfTaking (Unread f) = ⊤
-IsOfTaking (NotTaken f) = ⊤
+IsOfTaking (Unread f) = ended_by_wire f ≡ Ok (Unread f)
+IsOfTaking (NotTaken f) = ended_by_take f ≡ Ok (NotTaken f)
 IsOfTaking _ = ⊥
 
--- what counting more sites may tell
+-- what counting more sites may tell: a fault only where it does not end the command
 abbrev pub IsOfGrowing : Told → Type 0
 IsOfGrowing Grown = ⊤
-IsOfGrowing (NotGrown f) = ⊤
+IsOfGrowing (NotGrown f) = ended_by_grow f ≡ Ok (NotGrown f)
 IsOfGrowing _ = ⊥
 
 abbrev pub IsGrownText : Status → List ℕ → Type 0
@@ -120,7 +120,12 @@ abbrev pub IsListIn : List Entry → List ℕ → Status → List ℕ → Type 0
 IsListIn h name Done text = AreListed (listed_in h name) Done text
 IsListIn h name status text = (IsEventName name → listed_in h name ≡ []) × IsTellingOf IsOfLooking status text
 
--- one message, or none
+-- the text of a message, or that none is sent
+abbrev pub IsMessageText : Status → List ℕ → Type 0
+IsMessageText Done text = (message : Message) × (text ≡ message_text message)
+IsMessageText status text = IsTellingOf IsOfSending status text
+
+-- one message, which is read back, or none
 abbrev pub IsSentText : Status → List ℕ → Type 0
 IsSentText Done text = (message : Message) × IsMessage message × (text ≡ message_text message)
 IsSentText status text = IsTellingOf IsOfSending status text

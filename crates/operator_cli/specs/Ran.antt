@@ -1,4 +1,4 @@
--- What the parts of a script leave in its reader and its writers.
+-- What the parts of a script leave in its reader and its writers. (Our own.)
 use Rattle.std.specs.Prelude.{◌≡◌, ℕ, suc, ◌≤◌, List, [], ◌∷◌, ◌++◌, length, Bool, true, false, Option, Some, None, Result, Ok, Err, IfSome}
 use Rattle.std.specs.List.{join_with_byte}
 use Rattle.std.specs.Io.KnownBytes.{Appends, Keeps}
@@ -11,10 +11,10 @@ use Rattle.operator_cli.specs.declared.status.Status.{Status}
 use Rattle.operator_cli.specs.declared.status.Status.TheVariants as status
 use Rattle.desk_lines.specs.Grammar.{most_lines, IsSites, sites_words}
 use Rattle.desk_lines.specs.Reading.{line_of, sites_of}
-use Rattle.desk_lines.specs.ScriptReplies.{reply_line}
+use Rattle.desk_lines.specs.ScriptReplies.{script_reply_line}
 use Rattle.operator_cli.specs.Answering.{answer_to}
 use Rattle.operator_cli.specs.Faults.{IsOutFault, fault_line}
-use Rattle.operator_cli.specs.Script.{answers, world_behind, run, replies_at, run_at, replies, script_of_lines, bad_line, script}
+use Rattle.operator_cli.specs.Script.{answers, world_behind, replies_and_totals, replies_at, run_at, replies, script_of_lines, bad_line, script}
 
 -- the first line gives the count of sites
 abbrev pub StartsWell : List (List ℕ) → Type 0
@@ -51,9 +51,9 @@ ReadBrokeOff most replies input rest old new = Between input rest (λ xs ys. (b 
 abbrev pub NextRan : Option (List ℕ) → Option (List ℕ) → Option (List ℕ) → Option (List ℕ) → World → World → Result Bool ScriptFault → Type 0
 NextRan input rest old new before after (Ok true) =
     (line : List ℕ) × (length line ≤ longest_line) × Between input rest (λ xs ys. lines_of xs ≡ line ∷ lines_of ys)
-    × Appends old new (reply_line (answer_to before (line_of line)).0) × (after ≡ (answer_to before (line_of line)).1)
+    × Appends old new (script_reply_line (answer_to before (line_of line)).0) × (after ≡ (answer_to before (line_of line)).1)
 NextRan input rest old new before after (Ok false) = Keeps old new × (after ≡ before) × Between input rest (λ xs ys. (lines_of xs ≡ []) × (lines_of ys ≡ []))
-NextRan input rest old new before after (Err f) = IfSome input (λ xs. (more : ℕ) → EndsEarly Always (answers before) (run before) (taken (suc more) (lines_of xs)) old new f)
+NextRan input rest old new before after (Err f) = IfSome input (λ xs. (more : ℕ) → EndsEarly Always (answers before) (replies_and_totals before) (taken (suc more) (lines_of xs)) old new f)
 
 -- all of these lines were answered, and the input ends behind them
 abbrev pub AllAnswered : World → World → Taken → Option (List ℕ) → Option (List ℕ) → Type 0
@@ -62,15 +62,15 @@ AllAnswered before after t old new = (t.end ≡ AtEnd) × Appends old new (answe
 -- all lines behind the second
 abbrev pub RestRan : ℕ → Option (List ℕ) → Option (List ℕ) → Option (List ℕ) → World → World → Result (Unit {0}) ScriptFault → Type 0
 RestRan most input old new before after (Ok u) = IfSome input (λ xs. AllAnswered before after (taken most (lines_of xs)) old new)
-RestRan most input old new before after (Err f) = IfSome input (λ xs. EndsEarly Always (answers before) (run before) (taken most (lines_of xs)) old new f)
+RestRan most input old new before after (Err f) = IfSome input (λ xs. EndsEarly Always (answers before) (replies_and_totals before) (taken most (lines_of xs)) old new f)
 
 -- the world that the second line opens, and what that line is answered
-abbrev pub Opens : ℕ → List ℕ → List ℕ → World → Type 0
-Opens sites second text world = (more : List (List ℕ)) → (replies_at sites (second ∷ more) ≡ text ++ answers world more) × (run_at sites (second ∷ more) ≡ text ++ run world more)
+abbrev pub OpensWorld : ℕ → List ℕ → List ℕ → World → Type 0
+OpensWorld sites second text world = (more : List (List ℕ)) → (replies_at sites (second ∷ more) ≡ text ++ answers world more) × (run_at sites (second ∷ more) ≡ text ++ replies_and_totals world more)
 
 -- the second line, which gives the limit or is answered
 abbrev pub OpenRan : ℕ → List ℕ → Option (List ℕ) → Option (List ℕ) → Result World ScriptFault → Type 0
-OpenRan sites second old new (Ok world) = (text : List ℕ) × Appends old new text × Opens sites second text world
+OpenRan sites second old new (Ok world) = (text : List ℕ) × Appends old new text × OpensWorld sites second text world
 OpenRan sites second old new (Err f) = IsOutFault f × ((more : List (List ℕ)) → AppendsFront old new (replies_at sites (second ∷ more)))
 
 -- the second line and those behind it, of which this many may be there

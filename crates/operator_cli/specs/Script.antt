@@ -1,4 +1,4 @@
--- What a script prints.
+-- What a script prints. (Our own.)
 use Rattle.std.specs.Prelude.{ℕ, ◌-◌, List, [], ◌∷◌, ◌++◌, Option, Some, None, codes}
 use Rattle.std.specs.Fmt.{decimal}
 use Rattle.std.specs.List.{flat_map}
@@ -7,7 +7,7 @@ use Rattle.plain_words.specs.Input.{lines_of}
 use Rattle.world_steps.specs.World.{World, opening, totals_of, events_of}
 use Rattle.local_rights.specs.declared.report.Totals.{Totals}
 use Rattle.desk_lines.specs.Reading.{line_of, sites_of, limit_of}
-use Rattle.desk_lines.specs.ScriptReplies.{reply_line}
+use Rattle.desk_lines.specs.ScriptReplies.{script_reply_line}
 use Rattle.operator_cli.specs.Answering.{answer_to}
 
 -- the numbers of an event over all sites
@@ -21,7 +21,7 @@ total_lines w = flat_map (λ event. total_line event (totals_of w event)) (event
 -- the reply line of each of these lines in turn
 abbrev pub answers : World → List (List ℕ) → List ℕ
 answers w [] = []
-answers w (line ∷ lines) = reply_line (answer_to w (line_of line)).0 ++ answers (answer_to w (line_of line)).1 lines
+answers w (line ∷ lines) = script_reply_line (answer_to w (line_of line)).0 ++ answers (answer_to w (line_of line)).1 lines
 
 -- the world behind them
 abbrev pub world_behind : World → List (List ℕ) → World
@@ -29,8 +29,8 @@ world_behind w [] = w
 world_behind w (line ∷ lines) = world_behind (answer_to w (line_of line)).1 lines
 
 -- and then the totals
-abbrev pub run : World → List (List ℕ) → List ℕ
-run w lines = answers w lines ++ total_lines (world_behind w lines)
+abbrev pub replies_and_totals : World → List (List ℕ) → List ℕ
+replies_and_totals w lines = answers w lines ++ total_lines (world_behind w lines)
 
 abbrev pub bad_line : List ℕ
 bad_line = codes "bad-line" ++ 10 ∷ []
@@ -41,17 +41,17 @@ opened_by sites None second lines = (opening sites greatest_limit, second ∷ li
 opened_by sites (Some limit) second lines = (opening sites limit, lines)
 
 -- the world that the lines after the first open, and those of them that are answered
-abbrev pub opened : ℕ → List (List ℕ) → World × List (List ℕ)
-opened sites [] = (opening sites greatest_limit, [])
-opened sites (second ∷ lines) = opened_by sites (limit_of second) second lines
+abbrev pub opened_world : ℕ → List (List ℕ) → World × List (List ℕ)
+opened_world sites [] = (opening sites greatest_limit, [])
+opened_world sites (second ∷ lines) = opened_by sites (limit_of second) second lines
 
 -- the replies to the lines after the first
 abbrev pub replies_at : ℕ → List (List ℕ) → List ℕ
-replies_at sites lines = answers (opened sites lines).0 (opened sites lines).1
+replies_at sites lines = answers (opened_world sites lines).0 (opened_world sites lines).1
 
 -- and then the totals
 abbrev pub run_at : ℕ → List (List ℕ) → List ℕ
-run_at sites lines = run (opened sites lines).0 (opened sites lines).1
+run_at sites lines = replies_and_totals (opened_world sites lines).0 (opened_world sites lines).1
 
 abbrev pub replies_started : Option ℕ → List (List ℕ) → List ℕ
 replies_started None lines = bad_line

@@ -5,14 +5,14 @@ ghost use Rattle.sqlite.specs.State.{HasCleanDisk};
 ghost use Rattle.sqlite.specs.Held.{state};
 ghost use Rattle.book_core.specs.declared.entry.Entry.{Entry};
 ghost use Rattle.sql_records.specs.Held.{MayLeaveIn, history_in};
-ghost use Rattle.sql_records.specs.Layout.{HasMeta};
+ghost use Rattle.sql_records.specs.Layout.{HasMeta, office_of};
 ghost use Rattle.sql_records.specs.declared.meta.Meta.{Meta as Numbers};
-ghost use Rattle.site_desk.specs.SiteView.{office_of, site_of};
-ghost use Rattle.operator_cli.specs.Exchanged.{IsDueText, IsNextEnd, site_in};
+ghost use Rattle.site_desk.specs.SiteView.{site_of};
+ghost use Rattle.operator_cli.specs.Exchanged.{IsDueText, IsDueTold, IsNextEnd, stored_site};
 ghost use Rattle.operator_cli.specs.Told.{FaultTold};
 ghost use Rattle.operator_cli.specs.declared.status.Status.TheVariants.{Failed};
-ghost use Rattle.operator_cli.specs.Printed.{Printed, IsSentText};
-ghost use Rattle.operator_cli.specs.Opened.{EndsOpened, FailsFor, FailsIfIllegal, IsExportEnd, IsIllegal, IsLost, ShowedRecords};
+ghost use Rattle.operator_cli.specs.Printed.{Printed, Unsaid, IsMessageText, IsSentText};
+ghost use Rattle.operator_cli.specs.Opened.{FailsFor, FailsIfIllegal, FailsOpened, IsExportEnd, IsLost, ShowedRecords};
 
 use crate::ending::{close_book, ended};
 use crate::opening::open_book;
@@ -37,6 +37,7 @@ fn write_next<K: Keeper, W: Write>(
     ensures due { IfOk result (Printed (IsDueText book.old.book.office (site_of book.old) to)
         (W.contents out.old) (W.contents out.new)) }
     ensures fault { IfErr result (IsNextEnd book.old.closed book.old.book.office (site_of book.old) to) }
+    ensures unsaid { IfErr result (Unsaid (IsDueText book.old.book.office (site_of book.old) to) (W.contents out.old) (W.contents out.new)) }
     ensures same { book.new ≡ book.old }
     ensures ends { IfOk result (λ status. status ≢ Failed) }
 {
@@ -67,7 +68,7 @@ pub fn export_store<S: Alter + Drop, W: Write, E: Write>(
     ensures out { Printed IsSentText (W.contents out.old) (W.contents out.new) result.0 }
     ensures due { IfSome result.1 (λ after. HasCleanDisk (state S.Store after)
         → (meta : Numbers) → HasMeta meta (state S.Store conn).now.trees
-        → Printed (IsDueText (office_of meta) (site_in (state S.Store conn).now.trees) to)
+        → Printed (IsDueText (office_of meta) (stored_site (state S.Store conn).now.trees) to)
         (W.contents out.old) (W.contents out.new) result.0) }
     ensures same { IfSome result.1 (λ after. HasCleanDisk (state S.Store after)
         → ((state S.Store after).now ≡ (state S.Store conn).now) × ((state S.Store after).in_transaction ≡ (state S.Store conn).in_transaction)) }
@@ -75,9 +76,9 @@ pub fn export_store<S: Alter + Drop, W: Write, E: Write>(
         → (left : Option (List Entry)) → MayLeaveIn (state S.Store after) left
         → left ≡ Some (history_in (state S.Store conn).now.trees)) }
     ensures err { FaultTold (E.contents err.old) (E.contents err.new) result.0 }
-    ensures cause { IfSome result.1 (λ after. HasCleanDisk (state S.Store after)
-        → FailsFor (λ fault. IsIllegal S.Store conn after fault ⊎ EndsOpened S.Store conn (IsExportEnd to) after fault)
-        (E.contents err.old) (E.contents err.new) result.0) }
+    ensures cause { IfSome result.1 (λ after. FailsOpened S.Store conn (IsExportEnd to) (IsDueTold (state S.Store conn).now.trees to) after
+        (W.contents out.old) (W.contents out.new) (E.contents err.old) (E.contents err.new) result.0) }
+    ensures silent { FailsFor (Unsaid IsMessageText (W.contents out.old) (W.contents out.new)) (E.contents err.old) (E.contents err.new) result.0 }
     ensures ours { IfSome result.1 (ShowedRecords S.Store conn) }
     ensures illegal { IfSome result.1 (λ after. FailsIfIllegal S.Store conn after (W.contents out.old) (W.contents out.new) (E.contents err.old) (E.contents err.new) result.0) }
     ensures lost { result.1 ≡ None → IsLost S.Store conn (W.contents out.old) (W.contents out.new) (E.contents err.old) (E.contents err.new) result.0 }

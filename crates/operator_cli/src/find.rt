@@ -7,8 +7,8 @@ ghost use Rattle.sqlite.specs.Held.{state};
 ghost use Rattle.sql_records.specs.Held.{IsTrusted, IsUndisturbed, LeavesNoMore, MayLeaveIn, kept_in, history_in};
 ghost use Rattle.book_core.specs.declared.entry.Entry.{Entry};
 ghost use Rattle.operator_cli.specs.Told.{of_find_fault, FaultTold};
-ghost use Rattle.operator_cli.specs.Printed.{Printed, IsFoundText, IsFoundIn};
-ghost use Rattle.operator_cli.specs.Opened.{EndsOpened, FailsFor, FailsIfIllegal, IsIllegal, IsFindEnd, IsLost, ShowedRecords};
+ghost use Rattle.operator_cli.specs.Printed.{Printed, Unsaid, IsFoundText, IsFoundIn};
+ghost use Rattle.operator_cli.specs.Opened.{FailsFor, FailsIfIllegal, FailsOpened, IsFindEnd, IsLost, ShowedRecords};
 
 use crate::ending::{ended, write_line};
 use crate::opening::open_book;
@@ -42,6 +42,9 @@ fn write_found<S: Alter, W: Write>(
     ensures out { IfOk result (Printed IsFoundText (W.contents out.old) (W.contents out.new)) }
     ensures found { IsTrusted S.Store records.new
         → IfOk result (Printed (IsFoundIn (kept_in S.Store records.old) number) (W.contents out.old) (W.contents out.new)) }
+    ensures silent { IfErr result (Unsaid IsFoundText (W.contents out.old) (W.contents out.new)) }
+    ensures unsaid { IsTrusted S.Store records.new
+        → IfErr result (Unsaid (IsFoundIn (kept_in S.Store records.old) number) (W.contents out.old) (W.contents out.new)) }
     ensures same { IsTrusted S.Store records.new → OnOk result
         ((state S.Store records.new.conn).now ≡ (state S.Store records.old.conn).now) }
     ensures fault { records.old.failures ≡ 0 → IsTrusted S.Store records.new
@@ -86,9 +89,9 @@ pub fn find_store<S: Alter + Drop, W: Write, E: Write>(
     ensures stopped { IfSome result.1 (λ after. HasCleanDisk (state S.Store after)
         → (left : Option (List Entry)) → MayLeaveIn (state S.Store after) left
         → left ≡ Some (history_in (state S.Store conn).now.trees)) }
-    ensures cause { IfSome result.1 (λ after. HasCleanDisk (state S.Store after)
-        → FailsFor (λ fault. IsIllegal S.Store conn after fault ⊎ EndsOpened S.Store conn IsFindEnd after fault)
-        (E.contents err.old) (E.contents err.new) result.0) }
+    ensures cause { IfSome result.1 (λ after. FailsOpened S.Store conn IsFindEnd (IsFoundIn (history_in (state S.Store conn).now.trees) number) after
+        (W.contents out.old) (W.contents out.new) (E.contents err.old) (E.contents err.new) result.0) }
+    ensures silent { FailsFor (Unsaid IsFoundText (W.contents out.old) (W.contents out.new)) (E.contents err.old) (E.contents err.new) result.0 }
     ensures ours { IfSome result.1 (ShowedRecords S.Store conn) }
     ensures illegal { IfSome result.1 (λ after. FailsIfIllegal S.Store conn after (W.contents out.old) (W.contents out.new) (E.contents err.old) (E.contents err.new) result.0) }
     ensures lost { result.1 ≡ None → IsLost S.Store conn (W.contents out.old) (W.contents out.new) (E.contents err.old) (E.contents err.new) result.0 }

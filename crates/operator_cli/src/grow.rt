@@ -1,19 +1,18 @@
 //! The command `grow`: more sites.
 
-ghost use Rattle.std.specs.Prelude.{◌≡◌, ◌≢◌, false, None, Err, IfOk, IfErr, IfSome, OnOk, ◌⊎◌};
+ghost use Rattle.std.specs.Prelude.{◌≡◌, ◌≢◌, false, None, Err, IfOk, IfErr, IfSome, OnOk};
 ghost use Rattle.sqlite.specs.State.{HasCleanDisk};
 ghost use Rattle.sqlite.specs.Held.{state};
 ghost use Rattle.book_core.specs.Growing.{grow_decision};
-ghost use Rattle.sql_records.specs.Layout.{HasMeta};
+ghost use Rattle.sql_records.specs.Layout.{HasMeta, office_of};
 ghost use Rattle.sql_records.specs.Held.{MayLeaveIn, history_in};
 ghost use Rattle.sql_records.specs.declared.meta.Meta.{Meta as Numbers};
-ghost use Rattle.site_desk.specs.SiteView.{office_of};
-ghost use Rattle.operator_cli.specs.Exchanged.{HoldsOnly, IsGrowingEnd, LeavesAsItWas, LeavesOneOf, behind_growth, told_of_growth};
-ghost use Rattle.operator_cli.specs.Opened.{EndsOpened, FailsFor, FailsIfIllegal, IsGrowEnd, IsIllegal, IsLost, ShowedRecords};
+ghost use Rattle.operator_cli.specs.Exchanged.{HoldsOnly, IsGrowingEnd, IsGrowthTold, LeavesAsItWas, LeavesOneOf, behind_growth, told_of_growth};
+ghost use Rattle.operator_cli.specs.Opened.{FailsFor, FailsIfIllegal, FailsOpened, IsGrowEnd, IsLost, ShowedRecords};
 ghost use Rattle.operator_cli.specs.Printed.{Printed, Unsaid, IsGrownText, IsOfGrowing, IsTellingOf};
 ghost use Rattle.operator_cli.specs.Told.{FaultTold, told_status};
 ghost use Rattle.operator_cli.specs.declared.status.Status.TheVariants.{Refused, Failed};
-ghost use Rattle.operator_cli.specs.declared.store_fault.StoreFault.TheVariants.{Memory as WantsMemory, Store as NotStored, Write as WriteFailed};
+ghost use Rattle.operator_cli.specs.declared.store_fault.StoreFault.TheVariants.{Store as NotStored, Write as WriteFailed};
 
 use crate::ending::{close_book, ended};
 use crate::opening::open_book;
@@ -36,10 +35,11 @@ fn grow<K: Keeper>(alloc: Global, book: &mut SiteBook<K>, sites: Sites) -> Resul
     ensures stopped { K.is_trusted book.new.keeper
         → LeavesOneOf book.old.book.history (behind_growth book.old.book.office book.old.book.history sites) (K.may_leave book.old.keeper)
         → LeavesOneOf book.old.book.history (behind_growth book.old.book.office book.old.book.history sites) (K.may_leave book.new.keeper) }
-    ensures fault { IfErr result (λ fault. book.old.closed ≡ false → IsGrowingEnd book.old.book.office book.old.book.history sites fault) }
+    ensures fault { IfErr result (λ fault. book.old.closed ≡ false → IsGrowingEnd book.old.book.office book.old.book.history sites (λ h. book.new.book.history ≡ h) fault) }
     ensures untouched { IfErr result (λ fault. LeavesAsItWas fault book.old.keeper book.new.keeper) }
     ensures failed { result ≡ Err NotStored → book.old.closed ≡ false → (K.failed book.old.keeper ≡ 0) × (K.failed book.new.keeper ≡ 1) }
-    ensures store { IfErr result (λ fault. (fault ≡ WantsMemory) ⊎ (fault ≡ NotStored)) }
+    ensures written { IfErr result (λ fault. fault ≢ WriteFailed) }
+    ensures open { IfErr result (λ fault. fault ≢ NotStored → book.old.closed ≡ false → book.new.closed ≡ false) }
     ensures trusted { K.is_trusted book.new.keeper → K.is_trusted book.old.keeper }
 {
     match book.grow(alloc, sites) {
@@ -64,13 +64,14 @@ fn write_grown<K: Keeper, W: Write>(
     ensures stopped { K.is_trusted book.new.keeper
         → LeavesOneOf book.old.book.history (behind_growth book.old.book.office book.old.book.history sites) (K.may_leave book.old.keeper)
         → LeavesOneOf book.old.book.history (behind_growth book.old.book.office book.old.book.history sites) (K.may_leave book.new.keeper) }
-    ensures fault { IfErr result (λ fault. book.old.closed ≡ false → IsGrowingEnd book.old.book.office book.old.book.history sites fault) }
+    ensures fault { IfErr result (λ fault. book.old.closed ≡ false → IsGrowingEnd book.old.book.office book.old.book.history sites (λ h. book.new.book.history ≡ h) fault) }
     ensures untouched { IfErr result (λ fault. LeavesAsItWas fault book.old.keeper book.new.keeper) }
     ensures failed { result ≡ Err NotStored → book.old.closed ≡ false → (K.failed book.old.keeper ≡ 0) × (K.failed book.new.keeper ≡ 1) }
     ensures ends { IfOk result (λ status. status ≢ Failed) }
-    ensures silent { IfErr result (Unsaid IsGrownText (W.contents out.old) (W.contents out.new)) }
-    ensures begun { OnOk result (Unsaid IsGrownText (W.contents out.old) (W.contents out.new) WriteFailed) }
-    ensures unsaid { IfErr result (λ fault. fault ≡ WriteFailed → book.new.book.history ≡ behind_growth book.old.book.office book.old.book.history sites) }
+    ensures unsaid { IfErr result (Unsaid
+        (IsTellingOf (λ told. told ≡ told_of_growth (grow_decision book.old.book.office book.old.book.history sites)))
+        (W.contents out.old) (W.contents out.new)) }
+    ensures open { IfErr result (λ fault. fault ≢ NotStored → book.old.closed ≡ false → book.new.closed ≡ false) }
     ensures trusted { K.is_trusted book.new.keeper → K.is_trusted book.old.keeper }
 {
     match grow(alloc, book, sites) {
@@ -106,9 +107,8 @@ pub fn grow_store<S: Alter + Drop, W: Write, E: Write>(
         → LeavesOneOf (history_in (state S.Store conn).now.trees)
         (behind_growth (office_of meta) (history_in (state S.Store conn).now.trees) sites) (MayLeaveIn (state S.Store after))) }
     ensures err { FaultTold (E.contents err.old) (E.contents err.new) result.0 }
-    ensures cause { IfSome result.1 (λ after. HasCleanDisk (state S.Store after)
-        → FailsFor (λ fault. IsIllegal S.Store conn after fault ⊎ EndsOpened S.Store conn (IsGrowEnd sites) after fault)
-        (E.contents err.old) (E.contents err.new) result.0) }
+    ensures cause { IfSome result.1 (λ after. FailsOpened S.Store conn (IsGrowEnd sites) (IsGrowthTold (state S.Store conn).now.trees sites) after
+        (W.contents out.old) (W.contents out.new) (E.contents err.old) (E.contents err.new) result.0) }
     ensures silent { FailsFor (Unsaid IsGrownText (W.contents out.old) (W.contents out.new)) (E.contents err.old) (E.contents err.new) result.0 }
     ensures ours { IfSome result.1 (ShowedRecords S.Store conn) }
     ensures illegal { IfSome result.1 (λ after. FailsIfIllegal S.Store conn after (W.contents out.old) (W.contents out.new) (E.contents err.old) (E.contents err.new) result.0) }

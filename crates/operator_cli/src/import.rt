@@ -1,12 +1,11 @@
 //! The command `import`: a message from a peer.
 
-ghost use Rattle.std.specs.Prelude.{◌≡◌, ◌≢◌, ◌≤◌, ◌⊎◌, false, None, Some, Err, IfOk, IfErr, IfSome, OnOk, vec_len};
+ghost use Rattle.std.specs.Prelude.{◌≡◌, ◌≢◌, ◌≤◌, ◌⊎◌, false, None, Some, Err, IfOk, IfErr, IfSome, OnOk, OnErr, vec_len};
 ghost use Rattle.sqlite.specs.State.{HasCleanDisk};
 ghost use Rattle.sqlite.specs.Held.{state};
-ghost use Rattle.sql_records.specs.Layout.{HasMeta};
+ghost use Rattle.sql_records.specs.Layout.{HasMeta, office_of};
 ghost use Rattle.sql_records.specs.declared.meta.Meta.{Meta as Numbers};
-ghost use Rattle.site_desk.specs.SiteView.{office_of};
-ghost use Rattle.operator_cli.specs.Exchanged.{HoldsOnly, LeavesOneOf, IsTakeEnd, IsInput, IsInputEnd, LeavesAsItWas, behind_bytes, behind_read, told_of_bytes, told_of_read};
+ghost use Rattle.operator_cli.specs.Exchanged.{HoldsOnly, LeavesOneOf, IsTakeEnd, IsInput, IsInputEnd, IsInputTold, IsTakenOf, LeavesAsItWas, behind_bytes, behind_read, told_of_bytes, told_of_read};
 ghost use Rattle.delta_wire.specs.Grammar.{most_bytes};
 ghost use Rattle.delta_wire.specs.Wire.{message_of};
 ghost use Rattle.sql_records.specs.Held.{MayLeaveIn, history_in};
@@ -15,7 +14,7 @@ ghost use Rattle.operator_cli.specs.declared.status.Status.TheVariants.{Refused,
 ghost use Rattle.operator_cli.specs.declared.store_fault.StoreFault.TheVariants.{Memory as WantsMemory, Read as ReadFailed, Store as NotStored, Write as WriteFailed};
 ghost use Rattle.std.specs.Option.{option_map};
 ghost use Rattle.operator_cli.specs.Printed.{Printed, Unsaid, IsTakenText, IsOfTaking, IsTellingOf};
-ghost use Rattle.operator_cli.specs.Opened.{EndsOpened, FailsFor, FailsIfIllegal, IsIllegal, IsImportEnd, IsLost, ShowedRecords};
+ghost use Rattle.operator_cli.specs.Opened.{FailsFor, FailsIfIllegal, FailsOpened, IsImportEnd, IsLost, ShowedRecords};
 
 use crate::ending::{close_book, ended};
 use crate::opening::open_book;
@@ -67,6 +66,9 @@ fn take_bytes<K: Keeper>(
     ensures fault { IfErr result (IsTakeEnd book.old.closed (told_of_read book.old.book.office book.old.book.history (message_of bytes.now))) }
     ensures untouched { IfErr result (λ fault. LeavesAsItWas fault book.old.keeper book.new.keeper) }
     ensures failed { result ≡ Err NotStored → book.old.closed ≡ false → (K.failed book.old.keeper ≡ 0) × (K.failed book.new.keeper ≡ 1) }
+    ensures written { IfErr result (λ fault. fault ≢ WriteFailed) }
+    ensures unchanged { OnErr result (book.new.book.history ≡ book.old.book.history) }
+    ensures open { IfErr result (λ fault. fault ≢ NotStored → book.old.closed ≡ false → book.new.closed ≡ false) }
     ensures trusted { K.is_trusted book.new.keeper → K.is_trusted book.old.keeper }
 {
     let message = match read_message(alloc, bytes) {
@@ -96,9 +98,12 @@ fn take_input<K: Keeper, R: Read + Drop>(
     ensures stopped { IfSome (R.remaining input) (λ bytes. K.is_trusted book.new.keeper
         → LeavesOneOf book.old.book.history (behind_bytes book.old.book.office book.old.book.history bytes) (K.may_leave book.old.keeper)
         → LeavesOneOf book.old.book.history (behind_bytes book.old.book.office book.old.book.history bytes) (K.may_leave book.new.keeper)) }
-    ensures fault { IfErr result (λ fault. book.old.closed ≡ false → IsInputEnd book.old.book.office book.old.book.history (R.remaining input) fault) }
+    ensures fault { IfErr result (λ fault. book.old.closed ≡ false → IsInputEnd book.old.book.office book.old.book.history (R.remaining input) (λ h. book.new.book.history ≡ h) fault) }
     ensures untouched { IfErr result (λ fault. LeavesAsItWas fault book.old.keeper book.new.keeper) }
     ensures failed { result ≡ Err NotStored → book.old.closed ≡ false → (K.failed book.old.keeper ≡ 0) × (K.failed book.new.keeper ≡ 1) }
+    ensures written { IfErr result (λ fault. fault ≢ WriteFailed) }
+    ensures unchanged { OnErr result (book.new.book.history ≡ book.old.book.history) }
+    ensures open { IfErr result (λ fault. fault ≢ NotStored → book.old.closed ≡ false → book.new.closed ≡ false) }
     ensures trusted { K.is_trusted book.new.keeper → K.is_trusted book.old.keeper }
 {
     match read_input(alloc, input) {
@@ -125,12 +130,15 @@ fn write_taken<K: Keeper, R: Read + Drop, W: Write>(
     ensures stopped { IfSome (R.remaining input) (λ bytes. K.is_trusted book.new.keeper
         → LeavesOneOf book.old.book.history (behind_bytes book.old.book.office book.old.book.history bytes) (K.may_leave book.old.keeper)
         → LeavesOneOf book.old.book.history (behind_bytes book.old.book.office book.old.book.history bytes) (K.may_leave book.new.keeper)) }
-    ensures fault { IfErr result (λ fault. book.old.closed ≡ false → IsInputEnd book.old.book.office book.old.book.history (R.remaining input) fault) }
+    ensures fault { IfErr result (λ fault. book.old.closed ≡ false → IsInputEnd book.old.book.office book.old.book.history (R.remaining input) (λ h. book.new.book.history ≡ h) fault) }
     ensures untouched { IfErr result (λ fault. LeavesAsItWas fault book.old.keeper book.new.keeper) }
     ensures failed { result ≡ Err NotStored → book.old.closed ≡ false → (K.failed book.old.keeper ≡ 0) × (K.failed book.new.keeper ≡ 1) }
     ensures ends { IfOk result (λ status. status ≢ Failed) }
-    ensures silent { IfErr result (Unsaid IsTakenText (W.contents out.old) (W.contents out.new)) }
-    ensures begun { OnOk result (Unsaid IsTakenText (W.contents out.old) (W.contents out.new) WriteFailed) }
+    ensures told { IfOk result (Printed (IsTellingOf (IsTakenOf book.old.book.office book.old.book.history (R.remaining input)))
+        (W.contents out.old) (W.contents out.new)) }
+    ensures unsaid { IfErr result (Unsaid (IsTellingOf (IsTakenOf book.old.book.office book.old.book.history (R.remaining input)))
+        (W.contents out.old) (W.contents out.new)) }
+    ensures open { IfErr result (λ fault. fault ≢ NotStored → book.old.closed ≡ false → book.new.closed ≡ false) }
     ensures trusted { K.is_trusted book.new.keeper → K.is_trusted book.old.keeper }
 {
     match take_input(alloc, book, input) {
@@ -142,9 +150,9 @@ fn write_taken<K: Keeper, R: Read + Drop, W: Write>(
 /// Takes the one message that the input is, and prints `joined`, `nothing-new` or `acked`; what is
 /// no message, and what is refused, is told with status 1 and changes nothing.
 ///
-/// The records are opened before anything is read. A fault is told on `err`, with status 3, and a
-/// stop then leaves what the records held, or that with what the message brought at its end. The
-/// connection comes back unless its records were refused.
+/// A fault is told on `err`, with status 3, and a stop then leaves what the records held, or that
+/// with what the message brought at its end. The connection comes back unless its records were
+/// refused.
 pub fn import_store<S: Alter + Drop, R: Read + Drop, W: Write, E: Write>(
     alloc: Global,
     conn: Connection<S>,
@@ -169,9 +177,8 @@ pub fn import_store<S: Alter + Drop, R: Read + Drop, W: Write, E: Write>(
         → IfSome (R.remaining input) (λ bytes. LeavesOneOf (history_in (state S.Store conn).now.trees)
         (behind_bytes (office_of meta) (history_in (state S.Store conn).now.trees) bytes) (MayLeaveIn (state S.Store after)))) }
     ensures err { FaultTold (E.contents err.old) (E.contents err.new) result.0 }
-    ensures cause { IfSome result.1 (λ after. HasCleanDisk (state S.Store after)
-        → FailsFor (λ fault. IsIllegal S.Store conn after fault ⊎ EndsOpened S.Store conn (IsImportEnd (R.remaining input)) after fault)
-        (E.contents err.old) (E.contents err.new) result.0) }
+    ensures cause { IfSome result.1 (λ after. FailsOpened S.Store conn (IsImportEnd (R.remaining input)) (IsInputTold (state S.Store conn).now.trees (R.remaining input)) after
+        (W.contents out.old) (W.contents out.new) (E.contents err.old) (E.contents err.new) result.0) }
     ensures silent { FailsFor (Unsaid IsTakenText (W.contents out.old) (W.contents out.new)) (E.contents err.old) (E.contents err.new) result.0 }
     ensures ours { IfSome result.1 (ShowedRecords S.Store conn) }
     ensures illegal { IfSome result.1 (λ after. FailsIfIllegal S.Store conn after (W.contents out.old) (W.contents out.new) (E.contents err.old) (E.contents err.new) result.0) }

@@ -28,8 +28,8 @@ use std::io::Write;
 pub fn refuse_site<W: Write, E: Write>(out: &mut W, err: &mut E) -> Status
     ensures out { Printed (IsTellingOf (λ told. told ≡ NoSite)) (W.contents out.old) (W.contents out.new) result }
     ensures err { FaultTold (E.contents err.old) (E.contents err.new) result }
-    ensures cause { FailsFor (λ fault. fault ≡ WriteFailed) (E.contents err.old) (E.contents err.new) result }
-    ensures silent { FailsFor (Unsaid (IsTellingOf (λ told. told ≡ NoSite)) (W.contents out.old) (W.contents out.new)) (E.contents err.old) (E.contents err.new) result }
+    ensures cause { FailsFor (λ fault. (fault ≡ WriteFailed) × Unsaid (IsTellingOf (λ told. told ≡ NoSite)) (W.contents out.old) (W.contents out.new) fault)
+        (E.contents err.old) (E.contents err.new) result }
 {
     let came = tell(&Told::NoSite, out);
     ended(came, out, err)
@@ -89,7 +89,6 @@ fn write_made<S: Alter, W: Write>(
     ensures unsaid { HasCleanDisk (state S.Store conn.new) → OnOk result (IsMakeEnd S.Store conn.old conn.new (record { me = me; sites = sites; limit = limit }) WriteFailed) }
     ensures ends { IfOk result (λ status. status ≢ Failed) }
     ensures silent { IfErr result (Unsaid (IsMadeText me sites (has_our_table conn.old.schema)) (W.contents out.old) (W.contents out.new)) }
-    ensures begun { OnOk result (Unsaid (IsMadeText me sites (has_our_table conn.old.schema)) (W.contents out.old) (W.contents out.new) WriteFailed) }
 {
     match make(conn, me, sites, limit) {
         Ok(told) => tell(&told, out),
@@ -125,7 +124,9 @@ pub fn init_store<S: Alter, W: Write, E: Write>(
     ensures ended { conn.old.in_transaction ≡ false → conn.new.in_transaction ≡ false }
     ensures crash { HasCleanDisk (state S.Store conn.new) → LeavesAsBeforeOrNew (record { me = me; sites = sites; limit = limit }) (state S.Store conn.old) (state S.Store conn.new) }
     ensures cause { HasCleanDisk (state S.Store conn.new)
-        → FailsFor (IsMakeEnd S.Store conn.old conn.new (record { me = me; sites = sites; limit = limit })) (E.contents err.old) (E.contents err.new) result }
+        → FailsFor (λ fault. IsMakeEnd S.Store conn.old conn.new (record { me = me; sites = sites; limit = limit }) fault
+        × Unsaid (IsMadeText me sites (has_our_table conn.old.schema)) (W.contents out.old) (W.contents out.new) fault)
+        (E.contents err.old) (E.contents err.new) result }
     ensures silent { FailsFor (Unsaid (IsMadeText me sites (has_our_table conn.old.schema)) (W.contents out.old) (W.contents out.new)) (E.contents err.old) (E.contents err.new) result }
 {
     let came = write_made(conn, me, sites, limit, out);

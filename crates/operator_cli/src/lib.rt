@@ -8,6 +8,7 @@ mod ending;
 mod export;
 mod fault;
 mod find;
+mod grammar;
 mod grow;
 mod import;
 mod init;
@@ -22,7 +23,6 @@ mod status;
 mod store_fault;
 mod told;
 mod totals;
-mod words;
 mod world;
 
 pub use ask::ask_store;

@@ -8,8 +8,8 @@ ghost use Rattle.sqlite.specs.Held.{state};
 ghost use Rattle.sql_records.specs.Held.{IsTrusted, IsUndisturbed, LeavesNoMore, MayLeaveIn, kept_in, history_in};
 ghost use Rattle.book_core.specs.declared.entry.Entry.{Entry};
 ghost use Rattle.operator_cli.specs.Told.{of_find_fault, FaultTold};
-ghost use Rattle.operator_cli.specs.Printed.{Printed, IsListText, AreListed, IsListIn};
-ghost use Rattle.operator_cli.specs.Opened.{EndsOpened, FailsFor, FailsIfIllegal, IsIllegal, IsListEnd, IsLost, ShowedRecords};
+ghost use Rattle.operator_cli.specs.Printed.{Printed, Unsaid, IsListText, AreListed, IsListIn};
+ghost use Rattle.operator_cli.specs.Opened.{FailsFor, FailsIfIllegal, FailsOpened, IsListEnd, IsLost, ShowedRecords};
 
 use crate::ending::{ended, write_line};
 use crate::find::of_find_fault;
@@ -26,6 +26,7 @@ use std::io::Write;
 
 fn write_all<W: Write>(listed: &[Listed], out: &mut W) -> Result<Status, StoreFault>
     ensures out { IfOk result (Printed (AreListed listed.now) (W.contents out.old) (W.contents out.new)) }
+    ensures silent { IfErr result (Unsaid (AreListed listed.now) (W.contents out.old) (W.contents out.new)) }
     ensures fault { IfErr result (λ fault. fault ≡ WriteFailed) }
     ensures ends { IfOk result (λ status. status ≢ Failed) }
 {
@@ -47,6 +48,9 @@ fn write_listed<S: Alter, W: Write>(
     ensures out { IfOk result (Printed IsListText (W.contents out.old) (W.contents out.new)) }
     ensures listed { IsTrusted S.Store records.new
         → IfOk result (Printed (IsListIn (kept_in S.Store records.old) event.now) (W.contents out.old) (W.contents out.new)) }
+    ensures silent { IfErr result (Unsaid IsListText (W.contents out.old) (W.contents out.new)) }
+    ensures unsaid { IsTrusted S.Store records.new
+        → IfErr result (Unsaid (IsListIn (kept_in S.Store records.old) event.now) (W.contents out.old) (W.contents out.new)) }
     ensures same { IsTrusted S.Store records.new → OnOk result
         ((state S.Store records.new.conn).now ≡ (state S.Store records.old.conn).now) }
     ensures fault { records.old.failures ≡ 0 → IsTrusted S.Store records.new
@@ -90,9 +94,9 @@ pub fn list_store<S: Alter + Drop, W: Write, E: Write>(
     ensures stopped { IfSome result.1 (λ after. HasCleanDisk (state S.Store after)
         → (left : Option (List Entry)) → MayLeaveIn (state S.Store after) left
         → left ≡ Some (history_in (state S.Store conn).now.trees)) }
-    ensures cause { IfSome result.1 (λ after. HasCleanDisk (state S.Store after)
-        → FailsFor (λ fault. IsIllegal S.Store conn after fault ⊎ EndsOpened S.Store conn (IsListEnd event.now) after fault)
-        (E.contents err.old) (E.contents err.new) result.0) }
+    ensures cause { IfSome result.1 (λ after. FailsOpened S.Store conn (IsListEnd event.now) (IsListIn (history_in (state S.Store conn).now.trees) event.now) after
+        (W.contents out.old) (W.contents out.new) (E.contents err.old) (E.contents err.new) result.0) }
+    ensures silent { FailsFor (Unsaid IsListText (W.contents out.old) (W.contents out.new)) (E.contents err.old) (E.contents err.new) result.0 }
     ensures ours { IfSome result.1 (ShowedRecords S.Store conn) }
     ensures illegal { IfSome result.1 (λ after. FailsIfIllegal S.Store conn after (W.contents out.old) (W.contents out.new) (E.contents err.old) (E.contents err.new) result.0) }
     ensures lost { result.1 ≡ None → IsLost S.Store conn (W.contents out.old) (W.contents out.new) (E.contents err.old) (E.contents err.new) result.0 }

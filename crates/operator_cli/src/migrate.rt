@@ -1,6 +1,6 @@
 //! The command `migrate`: records of the first schema, made ones of the second.
 
-ghost use Rattle.std.specs.Prelude.{◌≡◌, ◌≢◌, false, length, IfOk, IfErr, OnOk, IsTrue};
+ghost use Rattle.std.specs.Prelude.{◌≡◌, ◌≢◌, false, length, IfOk, IfErr, IsTrue};
 ghost use Rattle.sqlite.specs.State.{HasCleanDisk};
 ghost use Rattle.sqlite.specs.Held.{state};
 ghost use Rattle.sql_records.specs.declared.meta.Meta.{Meta};
@@ -11,8 +11,8 @@ ghost use Rattle.sql_records.specs.Keeping.{LeavesOnly};
 ghost use Rattle.sql_records.specs.Migrating.{IsAsBefore, IsMigrated, IsLegalFirst, IsMigrateFault, LeavesAsBeforeOrMigrated, LeavesItOrMigrated};
 ghost use Rattle.sql_records.specs.declared.fault.MigrateFault.TheVariants.{Nothing};
 ghost use Rattle.operator_cli.specs.Told.{FaultTold, told_status, ended_by_migrate};
-ghost use Rattle.operator_cli.specs.Opened.{IsMigrateEnd, FailsFor};
-ghost use Rattle.operator_cli.specs.Printed.{Printed, Unsaid, IsMigratedText, IsOfMigrating};
+ghost use Rattle.operator_cli.specs.Opened.{IsMigrateEnd, IsMigrationTold, FailsFor};
+ghost use Rattle.operator_cli.specs.Printed.{Printed, Unsaid, IsMigratedText, IsOfMigrating, IsTellingOf};
 ghost use Rattle.operator_cli.specs.declared.store_fault.StoreFault.TheVariants.{Write as WriteFailed};
 ghost use Rattle.operator_cli.specs.declared.status.Status.TheVariants.{Done, Refused, Failed};
 
@@ -56,6 +56,7 @@ fn migrate<S: Alter>(alloc: Global, conn: &mut Connection<S>) -> Result<Told, St
     ensures either { conn.old.in_transaction ≡ false → IsTrue (state S.Store conn.old).is_open → HasCleanDisk (state S.Store conn.new)
         → LeavesItOrMigrated (state S.Store conn.old).now.trees (state S.Store conn.new) }
     ensures fault { HasCleanDisk (state S.Store conn.new) → IfErr result (IsMigrateEnd S.Store conn.old conn.new) }
+    ensures written { IfErr result (λ fault. fault ≢ WriteFailed) }
 {
     match Records::migrate(alloc, conn) {
         Ok(()) => Ok(Told::Migrated),
@@ -84,10 +85,10 @@ fn write_migrated<S: Alter, W: Write>(
     ensures either { conn.old.in_transaction ≡ false → IsTrue (state S.Store conn.old).is_open → HasCleanDisk (state S.Store conn.new)
         → LeavesItOrMigrated (state S.Store conn.old).now.trees (state S.Store conn.new) }
     ensures fault { HasCleanDisk (state S.Store conn.new) → IfErr result (IsMigrateEnd S.Store conn.old conn.new) }
-    ensures unsaid { HasCleanDisk (state S.Store conn.new) → OnOk result (IsMigrateEnd S.Store conn.old conn.new WriteFailed) }
     ensures ends { IfOk result (λ status. status ≢ Failed) }
+    ensures told { HasCleanDisk (state S.Store conn.new) → IfOk result (Printed (IsTellingOf (IsMigrationTold S.Store conn.old conn.new)) (W.contents out.old) (W.contents out.new)) }
     ensures silent { IfErr result (Unsaid IsMigratedText (W.contents out.old) (W.contents out.new)) }
-    ensures begun { OnOk result (Unsaid IsMigratedText (W.contents out.old) (W.contents out.new) WriteFailed) }
+    ensures unsaid { HasCleanDisk (state S.Store conn.new) → IfErr result (Unsaid (IsTellingOf (IsMigrationTold S.Store conn.old conn.new)) (W.contents out.old) (W.contents out.new)) }
 {
     match migrate(alloc, conn) {
         Ok(told) => tell(&told, out),
@@ -98,8 +99,8 @@ fn write_migrated<S: Alter, W: Write>(
 /// Makes the records of a site in the first schema records of the second, and prints `migrated`; or `nothing` where they
 /// are of the second already, with status 1.
 ///
-/// Each other refusal is told on `err`, with status 3 and nothing printed: `not-ours`, `other-schema V`, `damaged K`, `memory` and `disk`. A
-/// connection that is still open then shows the records as they were, save where `migrated` could not be written; behind `disk`
+/// Each other refusal is told on `err`, with status 3 and nothing printed: `not-ours`, `other-schema V`, `damaged K`, `memory` and `disk`;
+/// and `write` where the word is not written. A connection that is still open then shows the records as they were, save where `migrated` could not be written; behind `disk`
 /// the file may have either version. `migrated` leaves the numbers under the new version and the rows of the entries. A stop
 /// leaves the database as it was, or migrated.
 pub fn migrate_store<S: Alter, W: Write, E: Write>(
@@ -124,7 +125,9 @@ pub fn migrate_store<S: Alter, W: Write, E: Write>(
     ensures crash { HasCleanDisk (state S.Store conn.new) → LeavesAsBeforeOrMigrated (state S.Store conn.old) (state S.Store conn.new) }
     ensures either { conn.old.in_transaction ≡ false → IsTrue (state S.Store conn.old).is_open → HasCleanDisk (state S.Store conn.new)
         → LeavesItOrMigrated (state S.Store conn.old).now.trees (state S.Store conn.new) }
-    ensures cause { HasCleanDisk (state S.Store conn.new) → FailsFor (IsMigrateEnd S.Store conn.old conn.new) (E.contents err.old) (E.contents err.new) result }
+    ensures cause { HasCleanDisk (state S.Store conn.new)
+        → FailsFor (λ fault. IsMigrateEnd S.Store conn.old conn.new fault × Unsaid (IsTellingOf (IsMigrationTold S.Store conn.old conn.new)) (W.contents out.old) (W.contents out.new) fault)
+        (E.contents err.old) (E.contents err.new) result }
     ensures silent { FailsFor (Unsaid IsMigratedText (W.contents out.old) (W.contents out.new)) (E.contents err.old) (E.contents err.new) result }
 {
     let came = write_migrated(alloc, conn, out);

@@ -2,7 +2,7 @@
 
 ghost use Rattle.std.specs.Prelude.{◌≡◌, false, IfOk, IfErr, OnOk, MatchOption};
 ghost use Rattle.sqlite.specs.Held.{state};
-ghost use Rattle.sqlite.specs.State.{HasCleanDisk};
+ghost use Rattle.sqlite.specs.State.{HasCleanDisk, IsUnchanged};
 ghost use Rattle.sql_records.specs.declared.meta.Meta.{Meta as Numbers};
 ghost use Rattle.sql_records.specs.Keeping.{LeavesOnly};
 ghost use Rattle.sql_records.specs.Layout.{HasMeta};
@@ -63,6 +63,7 @@ pub(crate) fn open_book<S: Alter + Drop>(
     ensures book { IfOk result (λ book. IsTrusted S.Store book.keeper → IsBookOf (state S.Store conn).now.trees book) }
     ensures same { IfOk result (λ book. IsTrusted S.Store book.keeper
         → (state S.Store book.keeper.conn).now ≡ (state S.Store conn).now) }
+    ensures unchanged { IfOk result (λ book. IsTrusted S.Store book.keeper → IsUnchanged (state S.Store conn) (state S.Store book.keeper.conn)) }
     ensures limit { IfOk result (λ book. book.keeper.conn.step_limit ≡ conn.step_limit) }
     ensures settled { OnOk result (conn.in_transaction ≡ false) }
     ensures autocommit { IfOk result (λ book. IsTrusted S.Store book.keeper

@@ -3,19 +3,19 @@
 ghost use Rattle.std.specs.Prelude.{◌≡◌, ◌≤◌, [], ◌∷◌, IfSome, IfOk, OnOk, IfErr, MatchResult, Some, None, map, codes};
 ghost use Rattle.std.specs.Option.{option_map};
 ghost use Rattle.clap.specs.Words.{subcommand_of, subcommand_rows_of, kind_of, all_of, first_of, found_of, rows_of};
-ghost use Rattle.rights_lattice.specs.Cells.{max_value};
+ghost use Rattle.rights_lattice.specs.Cells.{greatest_value};
 ghost use Rattle.rights_lattice.specs.Limits.{greatest_site, most_sites};
 ghost use Rattle.book_core.specs.Limits.{greatest_limit};
 ghost use Rattle.operator_cli.specs.Orders.{boxoffice, greatest_port, most_sessions, AreUnderstood, order_in, said_by, number_in, init_in, migrate_in, grow_in, ask_in, find_in, list_in, export_in, import_in, files_in, audit_in, serve_in, named_order, values_of, first_misfit, misfit_in, misfit_line, TellsMisfit, IsRefusal};
 
-use crate::words::boxoffice;
+use crate::grammar::boxoffice;
 use arrayvec::ArrayVec;
 use book_core::Limit;
 use clap::error::ErrorKind;
 use clap::{ArgMatches, Error};
 use plain_words::read_number;
 use request_ledger::RequestNumber;
-use rights_lattice::{GREATEST_SITE, MAX_VALUE, MOST_SITES, SiteId, Sites};
+use rights_lattice::{GREATEST_SITE, GREATEST_VALUE, MOST_SITES, SiteId, Sites};
 use std::alloc::Global;
 
 // As many files as there may be sites, and the most sites that one `serve` runs.
@@ -172,14 +172,14 @@ fn sites_of(values: &ArgMatches<'_>) -> Option<Sites>
 fn limit_of(values: &ArgMatches<'_>) -> Option<Limit>
     ensures { result ≡ number_in (codes "LIMIT") 1 greatest_limit (rows_of (found_of values.now)) }
 {
-    let entries = number_of(values, "LIMIT", 1, Limit::MAX)?;
+    let entries = number_of(values, "LIMIT", 1, Limit::GREATEST)?;
     Limit::of(entries)
 }
 
 fn request_number_of(values: &ArgMatches<'_>) -> Option<RequestNumber>
-    ensures { result ≡ number_in (codes "NUMBER") 1 max_value (rows_of (found_of values.now)) }
+    ensures { result ≡ number_in (codes "NUMBER") 1 greatest_value (rows_of (found_of values.now)) }
 {
-    let number = number_of(values, "NUMBER", 1, MAX_VALUE)?;
+    let number = number_of(values, "NUMBER", 1, GREATEST_VALUE)?;
     RequestNumber::of(number)
 }
 

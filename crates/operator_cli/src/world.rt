@@ -6,7 +6,7 @@ ghost use Rattle.std.specs.Io.KnownBytes.{Keeps};
 ghost use Rattle.plain_words.specs.Writing.{Writes};
 ghost use Rattle.desk_lines.specs.Grammar.{most_lines};
 ghost use Rattle.desk_lines.specs.Reading.{line_of};
-ghost use Rattle.desk_lines.specs.ScriptReplies.{reply_line};
+ghost use Rattle.desk_lines.specs.ScriptReplies.{script_reply_line};
 ghost use Rattle.operator_cli.specs.Answering.{answer_to};
 ghost use Rattle.operator_cli.specs.Faults.{IsOutFault};
 ghost use Rattle.operator_cli.specs.declared.fault.ScriptFault.TheVariants.{Memory, Read as ReadFailed};
@@ -35,7 +35,7 @@ fn reply<W: Write>(
     out: &mut W,
     world: &mut World,
 ) -> Result<(), ScriptFault>
-    ensures written { Writes (W.contents out.old) (W.contents out.new) result (reply_line (answer_to world.old (line_of line.now)).0) }
+    ensures written { Writes (W.contents out.old) (W.contents out.new) result (script_reply_line (answer_to world.old (line_of line.now)).0) }
     ensures world { OnOk result (world.new ≡ (answer_to world.old (line_of line.now)).1) }
     ensures fault { IfErr result IsOutFault }
     ensures memory { result ≡ Err Memory → Keeps (W.contents out.old) (W.contents out.new) }
@@ -132,7 +132,7 @@ fn run_none<W: Write>(alloc: Global, out: &mut W, sites: Sites) -> Result<(), Sc
 }
 
 // The lines behind the first.
-fn run_sites<R: BufRead, W: Write>(
+fn run_world<R: BufRead, W: Write>(
     alloc: Global,
     reader: &mut R,
     out: &mut W,
@@ -177,7 +177,7 @@ pub fn run_script<R: BufRead, W: Write>(
         write_bytes(b"bad-line\n", out)?;
         return Ok(false);
     };
-    run_sites(alloc, reader, out, sites)?;
+    run_world(alloc, reader, out, sites)?;
     Ok(true)
 }
 

@@ -104,11 +104,6 @@ pub passes_limit : (a b c : Option (List ℕ)) (line : List ℕ) (byte : ℕ) �
 passes_limit a b c line byte h p q e full =
     ((byte, no_break_is byte e, full, Consumes-trans a b c line (byte ∷ []) p q), begins_too_long a b c line byte h p q e (omega (arith, full)))
 
-pub one_byte : (buf : List ℕ) (n : ℕ) → length buf ≡ 1 → n ≤ 1 → 0 < n → take n buf ≡ get_or buf 0 0 ∷ []
-one_byte [] n len le more = absurd (omega arith)
-one_byte (b ∷ []) n len le more = let e : n ≡ 1 = omega arith in rw e refl
-one_byte (b ∷ c ∷ buf) n len le more = absurd (omega arith)
-
 not_empty : (b : ℕ) (x : List ℕ) (more : List (List ℕ)) → without_empty_last ((b ∷ x) ∷ more) ≡ [] → ⊥
 not_empty b x [] e = let one : without_empty_last ((b ∷ x) ∷ []) ≡ (b ∷ x) ∷ [] = single (b ∷ x) (omega arith) in let bad : (b ∷ x) ∷ [] ≡ [] = sym one ∙ e in cc
 not_empty b x (y ∷ more) e = cc

@@ -1,4 +1,4 @@
--- Numbers in decimal, without sign and without leading zeros.
+-- Numbers in decimal, without sign and without leading zeros. (Our own.)
 use Rattle.std.specs.Prelude.{ℕ, Bool, ◌&&◌, ◌||◌, not, nat_lt, nat_le, ◌==◌, List, length, slice_index, Option, Some, None, if◌then◌else◌}
 use Rattle.std.specs.Str.{all_ascii_digits}
 use Rattle.std.specs.Str.Parse.{digits_value}

@@ -1,4 +1,4 @@
--- A line as a list of words, with one space between two, read from left to right.
+-- A line as a list of words, with one space between two, read from left to right. (Our own.)
 use Rattle.std.specs.Prelude.{ℕ, List, [], ◌∷◌, Option, Some, None, ◌==◌, Bool, true, false, if◌then◌else◌}
 use Rattle.std.specs.List.{slice_split}
 use Rattle.std.specs.Borrow.{Bor}

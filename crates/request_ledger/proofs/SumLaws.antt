@@ -9,7 +9,7 @@ use Rattle.request_ledger.specs.declared.reply.Reply.{Reply}
 use Rattle.request_ledger.specs.declared.reply.Reply.TheVariants.{Done}
 use Rattle.request_ledger.specs.declared.reply.Kept.{Kept}
 use Rattle.request_ledger.specs.declared.ledger.DoneRefund.{DoneRefund}
-use Rattle.request_ledger.specs.Ledger.{Keeping, kept_under, given_back, part_asked, part_counted, sale_in, sale_if_kept, IsRefundable}
+use Rattle.request_ledger.specs.Ledger.{KeptByNumber, kept_under, given_back, part_asked, part_counted, sale_in, sale_if_kept, IsRefundable}
 use Rattle.request_ledger.specs.GivenBack.{AreSums, seats_under, seats_if_kept, seats_in, sum_under, AreSumsWith, refund_with}
 use Rattle.request_ledger.specs.Requests.{is_done}
 use Rattle.request_ledger.proofs.KeptLaws.{or_else, kept_under-push}
@@ -42,17 +42,17 @@ refund_sells_none (Sell event seats) r other h = cc
 refund_sells_none q r other h = refl
 
 -- what the parts add up to, without regard to the seats of the sale
-abbrev parts : Keeping → ℕ → ℕ → ℕ
+abbrev parts : KeptByNumber → ℕ → ℕ → ℕ
 parts es sale seats = sum_by (part_counted sale seats) es
 
-parts_push : (es : Keeping) (n : ℕ) (k : Kept) (sale seats : ℕ) → parts (es ++ (n, k) ∷ []) sale seats ≡ parts es sale seats + counted sale seats k.request k.reply
+parts_push : (es : KeptByNumber) (n : ℕ) (k : Kept) (sale seats : ℕ) → parts (es ++ (n, k) ∷ []) sale seats ≡ parts es sale seats + counted sale seats k.request k.reply
 parts_push es n k sale seats = sum_by_push (part_counted sale seats) es (n, k)
 
 seats_if_either : (o other : Option Kept) → (seats_if_kept (or_else o other) ≡ seats_if_kept o) ⊎ (seats_if_kept o ≡ None)
 seats_if_either None other = inr refl
 seats_if_either (Some k) other = inl refl
 
-pub seats_or_new : (es : Keeping) (n : ℕ) (k : Kept) (number : ℕ) → (seats_under (es ++ (n, k) ∷ []) number ≡ seats_under es number) ⊎ (seats_under es number ≡ None)
+pub seats_or_new : (es : KeptByNumber) (n : ℕ) (k : Kept) (number : ℕ) → (seats_under (es ++ (n, k) ∷ []) number ≡ seats_under es number) ⊎ (seats_under es number ≡ None)
 seats_or_new es n k number = elim (seats_if_either (kept_under es number) (cond (nat_eq n number) (Some k) None)) [
   | inl e ↦ inl (ap seats_if_kept (kept_under-push es n k number) ∙ e)
   | inr e ↦ inr e
@@ -64,7 +64,7 @@ seats_if_no_sale None false k h = refl
 seats_if_no_sale (Some other) b k h = refl
 
 -- an entry that gives nothing back
-pub sums_stay : (es : Keeping) (sums : List (ℕ × ℕ)) (n : ℕ) (k : Kept) → AreSums es sums → refund_with k.request k.reply ≡ None → AreSums (es ++ (n, k) ∷ []) sums
+pub sums_stay : (es : KeptByNumber) (sums : List (ℕ × ℕ)) (n : ℕ) (k : Kept) → AreSums es sums → refund_with k.request k.reply ≡ None → AreSums (es ++ (n, k) ∷ []) sums
 sums_stay es sums n k are nothing =
     let same : (q seats : ℕ) → given_back (es ++ (n, k) ∷ []) q seats ≡ given_back es q seats =
     λ q seats. omega (arith, parts_push es n k q seats, no_refund k.request k.reply q seats nothing) in
@@ -106,7 +106,7 @@ raised_by true seats sum asked = refl
 raised_by false seats sum asked = omega arith
 
 -- a refund that is done gives back its part of the sale, or the rest
-pub sums_raised : (es : Keeping) (sums raised : List (ℕ × ℕ)) (n : ℕ) (k : Kept) (refund : DoneRefund) (seats : ℕ) → AreSums es sums → refund_with k.request k.reply ≡ Some refund
+pub sums_raised : (es : KeptByNumber) (sums raised : List (ℕ × ℕ)) (n : ℕ) (k : Kept) (refund : DoneRefund) (seats : ℕ) → AreSums es sums → refund_with k.request k.reply ≡ Some refund
     → seats_under es refund.sale ≡ Some seats → Fits refund.part seats (sum_under sums refund.sale)
     → ((q : ℕ) → sum_under raised q ≡ cond (nat_eq refund.sale q) (with_part refund.part seats (sum_under sums refund.sale)) (sum_under sums q)) → AreSums (es ++ (n, k) ∷ []) raised
 sums_raised es sums raised n k refund seats are is of fits at =
@@ -137,23 +137,23 @@ sums_raised es sums raised n k refund seats are is of fits at =
           ∙ none_both (nat_eq refund.sale q);
     }
 
-pub sums_with_none : (es : Keeping) (sums : List (ℕ × ℕ)) (q : Request) (r : Reply) → AreSums es sums → refund_with q r ≡ None → AreSumsWith es q r sums
+pub sums_with_none : (es : KeptByNumber) (sums : List (ℕ × ℕ)) (q : Request) (r : Reply) → AreSums es sums → refund_with q r ≡ None → AreSumsWith es q r sums
 sums_with_none es sums q r are nothing number place = sums_stay es sums number (record { place = place; request = q; reply = r }) are nothing
 
-pub sums_with_refund : (es : Keeping) (sums raised : List (ℕ × ℕ)) (q : Request) (r : Reply) (refund : DoneRefund) (seats : ℕ) → AreSums es sums → refund_with q r ≡ Some refund → seats_under es refund.sale ≡ Some seats
+pub sums_with_refund : (es : KeptByNumber) (sums raised : List (ℕ × ℕ)) (q : Request) (r : Reply) (refund : DoneRefund) (seats : ℕ) → AreSums es sums → refund_with q r ≡ Some refund → seats_under es refund.sale ≡ Some seats
     → Fits refund.part seats (sum_under sums refund.sale)
     → ((n : ℕ) → sum_under raised n ≡ cond (nat_eq refund.sale n) (with_part refund.part seats (sum_under sums refund.sale)) (sum_under sums n)) → AreSumsWith es q r raised
 sums_with_refund es sums raised q r refund seats are is of fits at number place = sums_raised es sums raised number (record { place = place; request = q; reply = r }) refund seats are is of fits at
 
 -- no more is given back of a sale than it has seats
-pub sum_within : (es : Keeping) (sums : List (ℕ × ℕ)) (sale seats : ℕ) → AreSums es sums → seats_under es sale ≡ Some seats → sum_under sums sale ≤ seats
+pub sum_within : (es : KeptByNumber) (sums : List (ℕ × ℕ)) (sale seats : ℕ) → AreSums es sums → seats_under es sale ≡ Some seats → sum_under sums sale ≤ seats
 sum_within es sums sale seats are of = omega (arith, are.of_sales sale seats of)
 
-abbrev FitsSale : Keeping → ℕ → Option ℕ → Option Kept → Type 0
+abbrev FitsSale : KeptByNumber → ℕ → Option ℕ → Option Kept → Type 0
 FitsSale es sale part o = IsSomeAnd (sale_if_kept es sale o) (λ state. Fits part state.seats state.given_back)
 
 -- the sale, from what is kept under its number
-some_seats : (o : Option Kept) (es : Keeping) (sale : ℕ) (part : Option ℕ) → FitsSale es sale part o → IsSome (seats_if_kept o)
+some_seats : (o : Option Kept) (es : KeptByNumber) (sale : ℕ) (part : Option ℕ) → FitsSale es sale part o → IsSome (seats_if_kept o)
 some_seats None es sale part h = absurd h
 some_seats (Some k) es sale part h = of_sale k.request k.reply h
   where
@@ -162,7 +162,7 @@ some_seats (Some k) es sale part h = of_sale k.request k.reply h
     of_sale q r h = absurd h
 
 -- and what is left of it
-fits_seats : (o : Option Kept) (es : Keeping) (sale seats : ℕ) (part : Option ℕ) → FitsSale es sale part o → seats_if_kept o ≡ Some seats → Fits part seats (given_back es sale seats)
+fits_seats : (o : Option Kept) (es : KeptByNumber) (sale seats : ℕ) (part : Option ℕ) → FitsSale es sale part o → seats_if_kept o ≡ Some seats → Fits part seats (given_back es sale seats)
 fits_seats None es sale seats part h of = absurd h
 fits_seats (Some k) es sale seats part h of = of_sale k.request k.reply h of
   where
@@ -170,18 +170,18 @@ fits_seats (Some k) es sale seats part h of = of_sale k.request k.reply h of
     of_sale (Sell event n) Done h of = let same : n ≡ seats = cc in subst (λ m. Fits part m (given_back es sale m)) same h
     of_sale q r h of = absurd h
 
-refund_fits : (es : Keeping) (q : Request) (r : Reply) (refund : DoneRefund) → refund_with q r ≡ Some refund → IsRefundable es q r → FitsSale es refund.sale refund.part (kept_under es refund.sale)
+refund_fits : (es : KeptByNumber) (q : Request) (r : Reply) (refund : DoneRefund) → refund_with q r ≡ Some refund → IsRefundable es q r → FitsSale es refund.sale refund.part (kept_under es refund.sale)
 refund_fits es (Refund sale part) Done refund is fits =
     let same : record { sale = sale; part = part } ≡ refund = cc in
     subst (λ (d : DoneRefund). FitsSale es d.sale d.part (kept_under es d.sale)) same fits
 refund_fits es q r refund is fits = cc
 
 -- a refund that may be done is of a sale
-pub refundable_is_sale : (es : Keeping) (q : Request) (r : Reply) (refund : DoneRefund) → refund_with q r ≡ Some refund → IsRefundable es q r → IsSome (seats_under es refund.sale)
+pub refundable_is_sale : (es : KeptByNumber) (q : Request) (r : Reply) (refund : DoneRefund) → refund_with q r ≡ Some refund → IsRefundable es q r → IsSome (seats_under es refund.sale)
 refundable_is_sale es q r refund is may = some_seats (kept_under es refund.sale) es refund.sale refund.part (refund_fits es q r refund is may)
 
 -- and gives back no more than is left of it
-pub refundable_fits : (es : Keeping) (sums : List (ℕ × ℕ)) (q : Request) (r : Reply) (refund : DoneRefund) (seats : ℕ) → AreSums es sums → refund_with q r ≡ Some refund → IsRefundable es q r
+pub refundable_fits : (es : KeptByNumber) (sums : List (ℕ × ℕ)) (q : Request) (r : Reply) (refund : DoneRefund) (seats : ℕ) → AreSums es sums → refund_with q r ≡ Some refund → IsRefundable es q r
     → seats_under es refund.sale ≡ Some seats → Fits refund.part seats (sum_under sums refund.sale)
 refundable_fits es sums q r refund seats are is may of =
     subst (Fits refund.part seats) (sym (are.of_sales refund.sale seats of)) (fits_seats (kept_under es refund.sale) es refund.sale seats refund.part (refund_fits es q r refund is may) of)

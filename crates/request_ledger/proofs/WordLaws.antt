@@ -21,14 +21,6 @@ found_has_word word w (y ∷ xs) x e = elim (cases_Bool (bytes_eq w (word y))) [
   | inr other ↦ let chosen : find (λ y. bytes_eq w (word y)) xs ≡ Some x = rw other at e in found_has_word word w xs x chosen
 ]
 
--- what is found is among those looked at
-found_among : {A : Type 0} (P : A → Type 0) (p : A → Bool) (xs : List A) (x : A) → AllByRecursion P xs → find p xs ≡ Some x → P x
-found_among P p [] x h e = absurd cc
-found_among P p (y ∷ xs) x h e = elim (cases_Bool (p y)) [
-  | inl same ↦ let chosen : Some y ≡ Some x = rw same at e in subst P (some_is y x chosen) h.0
-  | inr other ↦ let chosen : find p xs ≡ Some x = rw other at e in found_among P p xs x h.1 chosen
-]
-
 -- a verb is read from its word
 pub verb_again : (v : Verb) → verb_of (verb_word v) ≡ Some v
 unfolding verb_of
@@ -56,12 +48,3 @@ reply_again Refunded = refl
 reply_again (TooMany rest) = refl
 reply_again ToSelf = refl
 reply_again NoSite = refl
-
--- and from no others
-have_number : (n : Option ℕ) → AllByRecursion (λ r. n ≡ reply_number r) (replies_with n)
-have_number None = (refl, (refl, (refl, (refl, (refl, (refl, (refl, (refl, tt))))))))
-have_number (Some seats) = (refl, (refl, tt))
-
-pub reply_found : (w : List ℕ) (n : Option ℕ) (r : Reply) → reply_of w n ≡ Some r → (w ≡ reply_word r) × (n ≡ reply_number r)
-unfolding reply_of
-reply_found w n r e = (found_has_word reply_word w (replies_with n) r e, found_among (λ x. n ≡ reply_number x) _ (replies_with n) r (have_number n) e)

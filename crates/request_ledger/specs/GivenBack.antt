@@ -8,7 +8,7 @@ use Rattle.request_ledger.specs.declared.reply.Reply.TheVariants.{Done}
 use Rattle.request_ledger.specs.declared.reply.Kept.{Kept}
 use Rattle.request_ledger.specs.declared.reply.SaleState.{SaleState}
 use Rattle.request_ledger.specs.declared.ledger.DoneRefund.{DoneRefund}
-use Rattle.request_ledger.specs.Ledger.{Keeping, kept_under, given_back}
+use Rattle.request_ledger.specs.Ledger.{KeptByNumber, kept_under, given_back}
 
 -- the refund, where the request is one that was done
 abbrev pub refund_with : Request → Reply → Option DoneRefund
@@ -30,7 +30,7 @@ seats_if_kept None = None
 seats_if_kept (Some k) = seats_in k.request k.reply
 
 -- the seats of the sale under a number
-abbrev pub seats_under : Keeping → ℕ → Option ℕ
+abbrev pub seats_under : KeptByNumber → ℕ → Option ℕ
 seats_under es number = seats_if_kept (kept_under es number)
 
 -- the sum under a number, or 0
@@ -38,11 +38,11 @@ abbrev pub sum_under : List (ℕ × ℕ) → ℕ → ℕ
 sum_under sums number = unwrap_or (lookup (nat_eq number) sums) 0
 
 -- each sale's sum is what was given back of it, and of nothing else was anything given back
-pub record AreSums (es : Keeping) (sums : List (ℕ × ℕ)) : Type 0 where
+pub record AreSums (es : KeptByNumber) (sums : List (ℕ × ℕ)) : Type 0 where
   pub of_sales : (number seats : ℕ) → seats_under es number ≡ Some seats → sum_under sums number ≡ given_back es number seats
   pub no_sum : (number : ℕ) → seats_under es number ≡ None → sum_under sums number ≡ 0
   pub of_sales_only : (number seats : ℕ) → seats_under es number ≡ None → given_back es number seats ≡ 0
 
 -- the same, once the request and its reply are kept too, under whichever number
-abbrev pub AreSumsWith : Keeping → Request → Reply → List (ℕ × ℕ) → Type 0
+abbrev pub AreSumsWith : KeptByNumber → Request → Reply → List (ℕ × ℕ) → Type 0
 AreSumsWith es request reply sums = (number place : ℕ) → AreSums (es ++ (number, record { place = place; request = request; reply = reply }) ∷ []) sums

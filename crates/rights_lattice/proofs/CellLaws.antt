@@ -13,7 +13,7 @@ use Rattle.std.proofs.lemmas.Map.Lookups.{CmpEqualImpliesEq, exact_bytes, exact_
 use Rattle.std.proofs.lemmas.Bool.Decides.{nat_tests}
 use Rattle.rights_lattice.specs.Cell.{cell_cmp}
 use Rattle.rights_lattice.specs.CellOrder.{cell_cmp_total, exact_cells}
-use Rattle.rights_lattice.specs.Cells.{Key, key_cmp, is_of, value_in, greatest, Cells, Valued, number_of, value_at, all_zero, raise, raise_all, marks_of, join}
+use Rattle.rights_lattice.specs.Cells.{Key, key_cmp, is_of, value_in, greatest, Cells, Valued, from_less_one, value_at, all_zero, raise, raise_all, marks_of, join}
 use Rattle.rights_lattice.specs.declared.cell.Cell.{Cell}
 
 pub key_cmp_total : IsTotalOrder key_cmp
@@ -30,13 +30,13 @@ equal Greater e = cc
 pub of_same : (m : Valued) (e : List ℕ) (c : Cell) → is_of m e c ≡ true → ◌≡◌ {A = Key} (e, c) (m.event, m.cell)
 of_same m e c t = exact_keys _ _ (equal _ t)
 
-number_of-insert : (b : Bool) (p : ℕ) (o : Option ℕ) → number_of (cond b (Some p) o) ≡ cond b (p + 1) (number_of o)
-number_of-insert true p o = refl
-number_of-insert false p o = refl
+from_less_one-insert : (b : Bool) (p : ℕ) (o : Option ℕ) → from_less_one (cond b (Some p) o) ≡ cond b (p + 1) (from_less_one o)
+from_less_one-insert true p o = refl
+from_less_one-insert false p o = refl
 
 value_at-insert : (X : Cells) (m : Valued) (e : List ℕ) (c : Cell) → value_at (finite.insert X (m.event, m.cell) (m.value - 1)) e c ≡ cond (is_of m e c) (m.value - 1 + 1) (value_at X e c)
 unfolding value_at
-value_at-insert X m e c = ap number_of (finite.get-insert key_cmp_total X (m.event, m.cell) (m.value - 1) (e, c)) ∙ number_of-insert (is_of m e c) _ _
+value_at-insert X m e c = ap from_less_one (finite.get-insert key_cmp_total X (m.event, m.cell) (m.value - 1) (e, c)) ∙ from_less_one-insert (is_of m e c) _ _
 
 raised_value : (at le : Bool) (v old here : ℕ) → leb v old ≡ le → (at ≡ true → here ≡ old) → cond le here (cond at (v - 1 + 1) here) ≡ max here (cond at v 0)
 raised_value true true v old here l h = grind (arith, nat_tests, h refl)
@@ -61,9 +61,9 @@ value_at-raise_all X (m ∷ ms) e c = omega (arith, value_at-raise_all (raise X 
 
 pub value_at-all_zero : (e : List ℕ) (c : Cell) → value_at all_zero e c ≡ 0
 unfolding value_at all_zero
-value_at-all_zero e c = ap number_of (finite.get-empty key_cmp (e, c))
+value_at-all_zero e c = ap from_less_one (finite.get-empty key_cmp (e, c))
 
-same_number : (o p : Option ℕ) → number_of o ≡ number_of p → o ≡ p
+same_number : (o p : Option ℕ) → from_less_one o ≡ from_less_one p → o ≡ p
 same_number None None h = refl
 same_number None (Some y) h = absurd (omega arith)
 same_number (Some x) None h = absurd (omega arith)
@@ -90,12 +90,12 @@ greatest-below q (e ∷ es) h =
     let parts = both_true _ _ h in
     rw (less_not_equal (key_cmp q e.0) parts.0) (omega (arith, greatest-below q es parts.1))
 
-greatest-sorted : (q : Key) (es : List (Key × ℕ)) → T (entry.is_sorted key_cmp es) → greatest (map (λ e. record { event = e.0.0; cell = e.0.1; value = e.1 + 1 }) es) q.0 q.1 ≡ number_of (entry.find key_cmp q es)
+greatest-sorted : (q : Key) (es : List (Key × ℕ)) → T (entry.is_sorted key_cmp es) → greatest (map (λ e. record { event = e.0.0; cell = e.0.1; value = e.1 + 1 }) es) q.0 q.1 ≡ from_less_one (entry.find key_cmp q es)
 greatest-sorted q [] h = refl
 greatest-sorted q (e ∷ es) h =
     let parts : T (entry.below_all key_cmp e.0 es) × T (entry.is_sorted key_cmp es) = both_true _ _ h in
     let rest = greatest-sorted q es parts.1 in
-    elim (eq_by_cmp key_cmp q e.0) as (λ b. eq_by_cmp key_cmp q e.0 ≡ b → max (cond b (e.1 + 1) 0) (greatest (map (λ e. record { event = e.0.0; cell = e.0.1; value = e.1 + 1 }) es) q.0 q.1) ≡ number_of (cond b (Some e.1) (entry.find key_cmp q es))) [
+    elim (eq_by_cmp key_cmp q e.0) as (λ b. eq_by_cmp key_cmp q e.0 ≡ b → max (cond b (e.1 + 1) 0) (greatest (map (λ e. record { event = e.0.0; cell = e.0.1; value = e.1 + 1 }) es) q.0 q.1) ≡ from_less_one (cond b (Some e.1) (entry.find key_cmp q es))) [
       | true ↦ λ t. let k : q ≡ e.0 = exact_keys _ _ (equal _ t) in
           let none = greatest-below q es (subst (λ (x : Key). T (entry.below_all key_cmp x es)) (sym k) parts.0) in omega arith
       | false ↦ λ t. omega arith
@@ -103,7 +103,7 @@ greatest-sorted q (e ∷ es) h =
 
 pub greatest-marks_of : (X : Cells) (e : List ℕ) (c : Cell) → greatest (marks_of X) e c ≡ value_at X e c
 unfolding marks_of value_at
-greatest-marks_of X e c = greatest-sorted (e, c) (finite.entries X) (finite.entries_sorted X) ∙ ap number_of (sym (finite.get-entries X (e, c)))
+greatest-marks_of X e c = greatest-sorted (e, c) (finite.entries X) (finite.entries_sorted X) ∙ ap from_less_one (sym (finite.get-entries X (e, c)))
 
 pub value_at-join : (X Y : Cells) (e : List ℕ) (c : Cell) → value_at (join X Y) e c ≡ max (value_at X e c) (value_at Y e c)
 unfolding join

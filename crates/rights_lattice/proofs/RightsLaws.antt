@@ -50,15 +50,6 @@ pub join-marks : (X Y : Cells) → cells.join X Y ≡ raise_all X (marks_of Y)
 unfolding cells.join
 join-marks X Y = refl
 
--- a cell of a raised zero state that is not 0 is the mark's
-pub only_mark : (m : Valued) (e : List ℕ) (c : Cell) → 1 ≤ value_at (raise all_zero m) e c → c ≡ m.cell
-only_mark m e c h =
-    elim (is_of m e c) as (λ b. is_of m e c ≡ b → c ≡ m.cell) [
-      | true ↦ λ t. ap (λ (k : Key). k.1) (of_same m e c t)
-      | false ↦ λ t. let none : value_in m e c ≡ 0 = ap (λ b. cond b m.value 0) t in
-          absurd (omega (arith, value_at-raise all_zero m e c, value_at-all_zero e c))
-    ] refl
-
 pub within_zero : (n : ℕ) → IsWithin n all_zero
 within_zero n e c h = absurd (omega (arith, value_at-all_zero e c))
 

@@ -10,7 +10,7 @@ use Rattle.rights_lattice.specs.declared.cell.Cell.{Cell}
 use Rattle.rights_lattice.specs.declared.cell.Cell.TheVariants.{Gave, Used, Back}
 use Rattle.rights_lattice.specs.contracts.cell.CellPartialEq.TheImpl as cells_eq
 use Rattle.rights_lattice.specs.Cell.{same_cell, same_event}
-use Rattle.rights_lattice.specs.Cells.{Key, Cells, Valued, value_at, all_zero, raise, raise_all, greatest, value_in, is_of, max_value}
+use Rattle.rights_lattice.specs.Cells.{Key, Cells, Valued, value_at, all_zero, raise, raise_all, greatest, value_in, is_of, greatest_value}
 use Rattle.rights_lattice.specs.RightsView.{RightsView, IsCellOf, IsWithin, missing}
 use Rattle.rights_lattice.specs.Spots.{same_spot, marks_in, cells_in, IsValued, AreSpots}
 use Rattle.rights_lattice.proofs.CellLaws.{same_cells, value_at-raise, of_same, value_in-same}
@@ -121,7 +121,7 @@ first_and n e es p h (suc k) d lt = h k d (omega (arith, lt))
 pub valued-push : (n : ℕ) (es : List (Key × ℕ)) (x : Key × ℕ) → All (IsValued n) es → IsValued n x → All (IsValued n) (es ++ x ∷ [])
 valued-push n es x h p = All-append (IsValued n) es (x ∷ []) h (first_and n x [] p (λ k d lt. absurd (omega (arith, lt))))
 
-pub valued-set : (n : ℕ) (es : List (Key × ℕ)) (test : Key → Bool) (w : ℕ) → All (IsValued n) es → 1 ≤ w → w ≤ max_value → All (IsValued n) (set_value test es w)
+pub valued-set : (n : ℕ) (es : List (Key × ℕ)) (test : Key → Bool) (w : ℕ) → All (IsValued n) es → 1 ≤ w → w ≤ greatest_value → All (IsValued n) (set_value test es w)
 valued-set n [] test w h low high = h
 valued-set n (e ∷ es) test w h low high = by_test (test e.0) (valued-set n es test w (tail_of n e es h) low high)
   where
@@ -142,15 +142,15 @@ pub spots-grown : (n m : ℕ) (es : List (Key × ℕ)) → n ≤ m → AreSpots 
 spots-grown n m es le h = record { valued = valued-grown n m es le h.valued; once = h.once }
 
 -- what is found is within its limit
-at_most : (es : List (Key × ℕ)) (n : ℕ) (test : Key → Bool) → All (IsValued n) es → unwrap_or (lookup test es) 0 ≤ max_value
+at_most : (es : List (Key × ℕ)) (n : ℕ) (test : Key → Bool) → All (IsValued n) es → unwrap_or (lookup test es) 0 ≤ greatest_value
 at_most [] n test h = omega arith
 at_most (e ∷ es) n test h = by_test (test e.0) (at_most es n test (tail_of n e es h))
   where
-    by_test : (b : Bool) → unwrap_or (lookup test es) 0 ≤ max_value → unwrap_or (cond b (Some e.1) (lookup test es)) 0 ≤ max_value
+    by_test : (b : Bool) → unwrap_or (lookup test es) 0 ≤ greatest_value → unwrap_or (cond b (Some e.1) (lookup test es)) 0 ≤ greatest_value
     by_test true rest = (h 0 e (omega arith)).1
     by_test false rest = rest
 
-pub found_at_most : (n : ℕ) (es : List (Key × ℕ)) (test : Key → Bool) → AreSpots n es → unwrap_or (lookup test es) 0 ≤ max_value
+pub found_at_most : (n : ℕ) (es : List (Key × ℕ)) (test : Key → Bool) → AreSpots n es → unwrap_or (lookup test es) 0 ≤ greatest_value
 found_at_most n es test h = at_most es n test h.valued
 
 -- cells that are not 0 are of the sites
@@ -172,12 +172,12 @@ pub record IsRaised (n : ℕ) (es fs : List (Key × ℕ)) (m : Valued) : Type 0 
   pub kept : AreSpots n fs
   pub raised : cells_in fs ≡ raise (cells_in es) m
 
-pub written : (n : ℕ) (es fs : List (Key × ℕ)) (m : Valued) (old w : ℕ) → AreSpots n es → 1 ≤ m.value → m.value ≤ max_value → lookup (key_eq (m.event, m.cell)) es ≡ Some old → w ≡ max m.value old
+pub written : (n : ℕ) (es fs : List (Key × ℕ)) (m : Valued) (old w : ℕ) → AreSpots n es → 1 ≤ m.value → m.value ≤ greatest_value → lookup (key_eq (m.event, m.cell)) es ≡ Some old → w ≡ max m.value old
     → fs ≡ set_value (key_eq (m.event, m.cell)) es w → keys_of fs ≡ keys_of es → IsRaised n es fs m
 written n es fs m old w h low high found is fs_is keys =
     let same : fs ≡ set_value (same_spot (m.event, m.cell)) es (max m.value old) = fs_is ∙ (λ i. set_value (key_eq_is i (m.event, m.cell)) es (is i)) in
     let at : lookup (same_spot (m.event, m.cell)) es ≡ Some old = subst (λ (eq : Key → Key → Bool). lookup (eq (m.event, m.cell)) es ≡ Some old) key_eq_is found in
-    let before : old ≤ max_value = subst (λ o. unwrap_or o 0 ≤ max_value) found (found_at_most n es (key_eq (m.event, m.cell)) h) in
+    let before : old ≤ greatest_value = subst (λ o. unwrap_or o 0 ≤ greatest_value) found (found_at_most n es (key_eq (m.event, m.cell)) h) in
     record {
       kept = record {
         valued = subst (All (IsValued n)) (sym same) (valued-set n es (same_spot (m.event, m.cell)) (max m.value old) h.valued (omega (arith, low)) (omega (arith, high, before)));
@@ -186,7 +186,7 @@ written n es fs m old w h low high found is fs_is keys =
       raised = ap cells_in same ∙ cells_in-set es m old at;
     }
 
-pub added : (n : ℕ) (es fs : List (Key × ℕ)) (m : Valued) → AreSpots n es → 1 ≤ m.value → m.value ≤ max_value → IsCellOf n m.cell → fs ≡ es ++ ((m.event, m.cell), m.value) ∷ [] → IsDistinct key_eq (keys_of fs) → IsRaised n es fs m
+pub added : (n : ℕ) (es fs : List (Key × ℕ)) (m : Valued) → AreSpots n es → 1 ≤ m.value → m.value ≤ greatest_value → IsCellOf n m.cell → fs ≡ es ++ ((m.event, m.cell), m.value) ∷ [] → IsDistinct key_eq (keys_of fs) → IsRaised n es fs m
 added n es fs m h low high of fs_is once = record {
   kept = record {
     valued = subst (All (IsValued n)) (sym fs_is) (valued-push n es ((m.event, m.cell), m.value) h.valued (low, high, of));

@@ -11,12 +11,12 @@ use Rattle.rights_lattice.specs.CellOrder.{coded_cell}
 use Rattle.rights_lattice.specs.declared.cell.Cell.{Cell}
 
 -- the greatest value of a cell
-abbrev pub max_value : ℕ
-max_value = 1000000000000
+abbrev pub greatest_value : ℕ
+greatest_value = 1000000000000
 
 -- the value of a cell that is not 0, an amount or the number of a request
 abbrev pub IsValue : ℕ → Type 0
-IsValue n = (1 ≤ n) × (n ≤ max_value)
+IsValue n = (1 ≤ n) × (n ≤ greatest_value)
 
 -- an event and one of its cells
 abbrev pub Key : Type 0
@@ -42,13 +42,13 @@ pub record Valued : Type 0 where
 abbrev pub coded_valued : Coded Valued
 coded_valued = code_by (Key × ℕ) (coded× (coded× (coded_list coded_ℕ) coded_cell) coded_ℕ) (λ m. ((m.event, m.cell), m.value)) (λ p. record { event = p.0.0; cell = p.0.1; value = p.1 }) (λ _. refl)
 
-abbrev pub number_of : Option ℕ → ℕ
-number_of None = 0
-number_of (Some less_one) = less_one + 1
+abbrev pub from_less_one : Option ℕ → ℕ
+from_less_one None = 0
+from_less_one (Some less_one) = less_one + 1
 
 -- the value of a cell
 unfoldable pub value_at : Cells → List ℕ → Cell → ℕ
-value_at X event cell = number_of (finite.get X (event, cell))
+value_at X event cell = from_less_one (finite.get X (event, cell))
 
 -- every cell is 0
 unfoldable pub all_zero : Cells

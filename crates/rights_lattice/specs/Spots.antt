@@ -3,7 +3,7 @@ use Rattle.std.specs.Prelude.{ℕ, ◌≤◌, Bool, ◌&&◌, List, map}
 use Rattle.std.specs.List.{All, IsDistinct}
 use Rattle.std.specs.Map.{keys_of}
 use Rattle.rights_lattice.specs.Cell.{same_cell, same_event}
-use Rattle.rights_lattice.specs.Cells.{Key, Cells, Valued, raise_all, all_zero, max_value}
+use Rattle.rights_lattice.specs.Cells.{Key, Cells, Valued, raise_all, all_zero, greatest_value}
 use Rattle.rights_lattice.specs.RightsView.{IsCellOf}
 
 -- whether two spots are the same
@@ -20,7 +20,7 @@ cells_in es = raise_all all_zero (marks_in es)
 
 -- a value that a cell of the sites may have and that is not 0
 abbrev pub IsValued : ℕ → Key × ℕ → Type 0
-IsValued sites e = (1 ≤ e.1) × (e.1 ≤ max_value) × IsCellOf sites e.0.1
+IsValued sites e = (1 ≤ e.1) × (e.1 ≤ greatest_value) × IsCellOf sites e.0.1
 
 -- each cell once
 pub record AreSpots (sites : ℕ) (es : List (Key × ℕ)) : Type 0 where

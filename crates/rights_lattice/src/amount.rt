@@ -1,8 +1,8 @@
-// Numbers of seats.
+//! Numbers of seats.
 ghost use Rattle.std.specs.Prelude.{◌≡◌, ◌≤◌, ◌↔◌, IsSome, IfSome};
-ghost use Rattle.rights_lattice.specs.Cells.{max_value};
+ghost use Rattle.rights_lattice.specs.Cells.{greatest_value};
 
-use crate::mark::MAX_VALUE;
+use crate::mark::GREATEST_VALUE;
 use std::marker::Model;
 
 /// A number of seats, 1 to 1,000,000,000,000.
@@ -13,13 +13,13 @@ pub struct Amount {
 
 impl Model for Amount {
     ghost use Rattle.std.specs.Prelude.{ℕ, ◌≤◌};
-    ghost use Rattle.rights_lattice.specs.Cells.{max_value};
+    ghost use Rattle.rights_lattice.specs.Cells.{greatest_value};
 
     ghost Value = { ℕ };
 
     ghost view = { λ a. a.seats };
 
-    ghost invariant = { λ a. (1 ≤ a.seats) × (a.seats ≤ max_value) };
+    ghost invariant = { λ a. (1 ≤ a.seats) × (a.seats ≤ greatest_value) };
 
     ghost inverse = { λ n. record { seats = n } };
 }
@@ -27,10 +27,10 @@ impl Model for Amount {
 impl Amount {
     /// This many seats, where they are 1 to 1,000,000,000,000.
     pub fn of(seats: u64) -> Option<Amount>
-        ensures in_range { IsSome result ↔ ((1 ≤ seats) × (seats ≤ max_value)) }
+        ensures in_range { IsSome result ↔ ((1 ≤ seats) × (seats ≤ greatest_value)) }
         ensures same { IfSome result (λ amount. amount ≡ seats) }
     {
-        if 1 <= seats && seats <= MAX_VALUE {
+        if 1 <= seats && seats <= GREATEST_VALUE {
             Some(Amount { seats })
         } else {
             None
@@ -41,7 +41,7 @@ impl Amount {
     pub fn seats(self) -> u64
         ensures seats { result ≡ self }
         ensures at_least_one { 1 ≤ result }
-        ensures at_most_max { result ≤ max_value }
+        ensures at_most_max { result ≤ greatest_value }
     {
         self.seats
     }

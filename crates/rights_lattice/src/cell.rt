@@ -1,4 +1,4 @@
-// Cells of an event.
+//! Cells of an event.
 ghost use Rattle.std.specs.Prelude.{◌≡◌};
 ghost use Rattle.rights_lattice.specs.Cell.{owner_of};
 

@@ -1,4 +1,4 @@
-// Event names.
+//! Event names.
 ghost use Rattle.std.specs.Prelude.{◌≡◌, ℕ, ◌<◌, ◌≤◌, IsSome, IfSome, IsTrue, ◌↔◌, Some, None, ◌==◌, nat_eq, length};
 ghost use Rattle.rights_lattice.specs.EventName.{IsEventName, is_event_byte, name_of, padded_name};
 ghost use Rattle.rights_lattice.specs.Limits.{longest_name};

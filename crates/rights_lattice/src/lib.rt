@@ -19,7 +19,7 @@ pub use amount::Amount;
 pub use cell::{Cell, owner};
 pub use event::Event;
 pub use limits::{GREATEST_SITE, LONGEST_NAME, MOST_SITES, SITE_NUMBERS};
-pub use mark::{MAX_VALUE, Mark};
+pub use mark::{GREATEST_VALUE, Mark};
 pub use merge::{key_order, merge_marks, merge_names};
 pub use rights::Rights;
 pub use site::{SiteId, Sites};

@@ -1,4 +1,4 @@
-// The order of marks, and the merge of two rising lists in one walk over both.
+//! The order of marks, and the merge of two rising lists in one walk over both.
 ghost use Rattle.std.specs.Prelude.{◌≡◌, ℕ, ◌+◌, ◌≤◌, ◌<◌, List, [], ◌∷◌, ◌++◌, length, IfOk, IsTrue};
 ghost use Rattle.rights_lattice.specs.Cells.{key_cmp, Valued};
 ghost use Rattle.rights_lattice.specs.Marks.{are_rising_marks, are_rising_names, AreMarks};

@@ -1,6 +1,6 @@
-// The state of rights.
+//! The state of rights.
 ghost use Rattle.std.specs.Prelude.{◌≡◌, ◌+◌, ◌<◌, ◌≤◌, ◌↔◌, ◌==◌, ◌||◌, not, nat_le, IsTrue, IsOk, OnOk, IfOk, if◌then◌else◌};
-ghost use Rattle.rights_lattice.specs.Cells.{max_value, value_at, all_zero, raise, join, AtOrBelow, RowAtOrBelow};
+ghost use Rattle.rights_lattice.specs.Cells.{greatest_value, value_at, all_zero, raise, join, AtOrBelow, RowAtOrBelow};
 ghost use Rattle.std.specs.List.{list_all};
 ghost use Rattle.rights_lattice.specs.Cell.{owner_of};
 ghost use Rattle.rights_lattice.specs.RightsView.{IsCellOf, IsWithin, missing};
@@ -74,7 +74,7 @@ impl Rights {
     /// The value of a cell, which is 0 where the cell names a site past the count.
     pub fn get(&self, event: Event, cell: Cell) -> u64
         ensures value { result ≡ value_at self.now.cells event cell }
-        ensures at_most_max { result ≤ max_value }
+        ensures at_most_max { result ≤ greatest_value }
     {
         self.values.get(&(event, cell)).copied().unwrap_or(0)
     }
@@ -152,6 +152,7 @@ impl Rights {
     pub fn copy(&self, alloc: Global) -> Result<Rights, AllocError>
         ensures sites { IfOk result (λ copy. copy.sites ≡ self.now.sites) }
         ensures cells { IfOk result (λ copy. copy.cells ≡ self.now.cells) }
+        ensures room { IfOk result (λ copy. copy.room ≡ 0) }
     {
         let mut copy = Rights::new(alloc, self.sites);
         copy.values = self.values.clone()?;

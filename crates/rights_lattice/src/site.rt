@@ -1,4 +1,4 @@
-// Site numbers and counts of sites.
+//! Site numbers and counts of sites.
 ghost use Rattle.std.specs.Prelude.{◌≡◌, ℕ, ◌<◌, ◌≤◌, IsSome, IfSome, ◌↔◌};
 ghost use Rattle.rights_lattice.specs.Limits.{greatest_site, most_sites};
 

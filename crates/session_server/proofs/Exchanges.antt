@@ -82,9 +82,6 @@ sent_or_back came sent came1 came2 tx tx2 refused m a (Err back) h is p q = (ap 
 sent_nothing : (to most : ℕ) (sent : List Message) → SentTo to most sent sent
 sent_nothing to most sent = record { put = []; more_sent = sym (append-nil sent); for_it = All-nil (λ m. receiver m ≡ to); few = omega (arith) }
 
-sent_one : (to : ℕ) (sent sent_now : List Message) (m : Message) → receiver m ≡ to → sent_now ≡ sent ++ m ∷ [] → SentTo to 1 sent sent_now
-sent_one to sent sent_now m is p = record { put = m ∷ []; more_sent = p; for_it = All-cons (λ x. receiver x ≡ to) m [] is (All-nil (λ x. receiver x ≡ to)); few = omega (arith) }
-
 sent_then : (to m n : ℕ) (a b c : List Message) → SentTo to m a b → SentTo to n b c → SentTo to (m + n) a c
 sent_then to m n a b c h k = record {
   put = h.put ++ k.put;
@@ -92,12 +89,6 @@ sent_then to m n a b c h k = record {
   for_it = All-append (λ m. receiver m ≡ to) h.put k.put h.for_it k.for_it;
   few = omega (arith, h.few, k.few, length-append h.put k.put);
 }
-
--- the message went out, or it came back
-pub sent_or_not : (out now : Outgoing) (m : Message) (result : Result (Unit {0}) Message) → receiver m ≡ out.to → now.to ≡ out.to
-    → MatchResult result (λ _. now.tx ≡ end_of out.tx.link (out.tx.messages ++ m ∷ [])) (λ back. (back ≡ m) × (now.tx ≡ out.tx)) → SentMore 1 out now
-sent_or_not out now m (Ok done) is to p = record { to = to; link = ap (λ e. e.link) p; put = sent_one out.to out.tx.messages now.tx.messages m is (ap (λ e. e.messages) p) }
-sent_or_not out now m (Err back) is to p = record { to = to; link = ap (λ e. e.link) p.1; put = subst (SentTo out.to 1 out.tx.messages) (sym (ap (λ (e : End). e.messages) p.1)) (sent_nothing out.to 1 out.tx.messages) }
 
 pub not_sent : (most : ℕ) (out : Outgoing) → SentMore most out out
 not_sent most out = record { to = refl; link = refl; put = sent_nothing out.to most out.tx.messages }

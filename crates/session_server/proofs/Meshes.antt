@@ -17,9 +17,6 @@ images f g (x ∷ xs) = λ i. g (f x) ∷ images f g xs i
 pub nobody_came : CameTo [] [] []
 nobody_came = record { came = []; count = refl; joined = All-nil AreJoined; after_is = refl; own_is = refl }
 
-pub no_mesh : IsMesh []
-no_mesh = record { came = []; in_turn = tt; joined = All-nil (λ pairs. All AreJoined pairs); rows_are = refl }
-
 -- the site is linked with one more of those before it
 pub came_more : (before after : List (List Linkage)) (own : List Linkage) (had has : List Peer) (here : Peer) → CameTo before after own → GotPeer had has here
     → CameTo (before ++ map linkage_of had ∷ []) (after ++ map linkage_of has ∷ []) (own ++ linkage_of here ∷ [])

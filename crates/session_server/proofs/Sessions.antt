@@ -9,7 +9,7 @@ use Rattle.plain_words.specs.Input.{longest_line, lines_of, Between, BeginsTooLo
 use Rattle.plain_words.specs.Writing.{AppendsFront}
 use Rattle.plain_words.proofs.LineLaws.{AreShort, put_before, taken-nil, taken-line, taken-long, taken-too-many, taken-behind}
 use Rattle.desk_lines.specs.declared.line.Line.{Line}
-use Rattle.desk_lines.specs.declared.line.Line.TheVariants.{Ask, Left, Totals, Quit}
+use Rattle.desk_lines.specs.declared.line.Line.TheVariants.{Quit}
 use Rattle.desk_lines.specs.declared.answered.Answered.{Answered}
 use Rattle.desk_lines.specs.Grammar.{most_lines}
 use Rattle.desk_lines.specs.Reading.{session_line_of}
@@ -25,13 +25,6 @@ Lines = List (List ℕ)
 
 abbrev Bytes : Type 0
 Bytes = Option (List ℕ)
-
--- a line that asks is answered by a step
-pub answers_by : {A : Type 0} (S : Steps A) (before : A) (l : Line) (answered : Answered) (after : A) → l ≢ Quit → S before l answered after → Answers S before (Some l) answered after
-answers_by S before (Ask number request) answered after asks step = step
-answers_by S before (Left event) answered after asks step = step
-answers_by S before (Totals event) answered after asks step = step
-answers_by S before Quit answered after asks step = absurd (asks refl)
 
 -- a line that was read, and its answer
 abbrev pub replied : {A : Type 0} (S : Steps A) (a b : Bytes) (line slice : List ℕ) (more : Bool) (before after : A) (answered : Answered) → more ≡ true → LineGives a b line (Ok more) → slice ≡ line

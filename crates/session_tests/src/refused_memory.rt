@@ -4,13 +4,13 @@
 ghost use Rattle.std.specs.Prelude.{◌≡◌, ◌<◌};
 
 use crate::books::{restarted, try_selling_book};
-use crate::values::{gala, number, seats};
+use crate::values::{gala, number, seated, seats};
 use book_core::Limit;
 use desk_lines::{Answered, Line};
 use request_ledger::{Reply, Request};
 use rights_lattice::{SiteId, Sites};
-use session_server::{Answerer, AtDesk, Ended, Session, SessionEnd, TalkFault, serve_all};
-use site_desk::{AskFault, Desk, FinishFault, NoGate, Opens, Receipt, Seat, Seen, SiteBook};
+use session_server::{Answerer, AtDesk, Ended, SessionEnd, TalkFault, serve_all};
+use site_desk::{AskFault, Desk, NoGate, Opens, Receipt, Seat, Seen, SiteBook};
 use sql_records::{ListKeeper, Meta};
 use std::alloc::Global;
 use std::marker::Brand;
@@ -34,7 +34,65 @@ fn sell(rt: &impl Abort, asked: u64, count: u64) -> Line {
     }
 }
 
-// Two sales and two looks: as many receipts, looks and entries come of them as were answered so.
+// What a session was answered so far, and what a look has to show.
+#[derive(Drop)]
+struct Answers {
+    kept: usize,
+    shown: usize,
+    left: u64,
+    is_refused: bool,
+}
+
+impl Answers {
+    fn add_sale(&mut self, rt: &impl Abort, count: u64, answered: Answered) {
+        match answered {
+            Answered::Kept(reply) => {
+                assert!(rt; reply == Reply::Done);
+                self.kept = self.kept.wrapping_add(1);
+                self.left = self.left.wrapping_sub(count);
+            }
+            other => self.add_refusal(rt, other),
+        }
+    }
+
+    fn add_look(&mut self, rt: &impl Abort, answered: Answered) {
+        match answered {
+            Answered::LeftIs(left) => {
+                assert!(rt; left == self.left);
+                self.shown = self.shown.wrapping_add(1);
+            }
+            other => self.add_refusal(rt, other),
+        }
+    }
+
+    fn add_refusal(&mut self, rt: &impl Abort, answered: Answered) {
+        match answered {
+            Answered::Refused(AskFault::Memory | AskFault::Store | AskFault::Closed) => {
+                self.is_refused = true;
+            }
+            _ => panic!(rt; "a sale is kept and a look shown, or memory is refused"),
+        }
+    }
+}
+
+// Asks for two sales, each with a look behind it.
+fn asked<R: Wait + Abort, A: Answerer>(rt: &R, at: &mut A) -> Answers {
+    let mut answers = Answers {
+        kept: 0,
+        shown: 0,
+        left: 100,
+        is_refused: false,
+    };
+    for (under, count) in [(10, 3), (11, 4)] {
+        let answered = at.answer(rt, &sell(rt, under, count));
+        answers.add_sale(rt, count, answered);
+        let answered = at.answer(rt, &Line::Left { event: gala(rt) });
+        answers.add_look(rt, answered);
+    }
+    answers
+}
+
+// As many receipts, looks and entries come of what is asked as were answered so.
 fn session<R: Wait + Abort, L: Opens>(
     rt: &R,
     alloc: Global,
@@ -50,26 +108,20 @@ fn session<R: Wait + Abort, L: Opens>(
     let mut handed_in = Vec::with_capacity(alloc, 1).ok()?;
     let (desk, seat) = Desk::<ListKeeper, L>::new(book, blank);
     let mut at = AtDesk::new(alloc, &desk, &NoGate, 0, seat);
-    let left = || Line::Left { event: gala(rt) };
-    let mut kept: usize = 0;
-    let mut shown: usize = 0;
-    let mut refused = false;
-    for line in [sell(rt, 10, 3), left(), sell(rt, 11, 4), left()].iter() {
-        match at.answer(rt, line) {
-            Answered::Kept(_) => kept = kept.wrapping_add(1),
-            Answered::LeftIs(_) => shown = shown.wrapping_add(1),
-            Answered::Refused(AskFault::Memory | AskFault::Store | AskFault::Closed) => {
-                refused = true;
-            }
-            _ => panic!(rt; "a sale is kept and a look shown, or memory is refused"),
-        }
-    }
-    assert!(rt; refused || (kept, shown) == (2, 2));
+    let Answers {
+        kept,
+        shown,
+        is_refused,
+        ..
+    } = asked(rt, &mut at);
+    assert!(rt; is_refused || (kept, shown) == (2, 2));
     let (seat, receipts, looks) = at.into_parts();
-    assert_eq!(rt; (receipts.len(), looks.len()), (kept, shown));
+    assert!(rt; (receipts.len(), looks.len()) == (kept, shown));
+    // Each sale was new.
+    assert!(rt; seat.count() == kept as u64);
     handed_in.push(seat).expect(rt, "room");
     match desk.finish(handed_in, receipts.as_slice(), looks.as_slice()) {
-        Ok(book) => assert_eq!(rt; book.book().len(), kept.wrapping_add(2)),
+        Ok(book) => assert!(rt; book.book().len() == kept.wrapping_add(2)),
         Err(_) => panic!(rt; "each receipt and look is of the history"),
     }
     Some(())
@@ -84,64 +136,119 @@ fn refused_memory_asks_nothing(rt: HostRuntime) {
     }
 }
 
-// Each line that answers a sale, with how many receipts come with it.
-const SALES: [(&[u8], usize); 4] = [
-    (b"done\n", 1),
-    (b"memory\n", 0),
-    (b"store\n", 0),
-    (b"closed\n", 0),
+#[derive(Clone, Copy)]
+enum SaleReply {
+    Done,
+    Memory,
+    Store,
+    Closed,
+}
+
+#[derive(Clone, Copy)]
+enum LookReply {
+    Left(u64),
+    Memory,
+    Closed,
+}
+
+const SALES: [(&[u8], SaleReply); 4] = [
+    (b"done\n", SaleReply::Done),
+    (b"memory\n", SaleReply::Memory),
+    (b"store\n", SaleReply::Store),
+    (b"closed\n", SaleReply::Closed),
 ];
 
-// Each line that answers a look, with how many looks come with it.
-const LOOKS: [(&[u8], usize); 6] = [
-    (b"left 100\n", 1),
-    (b"left 97\n", 1),
-    (b"left 96\n", 1),
-    (b"left 93\n", 1),
-    (b"memory\n", 0),
-    (b"closed\n", 0),
+const LOOKS: [(&[u8], LookReply); 6] = [
+    (b"left 100\n", LookReply::Left(100)),
+    (b"left 97\n", LookReply::Left(97)),
+    (b"left 96\n", LookReply::Left(96)),
+    (b"left 93\n", LookReply::Left(93)),
+    (b"memory\n", LookReply::Memory),
+    (b"closed\n", LookReply::Closed),
 ];
 
-// How many come with the line that the text begins with, and the text behind it.
-fn first_line<'a>(text: &'a [u8], lines: &[(&[u8], usize)]) -> Option<(usize, &'a [u8])> {
-    for (line, count) in lines {
+// What the line that the text begins with says, and the text behind it: all of it where there is no such line.
+fn first_line<'a, T: Copy>(text: &'a [u8], lines: &[(&[u8], T)]) -> (Option<T>, &'a [u8]) {
+    for (line, reply) in lines {
         if let Some(rest) = text.strip_prefix(*line) {
-            return Some((*count, rest));
+            return (Some(*reply), rest);
         }
     }
-    None
+    (None, text)
 }
 
-// How many lines a sale and a look were answered, and how many receipts and looks come with them.
-fn told(replies: &[u8]) -> (usize, usize, usize) {
-    let Some((receipts, rest)) = first_line(replies, &SALES) else {
-        return (0, 0, 0);
-    };
-    let Some((looks, rest)) = first_line(rest, &LOOKS) else {
-        return (1, receipts, 0);
-    };
-    let lines = if rest.is_empty() { 2 } else { 3 };
-    (lines, receipts, looks)
+// What a session wrote.
+#[derive(Clone, Copy)]
+struct Replies<'a> {
+    sale: Option<SaleReply>,
+    look: Option<LookReply>,
+    rest: &'a [u8],
 }
 
-// Whether a session that was given so much may end so. A writer that is refused memory loses the last reply alone.
-fn may_end(ended: Result<Ended, TalkFault>, replies: &[u8], receipts: usize, looks: usize) -> bool {
-    let (lines, sold, shown) = told(replies);
-    match (ended, lines) {
-        (Ok(Ended::EndOfInput), 2) => (receipts, looks) == (sold, shown),
-        (Err(TalkFault::Write), 1) => receipts == sold && looks <= 1,
-        (Err(TalkFault::Write), 0) => receipts <= 1 && looks == 0,
-        (Err(TalkFault::Memory), 0) => replies.is_empty() && (receipts, looks) == (0, 0),
+fn read(replies: &[u8]) -> Replies<'_> {
+    let (sale, rest) = first_line(replies, &SALES);
+    let (look, rest) = first_line(rest, &LOOKS);
+    Replies { sale, look, rest }
+}
+
+// Whether a session's look may be answered so behind its sale: it shows the own sale where it was done, and perhaps the
+// other's.
+fn may_follow(session: u64, sale: SaleReply, look: LookReply) -> bool {
+    match (session, sale, look) {
+        (0, SaleReply::Done, LookReply::Left(left)) => left == 97 || left == 93,
+        (_, SaleReply::Done, LookReply::Left(left)) => left == 96 || left == 93,
+        (0, SaleReply::Memory, LookReply::Left(left)) => left == 100 || left == 96,
+        (_, SaleReply::Memory, LookReply::Left(left)) => left == 100 || left == 97,
+        // A closed book shows nothing.
+        (_, SaleReply::Store | SaleReply::Closed, LookReply::Left(_)) => false,
+        (_, _, LookReply::Memory | LookReply::Closed) => true,
+    }
+}
+
+// Whether so many receipts come with this answer.
+fn has_receipt(sale: SaleReply, receipts: usize) -> bool {
+    match sale {
+        SaleReply::Done => receipts == 1,
+        SaleReply::Memory | SaleReply::Store | SaleReply::Closed => receipts == 0,
+    }
+}
+
+// Whether so many looks come with this answer.
+fn has_seen(look: LookReply, looks: usize) -> bool {
+    match look {
+        LookReply::Left(_) => looks == 1,
+        LookReply::Memory | LookReply::Closed => looks == 0,
+    }
+}
+
+// Whether a session that was given so much may end so. A writer that is refused memory loses the last reply alone, and
+// all of it.
+fn may_end(
+    session: u64,
+    ended: Result<Ended, TalkFault>,
+    replies: Replies<'_>,
+    receipts: usize,
+    looks: usize,
+) -> bool {
+    if !replies.rest.is_empty() {
+        return false;
+    }
+    match (ended, replies.sale, replies.look) {
+        (Ok(Ended::EndOfInput), Some(sale), Some(look)) => {
+            may_follow(session, sale, look) && has_receipt(sale, receipts) && has_seen(look, looks)
+        }
+        (Err(TalkFault::Write), Some(sale), None) => has_receipt(sale, receipts) && looks <= 1,
+        (Err(TalkFault::Write), None, None) => receipts <= 1 && looks == 0,
+        (Err(TalkFault::Memory), None, None) => (receipts, looks) == (0, 0),
         _ => false,
     }
 }
 
 // Whether this session was refused memory. By `closed` alone it was the other, whose entry is not known to be kept.
-fn is_refused(ended: Result<Ended, TalkFault>, replies: &[u8]) -> bool {
+fn is_refused(ended: Result<Ended, TalkFault>, replies: Replies<'_>) -> bool {
     ended.is_err()
-        || replies.starts_with(b"memory\n")
-        || replies.starts_with(b"store\n")
-        || replies.ends_with(b"memory\n")
+        || matches!(replies.sale, Some(SaleReply::Memory | SaleReply::Store))
+        || matches!(replies.look, Some(LookReply::Memory))
 }
 
 type End = SessionEnd<&'static [u8], Vec<u8>>;
@@ -151,8 +258,9 @@ fn judged(rt: &impl Abort, end: &End) -> bool {
     let (receipts, looks) = (end.receipts.len(), end.seen.len());
     match &end.writer {
         Some(replies) => {
-            assert!(rt; may_end(end.ended, replies.as_slice(), receipts, looks));
-            is_refused(end.ended, replies.as_slice())
+            let replies = read(replies.as_slice());
+            assert!(rt; may_end(end.id, end.ended, replies, receipts, looks));
+            is_refused(end.ended, replies)
         }
         None => {
             assert!(rt; end.ended == Err(TalkFault::NotStarted));
@@ -180,39 +288,27 @@ fn given(rt: &impl Abort, mut ends: Vec<End>) -> Option<(Vec<Receipt>, Vec<Seen>
     Some((receipts, looks))
 }
 
-// The book behind both sessions. A seat is out only where its session could not be started.
+// The book behind both sessions, and their receipts.
+#[derive(Drop)]
+struct Behind {
+    book: SiteBook<ListKeeper>,
+    receipts: Vec<Receipt>,
+}
+
+// What is behind both sessions. The seat of one that could not be started is out, and nothing was entered for it.
 fn finished<L: Opens>(
     rt: &impl Abort,
     desk: Desk<ListKeeper, L>,
     seats: Vec<Seat<L>>,
     ends: Vec<End>,
-) -> Option<SiteBook<ListKeeper>> {
+) -> Option<Behind> {
     let (receipts, looks) = given(rt, ends)?;
-    let is_whole = seats.len() == 2;
     match desk.finish(seats, receipts.as_slice(), looks.as_slice()) {
         Ok(book) => {
             assert!(rt; book.book().len() == receipts.len().wrapping_add(2));
-            Some(book)
+            Some(Behind { book, receipts })
         }
-        Err((_, fault)) => {
-            assert!(rt; fault == FinishFault::SeatsOut && !is_whole);
-            None
-        }
-    }
-}
-
-fn seated<L: Opens>(
-    alloc: Global,
-    id: u64,
-    reader: &'static [u8],
-    seat: Seat<L>,
-) -> Session<&'static [u8], Vec<u8>, L> {
-    let writer = Vec::new(alloc);
-    Session {
-        id,
-        reader,
-        writer,
-        seat,
+        Err(_) => panic!(rt; "each entry is counted, and each receipt and look is of the history"),
     }
 }
 
@@ -222,7 +318,7 @@ fn serve_two<R: Threads + Wait + Abort + Sync, L: Opens + Send + Sync>(
     alloc: Global,
     book: SiteBook<ListKeeper>,
     blank: Blank,
-) -> Option<SiteBook<ListKeeper>>
+) -> Option<Behind>
     requires name { blank.name ≡ L.name }
     requires parts { blank.parts ≡ L.parts }
     requires two { blank.parts ≡ 2 }
@@ -253,20 +349,26 @@ fn opened(
     }
 }
 
-// A sale that may have been asked before is done, where memory is not refused.
+// A sale that may have been asked before is done, where memory is not refused. One with a receipt was kept: it is not
+// entered again, and takes no memory.
 fn sold(
     rt: &impl Abort,
     alloc: Global,
     book: &mut SiteBook<ListKeeper>,
+    receipts: &[Receipt],
     asked: u64,
     count: u64,
 ) -> Option<()> {
-    match book.ask(alloc, number(rt, asked), &sale(rt, count)) {
+    let number = number(rt, asked);
+    let was_kept = receipts.iter().any(|receipt| receipt.number == number);
+    match book.ask(alloc, number, &sale(rt, count)) {
         Ok(answer) => {
             assert!(rt; answer.reply == Reply::Done);
+            assert!(rt; !(was_kept && answer.fresh));
             Some(())
         }
         Err(fault) => {
+            assert!(rt; !was_kept);
             assert!(rt; fault == AskFault::Memory || fault == AskFault::Store);
             None
         }
@@ -276,10 +378,10 @@ fn sold(
 // The seats that are left behind both sessions, once both sales are asked again.
 fn left_behind<R: Threads + Wait + Abort + Sync>(rt: &R, alloc: Global) -> Option<u64> {
     let book = try_selling_book(rt, alloc)?;
-    let book = serve_two::<R, Brand>(rt, alloc, book, Blank::new(2))?;
+    let Behind { book, receipts } = serve_two::<R, Brand>(rt, alloc, book, Blank::new(2))?;
     let mut book = opened(rt, alloc, book)?;
-    sold(rt, alloc, &mut book, 10, 3)?;
-    sold(rt, alloc, &mut book, 20, 4)?;
+    sold(rt, alloc, &mut book, receipts.as_slice(), 10, 3)?;
+    sold(rt, alloc, &mut book, receipts.as_slice(), 20, 4)?;
     Some(book.book().left(gala(rt)))
 }
 

@@ -4,9 +4,9 @@
 ghost use Rattle.std.specs.Prelude.{◌≡◌};
 
 use crate::books::{seen_of, selling_book};
-use crate::values::{gala, number, seats};
+use crate::values::{gala, number, seated, seats};
 use request_ledger::{Reply, Request};
-use session_server::{Ended, Session, SessionEnd, serve_all};
+use session_server::{Ended, SessionEnd, serve_all};
 use site_desk::{Desk, Gate, Opens, Place, Receipt, Seen, SiteBook};
 use sql_records::ListKeeper;
 use std::alloc::Global;
@@ -97,9 +97,9 @@ struct Given {
 
 // Of a session that was answered one sale and one look, up to the end of its lines.
 fn taken(rt: &impl Abort, end: SessionEnd<&'static [u8], Vec<u8>>, id: u64) -> Given {
-    assert_eq!(rt; end.id, id);
-    assert_eq!(rt; end.ended, Ok(Ended::EndOfInput));
-    assert_eq!(rt; (end.receipts.len(), end.seen.len()), (1, 1));
+    assert!(rt; end.id == id);
+    assert!(rt; end.ended == Ok(Ended::EndOfInput));
+    assert!(rt; (end.receipts.len(), end.seen.len()) == (1, 1));
     let receipt = end.receipts.as_slice().first().copied();
     let seen = end.seen.as_slice().first().copied();
     let SessionEnd { writer, .. } = end;
@@ -134,27 +134,17 @@ fn serve_two<R: Threads + Wait + Abort + Sync, L: Opens + Send + Sync, G: Gate +
 {
     let (desk, seat) = Desk::<ListKeeper, L>::new(book, blank);
     let (zero, one) = seat.split();
+    let zero = seated(alloc, 0, b"sell 10 gala 3\nleft gala\n", zero);
+    let one = seated(alloc, 1, b"sell 20 gala 4\nleft gala\n", one);
     let mut sessions = Vec::new(alloc);
-    let lines: &'static [u8] = b"sell 10 gala 3\nleft gala\n";
-    sessions
-        .push(Session {
-            id: 0,
-            reader: lines,
-            writer: Vec::new(alloc),
-            seat: zero,
-        })
-        .expect(rt, "memory");
-    let lines: &'static [u8] = b"sell 20 gala 4\nleft gala\n";
-    sessions
-        .push(Session {
-            id: 1,
-            reader: lines,
-            writer: Vec::new(alloc),
-            seat: one,
-        })
-        .expect(rt, "memory");
+    sessions.push(zero).expect(rt, "memory");
+    sessions.push(one).expect(rt, "memory");
     let (mut ends, seats) = serve_all(rt, alloc, sessions, &desk, gate).expect(rt, "memory");
-    assert_eq!(rt; (ends.len(), seats.len()), (2, 2));
+    assert!(rt; (ends.len(), seats.len()) == (2, 2));
+    // Each sale was new, and counts for the session that made it.
+    for seat in &seats {
+        assert!(rt; seat.count() == 1);
+    }
     let one = taken(rt, ends.pop().expect(rt, "an end"), 1);
     let zero = taken(rt, ends.pop().expect(rt, "an end"), 0);
     match desk.finish(seats, &[zero.receipt, one.receipt], &[zero.seen, one.seen]) {
@@ -170,8 +160,8 @@ fn served<R: Threads + Wait + Abort + Sync, G: Gate + Sync>(
 ) -> Behind {
     let book = selling_book(rt, alloc);
     let served = serve_two::<R, Brand, G>(rt, alloc, book, Blank::new(2), gate);
-    assert_eq!(rt; served.book.book().len(), 4);
-    assert_eq!(rt; served.book.look(gala(rt)), Ok(seen_of(gala(rt), 93, 7, 4)));
+    assert!(rt; served.book.book().len() == 4);
+    assert!(rt; served.book.look(gala(rt)) == Ok(seen_of(gala(rt), 93, 7, 4)));
     served
 }
 
@@ -195,18 +185,12 @@ fn sessions_sell_in_a_known_order(rt: HostRuntime) {
         answered: AtomicU64::new(0),
     };
     let served = served(&rt, rt.alloc(), &gate);
-    assert_eq!(rt;
-        served.one.replies.as_slice(),
-        b"done\nleft 96\n".as_slice()
-    );
-    assert_eq!(rt; served.one.receipt, receipt_of(&rt, 20, 4, 2));
-    assert_eq!(rt; served.one.seen, seen_of(gala(&rt), 96, 4, 3));
-    assert_eq!(rt;
-        served.zero.replies.as_slice(),
-        b"done\nleft 93\n".as_slice()
-    );
-    assert_eq!(rt; served.zero.receipt, receipt_of(&rt, 10, 3, 3));
-    assert_eq!(rt; served.zero.seen, seen_of(gala(&rt), 93, 7, 4));
+    assert!(rt; served.one.replies.as_slice() == b"done\nleft 96\n".as_slice());
+    assert!(rt; served.one.receipt == receipt_of(&rt, 20, 4, 2));
+    assert!(rt; served.one.seen == seen_of(gala(&rt), 96, 4, 3));
+    assert!(rt; served.zero.replies.as_slice() == b"done\nleft 93\n".as_slice());
+    assert!(rt; served.zero.receipt == receipt_of(&rt, 10, 3, 3));
+    assert!(rt; served.zero.seen == seen_of(gala(&rt), 93, 7, 4));
 }
 
 // One thread for all sessions fails here.
@@ -218,7 +202,7 @@ fn sessions_meet(rt: HostRuntime) {
         missed: AtomicU64::new(0),
     };
     let served = served(&rt, rt.alloc(), &gate);
-    assert_eq!(rt; gate.missed.load(Ordering::SeqCst), 0);
+    assert!(rt; gate.missed.load(Ordering::SeqCst) == 0);
     let last = seen_of(gala(&rt), 93, 7, 4);
     assert!(rt; served.zero.seen == seen_of(gala(&rt), 97, 3, 3) || served.zero.seen == last);
     assert!(rt; served.one.seen == seen_of(gala(&rt), 96, 4, 3) || served.one.seen == last);

@@ -34,7 +34,7 @@ fn asked(
     let answer = book
         .ask(alloc, number(rt, under), &request)
         .expect(rt, "an answer");
-    assert_eq!(rt; answer.reply, Reply::Done);
+    assert!(rt; answer.reply == Reply::Done);
 }
 
 // The book of site 0, which released 100 seats and ceded 40 of them to site 1.
@@ -94,9 +94,9 @@ fn exchanged<R: Threads + Wait + Abort + Sync>(
         .expect(rt, "memory");
     let (mut ends, links) = run_all(rt, alloc, sites, 1, 4, &NoGate).expect(rt, "threads");
     let SiteEnd { book, finished, .. } = ends.pop().expect(rt, "site 1");
-    assert_eq!(rt; finished, Ok(()));
+    assert!(rt; finished == Ok(()));
     let mut zero = ends.pop().expect(rt, "site 0");
-    assert_eq!(rt; zero.finished, Ok(()));
+    assert!(rt; zero.finished == Ok(()));
     let due = zero.book.next(alloc, site(rt, 1)).expect(rt, "memory");
     assert!(rt; ends.is_empty());
     let sums = audit(alloc, &[zero.book.book(), book.book()]).expect(rt, "books of both sites");
@@ -120,12 +120,12 @@ fn a_cession_goes_over_a_link(rt: HostRuntime) {
     let alloc = rt.alloc();
     let (book, links, is_due, sums) = exchanged(&rt, alloc, empty_book(&rt, alloc, 1, 2, 10));
     assert!(rt; !is_due);
-    assert_eq!(rt; sums.as_slice(), [released(gala(&rt), 100)].as_slice());
+    assert!(rt; sums.as_slice() == [released(gala(&rt), 100)].as_slice());
     let seen = book.look(gala(&rt)).expect(&rt, "a look");
-    assert_eq!(rt; seen.left, 40);
-    assert_eq!(rt; links.len(), 4);
-    assert_eq!(rt; links[0], link_end(&rt, 0, 1, false, 1, 0));
-    assert_eq!(rt; links[3], link_end(&rt, 1, 0, true, 1, 0));
+    assert!(rt; seen.left == 40);
+    assert!(rt; links.len() == 4);
+    assert!(rt; links[0] == link_end(&rt, 0, 1, false, 1, 0));
+    assert!(rt; links[3] == link_end(&rt, 1, 0, true, 1, 0));
 }
 
 // What is refused is counted and not acknowledged.
@@ -137,14 +137,11 @@ fn a_full_site_refuses_a_delta(rt: HostRuntime) {
     asked(&rt, alloc, &mut full, 1, Request::Announce { event: expo });
     let (book, links, is_due, sums) = exchanged(&rt, alloc, full);
     assert!(rt; is_due);
-    assert_eq!(rt;
-        sums.as_slice(),
-        [released(expo, 0), released(gala(&rt), 100)].as_slice()
-    );
-    assert_eq!(rt; book.book().len(), 1);
-    assert_eq!(rt; links.len(), 4);
-    assert_eq!(rt; links[0], link_end(&rt, 0, 1, false, 1, 1));
-    assert_eq!(rt; links[3], link_end(&rt, 1, 0, true, 0, 0));
+    assert!(rt; sums.as_slice() == [released(expo, 0), released(gala(&rt), 100)].as_slice());
+    assert!(rt; book.book().len() == 1);
+    assert!(rt; links.len() == 4);
+    assert!(rt; links[0] == link_end(&rt, 0, 1, false, 1, 1));
+    assert!(rt; links[3] == link_end(&rt, 1, 0, true, 0, 0));
 }
 
 // An acknowledgement of more entries than there are.
@@ -266,14 +263,14 @@ fn exchanged_by_three<R: Threads + Wait + Abort + Sync>(
         sites.push(quiet(book, alloc)).expect(rt, "memory");
     }
     let (ends, links) = run_all(rt, alloc, sites, 1, 4, &NoGate).expect(rt, "threads");
-    assert_eq!(rt; (ends.len(), links.len()), (3, 12));
+    assert!(rt; (ends.len(), links.len()) == (3, 12));
     ends
 }
 
 // What a site may sell behind an exchange.
 fn left_of(rt: &impl Abort, end: Option<SiteEnd<ListKeeper, &[u8], Vec<u8>>>) -> u64 {
     let SiteEnd { book, finished, .. } = end.expect(rt, "a site");
-    assert_eq!(rt; finished, Ok(()));
+    assert!(rt; finished == Ok(()));
     book.look(gala(rt)).expect(rt, "a look").left
 }
 
@@ -282,9 +279,9 @@ fn left_of(rt: &impl Abort, end: Option<SiteEnd<ListKeeper, &[u8], Vec<u8>>>) ->
 fn each_peer_is_sent_its_own_message(rt: HostRuntime) {
     let alloc = rt.alloc();
     let mut ends = exchanged_by_three(&rt, alloc);
-    assert_eq!(rt; left_of(&rt, ends.pop()), 20);
-    assert_eq!(rt; left_of(&rt, ends.pop()), 40);
-    assert_eq!(rt; left_of(&rt, ends.pop()), 40);
+    assert!(rt; left_of(&rt, ends.pop()) == 20);
+    assert!(rt; left_of(&rt, ends.pop()) == 40);
+    assert!(rt; left_of(&rt, ends.pop()) == 40);
     assert!(rt; ends.is_empty());
 }
 
@@ -308,12 +305,10 @@ impl Crossing {
         self.missed.store(1, Ordering::SeqCst);
     }
 
-    // The first inside a site, which is session 0 since the other waits, lets session 1 go on and waits for its answer.
+    // Lets session 1 go on, and waits for its answer.
     fn hold(&self) {
-        if self.inside.load(Ordering::SeqCst) == 0 {
-            self.inside.store(1, Ordering::SeqCst);
-            self.wait_for(&self.answered);
-        }
+        self.inside.store(1, Ordering::SeqCst);
+        self.wait_for(&self.answered);
     }
 }
 
@@ -324,7 +319,7 @@ impl Gate for Crossing {
                 session: 1,
                 line: 1,
             } => self.wait_for(&self.inside),
-            Place::Inside { .. } => self.hold(),
+            Place::Inside { site } if site.number() == 0 => self.hold(),
             Place::Answered {
                 session: 1,
                 line: 1,
@@ -356,7 +351,7 @@ fn visited<'a>(
 
 // The sums of two sites.
 fn audited(rt: &impl Abort, alloc: Global, ends: &[SiteEnd<ListKeeper, &[u8], Vec<u8>>]) -> Sums {
-    assert_eq!(rt; ends.len(), 2);
+    assert!(rt; ends.len() == 2);
     audit(alloc, &[ends[0].book.book(), ends[1].book.book()]).expect(rt, "books of both sites")
 }
 
@@ -375,20 +370,19 @@ fn two_sites_sell_at_once(rt: HostRuntime) {
     let here = visited(&rt, alloc, 1, b"announce 1 expo\n");
     sites.push(here).expect(&rt, "memory");
     let (ends, links) = run_all(&rt, alloc, sites, 0, 1, &gate).expect(&rt, "threads");
-    assert_eq!(rt; (ends.len(), links.len()), (2, 4));
+    assert!(rt; (ends.len(), links.len()) == (2, 4));
     for end in &ends {
-        assert_eq!(rt; end.finished, Ok(()));
-        assert_eq!(rt; end.book.book().len(), 1);
-        assert_eq!(rt; end.sessions.len(), 1);
+        assert!(rt; end.finished == Ok(()));
+        assert!(rt; end.book.book().len() == 1);
+        assert!(rt; end.sessions.len() == 1);
         for session in &end.sessions {
             let written = session.writer.as_ref().expect(&rt, "a thread");
-            assert_eq!(rt; written.as_slice(), b"done\n".as_slice());
+            assert!(rt; written.as_slice() == b"done\n".as_slice());
         }
     }
     let sums = audited(&rt, alloc, ends.as_slice());
-    assert_eq!(rt;
-        sums.as_slice(),
-        [released(event(&rt, b"expo"), 0), released(gala(&rt), 0)].as_slice()
+    assert!(rt;
+        sums.as_slice() == [released(event(&rt, b"expo"), 0), released(gala(&rt), 0)].as_slice()
     );
-    assert_eq!(rt; gate.missed.load(Ordering::SeqCst), 0);
+    assert!(rt; gate.missed.load(Ordering::SeqCst) == 0);
 }

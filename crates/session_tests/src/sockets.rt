@@ -73,7 +73,7 @@ fn serve_calls<
     let mut receipts = Vec::new(alloc);
     let mut looks = Vec::new(alloc);
     for end in &ends {
-        assert_eq!(rt; end.ended, Ok(Ended::EndOfInput));
+        assert!(rt; end.ended == Ok(Ended::EndOfInput));
         for receipt in &end.receipts {
             receipts.push(*receipt).expect(rt, "memory");
         }
@@ -110,7 +110,7 @@ fn two_connections_are_served(rt: HostRuntime) {
             )
         },
     );
-    assert_eq!(rt; served, (4, 2, 2));
+    assert!(rt; served == (4, 2, 2));
     assert!(rt; zero.as_str() == "done\nleft 97\n" || zero.as_str() == "done\nleft 93\n");
     assert!(rt; one.as_str() == "done\nleft 96\n" || one.as_str() == "done\nleft 93\n");
 }

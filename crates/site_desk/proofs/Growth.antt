@@ -3,7 +3,7 @@ use Rattle.std.proofs.Common.{◌≡◌, ℕ, ◌+◌, ◌≤◌, List, [], ◌�
 use Rattle.std.specs.Prelude.{IfOk, OnOk, OnErr}
 use Rattle.std.specs.List.{count_by, sum_by}
 use Rattle.std.proofs.lemmas.List.Sums.{count_by-le-length, sum_by-append}
-use Rattle.std.proofs.lemmas.List.{drop-append-le, take-append-le}
+use Rattle.std.proofs.lemmas.List.{drop-append-le}
 use Rattle.request_ledger.specs.declared.request.Request.{Request}
 use Rattle.book_core.specs.declared.entry.Entry.{Entry}
 use Rattle.book_core.specs.declared.entry.Entry.TheVariants.{Joined}
@@ -17,7 +17,7 @@ use Rattle.site_exchange.specs.Taking.{extended, site_after}
 use Rattle.site_desk.specs.declared.answer.Answer.{Answer}
 use Rattle.site_desk.specs.declared.fault.AskFault.{AskFault}
 use Rattle.site_desk.specs.Answers.{IsAnswer}
-use Rattle.site_desk.specs.Count.{is_asked, asked_since, GoesOnFrom, Grows}
+use Rattle.site_desk.specs.Count.{is_asked, asked_since, Grows}
 
 -- what an answer says of the history after it
 grows : (d : Decision) (office : Office) (old new : List Entry) (number : ℕ) (request : Request) (a : Answer)
@@ -43,10 +43,6 @@ asked_since_push opening es e within =
 -- no more requests stand from a place on than entries do
 pub asked_since_below : (opening : ℕ) (es : List Entry) → opening ≤ length es → asked_since opening es + opening ≤ length es
 asked_since_below opening es within = omega (arith, count_by-le-length is_asked (drop opening es), length-drop opening es)
-
--- a history with one entry more goes on from what it went on from
-pub goes_on_push : (began es : List Entry) (e : Entry) → length began ≤ length es → GoesOnFrom began es → GoesOnFrom began (es ++ e ∷ [])
-goes_on_push began es e within h = take-append-le (length began) es (e ∷ []) within ∙ h
 
 -- a message adds no request
 after_verdict : (v : Verdict) (m : Message) (old : Site) (opening : ℕ) → opening ≤ length old.history

@@ -1,4 +1,4 @@
--- What contracts see of a seat.
+-- What contracts see of a seat. (Our own.)
 use Rattle.std.specs.Prelude.{ℕ, List, sum_by}
 
 -- its parts of the count, and its share of it

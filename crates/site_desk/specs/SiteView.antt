@@ -5,14 +5,13 @@ use Rattle.request_ledger.specs.declared.request.Request.{Request}
 use Rattle.book_core.specs.declared.entry.Entry.{Entry}
 use Rattle.book_core.specs.BookCode.{coded_book}
 use Rattle.book_core.specs.BookView.{BookView}
-use Rattle.book_core.specs.Decision.{Office, Decision, decision, entry_of_ask}
+use Rattle.book_core.specs.Decision.{Decision, decision, entry_of_ask}
 use Rattle.book_core.specs.Growing.{GrowDecision, entry_of_grow, grow_decision}
 use Rattle.book_core.specs.OwnRow.{HasOwnRights}
 use Rattle.site_exchange.specs.declared.message.Message.{Message}
 use Rattle.site_exchange.specs.Exchange.{Site, Verdict, verdict}
 use Rattle.site_exchange.specs.Pendings.{ExchangeView, IsExchangeOf}
 use Rattle.sql_records.specs.Keeping.{LeavesOnly}
-use Rattle.sql_records.specs.declared.meta.Meta.{Meta}
 
 -- the book, what each peer has acknowledged of it, its keeper, and whether it takes nothing more
 pub record SiteView (K : Type 0) : Type 0 where
@@ -39,9 +38,6 @@ pub record IsInStep (closed : Bool) (failed : ℕ) (is_trusted : Type 0) (kept :
 -- the history, and what each peer has acknowledged of it
 abbrev pub site_of : {K : Type 0} → SiteView K → Site
 site_of s = record { history = s.book.history; acked = s.acked }
-
-abbrev pub office_of : Meta → Office
-office_of meta = record { me = meta.me; sites = meta.sites; limit = meta.limit }
 
 -- what the book decides on a request, and the entry that the request adds, if any
 abbrev pub decision_in : BookView → ℕ → Request → Decision

@@ -3,7 +3,7 @@ ghost use Rattle.std.specs.Prelude.{◌≡◌, ℕ, List, length, take, ◌*◌,
 ghost use Rattle.std.specs.List.{list_any};
 ghost use Rattle.rights_lattice.specs.declared.cell.Cell.{Cell as TheCell};
 ghost use Rattle.rights_lattice.specs.Cell.{same_cell, same_event};
-ghost use Rattle.rights_lattice.specs.Cells.{Cells, greatest, max_value};
+ghost use Rattle.rights_lattice.specs.Cells.{Cells, greatest, greatest_value};
 ghost use Rattle.rights_lattice.specs.Limits.{site_numbers};
 ghost use Rattle.rights_lattice.specs.RightsView.{IsCellOf};
 ghost use Rattle.rights_lattice.specs.Sums.{max_sites};
@@ -29,13 +29,13 @@ pub struct EventCells {
 
 impl Model for EventCells {
     ghost use Rattle.std.specs.Prelude.{ℕ, ◌≤◌, List, get_or};
-    ghost use Rattle.rights_lattice.specs.Cells.{max_value};
+    ghost use Rattle.rights_lattice.specs.Cells.{greatest_value};
 
     ghost Value = { List ℕ };
 
     ghost view = { λ c. c.values };
 
-    ghost invariant = { λ c. (place : ℕ) → get_or c.values place 0 ≤ max_value };
+    ghost invariant = { λ c. (place : ℕ) → get_or c.values place 0 ≤ greatest_value };
 }
 
 impl EventCells {
@@ -141,8 +141,8 @@ impl EventCells {
         ensures released { (X : Cells) (event : List ℕ) → Shows self.now X event → result.released ≡ released_in X event }
         ensures sold { (X : Cells) (event : List ℕ) → Shows self.now X event → result.sold ≡ sold_in X event }
         ensures refunded { (X : Cells) (event : List ℕ) → Shows self.now X event → result.refunded ≡ refunded_in X event }
-        ensures released_bound { result.released ≤ max_value * site_numbers }
-        ensures refunded_bound { result.refunded ≤ max_value * site_numbers }
+        ensures released_bound { result.released ≤ greatest_value * site_numbers }
+        ensures refunded_bound { result.refunded ≤ greatest_value * site_numbers }
     {
         let mut released = 0;
         let mut sold = 0;
@@ -163,13 +163,13 @@ impl EventCells {
     fn get(&self, cell: &Cell) -> u64
         ensures of_sites { IsCellOf max_sites cell.now }
         ensures value { result ≡ value_in_table self.now cell.now }
-        ensures at_most_max { result ≤ max_value }
+        ensures at_most_max { result ≤ greatest_value }
     {
         self.values[offset(cell)]
     }
 
     fn raise(&mut self, cell: &Cell, value: u64)
-        requires { value ≤ max_value }
+        requires { value ≤ greatest_value }
         ensures { (other : TheCell) → IsCellOf max_sites other → value_in_table self.new other ≡ max (value_in_table self.old other) (if same_cell other cell.now then value else 0) }
     {
         let place = offset(cell);

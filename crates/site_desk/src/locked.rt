@@ -39,10 +39,8 @@ pub struct Locked<K: Keeper, L: Opens> {
 }
 
 impl<K: Keeper, L: Opens> Model for Locked<K, L> {
-    ghost use Rattle.std.specs.Prelude.{◌≡◌, ◌≤◌, length};
     ghost use Rattle.site_desk.specs.SiteView.{SiteView, coded_view};
-    ghost use Rattle.site_desk.specs.Count.{asked_since, GoesOnFrom};
-    ghost use Rattle.book_core.specs.Decision.{sites_of};
+    ghost use Rattle.site_desk.specs.Count.{IsLocked};
 
     ghost Value = { SiteView K };
 
@@ -50,7 +48,7 @@ impl<K: Keeper, L: Opens> Model for Locked<K, L> {
 
     ghost view = { λ d. d.book };
 
-    ghost invariant = { λ d. (length L.began ≤ length d.book.book.history) × (d.total ≡ asked_since (length L.began) d.book.book.history) × (d.tally.total ≡ d.total) × (d.nothing.parts ≡ 0) × (d.book.book.office ≡ L.office) × GoesOnFrom L.began d.book.book.history × (sites_of d.book.book.office d.book.book.history ≡ sites_of L.office L.began) };
+    ghost invariant = { λ d. IsLocked L.began L.office d.book.book d.total d.tally.total d.nothing.parts };
 }
 
 impl<K: Keeper, L: Opens> Locked<K, L> {

@@ -13,9 +13,10 @@ ghost use Rattle.site_exchange.specs.Exchange.{Joins, NothingNew, ack_for, entry
 ghost use Rattle.site_exchange.specs.Taking.{MayTake, site_after, with_entry};
 ghost use Rattle.sql_records.specs.Keeping.{Keeps, LeavesOnly};
 ghost use Rattle.sql_records.specs.declared.meta.Meta.{Meta as Numbers};
+ghost use Rattle.sql_records.specs.Layout.{office_of};
 ghost use Rattle.site_desk.specs.Answers.{IsAnswer, IsAskFault, IsGrowFault, IsSeenAt, IsTakeFault, IsTaken, LeavesEither, is_peer};
 ghost use Rattle.site_desk.specs.Count.{Grows};
-ghost use Rattle.site_desk.specs.SiteView.{decision_in, entry_in, grow_decision_in, growth_in, office_of, site_of, verdict_in};
+ghost use Rattle.site_desk.specs.SiteView.{decision_in, entry_in, grow_decision_in, growth_in, site_of, verdict_in};
 
 use crate::answer::{Answer, Seen, Taken};
 use crate::asking::answer;

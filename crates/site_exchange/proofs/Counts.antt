@@ -11,7 +11,7 @@ use Rattle.book_core.specs.Plans.{IsEntryOf}
 use Rattle.book_core.proofs.Histories.{sites_of-push}
 use Rattle.site_exchange.specs.declared.message.Message.{Message}
 use Rattle.site_exchange.specs.declared.message.Message.TheVariants.{Delta, Ack}
-use Rattle.site_exchange.specs.Exchange.{Verdict, Joins, NothingNew, Acks, Refuses, entry_if as entry_of_verdict, entry_of_take, verdict}
+use Rattle.site_exchange.specs.Exchange.{Verdict, Joins, NothingNew, Acks, Refuses, taken_if as entry_of_verdict, entry_of_take, verdict}
 use Rattle.site_exchange.specs.Taking.{extended}
 
 pub count_joined : (office : Office) (h : List Entry) (peer : ℕ) (delta : State) → sites_of office (extended (Some (Joined peer delta)) h) ≡ sites_of office h

@@ -36,7 +36,3 @@ pub exchange_acked : {T E : Type 0} (r : Result T E) (office : Office) (h : List
     → OnOk r ((peer : ℕ) → IsPendingIn h e.pendings peer → IsPendingIn h now.pendings peer) → OnErr r (now ≡ e) → IsExchangeOf office h e → IsExchangeOf office h now
 exchange_acked (Ok x) office h e now sites taken same before = record { counted = sites ∙ before.counted; pending = λ peer. taken peer (before.pending peer) }
 exchange_acked (Err x) office h e now sites taken same before = subst (IsExchangeOf office h) (sym same) before
-
--- one that is fresh, and counts what the site counts
-pub exchange_fresh : (office : Office) (h : List Entry) (e : ExchangeView) → e ≡ record { sites = sites_of office h; acked = zeros; pendings = [] } → IsExchangeOf office h e
-exchange_fresh office h e is = subst (IsExchangeOf office h) (sym is) (record { counted = refl; pending = λ peer p found. cc })

@@ -57,9 +57,6 @@ still_there [] ys k a found = cc
 still_there (x ∷ xs) ys zero a found = found
 still_there (x ∷ xs) ys (suc k) a found = still_there xs ys k a found
 
-pub added_same : (ps : List PendingView) → KeepAdded ps ps
-added_same ps peer p found = (p, found, omega arith)
-
 pub added_more : (ps qs : List PendingView) (new : PendingView) → KeepAdded ps qs → KeepAdded ps (qs ++ new ∷ [])
 added_more ps qs new kept peer p found = let old = kept peer p found in (old.0, still_there qs (new ∷ []) peer old.0 old.1, old.2)
 

@@ -89,15 +89,15 @@ verdict_if None office h (Ack by to upto) = Acks
 abbrev pub verdict : Office → List Entry → Message → Verdict
 verdict office h message = verdict_if (check office h message) office h message
 
-abbrev pub entry_if : Verdict → Message → Option Entry
-entry_if Joins (Delta by to upto delta) = Some (Joined by delta)
-entry_if _ _ = None
+abbrev pub taken_if : Verdict → Message → Option Entry
+taken_if Joins (Delta by to upto delta) = Some (Joined by delta)
+taken_if _ _ = None
 
 -- the entry that taking the message adds, if any
 abbrev pub entry_of_take : Office → List Entry → Message → Option Entry
-entry_of_take office h message = entry_if (verdict office h message) message
+entry_of_take office h message = taken_if (verdict office h message) message
 
 -- the message is a delta
-abbrev pub IsDelta : Message → Type 0
-IsDelta (Delta by to upto delta) = Unit {0}
-IsDelta (Ack by to upto) = ⊥
+abbrev pub IsDeltaMessage : Message → Type 0
+IsDeltaMessage (Delta by to upto delta) = Unit {0}
+IsDeltaMessage (Ack by to upto) = ⊥

@@ -3,7 +3,7 @@ use Rattle.std.specs.Prelude.{◌≡◌, ◌⊎◌, ◌<◌, max, Bool, if◌the
 use Rattle.book_core.specs.declared.entry.Entry.{Entry}
 use Rattle.site_exchange.specs.declared.message.Message.{Message}
 use Rattle.site_exchange.specs.declared.message.Message.TheVariants.{Delta, Ack}
-use Rattle.site_exchange.specs.Exchange.{Site, zeros, Verdict, Joins, NothingNew, Acks, Refuses, ack_for, entry_if}
+use Rattle.site_exchange.specs.Exchange.{Site, zeros, Verdict, Joins, NothingNew, Acks, Refuses, ack_for, taken_if}
 
 -- a history with this entry, if any, at its end
 abbrev pub extended : Option Entry → List Entry → List Entry
@@ -21,7 +21,7 @@ with_ack (Delta by to upto delta) site = site
 
 -- the site after it took a message
 abbrev pub site_after : Verdict → Message → Site → Site
-site_after Joins message site = with_entry (entry_if Joins message) site
+site_after Joins message site = with_entry (taken_if Joins message) site
 site_after NothingNew message site = site
 site_after Acks message site = with_ack message site
 site_after (Refuses fault) message site = site
@@ -36,11 +36,11 @@ abbrev pub MayTake : Verdict → Site → Message → Type 0
 MayTake v site message = (v ≡ Joins) ⊎ ((v ≡ Acks) × IsRaising site message)
 
 -- what a site gives back for a message
-abbrev pub given_back : Verdict → Message → Option Message
-given_back Joins message = ack_for message
-given_back NothingNew message = ack_for message
-given_back Acks message = None
-given_back (Refuses fault) message = None
+abbrev pub ack_due : Verdict → Message → Option Message
+ack_due Joins message = ack_for message
+ack_due NothingNew message = ack_for message
+ack_due Acks message = None
+ack_due (Refuses fault) message = None
 
 -- the site started anew from its history: nothing counts as acknowledged
 abbrev pub restarted : Site → Site

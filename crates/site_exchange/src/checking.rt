@@ -1,6 +1,6 @@
 //! What is looked at in a message, and what it is answered.
 ghost use Rattle.std.specs.Prelude.{◌≡◌, Some, None, MatchResult};
-ghost use Rattle.site_exchange.specs.Exchange.{ack_for, check, IsDelta};
+ghost use Rattle.site_exchange.specs.Exchange.{ack_for, check, IsDeltaMessage};
 
 use crate::message::{CheckFault, Message};
 use book_core::Book;
@@ -29,7 +29,7 @@ pub fn check(book: &Book, message: &Message) -> Result<(), CheckFault>
 
 /// The acknowledgement of a delta: of the same length, to its sender.
 pub fn ack_for(message: &Message) -> Message
-    requires { IsDelta message.now }
+    requires { IsDeltaMessage message.now }
     ensures { ack_for message.now ≡ Some result }
 {
     match message {

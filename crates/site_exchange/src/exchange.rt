@@ -1,5 +1,5 @@
 //! What each peer has acknowledged, what is pending for it, and the message that is due to it.
-ghost use Rattle.std.specs.Prelude.{◌≡◌, ◌≢◌, ◌<◌, ◌≤◌, [], ℕ, List, max, set, get_or, length, IfOk, IsSome, OnOk, OnErr};
+ghost use Rattle.std.specs.Prelude.{◌≡◌, ◌≢◌, ◌<◌, ◌≤◌, [], ℕ, List, max, set, get_or, length, IfOk, IsSome, None, OnOk, OnErr};
 ghost use Rattle.book_core.specs.declared.entry.Entry.{Entry as Entered};
 ghost use Rattle.book_core.specs.Decision.{sites_of};
 ghost use Rattle.book_core.specs.History.{interval};
@@ -55,6 +55,7 @@ impl Exchange {
     }
 
     /// Counts so many sites, and no fewer than before. What peers have acknowledged stays, and so does what is pending.
+    /// It takes no memory.
     pub fn grow(&mut self, sites: Sites)
         requires not_fewer { self.old.sites ≤ sites }
         ensures { self.new ≡ record self.old { sites = sites } }
@@ -77,7 +78,7 @@ impl Exchange {
     }
 
     /// Takes an acknowledgement: the number is the greater of the old one and this, and what is pending begins there.
-    /// An error leaves all as it was.
+    /// One that tells nothing new changes nothing. An error leaves all as it was.
     pub fn ack(&mut self, book: &Book, peer: SiteId, upto: Upto) -> Result<(), AllocError>
         requires within { upto ≤ length book.now.history }
         requires pending { IsPendingIn book.now.history self.old.pendings peer }
@@ -85,10 +86,14 @@ impl Exchange {
         ensures acked { OnOk result (self.new.acked ≡ set self.old.acked peer (max (get_or self.old.acked peer 0) upto)) }
         ensures pending { OnOk result ((other : ℕ) → IsPendingIn book.now.history self.old.pendings other → IsPendingIn book.now.history self.new.pendings other) }
         ensures added { OnOk result (KeepAdded self.old.pendings self.new.pendings) }
+        ensures still { upto ≤ get_or self.old.acked peer 0 → self.new ≡ self.old }
         ensures unchanged { OnErr result (self.new ≡ self.old) }
         // It wants memory only where it raises the number.
         ensures memory { OnErr result (get_or self.old.acked peer 0 < upto) }
     {
+        if upto.entries() <= self.acked(peer) {
+            return Ok(());
+        }
         let place = peer.number() as usize;
         let n = upto.entries() as usize;
         forget(self.alloc, &mut self.pendings, place, book, n)?;
@@ -115,6 +120,7 @@ impl Exchange {
         ensures memory { OnErr result (IsSome (next book.now.office.me (record { history = book.now.history; acked = self.old.acked }) to)) }
         ensures sites { self.new.sites ≡ self.old.sites }
         ensures acked { self.new.acked ≡ self.old.acked }
+        ensures still { next book.now.office.me (record { history = book.now.history; acked = self.old.acked }) to ≡ None → self.new ≡ self.old }
         ensures pending { (peer : ℕ) → get_or self.old.acked peer 0 ≤ length book.now.history → IsPendingIn book.now.history self.old.pendings peer → IsPendingIn book.now.history self.new.pendings peer }
         ensures added { KeepAdded self.old.pendings self.new.pendings }
         ensures reached { IfOk result (λ message. IsSome message → IsCaughtUp book.now.history self.new.pendings to) }

@@ -30,7 +30,7 @@ impl Upto {
         ensures in_range { IsSome result ↔ ((1 ≤ entries) × (entries ≤ greatest_limit)) }
         ensures same { IfSome result (λ upto. upto ≡ entries) }
     {
-        if 1 <= entries && entries <= Limit::MAX {
+        if 1 <= entries && entries <= Limit::GREATEST {
             Some(Upto {
                 entries: entries as u32,
             })

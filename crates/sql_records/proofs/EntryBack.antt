@@ -4,7 +4,7 @@ use Rattle.std.specs.Prelude.{IfSome}
 use Rattle.std.specs.Result.{result_ok}
 use Rattle.std.proofs.lemmas.Bool.{and_from, le-leb, cond-true}
 use Rattle.sqlite.specs.declared.types.Value.TheVariants.{Int, Text}
-use Rattle.rights_lattice.specs.Cells.{max_value, IsValue}
+use Rattle.rights_lattice.specs.Cells.{greatest_value, IsValue}
 use Rattle.rights_lattice.specs.Limits.{greatest_site, most_sites, IsSite}
 use Rattle.rights_lattice.specs.State.{State, bottom}
 use Rattle.rights_lattice.specs.EventName.{IsEventName}
@@ -23,13 +23,13 @@ use Rattle.delta_wire.specs.Grammar.{most_bytes, IsDelta, delta_text}
 use Rattle.rights_lattice.proofs.EventLaws.{name_of_again}
 use Rattle.delta_wire.proofs.Texts.{delta_again}
 use Rattle.delta_wire.specs.Wire.{state_from, items_from}
-use Rattle.sql_records.specs.Rows.{event_column, amount_column, target_column, number_column, rest_column, columns_of, HasReplyColumns, IsStorable, number_within, value_in, site_in, event_in, verb_in, announce_of, release_of, sell_of, part_in, refund_of, cede_of, request_in, rest_in, reply_in, delta_in, asked_of, joined_of, is_grow, grown_of, entry_of}
+use Rattle.sql_records.specs.Rows.{event_column, amount_column, target_column, number_column, rest_column, columns_of, HasReplyColumns, IsStorable, number_within, value_in, site_in, event_in, verb_in, announce_of, release_of, sell_of, part_in, refund_in_columns, cede_of, request_in, rest_in, reply_in, delta_in, asked_of, joined_of, is_grow, grown_of, entry_of}
 
 pub within_back : (low high n : ℕ) → low ≤ n → n ≤ high → number_within low high (Int (pos n)) ≡ Some n
 within_back low high n p q = cond-true _ _ _ (and_from _ _ (le-leb _ _ p) (le-leb _ _ q))
 
 pub value_back : (n : ℕ) → IsValue n → value_in (Int (pos n)) ≡ Some n
-value_back n h = within_back 1 max_value n h.0 h.1
+value_back n h = within_back 1 greatest_value n h.0 h.1
 
 pub site_back : (n : ℕ) → IsSite n → site_in (Int (pos n)) ≡ Some n
 site_back n h = within_back 0 greatest_site n (omega arith) h
@@ -44,7 +44,7 @@ part_back None h = refl
 part_back (Some n) h = rw (value_back n h) refl
 
 pub request_back : (r : Request) → IsRequest r → request_in (Text (verb_word (request_verb r))) (event_column r) (amount_column r) (target_column r) ≡ Some r
-unfolding request_in verb_in announce_of release_of sell_of refund_of cede_of
+unfolding request_in verb_in announce_of release_of sell_of refund_in_columns cede_of
 request_back (Announce e) h = rw (verb_again verb.Announce, event_back e h) refl
 request_back (Release e n) h = rw (verb_again verb.Release, event_back e h.0, value_back n h.1) refl
 request_back (Sell e n) h = rw (verb_again verb.Sell, event_back e h.0, value_back n h.1) refl

@@ -16,14 +16,14 @@ use Rattle.sqlite_value.proofs.OrderLemmas.{value_cmp-Int, value_cmp-Text}
 use Rattle.sqlite_sql.specs.declared.ops.BinaryOp.TheVariants.{Compare}
 use Rattle.sqlite_sql.specs.declared.ops.CompareOp.TheVariants.{Eq}
 use Rattle.sqlite_sql.specs.Ops.{binary, is_true, from_truth}
-use Rattle.rights_lattice.specs.Cells.{max_value}
+use Rattle.rights_lattice.specs.Cells.{greatest_value}
 use Rattle.rights_lattice.specs.Cell.{same_event}
 use Rattle.rights_lattice.specs.State.{State}
 use Rattle.request_ledger.specs.declared.request.Request.{Request}
 use Rattle.request_ledger.specs.declared.request.Request.TheVariants.{Announce, Release, Sell, Refund, Cede}
 use Rattle.request_ledger.specs.declared.reply.Reply.{Reply}
 use Rattle.request_ledger.specs.declared.reply.Kept.{Kept}
-use Rattle.request_ledger.specs.Ledger.{Keeping, kept_under}
+use Rattle.request_ledger.specs.Ledger.{KeptByNumber, kept_under}
 use Rattle.book_core.specs.declared.entry.Entry.{Entry}
 use Rattle.book_core.specs.declared.entry.Entry.TheVariants.{Asked, Joined, Grown}
 use Rattle.book_core.specs.History.{asked_from}
@@ -39,7 +39,7 @@ use Rattle.request_ledger.specs.declared.verb.Verb.{Verb}
 use Rattle.request_ledger.specs.declared.verb.Verb.TheVariants as verb
 use Rattle.sqlite.specs.State.{State as Store}
 use Rattle.sql_records.proofs.OpeningLemmas.{has_some}
-use Rattle.sql_records.specs.Rows.{is_null, text_in, number_within, value_in, site_in, event_in, verb_in, event_column, announce_of, release_of, sell_of, part_in, refund_of, cede_of, request_of, request_in, reply_in, delta_in, asks_nothing, asked_of, joined_of, sites_in, is_grow, only_grows, grown_of, own_of, entry_with, entry_of, AreWhole}
+use Rattle.sql_records.specs.Rows.{is_null, text_in, number_within, value_in, site_in, event_in, verb_in, event_column, announce_of, release_of, sell_of, part_in, refund_in_columns, cede_of, request_of, request_in, reply_in, delta_in, asks_nothing, asked_of, joined_of, sites_in, is_grow, only_grows, grown_of, own_of, entry_with, entry_of, AreWhole}
 use Rattle.sql_records.specs.Lookups.{IsFirstUnread, IsListFault, IsQueryFault, ReadsSome, found_in, listed_in, names_event, listing, has_number, has_event, found_columns, listed_columns, found_of, listed_of, first_found}
 
 -- ---- what was read from a value
@@ -79,7 +79,7 @@ event_found v name e =
 -- ---- the event column is that of the request
 
 named : (v : Verb) (event amount target : Value) (q : Request) → request_of v event amount target ≡ Some q → event ≡ event_column q
-unfolding announce_of release_of sell_of refund_of cede_of
+unfolding announce_of release_of sell_of refund_in_columns cede_of
 named verb.Announce event amount target q e =
     let a = bind_some (event_in event) (λ x. cond (is_null amount && is_null target) (Some (Announce x)) None) q e in
     event_found event a.0 a.1 ∙ ap event_column (cond_is _ (Announce a.0) q a.2).1
@@ -120,7 +120,7 @@ asked_parts values delta e h =
     let n = bind_some (value_in (column values 2)) (λ n. request_in (column values 3) (column values 4) (column values 5) (column values 6) >>= λ q. reply_in (column values 7) (column values 8) >>= λ r. Some (Asked n q r delta)) e h in
     let q = bind_some (request_in (column values 3) (column values 4) (column values 5) (column values 6)) (λ q. reply_in (column values 7) (column values 8) >>= λ r. Some (Asked n.0 q r delta)) e n.2 in
     let r = bind_some (reply_in (column values 7) (column values 8)) (λ r. Some (Asked n.0 q.0 r delta)) e q.2 in
-    subst (HasParts values) (some_is (Asked n.0 q.0 r.0 delta) e r.2) (within_found 1 max_value n.0 (column values 2) n.1, n.1, q.1, r.1)
+    subst (HasParts values) (some_is (Asked n.0 q.0 r.0 delta) e r.2) (within_found 1 greatest_value n.0 (column values 2) n.1, n.1, q.1, r.1)
 
 joined_parts : (values : Row) (delta : State) (e : Entry) → joined_of values delta ≡ Some e → HasParts values e
 unfolding joined_of
@@ -196,14 +196,14 @@ names name (Cede event to amount) = same_text event name
 abbrev found_kept : Kept → Found
 found_kept k = record { place = k.place; reply = k.reply }
 
-abbrev IsFoundIn : ℕ → List Row → Keeping → Type 0
+abbrev IsFoundIn : ℕ → List Row → KeptByNumber → Type 0
 IsFoundIn n rows keeping = first_found (map found_columns (filter (has_number n) rows)) ≡ option_map Some (option_map found_kept (kept_under keeping n))
 
 found_reads : (from : ℕ) (values : Row) (reply : Reply) → column values 0 ≡ Int (pos from) → reply_in (column values 7) (column values 8) ≡ Some reply → found_of (found_columns values) ≡ Some (record { place = from; reply = reply })
 unfolding found_of
 found_reads from values reply at is = rw (at, is) refl
 
-none_found : (n : ℕ) (values : Row) (rows : List Row) (keeping : Keeping) → column values 2 ≡ Null → IsFoundIn n rows keeping → IsFoundIn n (values ∷ rows) keeping
+none_found : (n : ℕ) (values : Row) (rows : List Row) (keeping : KeptByNumber) → column values 2 ≡ Null → IsFoundIn n rows keeping → IsFoundIn n (values ∷ rows) keeping
 none_found n values rows keeping null more =
     let test : has_number n values ≡ false = ap (λ v. is_true (binary (Compare Eq Binary) v (Int (pos n)))) null ∙ no_number (Int (pos n)) in
     ap (λ b. first_found (map found_columns (cond b (values ∷ filter (has_number n) rows) (filter (has_number n) rows)))) test ∙ more
@@ -243,7 +243,7 @@ reads_all (Some a) e = cc
 
 -- ---- looking up an event
 
-abbrev AreListedIn : List ℕ → List Row → Keeping → Type 0
+abbrev AreListedIn : List ℕ → List Row → KeptByNumber → Type 0
 AreListedIn name rows keeping = map listed_of (map listed_columns (filter (has_event name) rows)) ≡ map Some (map listing (filter (λ a. names_event name a.1.request) keeping))
 
 listed_reads : (from number : ℕ) (values : Row) (request : Request) (reply : Reply) → column values 0 ≡ Int (pos from) → value_in (column values 2) ≡ Some number → request_in (column values 3) (column values 4) (column values 5) (column values 6) ≡ Some request
@@ -251,7 +251,7 @@ listed_reads : (from number : ℕ) (values : Row) (request : Request) (reply : R
 unfolding listed_of
 listed_reads from number values request reply at n q r = rw (at, n, q, r) refl
 
-none_listed : (name : List ℕ) (values : Row) (rows : List Row) (keeping : Keeping) → column values 4 ≡ Null → AreListedIn name rows keeping → AreListedIn name (values ∷ rows) keeping
+none_listed : (name : List ℕ) (values : Row) (rows : List Row) (keeping : KeptByNumber) → column values 4 ≡ Null → AreListedIn name rows keeping → AreListedIn name (values ∷ rows) keeping
 none_listed name values rows keeping null more =
     let test : has_event name values ≡ false = ap (λ v. is_true (binary (Compare Eq Binary) v (Text name))) null ∙ no_number (Text name) in
     ap (λ b. map listed_of (map listed_columns (cond b (values ∷ filter (has_event name) rows) (filter (has_event name) rows)))) test ∙ more

@@ -18,9 +18,9 @@ use Rattle.sql_records.specs.declared.version.Version.{Version}
 use Rattle.sql_records.specs.declared.fault.OpenFault.{OpenFault}
 use Rattle.sql_records.specs.declared.fault.OpenFault.TheVariants.{NotOurs, OtherSchema, Damaged, Memory, Disk}
 use Rattle.sql_records.specs.Rows.{number_within, site_in}
-use Rattle.sql_records.specs.Layout.{number_of, meta_as, meta_shown, meta_rows, HasMetaAs, HasOtherSchema, AreNumbers, HasNoMeta}
+use Rattle.sql_records.specs.Layout.{version_number, meta_as, meta_shown, meta_rows, HasMetaAs, HasOtherSchema, AreNumbers, HasNoMeta}
 use Rattle.sql_records.proofs.EntryBack.{within_back}
-use Rattle.sql_records.specs.Opening.{int_in, numbers_in, IsRowOf, IsForeignRow, IsRowFault, IsMetaFault}
+use Rattle.sql_records.specs.Opening.{int_in, meta_in, IsRowOf, IsForeignRow, IsRowFault, IsMetaFault}
 
 -- ---- numbers within their limits
 
@@ -42,8 +42,8 @@ record HasNumbers (meta : Meta) (values : Row) : Type 0 where
   sites_are : column values 4 ≡ Int (pos meta.sites)
   limit_is : column values 5 ≡ Int (pos meta.limit)
 
-numbers_found : (meta : Meta) (values : Row) → numbers_in values ≡ Some meta → HasNumbers meta values × AreNumbers meta
-unfolding numbers_in
+numbers_found : (meta : Meta) (values : Row) → meta_in values ≡ Some meta → HasNumbers meta values × AreNumbers meta
+unfolding meta_in
 numbers_found meta values e =
     let rest = λ (me sites limit : ℕ). cond (ltb me sites) (Some (record { me = me; sites = sites; limit = limit })) None in
     let a = bind_some (site_in (column values 3)) (λ me. number_within 1 most_sites (column values 4) >>= λ sites. number_within 1 greatest_limit (column values 5) >>= rest me sites) meta e in
@@ -58,8 +58,8 @@ numbers_found meta values e =
     let within : AreNumbers found = record { me_is_site = ltb-true a.0 b.0 d.0; few_sites = sites.2; limit_is_positive = limit.1; limit_is_low = limit.2 } in
     (subst (λ m. HasNumbers m values) d.1 numbers, subst AreNumbers d.1 within)
 
-numbers_again : (meta : Meta) (values : Row) → HasNumbers meta values → AreNumbers meta → numbers_in values ≡ Some meta
-unfolding numbers_in
+numbers_again : (meta : Meta) (values : Row) → HasNumbers meta values → AreNumbers meta → meta_in values ≡ Some meta
+unfolding meta_in
 numbers_again meta values has within =
     let me : site_in (column values 3) ≡ Some meta.me = ap site_in has.me_is ∙ within_back 0 greatest_site meta.me (omega arith) (omega (arith, within.me_is_site, within.few_sites)) in
     let sites : number_within 1 most_sites (column values 4) ≡ Some meta.sites = ap (number_within 1 most_sites) has.sites_are ∙ within_back 1 most_sites meta.sites (omega (arith, within.me_is_site)) within.few_sites in
@@ -100,10 +100,10 @@ no_numbers read db values alone foreign meta within has =
     elim foreign [
       | inl (inl key) ↦ key (ap (λ (x : Row). column x 0) same)
       | inl (inr kind) ↦ kind (ap (λ (x : Row). column x 1) same)
-      | inr (inl version) ↦ differs (number_of read) (column values 2) version (ap (λ (x : Row). column x 2) same)
+      | inr (inl version) ↦ differs (version_number read) (column values 2) version (ap (λ (x : Row). column x 2) same)
       | inr (inr numbers) ↦ (
           let is : HasNumbers meta values = record { me_is = ap (λ (x : Row). column x 3) same; sites_are = ap (λ (x : Row). column x 4) same; limit_is = ap (λ (x : Row). column x 5) same } in
-          never_both meta (numbers_in values) numbers.1 (numbers_again meta values is within))
+          never_both meta (meta_in values) numbers.1 (numbers_again meta values is within))
     ]
 
 no_version : (read : Version) (db : Trees) (values : Row) → meta_rows db ≡ values ∷ [] → IsForeignRow read values → (version : ℤ) → ¬ HasOtherSchema read version db
@@ -113,7 +113,7 @@ no_version read db values alone foreign version has =
       | inl (inl key) ↦ key (ap (λ (x : Row). column x 0) same ∙ has.key)
       | inl (inr kind) ↦ kind (ap (λ (x : Row). column x 1) same ∙ has.kind)
       | inr (inl none) ↦ differs version (column values 2) none (ap (λ (x : Row). column x 2) same ∙ has.version_is)
-      | inr (inr numbers) ↦ has.differs (same_int version (number_of read) (column values 2) (ap (λ (x : Row). column x 2) same ∙ has.version_is) numbers.0)
+      | inr (inr numbers) ↦ has.differs (same_int version (version_number read) (column values 2) (ap (λ (x : Row). column x 2) same ∙ has.version_is) numbers.0)
     ]
 
 -- a fault of the one row is one of the database

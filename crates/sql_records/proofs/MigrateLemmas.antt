@@ -17,10 +17,10 @@ use Rattle.sql_records.specs.declared.fault.MigrateFault.{MigrateFault}
 use Rattle.sql_records.specs.declared.fault.MigrateFault.TheVariants as migrate
 use Rattle.sql_records.specs.Texts.{update_text}
 use Rattle.sql_records.specs.Faults.{told}
-use Rattle.sql_records.specs.Layout.{IsOurs, HasOtherSchema}
+use Rattle.sql_records.specs.Layout.{IsOurs, HasOtherSchema, office_of}
 use Rattle.sql_records.specs.Held.{history_in}
 use Rattle.sql_records.specs.Opening.{IsForeignCauseAs, IsOurFault, IsReadFault}
-use Rattle.sql_records.specs.Migrating.{office_in, AreRecordsIn, IsToldAs, of_replay, IsUnread, IsUnfit, IsMigrateFault}
+use Rattle.sql_records.specs.Migrating.{AreRecordsIn, IsToldAs, of_replay, IsUnread, IsUnfit, IsMigrateFault}
 use Rattle.sql_records.proofs.FaultLemmas.{told_either}
 
 -- what is at fault in records of ours is told as it is
@@ -49,11 +49,11 @@ unfit g conn after ours cause fault outside to from foreign found tells = elim (
 
 -- so is a history that is not legal
 pub no_history : (old new : State) (meta : Meta) (entries : List Entry) (cause : ReplayFault) (fault : MigrateFault) → IsUnchanged old new → AreRecordsIn First meta old.now.trees → entries ≡ history_in old.now.trees
-    → IsReplayFault (office_in meta) entries cause → fault ≡ of_replay cause → IsUnread old new fault
+    → IsReplayFault (office_of meta) entries cause → fault ≡ of_replay cause → IsUnread old new fault
 no_history old new meta entries (IllegalAt place) fault same first is found told =
-    subst (IsUnread old new) (sym told) (inr (record { meta = meta; first = first; found = subst (λ l. IsReplayFault (office_in meta) l (IllegalAt place)) is found }))
+    subst (IsUnread old new) (sym told) (inr (record { meta = meta; first = first; found = subst (λ l. IsReplayFault (office_of meta) l (IllegalAt place)) is found }))
 no_history old new meta entries NoMemory fault same first is found told =
-    subst (IsUnread old new) (sym told) (inr (same, inr (record { meta = meta; first = first; found = subst (λ l. IsReplayFault (office_in meta) l NoMemory) is found })))
+    subst (IsUnread old new) (sym told) (inr (same, inr (record { meta = meta; first = first; found = subst (λ l. IsReplayFault (office_of meta) l NoMemory) is found })))
 
 -- what the UPDATE was answered with is told as it is
 pub unset : {S : Type 0} (g : Ghosts S) (conn mid after : Held S) (e : Error) → IsOurs conn.schema → IsUnchanged (state g conn) (state g mid) → Executes update_text [] (state g mid) (state g after) (Err e)

@@ -28,7 +28,7 @@ use Rattle.sql_records.specs.declared.meta.Meta.{Meta}
 use Rattle.sql_records.specs.declared.version.Version.{Version}
 use Rattle.sql_records.specs.declared.version.Version.TheVariants.{First, Second}
 use Rattle.sql_records.specs.Texts.{update_text}
-use Rattle.sql_records.specs.Layout.{IsOurs, ours_and, meta_at, entries_at, our_kind, number_of, meta_shown, meta_as, HasMetaAs}
+use Rattle.sql_records.specs.Layout.{IsOurs, ours_and, meta_at, entries_at, our_kind, version_number, meta_shown, meta_as, HasMetaAs}
 use Rattle.sql_records.proofs.InsertLemmas.{cast_null, cast_int, went, same_value, no_work}
 
 abbrev query : Query
@@ -65,7 +65,7 @@ one_of f (x ∷ z ∷ more) y e = absurd cc
 
 -- the row of these numbers as the table keeps it
 abbrev pub stored_as : Version → Meta → Row
-stored_as version meta = Int (pos 1) ∷ Null ∷ Words our_kind ∷ Int (number_of version) ∷ Int (pos meta.me) ∷ Int (pos meta.sites) ∷ Int (pos meta.limit) ∷ []
+stored_as version meta = Int (pos 1) ∷ Null ∷ Words our_kind ∷ Int (version_number version) ∷ Int (pos meta.me) ∷ Int (pos meta.sites) ∷ Int (pos meta.limit) ∷ []
 
 -- what the UPDATE is given to write for it, after the rowid of the row that it replaces
 abbrev given_for : Meta → Row

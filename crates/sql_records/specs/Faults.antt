@@ -11,7 +11,7 @@ abbrev pub told : {F : Type 0} → F → F → Error → F
 told memory disk (SqliteFailure OutOfMemory) = memory
 told memory disk _ = disk
 
--- What want of memory in the store leaves: what was begun is undone. The kit says no more of it, and of records at rest
+-- What want of memory in the store leaves: what was begun is undone. The toolchain says no more of it, and of records at rest
 -- it is that they are as they were.
 abbrev pub IsUndoneForMemory : State → State → Type 0
 IsUndoneForMemory old new = Fails old new ⊥ (SqliteFailure OutOfMemory)

@@ -19,5 +19,5 @@ abbrev pub LeavesWithOrWithout : List Entry → Entry → (Option (List Entry) �
 LeavesWithOrWithout list entry may_leave = (left : Option (List Entry)) → may_leave left → (left ≡ Some list) ⊎ (left ≡ Some (list ++ entry ∷ []))
 
 -- whatever a stop leaves, an open reads it
-abbrev pub Opens : (Option (List Entry) → Type 0) → Type 0
-Opens may_leave = (left : Option (List Entry)) → may_leave left → IsSome left
+abbrev pub CanBeOpened : (Option (List Entry) → Type 0) → Type 0
+CanBeOpened may_leave = (left : Option (List Entry)) → may_leave left → IsSome left

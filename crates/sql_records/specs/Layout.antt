@@ -19,6 +19,7 @@ use Rattle.sqlite_schema.specs.declared.schema.Index.{Index}
 use Rattle.sqlite_schema.specs.declared.schema.View.{View}
 use Rattle.sqlite_schema.specs.Names.{same_name}
 use Rattle.rights_lattice.specs.Limits.{most_sites}
+use Rattle.book_core.specs.Decision.{Office}
 use Rattle.book_core.specs.Limits.{greatest_limit}
 use Rattle.sql_records.specs.declared.meta.Meta.{Meta}
 use Rattle.sql_records.specs.declared.version.Version.{Version}
@@ -142,13 +143,13 @@ abbrev pub our_kind : List ℕ
 our_kind = codes "ticket-escrow"
 
 -- the number of a version
-abbrev pub number_of : Version → ℤ
-number_of First = pos 1
-number_of Second = pos 2
+abbrev pub version_number : Version → ℤ
+version_number First = pos 1
+version_number Second = pos 2
 
 -- its six columns: one, kind, version, me, sites, bound
 abbrev pub meta_as : Version → Meta → Row
-meta_as version meta = Int (pos 1) ∷ Words our_kind ∷ Int (number_of version) ∷ Int (pos meta.me) ∷ Int (pos meta.sites) ∷ Int (pos meta.limit) ∷ []
+meta_as version meta = Int (pos 1) ∷ Words our_kind ∷ Int (version_number version) ∷ Int (pos meta.me) ∷ Int (pos meta.sites) ∷ Int (pos meta.limit) ∷ []
 
 -- the same in the version that is written here
 abbrev pub meta_of : Meta → Row
@@ -163,6 +164,10 @@ meta_tree = 0
 
 abbrev pub meta_rows : Trees → List Row
 meta_rows db = map meta_shown (db meta_tree)
+
+-- the site that the numbers of the records are of
+abbrev pub office_of : Meta → Office
+office_of meta = record { me = meta.me; sites = meta.sites; limit = meta.limit }
 
 -- the one row has these numbers, under this version
 abbrev pub HasMetaAs : Version → Meta → Trees → Type 0
@@ -179,7 +184,7 @@ pub record HasOtherSchema (read : Version) (version : ℤ) (db : Trees) : Type 0
   pub key : column values 0 ≡ Int (pos 1)
   pub kind : column values 1 ≡ Words our_kind
   pub version_is : column values 2 ≡ Int version
-  pub differs : version ≢ number_of read
+  pub differs : version ≢ version_number read
 
 -- the numbers of a site
 pub record AreNumbers (meta : Meta) : Type 0 where

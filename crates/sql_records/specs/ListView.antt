@@ -3,8 +3,8 @@ use Rattle.std.specs.Prelude.{◌≤◌, ◌-◌, ◌++◌, ◌∷◌, [], ℕ, 
 use Rattle.std.specs.Coded.{Coded, code_by, coded×, coded_ℕ, coded_list, coded_option}
 use Rattle.book_core.specs.BookCode.{coded_entry}
 use Rattle.book_core.specs.declared.entry.Entry.{Entry}
-use Rattle.sql_records.specs.contracts.list.Failing as failing
-use Rattle.sql_records.specs.declared.list.Failing.{Failing}
+use Rattle.sql_records.specs.contracts.list_keeper.Failing as failing
+use Rattle.sql_records.specs.declared.list_keeper.Failing.{Failing}
 
 pub record ListView : Type 0 where
   pub kept : List Entry

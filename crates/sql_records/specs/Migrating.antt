@@ -9,7 +9,6 @@ use Rattle.sqlite.specs.declared.error.Error.TheVariants.{SqliteFailure}
 use Rattle.sqlite.specs.declared.error.ErrorCode.TheVariants.{OutOfMemory}
 use Rattle.book_core.specs.declared.plan.ReplayFault.{ReplayFault}
 use Rattle.book_core.specs.declared.plan.ReplayFault.TheVariants as replay
-use Rattle.book_core.specs.Decision.{Office}
 use Rattle.book_core.specs.Legal.{IsLegal}
 use Rattle.book_core.specs.Replay.{IsReplayFault}
 use Rattle.sql_records.specs.declared.meta.Meta.{Meta}
@@ -21,7 +20,7 @@ use Rattle.sql_records.specs.declared.fault.MigrateFault.{MigrateFault}
 use Rattle.sql_records.specs.declared.fault.MigrateFault.TheVariants.{NotOurs, OtherSchema, Nothing, Damaged, Memory, Disk}
 use Rattle.sql_records.specs.Texts.{update_text}
 use Rattle.sql_records.specs.Faults.{HasDiskCause, IsUndoneForMemory}
-use Rattle.sql_records.specs.Layout.{IsOurs, number_of, HasMetaAs, HasOtherSchema, HasNoMeta, AreNumbers}
+use Rattle.sql_records.specs.Layout.{IsOurs, version_number, HasMetaAs, HasOtherSchema, HasNoMeta, AreNumbers, office_of}
 use Rattle.sql_records.specs.Rows.{AreWholeIn}
 use Rattle.sql_records.specs.Held.{entries_tree, rows_in, history_in, opened_in}
 use Rattle.sql_records.specs.Opening.{IsEntriesFault, IsForeignCauseAs}
@@ -41,9 +40,6 @@ pub record IsMigrated (old new : Trees) : Type 0 where
 
 -- ---- what may be migrated
 
-abbrev pub office_in : Meta → Office
-office_in meta = record { me = meta.me; sites = meta.sites; limit = meta.limit }
-
 -- the records of a site in this version, of which each row reads
 pub record AreRecordsIn (version : Version) (meta : Meta) (db : Trees) : Type 0 where
   pub numbers : HasMetaAs version meta db
@@ -54,13 +50,13 @@ pub record AreRecordsIn (version : Version) (meta : Meta) (db : Trees) : Type 0 
 pub record IsLegalFirst (db : Trees) : Type 0 where
   pub meta : Meta
   pub first : AreRecordsIn First meta db
-  pub legal : IsLegal (office_in meta) (history_in db)
+  pub legal : IsLegal (office_of meta) (history_in db)
 
 -- they are of the first version, but their history is not legal, or memory was wanted for it
 pub record IsNoHistory (db : Trees) (fault : ReplayFault) : Type 0 where
   pub meta : Meta
   pub first : AreRecordsIn First meta db
-  pub found : IsReplayFault (office_in meta) (history_in db) fault
+  pub found : IsReplayFault (office_of meta) (history_in db) fault
 
 -- ---- what a stop leaves
 
@@ -83,8 +79,8 @@ LeavesSameEntries trees s = (meta : Meta) → AreRecordsIn First meta trees
 -- what a fault of reading the first version is told as, where the tables are ours or not
 abbrev pub IsToldAs : Bool → OpenFault → MigrateFault → Type 0
 IsToldAs ours opening.NotOurs fault = fault ≡ NotOurs
-IsToldAs true (opening.OtherSchema version) fault = ((version ≡ number_of Second) × (fault ≡ Nothing)) ⊎ ((version ≢ number_of Second) × (fault ≡ OtherSchema version))
-IsToldAs false (opening.OtherSchema version) fault = ((version ≡ number_of Second) × (fault ≡ NotOurs)) ⊎ ((version ≢ number_of Second) × (fault ≡ OtherSchema version))
+IsToldAs true (opening.OtherSchema version) fault = ((version ≡ version_number Second) × (fault ≡ Nothing)) ⊎ ((version ≢ version_number Second) × (fault ≡ OtherSchema version))
+IsToldAs false (opening.OtherSchema version) fault = ((version ≡ version_number Second) × (fault ≡ NotOurs)) ⊎ ((version ≢ version_number Second) × (fault ≡ OtherSchema version))
 IsToldAs ours (opening.Damaged place) fault = fault ≡ Damaged place
 IsToldAs ours opening.Memory fault = fault ≡ Memory
 IsToldAs ours opening.Disk fault = fault ≡ Disk
@@ -96,8 +92,8 @@ of_replay replay.Memory = Memory
 -- what is at fault in records of ours, as they are read
 abbrev pub IsUnread : State → State → MigrateFault → Type 0
 IsUnread old new NotOurs = HasNoMeta First old.now.trees
-IsUnread old new (OtherSchema version) = (version ≢ number_of Second) × HasOtherSchema First version old.now.trees
-IsUnread old new Nothing = HasOtherSchema First (number_of Second) old.now.trees
+IsUnread old new (OtherSchema version) = (version ≢ version_number Second) × HasOtherSchema First version old.now.trees
+IsUnread old new Nothing = HasOtherSchema First (version_number Second) old.now.trees
 IsUnread old new (Damaged place) = IsEntriesFault First old.now.trees (opening.Damaged place) ⊎ IsNoHistory old.now.trees (replay.IllegalAt place)
 IsUnread old new Memory = IsUndoneForMemory old new ⊎ (IsUnchanged old new × (IsEntriesFault First old.now.trees opening.Memory ⊎ IsNoHistory old.now.trees replay.Memory))
 IsUnread old new Disk = HasDiskCause old new

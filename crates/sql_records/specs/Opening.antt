@@ -19,7 +19,7 @@ use Rattle.sql_records.specs.declared.fault.OpenFault.TheVariants.{NotOurs, Othe
 use Rattle.sql_records.specs.Rows.{number_within, site_in, sites_in, entry_of, rows_from_0, AreInOrder, AreWholeIn, IsDamagedAt, IsOfVersion, WantsForEntry}
 use Rattle.sql_records.specs.declared.version.Version.{Version}
 use Rattle.sql_records.specs.declared.version.Version.TheVariants.{Second}
-use Rattle.sql_records.specs.Layout.{IsOurs, our_kind, number_of, HasOtherSchema, HasGoodMeta, HasNoMeta}
+use Rattle.sql_records.specs.Layout.{IsOurs, our_kind, version_number, HasOtherSchema, HasGoodMeta, HasNoMeta}
 use Rattle.sql_records.specs.Faults.{HasDiskCause, IsUndoneForMemory}
 use Rattle.sql_records.specs.Texts.{meta_select_text}
 use Rattle.sql_records.specs.Held.{entries_tree}
@@ -29,8 +29,8 @@ int_in (Int n) = Some n
 int_in _ = None
 
 -- the numbers of a row of `meta`, where they are those of a site
-unfoldable pub numbers_in : Row → Option Meta
-numbers_in values = do
+unfoldable pub meta_in : Row → Option Meta
+meta_in values = do
   me ← site_in (column values 3)
   sites ← sites_in (column values 4)
   limit ← number_within 1 greatest_limit (column values 5)
@@ -40,17 +40,17 @@ numbers_in values = do
 pub record IsRowOf (read : Version) (meta : Meta) (values : Row) : Type 0 where
   pub key : column values 0 ≡ Int (pos 1)
   pub kind : column values 1 ≡ Text our_kind
-  pub version : column values 2 ≡ Int (number_of read)
-  pub numbers : numbers_in values ≡ Some meta
+  pub version : column values 2 ≡ Int (version_number read)
+  pub numbers : meta_in values ≡ Some meta
 
 -- the row is of another kind, has no version, or has no numbers of a site
 abbrev pub IsForeignRow : Version → Row → Type 0
 IsForeignRow read values =
-    ((column values 0 ≢ Int (pos 1)) ⊎ (column values 1 ≢ Text our_kind)) ⊎ ((int_in (column values 2) ≡ None) ⊎ ((column values 2 ≡ Int (number_of read)) × (numbers_in values ≡ None)))
+    ((column values 0 ≢ Int (pos 1)) ⊎ (column values 1 ≢ Text our_kind)) ⊎ ((int_in (column values 2) ≡ None) ⊎ ((column values 2 ≡ Int (version_number read)) × (meta_in values ≡ None)))
 
 -- the row is of our kind, and of this version, which is another than the one that is read
 abbrev pub IsOtherVersion : Version → ℤ → Row → Type 0
-IsOtherVersion read version values = (column values 0 ≡ Int (pos 1)) × (column values 1 ≡ Text our_kind) × (column values 2 ≡ Int version) × (version ≢ number_of read)
+IsOtherVersion read version values = (column values 0 ≡ Int (pos 1)) × (column values 1 ≡ Text our_kind) × (column values 2 ≡ Int version) × (version ≢ version_number read)
 
 -- what is at fault in a row of `meta`
 abbrev pub IsRowFault : Version → Row → OpenFault → Type 0
@@ -136,7 +136,7 @@ module _ {S : Type 0} (g : Ghosts S) (conn : Held S) where
 
 -- what a database answers whose tables are not ours
 abbrev pub IsForeignFault : Version → OpenFault → Type 0
-IsForeignFault read (OtherSchema version) = version ≢ number_of read
+IsForeignFault read (OtherSchema version) = version ≢ version_number read
 IsForeignFault read (Damaged place) = ⊥
 IsForeignFault read _ = Unit {0}
 

@@ -9,7 +9,7 @@ use Rattle.sqlite.specs.declared.types.Value.{Value}
 use Rattle.sqlite.specs.declared.types.Value.TheVariants.{Null, Int, Text}
 use Rattle.sqlite.specs.Order.{Row, column, value_cmp}
 use Rattle.sqlite_keyed.specs.Lists.{sort_by}
-use Rattle.rights_lattice.specs.Cells.{max_value, IsValue}
+use Rattle.rights_lattice.specs.Cells.{greatest_value, IsValue}
 use Rattle.rights_lattice.specs.Limits.{greatest_site, most_sites, IsSite}
 use Rattle.rights_lattice.specs.State.{State}
 use Rattle.rights_lattice.specs.EventName.{name_of}
@@ -29,7 +29,7 @@ use Rattle.sql_records.specs.declared.reading.EntryHead.TheVariants as head
 use Rattle.plain_words.specs.Input.{is_line_break}
 use Rattle.plain_words.specs.Words.{◌>>=◌}
 use Rattle.delta_wire.specs.Grammar.{most_bytes, IsDelta, delta_text}
-use Rattle.delta_wire.specs.Wire.{delta_of, BeginsWithItem}
+use Rattle.delta_wire.specs.Wire.{delta_from_text, BeginsWithItem}
 
 -- ---- the columns of an entry
 
@@ -128,7 +128,7 @@ number_within low high _ = None
 
 -- a request number or an amount
 abbrev pub value_in : Value → Option ℕ
-value_in v = number_within 1 max_value v
+value_in v = number_within 1 greatest_value v
 
 abbrev pub site_in : Value → Option ℕ
 site_in v = number_within 0 greatest_site v
@@ -167,8 +167,8 @@ sell_of event amount target = do
 unfoldable pub part_in : Value → Option (Option ℕ)
 part_in amount = if is_null amount then Some None else option_map (λ n. Some n) (value_in amount)
 
-unfoldable pub refund_of : Value → Value → Value → Option Request
-refund_of event amount target = do
+unfoldable pub refund_in_columns : Value → Value → Value → Option Request
+refund_in_columns event amount target = do
   sale ← value_in target
   part ← part_in amount
   if is_null event then Some (Refund sale part) else None
@@ -184,7 +184,7 @@ abbrev pub request_of : Verb → Value → Value → Value → Option Request
 request_of verb.Announce event amount target = announce_of event amount target
 request_of verb.Release event amount target = release_of event amount target
 request_of verb.Sell event amount target = sell_of event amount target
-request_of verb.Refund event amount target = refund_of event amount target
+request_of verb.Refund event amount target = refund_in_columns event amount target
 request_of verb.Cede event amount target = cede_of event amount target
 
 -- the request of these four columns
@@ -206,7 +206,7 @@ reply_in word rest = do
 
 -- the delta that a text spells, where it is not too long
 abbrev pub delta_named : List ℕ → Option State
-delta_named text = if nat_le (length text) most_bytes then result_ok (delta_of text) else None
+delta_named text = if nat_le (length text) most_bytes then result_ok (delta_from_text text) else None
 
 unfoldable pub delta_in : Value → Option State
 delta_in v = do

@@ -9,7 +9,7 @@ ghost use Rattle.sql_records.specs.Keeping.{LeavesOnly};
 ghost use Rattle.sql_records.specs.Making.{making, RunInTurn, FailInTurn, FailsToMake, IsRefusal, IsVacant, IsInitFault};
 
 use crate::fault::InitFault;
-use crate::meta::Meta;
+use crate::meta::{KIND, Meta};
 use crate::records::Records;
 use crate::shape::has_our_table;
 use crate::version::Version;
@@ -39,7 +39,7 @@ fn meta_columns(meta: Meta) -> [ValueRef<'static>; 6]
 {
     [
         ValueRef::Int(1),
-        ValueRef::Text(b"ticket-escrow"),
+        ValueRef::Text(KIND),
         ValueRef::Int(Version::Second.number()),
         ValueRef::Int(meta.me.number() as i64),
         ValueRef::Int(meta.sites.count() as i64),

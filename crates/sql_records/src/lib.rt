@@ -9,7 +9,7 @@ mod creation;
 mod fault;
 mod inserting;
 mod keeper;
-mod list;
+mod list_keeper;
 mod lookup;
 mod meta;
 mod migrating;
@@ -21,7 +21,7 @@ mod version;
 
 pub use fault::{InitFault, MigrateFault, OpenFault};
 pub use keeper::{KeepFault, Keeper};
-pub use list::ListKeeper;
+pub use list_keeper::ListKeeper;
 pub use lookup::{FindFault, Found, Listed};
 pub use meta::Meta;
 pub use opening::read_records;

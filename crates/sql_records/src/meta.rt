@@ -2,6 +2,9 @@
 use book_core::Limit;
 use rights_lattice::{SiteId, Sites};
 
+// The kind that the records are of, as the row of `meta` says it.
+pub(crate) const KIND: &[u8] = b"ticket-escrow";
+
 /// Whose history the records hold, among how many sites it began, and how long it may become.
 #[derive(Clone, Copy, Debug, PartialEq, Eq)]
 pub struct Meta {

@@ -4,14 +4,14 @@ ghost use Rattle.sqlite.specs.State.{HasCleanDisk, Executes, IsUnchanged};
 ghost use Rattle.sqlite.specs.Held.{state};
 ghost use Rattle.sql_records.specs.declared.meta.Meta.{Meta as Numbers};
 ghost use Rattle.sql_records.specs.declared.version.Version.TheVariants.{First};
-ghost use Rattle.sql_records.specs.Layout.{IsOurs, HasMetaAs};
+ghost use Rattle.sql_records.specs.Layout.{IsOurs, HasMetaAs, office_of};
 ghost use Rattle.book_core.specs.declared.plan.ReplayFault.{ReplayFault as Illegal};
 ghost use Rattle.book_core.specs.Legal.{IsLegal};
 ghost use Rattle.book_core.specs.Replay.{IsReplayFault};
 ghost use Rattle.sql_records.specs.Opening.{IsLeftOrUndone};
 ghost use Rattle.sql_records.specs.Held.{IsAtRest, LeavesNoMore, LeavesSite, MayLeaveIn, history_in};
 ghost use Rattle.sql_records.specs.Keeping.{LeavesOnly};
-ghost use Rattle.sql_records.specs.Migrating.{IsAsBefore, IsMigrated, LeavesAsBeforeOrMigrated, LeavesItOrMigrated, LeavesSameEntries, office_in, IsLegalFirst, IsToldAs, of_replay, IsUnfit, IsMigrateFault};
+ghost use Rattle.sql_records.specs.Migrating.{IsAsBefore, IsMigrated, LeavesAsBeforeOrMigrated, LeavesItOrMigrated, LeavesSameEntries, IsLegalFirst, IsToldAs, of_replay, IsUnfit, IsMigrateFault};
 
 use crate::fault::{MigrateFault, OpenFault};
 use crate::meta::Meta;
@@ -78,8 +78,8 @@ fn of_replay(fault: ReplayFault) -> MigrateFault
 // Whether the entries are a legal history of the site.
 fn check_history(alloc: Global, meta: Meta, entries: Vec<Entry>) -> Result<(), MigrateFault>
     requires { meta.me < meta.sites }
-    ensures legal { OnOk result (IsLegal (office_in meta) entries.items) }
-    ensures fault { IfErr result (λ fault. (illegal : Illegal) × IsReplayFault (office_in meta) entries.items illegal × (fault ≡ of_replay illegal)) }
+    ensures legal { OnOk result (IsLegal (office_of meta) entries.items) }
+    ensures fault { IfErr result (λ fault. (illegal : Illegal) × IsReplayFault (office_of meta) entries.items illegal × (fault ≡ of_replay illegal)) }
 {
     match Book::replay(alloc, meta.me, meta.sites, meta.limit, entries) {
         Ok(_) => Ok(()),

@@ -7,15 +7,15 @@ ghost use Rattle.sqlite.specs.Held.{state};
 ghost use Rattle.sqlite.specs.Order.{column};
 ghost use Rattle.sqlite_value.specs.Value.{owned};
 ghost use Rattle.book_core.specs.Limits.{greatest_limit};
-ghost use Rattle.sql_records.specs.Layout.{IsOurs, our_kind, number_of, HasMeta, HasMetaAs, AreNumbers};
+ghost use Rattle.sql_records.specs.Layout.{IsOurs, our_kind, version_number, HasMeta, HasMetaAs, AreNumbers};
 ghost use Rattle.sql_records.specs.Rows.{entry_of, is_below, rows_below, number_within, IsEntryIn, IsOfVersion, AreInOrder, AreWhole, AreWholeIn, IsFirstDamaged, WantsForEntry};
 ghost use Rattle.sql_records.specs.declared.version.Version.{Version};
 ghost use Rattle.sql_records.specs.Held.{entries_tree, rows_in, history_in, LeavesNoMore};
-ghost use Rattle.sql_records.specs.Opening.{int_in, numbers_in, IsRowOf, IsRowFault, IsMetaFault, AreRowsFault, IsStoreFault, IsWantedAt, IsForeignFault, IsForeignCause, IsForeignCauseAs, AreOfVersion, AreTold, foreign_told, IsOpenFault, IsReadFault, IsLeftOrUndone};
+ghost use Rattle.sql_records.specs.Opening.{int_in, meta_in, IsRowOf, IsRowFault, IsMetaFault, AreRowsFault, IsStoreFault, IsWantedAt, IsForeignFault, IsForeignCause, IsForeignCauseAs, AreOfVersion, AreTold, foreign_told, IsOpenFault, IsReadFault, IsLeftOrUndone};
 
 use crate::fault::OpenFault;
-use crate::meta::Meta;
-use crate::reading::{is_of_version, number_within, read_entry, site_in, sites_in, value_at};
+use crate::meta::{KIND, Meta};
+use crate::reading::{column_at, is_of_version, number_within, read_entry, site_in, sites_in};
 use crate::shape::is_ours;
 use crate::version::Version;
 use book_core::{Entry, Limit};
@@ -64,7 +64,7 @@ fn read_next(alloc: Global, read: Version, place: u64, row: &Row) -> Result<Entr
     ensures damaged { result ≡ Err (OpenFault.Damaged place) → ¬ IsEntryIn read place row.now }
     ensures memory { result ≡ Err OpenFault.Memory → (column row.now 0 ≡ Int (pos place)) × IsOfVersion read row.now × WantsForEntry row.now }
 {
-    if !is_at(place, value_at(row, 0)) || !is_of_version(read, row) {
+    if !is_at(place, column_at(row, 0)) || !is_of_version(read, row) {
         return Err(OpenFault::Damaged { place });
     }
     match read_entry(alloc, row)? {
@@ -102,7 +102,7 @@ fn rows_below(rows: &[Row]) -> usize
     ensures within { result ≤ length rows.now }
 {
     'rows: for (at, row) in rows.iter().enumerate() {
-        if !is_below(value_at(row, 0)) {
+        if !is_below(column_at(row, 0)) {
             return at;
         }
     }
@@ -129,7 +129,7 @@ fn is_our_kind(value: ValueRef<'_>) -> bool
     ensures { IsTrue result ↔ (owned value.entry ≡ Text our_kind) }
 {
     match value {
-        ValueRef::Text(text) => text == b"ticket-escrow".as_slice(),
+        ValueRef::Text(text) => text == KIND,
         _ => false,
     }
 }
@@ -146,17 +146,17 @@ fn int_in(value: ValueRef<'_>) -> Option<i64>
 fn limit_in(value: ValueRef<'_>) -> Option<Limit>
     ensures { result ≡ number_within 1 greatest_limit (owned value.entry) }
 {
-    let entries = number_within(1, Limit::MAX, value)?;
+    let entries = number_within(1, Limit::GREATEST, value)?;
     Limit::of(entries)
 }
 
-#[tactic(auto, unfolding(crate::specs::Opening::numbers_in))]
-fn numbers_in(row: &Row) -> Option<Meta>
-    ensures { result ≡ numbers_in row.now }
+#[tactic(auto, unfolding(crate::specs::Opening::meta_in))]
+fn meta_in(row: &Row) -> Option<Meta>
+    ensures { result ≡ meta_in row.now }
 {
-    let me = site_in(value_at(row, 3))?;
-    let sites = sites_in(value_at(row, 4))?;
-    let limit = limit_in(value_at(row, 5))?;
+    let me = site_in(column_at(row, 3))?;
+    let sites = sites_in(column_at(row, 4))?;
+    let limit = limit_in(column_at(row, 5))?;
     if me.number() < sites.count() {
         Some(Meta { me, sites, limit })
     } else {
@@ -169,16 +169,16 @@ fn read_numbers(read: Version, row: &Row) -> Result<Meta, OpenFault>
     ensures numbers { IfOk result (λ meta. IsRowOf read meta row.now) }
     ensures fault { IfErr result (IsRowFault read row.now) }
 {
-    if !is_at(1, value_at(row, 0)) || !is_our_kind(value_at(row, 1)) {
+    if !is_at(1, column_at(row, 0)) || !is_our_kind(column_at(row, 1)) {
         return Err(OpenFault::NotOurs);
     }
-    let Some(version) = int_in(value_at(row, 2)) else {
+    let Some(version) = int_in(column_at(row, 2)) else {
         return Err(OpenFault::NotOurs);
     };
     if version != read.number() {
         return Err(OpenFault::OtherSchema { version });
     }
-    match numbers_in(row) {
+    match meta_in(row) {
         Some(meta) => Ok(meta),
         None => Err(OpenFault::NotOurs),
     }
@@ -219,7 +219,7 @@ fn read_meta<S: Alter>(read: Version, conn: &mut Connection<S>) -> Result<Meta, 
 fn other_version(read: Version, rows: Vec<Row>) -> Option<i64>
     ensures some { IfSome result (λ version. AreOfVersion read version rows.items) }
     ensures none { IfNone result ((version : ℤ) → ¬ AreOfVersion read version rows.items) }
-    ensures differs { IfSome result (λ version. version ≢ number_of read) }
+    ensures differs { IfSome result (λ version. version ≢ version_number read) }
 {
     match read_numbers(read, &only(rows)?) {
         Err(OpenFault::OtherSchema { version }) => Some(version),

@@ -5,7 +5,7 @@ ghost use Rattle.sqlite.specs.Order.{column};
 ghost use Rattle.sqlite.specs.declared.types.Value.TheVariants.{Text};
 ghost use Rattle.sqlite_value.specs.Value.{owned};
 ghost use Rattle.rights_lattice.specs.State.{State};
-ghost use Rattle.sql_records.specs.Rows.{is_null, text_in, number_within, value_in, site_in, sites_in, event_in, verb_in, announce_of, release_of, sell_of, part_in, refund_of, cede_of, request_of, request_in, rest_in, reply_in, delta_in, asks_nothing, asked_of, joined_of, is_grow, is_empty, only_grows, grown_of, own_of, entry_with, entry_of, with_delta, WantsForDelta, WantsForEntry, HasPart, IsOfVersion, too_many};
+ghost use Rattle.sql_records.specs.Rows.{is_null, text_in, number_within, value_in, site_in, sites_in, event_in, verb_in, announce_of, release_of, sell_of, part_in, refund_in_columns, cede_of, request_of, request_in, rest_in, reply_in, delta_in, asks_nothing, asked_of, joined_of, is_grow, is_empty, only_grows, grown_of, own_of, entry_with, entry_of, with_delta, WantsForDelta, WantsForEntry, HasPart, IsOfVersion, too_many};
 
 use crate::columns::grow_word;
 use crate::version::Version;
@@ -13,13 +13,13 @@ use book_core::{Entry, Growth};
 use delta_mutators::Delta;
 use delta_wire::{MOST_BYTES, WireFault, read_delta};
 use request_ledger::{Reply, Request, RequestNumber, Verb};
-use rights_lattice::{Amount, Event, GREATEST_SITE, MAX_VALUE, MOST_SITES, SiteId, Sites};
+use rights_lattice::{Amount, Event, GREATEST_SITE, GREATEST_VALUE, MOST_SITES, SiteId, Sites};
 use sqlite::Row;
 use sqlite::types::ValueRef;
 use std::alloc::{AllocError, Global};
 
 /// The value in a column, and null past the end.
-pub fn value_at(row: &Row, at: usize) -> ValueRef<'_>
+pub fn column_at(row: &Row, at: usize) -> ValueRef<'_>
     ensures { owned result ≡ column row.now at }
 {
     match row.get_ref(at) {
@@ -60,14 +60,14 @@ pub fn number_within(low: u64, high: u64, value: ValueRef<'_>) -> Option<u64>
 pub fn request_number_in(value: ValueRef<'_>) -> Option<RequestNumber>
     ensures { result ≡ value_in (owned value.entry) }
 {
-    let number = number_within(1, MAX_VALUE, value)?;
+    let number = number_within(1, GREATEST_VALUE, value)?;
     RequestNumber::of(number)
 }
 
 fn amount_in(value: ValueRef<'_>) -> Option<Amount>
     ensures { result ≡ value_in (owned value.entry) }
 {
-    let seats = number_within(1, MAX_VALUE, value)?;
+    let seats = number_within(1, GREATEST_VALUE, value)?;
     Amount::of(seats)
 }
 
@@ -153,9 +153,13 @@ fn part_in(amount: ValueRef<'_>) -> Option<Option<Amount>>
     Some(Some(amount))
 }
 
-#[tactic(auto, unfolding(crate::specs::Rows::refund_of))]
-fn refund_of(event: ValueRef<'_>, amount: ValueRef<'_>, target: ValueRef<'_>) -> Option<Request>
-    ensures { result ≡ refund_of (owned event.entry) (owned amount.entry) (owned target.entry) }
+#[tactic(auto, unfolding(crate::specs::Rows::refund_in_columns))]
+fn refund_in_columns(
+    event: ValueRef<'_>,
+    amount: ValueRef<'_>,
+    target: ValueRef<'_>,
+) -> Option<Request>
+    ensures { result ≡ refund_in_columns (owned event.entry) (owned amount.entry) (owned target.entry) }
 {
     let sale = request_number_in(target)?;
     let part = part_in(amount)?;
@@ -188,7 +192,7 @@ fn request_of(
         Verb::Announce => announce_of(event, amount, target),
         Verb::Release => release_of(event, amount, target),
         Verb::Sell => sell_of(event, amount, target),
-        Verb::Refund => refund_of(event, amount, target),
+        Verb::Refund => refund_in_columns(event, amount, target),
         Verb::Cede => cede_of(event, amount, target),
     }
 }
@@ -250,13 +254,13 @@ fn delta_in(alloc: Global, value: ValueRef<'_>) -> Result<Option<Delta>, AllocEr
 fn asks_nothing(row: &Row) -> bool
     ensures { result ≡ asks_nothing row.now }
 {
-    is_null(value_at(row, 2))
-        && is_null(value_at(row, 3))
-        && is_null(value_at(row, 4))
-        && is_null(value_at(row, 5))
-        && is_null(value_at(row, 6))
-        && is_null(value_at(row, 7))
-        && is_null(value_at(row, 8))
+    is_null(column_at(row, 2))
+        && is_null(column_at(row, 3))
+        && is_null(column_at(row, 4))
+        && is_null(column_at(row, 5))
+        && is_null(column_at(row, 6))
+        && is_null(column_at(row, 7))
+        && is_null(column_at(row, 8))
 }
 
 fn is_grow(value: ValueRef<'_>) -> bool
@@ -281,19 +285,19 @@ fn is_empty(value: ValueRef<'_>) -> bool
 fn only_grows(row: &Row) -> bool
     ensures { result ≡ only_grows row.now }
 {
-    is_null(value_at(row, 2))
-        && is_null(value_at(row, 4))
-        && is_null(value_at(row, 5))
-        && is_null(value_at(row, 7))
-        && is_null(value_at(row, 8))
-        && is_empty(value_at(row, 9))
+    is_null(column_at(row, 2))
+        && is_null(column_at(row, 4))
+        && is_null(column_at(row, 5))
+        && is_null(column_at(row, 7))
+        && is_null(column_at(row, 8))
+        && is_empty(column_at(row, 9))
 }
 
 // Whether the columns ask a part of a sale back.
 fn has_part(row: &Row) -> bool
     ensures { IsTrue result ↔ HasPart row.now }
 {
-    matches!(verb_in(value_at(row, 3)), Some(Verb::Refund)) && !is_null(value_at(row, 5))
+    matches!(verb_in(column_at(row, 3)), Some(Verb::Refund)) && !is_null(column_at(row, 5))
 }
 
 fn is_too_many(value: ValueRef<'_>) -> bool
@@ -311,7 +315,7 @@ pub fn is_of_version(read: Version, row: &Row) -> bool
 {
     match read {
         Version::First => {
-            !has_part(row) && !is_too_many(value_at(row, 7)) && !is_grow(value_at(row, 3))
+            !has_part(row) && !is_too_many(column_at(row, 7)) && !is_grow(column_at(row, 3))
         }
         Version::Second => true,
     }
@@ -361,14 +365,14 @@ impl EntryHead {
 fn asked_head(row: &Row) -> Option<EntryHead>
     ensures { (delta : State) → option_map (λ head. with_delta head delta) result ≡ asked_of row.now delta }
 {
-    let number = request_number_in(value_at(row, 2))?;
+    let number = request_number_in(column_at(row, 2))?;
     let request = request_in(
-        value_at(row, 3),
-        value_at(row, 4),
-        value_at(row, 5),
-        value_at(row, 6),
+        column_at(row, 3),
+        column_at(row, 4),
+        column_at(row, 5),
+        column_at(row, 6),
     )?;
-    let reply = reply_in(value_at(row, 7), value_at(row, 8))?;
+    let reply = reply_in(column_at(row, 7), column_at(row, 8))?;
     Some(EntryHead::Asked {
         number,
         request,
@@ -380,7 +384,7 @@ fn asked_head(row: &Row) -> Option<EntryHead>
 fn joined_head(row: &Row) -> Option<EntryHead>
     ensures { (delta : State) → option_map (λ head. with_delta head delta) result ≡ joined_of row.now delta }
 {
-    let peer = site_in(value_at(row, 1))?;
+    let peer = site_in(column_at(row, 1))?;
     if asks_nothing(row) {
         Some(EntryHead::Joined { peer })
     } else {
@@ -392,7 +396,7 @@ fn joined_head(row: &Row) -> Option<EntryHead>
 fn grown_head(row: &Row) -> Option<EntryHead>
     ensures { (delta : State) → option_map (λ head. with_delta head delta) result ≡ grown_of row.now }
 {
-    let sites = sites_in(value_at(row, 6))?;
+    let sites = sites_in(column_at(row, 6))?;
     if only_grows(row) {
         Some(EntryHead::Grown { sites })
     } else {
@@ -403,7 +407,7 @@ fn grown_head(row: &Row) -> Option<EntryHead>
 fn own_head(row: &Row) -> Option<EntryHead>
     ensures { (delta : State) → option_map (λ head. with_delta head delta) result ≡ own_of row.now delta }
 {
-    if is_grow(value_at(row, 3)) {
+    if is_grow(column_at(row, 3)) {
         grown_head(row)
     } else {
         asked_head(row)
@@ -414,7 +418,7 @@ fn own_head(row: &Row) -> Option<EntryHead>
 fn head_of(row: &Row) -> Option<EntryHead>
     ensures { (delta : State) → option_map (λ head. with_delta head delta) result ≡ entry_with row.now delta }
 {
-    if is_null(value_at(row, 1)) {
+    if is_null(column_at(row, 1)) {
         own_head(row)
     } else {
         joined_head(row)
@@ -431,7 +435,7 @@ pub fn read_entry(alloc: Global, row: &Row) -> Result<Option<Entry>, AllocError>
     let Some(head) = head_of(row) else {
         return Ok(None);
     };
-    match delta_in(alloc, value_at(row, 9))? {
+    match delta_in(alloc, column_at(row, 9))? {
         Some(delta) => Ok(Some(head.with(alloc, delta))),
         None => Ok(None),
     }

@@ -1,6 +1,6 @@
 //! The records of a site.
 ghost use Rattle.std.specs.Prelude.{◌≡◌, ◌≢◌, ◌<◌, ◌+◌, ◌++◌, ◌∷◌, [], OnOk, IfErr, Err};
-ghost use Rattle.sqlite.specs.State.{HasCleanDisk};
+ghost use Rattle.sqlite.specs.State.{HasCleanDisk, IsUnchanged};
 ghost use Rattle.sqlite.specs.Held.{state};
 ghost use Rattle.sql_records.specs.declared.meta.Meta.{Meta as Numbers};
 ghost use Rattle.sql_records.specs.Held.{IsAtRest, IsKeepFault, LeavesSite, MayLeaveIn, history_in, most};
@@ -167,6 +167,7 @@ impl<S: Alter + Drop> Records<S> {
         ensures holds { IfOk result (λ it. IsTrusted S.Store it.0 → IsSiteIn it.2 (state S.Store conn).now.trees × (opened_in (state S.Store conn).now.trees ≡ Some it.1.items)) }
         ensures site { IfOk result (λ it. IsTrusted S.Store it.0 → IsOf S.Store it.0 it.2) }
         ensures same { IfOk result (λ it. IsTrusted S.Store it.0 → (state S.Store it.0.conn).now ≡ (state S.Store conn).now) }
+        ensures unchanged { IfOk result (λ it. IsTrusted S.Store it.0 → IsUnchanged (state S.Store conn) (state S.Store it.0.conn)) }
         ensures leaves { IfOk result (λ it. IsTrusted S.Store it.0 → LeavesOnly (kept_in S.Store it.0) (MayLeave S.Store it.0)) }
         ensures open { IfOk result (λ it. it.0.failures ≡ 0) }
         ensures limit { IfOk result (λ it. it.0.conn.step_limit ≡ conn.step_limit) }

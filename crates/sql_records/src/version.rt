@@ -1,6 +1,6 @@
 //! The versions of the records.
 ghost use Rattle.std.specs.Prelude.{◌≡◌};
-ghost use Rattle.sql_records.specs.Layout.{number_of};
+ghost use Rattle.sql_records.specs.Layout.{version_number};
 
 /// A version of the records. Both have the same tables and columns.
 #[derive(Clone, Copy, Debug, PartialEq, Eq)]
@@ -14,7 +14,7 @@ pub enum Version {
 impl Version {
     /// The number that `meta` has for it.
     pub fn number(self) -> i64
-        ensures { result ≡ number_of self }
+        ensures { result ≡ version_number self }
     {
         match self {
             Version::First => 1,

@@ -13,8 +13,8 @@ use Rattle.book_core.specs.Decision.{sites_of}
 use Rattle.book_core.specs.History.{state_of}
 use Rattle.book_core.specs.Legal.{IsLegal}
 use Rattle.book_core.specs.BookView.{BookView}
-use Rattle.world_steps.specs.Audit.{books_of, history_in, AreSites, NoneIsAhead, AreNotOversold}
-use Rattle.world_steps.proofs.Balance.{office_of, not_oversold}
+use Rattle.world_steps.specs.Audit.{books_of, history_among, AreSites, NoneIsAhead, AreNotOversold}
+use Rattle.world_steps.proofs.Balance.{office_numbered, not_oversold}
 use Rattle.world_steps.proofs.Promised.{refunds_below}
 use Rattle.world_steps.proofs.Seats.{legal_within}
 
@@ -51,12 +51,12 @@ pub each_all : (Holds : ℕ → BookView → Type 0) (books : List BookView) (i 
 each_all Holds books i all before k b found = before k b (omega (arith, place_below books k b found, all)) found
 
 -- the history of a book that is there, and of one that is not
-pub history_there : (books : List BookView) (k : ℕ) (book : BookView) → slice_get books k ≡ Some book → history_in books k ≡ book.history
+pub history_there : (books : List BookView) (k : ℕ) (book : BookView) → slice_get books k ≡ Some book → history_among books k ≡ book.history
 history_there [] k book found = cc
 history_there (x ∷ books) zero book found = let same : x ≡ book = cc in ap (λ (b : BookView). b.history) same
 history_there (x ∷ books) (suc k) book found = history_there books k book found
 
-history_past : (books : List BookView) (k : ℕ) → slice_get books k ≡ None → history_in books k ≡ []
+history_past : (books : List BookView) (k : ℕ) → slice_get books k ≡ None → history_among books k ≡ []
 history_past [] k none = refl
 history_past (x ∷ books) zero none = cc
 history_past (x ∷ books) (suc k) none = history_past books k none
@@ -66,7 +66,7 @@ past_end [] k none = omega arith
 past_end (x ∷ books) zero none = cc
 past_end (x ∷ books) (suc k) none = omega (arith, past_end books k none)
 
-no_more : (books : List BookView) (k : ℕ) → length books ≤ k → history_in books k ≡ []
+no_more : (books : List BookView) (k : ℕ) → length books ≤ k → history_among books k ≡ []
 no_more [] k l = refl
 no_more (x ∷ books) zero l = absurd (omega (arith, l))
 no_more (x ∷ books) (suc k) l = no_more books k (omega (arith, l))
@@ -90,16 +90,16 @@ limit_there (x ∷ books) zero book found = let same : x ≡ book = cc in ap (λ
 limit_there (x ∷ books) (suc k) book found = limit_there books k book found
 
 -- each history is legal for the site of its place
-pub legal_in : (books : List BookView) → AreSites books → (k : ℕ) → IsLegal (office_of k (first_count_in books k) (limit_in books k)) (history_in books k)
+pub legal_in : (books : List BookView) → AreSites books → (k : ℕ) → IsLegal (office_numbered k (first_count_in books k) (limit_in books k)) (history_among books k)
 legal_in books sites k = by_case (slice_get books k) refl
   where
-    by_case : (o : Option BookView) → slice_get books k ≡ o → IsLegal (office_of k (first_count_in books k) (limit_in books k)) (history_in books k)
+    by_case : (o : Option BookView) → slice_get books k ≡ o → IsLegal (office_numbered k (first_count_in books k) (limit_in books k)) (history_among books k)
     by_case None none = λ j entry found. cc (ap (λ (h : List Entry). slice_get h j) (history_past books k none))
     by_case (Some book) found =
         let stands = sites.whole k book found in
-        let office_is : book.office ≡ office_of k (first_count_in books k) (limit_in books k) =
+        let office_is : book.office ≡ office_numbered k (first_count_in books k) (limit_in books k) =
         λ i. record { me = stands.site i; sites = sym (first_count_there books k book found) i; limit = sym (limit_there books k book found) i } in
-        subst (λ o. IsLegal o (history_in books k)) office_is (subst (IsLegal book.office) (sym (history_there books k book found)) (sites.legal k book found))
+        subst (λ o. IsLegal o (history_among books k)) office_is (subst (IsLegal book.office) (sym (history_there books k book found)) (sites.legal k book found))
 
 owner_below : (n : ℕ) (cell : Cell) → IsCellOf n cell → owner_of cell < n
 owner_below n (Gave by to) of = of.0
@@ -108,11 +108,11 @@ owner_below n (Back by) of = of
 
 -- where no view is ahead, none is above its owner's row at any cell
 views_below : (books : List BookView) → AreSites books → NoneIsAhead books → (event : List ℕ) (i : ℕ) (cell : Cell)
-    → value_at (state_of (history_in books i)).cells event cell ≤ value_at (state_of (history_in books (owner_of cell))).cells event cell
+    → value_at (state_of (history_among books i)).cells event cell ≤ value_at (state_of (history_among books (owner_of cell))).cells event cell
 views_below books sites none event i cell = by_viewer (slice_get books i) refl
   where
     own : ℕ
-    own = value_at (state_of (history_in books (owner_of cell))).cells event cell
+    own = value_at (state_of (history_among books (owner_of cell))).cells event cell
 
     by_owner : (viewer : BookView) → slice_get books i ≡ Some viewer → (o : Option BookView) → slice_get books (owner_of cell) ≡ o → value_at (state_of viewer.history).cells event cell ≤ own
     by_owner viewer found None past = elim (cases_lt 0 (value_at (state_of viewer.history).cells event cell)) [
@@ -127,7 +127,7 @@ views_below books sites none event i cell = by_viewer (slice_get books i) refl
         subst (λ (h : List Entry). value_at (state_of viewer.history).cells event cell ≤ value_at (state_of h).cells event cell) (sym (history_there books (owner_of cell) owner there))
         (none i viewer found (owner_of cell) owner there event cell (sym stands.site))
 
-    by_viewer : (o : Option BookView) → slice_get books i ≡ o → value_at (state_of (history_in books i)).cells event cell ≤ own
+    by_viewer : (o : Option BookView) → slice_get books i ≡ o → value_at (state_of (history_among books i)).cells event cell ≤ own
     by_viewer None past = omega (arith, ap (λ (h : List Entry). value_at (state_of h).cells event cell) (history_past books i past), value_at-all_zero event cell)
     by_viewer (Some viewer) found =
         subst (λ (h : List Entry). value_at (state_of h).cells event cell ≤ own) (sym (history_there books i viewer found)) (by_owner viewer found (slice_get books (owner_of cell)) refl)
@@ -137,10 +137,10 @@ pub audited : (books : List BookView) → AreSites books → NoneIsAhead books �
 audited books sites none event =
     let n = length books in
     let legal = legal_in books sites in
-    let back = refunds_below n (first_count_in books) (limit_in books) (history_in books) event legal in (
+    let back = refunds_below n (first_count_in books) (limit_in books) (history_among books) event legal in (
       omega (
         arith,
-        not_oversold (history_in books) (first_count_in books) (limit_in books) n event sites.few (no_more books) legal (views_below books sites none event),
+        not_oversold (history_among books) (first_count_in books) (limit_in books) n event sites.few (no_more books) legal (views_below books sites none event),
       ),
       back,
     )

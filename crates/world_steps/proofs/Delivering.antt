@@ -7,16 +7,16 @@ use Rattle.book_core.specs.Decision.{Office}
 use Rattle.site_exchange.specs.declared.message.Message.{Message}
 use Rattle.site_exchange.specs.declared.message.Message.TheVariants.{Delta, Ack}
 use Rattle.site_exchange.specs.Exchange.{Site, Verdict, receiver, verdict}
-use Rattle.site_exchange.specs.Taking.{MayTake, site_after, given_back}
+use Rattle.site_exchange.specs.Taking.{MayTake, site_after, ack_due}
 use Rattle.world_steps.specs.NodeView.{NodeView}
-use Rattle.world_steps.specs.declared.node.Taken.{Taken}
+use Rattle.world_steps.specs.declared.node.Judged.{Judged}
 use Rattle.world_steps.specs.declared.step.Step.TheVariants.{Deliver}
 use Rattle.world_steps.specs.declared.step.Outcome.{Outcome}
 use Rattle.world_steps.specs.declared.step.WorldFault.{WorldFault}
 use Rattle.world_steps.specs.Nodes.{site_of, limit_of, first_count_of, verdict_told}
-use Rattle.world_steps.specs.Outcomes.{outcome, delivered_as, taken_as, MayGrow}
+use Rattle.world_steps.specs.Outcomes.{outcome, delivered_as, taken_as, MayWantMemory}
 use Rattle.world_steps.specs.Reaching.{world_of, IsKept}
-use Rattle.world_steps.specs.World.{World, count, site_at, history_at, office_at, at_site, with_sent, judged, delivered, after}
+use Rattle.world_steps.specs.World.{World, count, site_numbered, history_at, office_at, at_site, with_sent, judged, delivered, after}
 use Rattle.world_steps.proofs.Reached.{sound_in}
 use Rattle.world_steps.proofs.Sites.{at_place, found_at, made_at, length-sites}
 use Rattle.world_steps.proofs.Worlds.{IsSound}
@@ -75,15 +75,15 @@ judged_is nodes sent i message old kept to l is =
 -- a delivery that wants memory is acknowledged, or is taken with more memory
 pub deliver_wants : (nodes : List NodeView) (sent : List Message) (index i : ℕ) (message : Message) (old : NodeView) → IsKept nodes sent → slice_get sent index ≡ Some message
     → i ≡ receiver message → i < length nodes → old ≡ get_or nodes i old
-    → IsSome (given_back (verdict old.book.office old.book.history message) message) ⊎ MayTake (verdict old.book.office old.book.history message) (site_of old) message
-    → MayGrow (world_of nodes sent) (Deliver index)
+    → IsSome (ack_due (verdict old.book.office old.book.history message) message) ⊎ MayTake (verdict old.book.office old.book.history message) (site_of old) message
+    → MayWantMemory (world_of nodes sent) (Deliver index)
 deliver_wants nodes sent index i message old kept sent_is to l is wants =
     let w : World = world_of nodes sent in
     let here = at_place nodes sent i old kept l is in
-    let site_is : site_of old ≡ site_at w (receiver message) = sym here.site ∙ ap (site_at w) to in
-    subst (λ (o : Option Message). IsSomeAnd o (λ m. IsSome (given_back (judged w m) m) ⊎ MayTake (judged w m) (site_at w (receiver m)) m)) (sym sent_is)
-    (subst (λ (s : Site). IsSome (given_back (judged w message) message) ⊎ MayTake (judged w message) s message) site_is
-    (subst (λ (v : Verdict). IsSome (given_back v message) ⊎ MayTake v (site_of old) message) (judged_is nodes sent i message old kept to l is) wants))
+    let site_is : site_of old ≡ site_numbered w (receiver message) = sym here.site ∙ ap (site_numbered w) to in
+    subst (λ (o : Option Message). IsSomeAnd o (λ m. IsSome (ack_due (judged w m) m) ⊎ MayTake (judged w m) (site_numbered w (receiver m)) m)) (sym sent_is)
+    (subst (λ (s : Site). IsSome (ack_due (judged w message) message) ⊎ MayTake (judged w message) s message) site_is
+    (subst (λ (v : Verdict). IsSome (ack_due v message) ⊎ MayTake v (site_of old) message) (judged_is nodes sent i message old kept to l is) wants))
 
 -- what a delivery gives
 pub record IsDelivered (nodes : List NodeView) (sent : List Message) (now : List NodeView) (sent_now : List Message) (index : ℕ) (given : Outcome) : Type 0 where
@@ -91,28 +91,28 @@ pub record IsDelivered (nodes : List NodeView) (sent : List Message) (now : List
   pub made : world_of now sent_now ≡ after (world_of nodes sent) (Deliver index)
   pub outcome : outcome (world_of nodes sent) (Deliver index) ≡ Ok given
 
-pub deliver_gives : (nodes : List NodeView) (sent : List Message) (index i : ℕ) (message : Message) (old new : NodeView) (taken : Taken) → IsKept nodes sent → slice_get sent index ≡ Some message
+pub deliver_gives : (nodes : List NodeView) (sent : List Message) (index i : ℕ) (message : Message) (old new : NodeView) (taken : Judged) → IsKept nodes sent → slice_get sent index ≡ Some message
     → i ≡ receiver message → i < length nodes → old ≡ get_or nodes i old → new.book.office ≡ old.book.office
     → verdict_told taken ≡ verdict old.book.office old.book.history message
     → site_of new ≡ site_after (verdict old.book.office old.book.history message) message (site_of old)
-    → IsDelivered nodes sent (set nodes i new) (with_sent sent (given_back (verdict_told taken) message)) index (taken_as (verdict_told taken) (length sent))
+    → IsDelivered nodes sent (set nodes i new) (with_sent sent (ack_due (verdict_told taken) message)) index (taken_as (verdict_told taken) (length sent))
 deliver_gives nodes sent index i message old new taken kept sent_is to l is office taken_is changed =
     let w : World = world_of nodes sent in
     let here = at_place nodes sent i old kept l is in
     let verdict_is = judged_is nodes sent i message old kept to l is in
     let told_is : verdict_told taken ≡ judged w message = taken_is ∙ verdict_is in
-    let site_is : site_of new ≡ site_after (judged w message) message (site_at w i) =
+    let site_is : site_of new ≡ site_after (judged w message) message (site_numbered w i) =
     changed ∙ ap (λ v. site_after v message (site_of old)) verdict_is ∙ ap (λ (s : Site). site_after (judged w message) message s) (sym here.site) in
-    let after_is : after w (Deliver index) ≡ at_site (world_of nodes (with_sent sent (given_back (verdict_told taken) message))) i (site_of new) =
+    let after_is : after w (Deliver index) ≡ at_site (world_of nodes (with_sent sent (ack_due (verdict_told taken) message))) i (site_of new) =
     ap (delivered w) sent_is
     ∙ (λ k. record {
       limits = map limit_of nodes;
       counts = map first_count_of nodes;
-      sites = set (map site_of nodes) (sym to k) (site_after (judged w message) message (site_at w (sym to k)));
-      sent = with_sent sent (given_back (sym told_is k) message);
+      sites = set (map site_of nodes) (sym to k) (site_after (judged w message) message (site_numbered w (sym to k)));
+      sent = with_sent sent (ack_due (sym told_is k) message);
     })
-    ∙ ap (at_site (world_of nodes (with_sent sent (given_back (verdict_told taken) message))) i) (sym site_is) in
-    let made = made_at nodes sent (with_sent sent (given_back (verdict_told taken) message)) i old new (Deliver index) kept here.found office after_is in
+    ∙ ap (at_site (world_of nodes (with_sent sent (ack_due (verdict_told taken) message))) i) (sym site_is) in
+    let made = made_at nodes sent (with_sent sent (ack_due (verdict_told taken) message)) i old new (Deliver index) kept here.found office after_is in
     record {
       kept = made.kept;
       made = made.made;

@@ -25,7 +25,7 @@ use Rattle.world_steps.specs.declared.step.WorldFault.TheVariants.{NoSite}
 use Rattle.world_steps.specs.Nodes.{site_of, limit_of, AreAdded}
 use Rattle.world_steps.specs.Outcomes.{outcome, grown_as}
 use Rattle.world_steps.specs.Reaching.{world_of, IsKept}
-use Rattle.world_steps.specs.World.{World, count, no_site, site_at, history_at, office_at, at_site, widened, widened_by, entered, grows, stopped_in, after, IsReached}
+use Rattle.world_steps.specs.World.{World, count, no_site, site_numbered, history_at, office_at, at_site, widened, widened_by, entered, grows, stopped_in, after, IsReached}
 use Rattle.world_steps.proofs.Making.{IsGiven}
 use Rattle.world_steps.proofs.Reached.{reached_after}
 use Rattle.world_steps.proofs.Sites.{IsMade, at_place, found_at, kept_same, same_world, made_at, kept_places, places_added, world_set, world_added, limit_found}
@@ -96,10 +96,10 @@ grow_made nodes sent i sites old new now kept l is office decided few grown adde
     let w : World = world_of nodes sent in
     let here = at_place nodes sent i old kept l is in
     let entry_is : grows w i sites ≡ Some (Grown sites) = entered_at w i sites (decided_at nodes sent i sites old kept l is ∙ decided) few in
-    let site_is : site_of new ≡ with_entry (Some (Grown sites)) (site_at w i) = grown ∙ ap (with_entry (Some (Grown sites))) (sym here.site) in
+    let site_is : site_of new ≡ with_entry (Some (Grown sites)) (site_numbered w i) = grown ∙ ap (with_entry (Some (Grown sites))) (sym here.site) in
     let after_is : after w (Grow i sites) ≡ at_site (widened sites (limit_of old) w) i (site_of new) =
-    ap (λ b. cond b (entered (grows w i sites) i (with_entry (grows w i sites) (site_at w i)) w) w) (lt-ltb i (count w) here.below)
-    ∙ ap (λ (e : Option Entry). entered e i (with_entry e (site_at w i)) w) entry_is
+    ap (λ b. cond b (entered (grows w i sites) i (with_entry (grows w i sites) (site_numbered w i)) w) w) (lt-ltb i (count w) here.below)
+    ∙ ap (λ (e : Option Entry). entered e i (with_entry e (site_numbered w i)) w) entry_is
     ∙ (λ k. at_site (widened sites (limit_found nodes i old here.found k) w) i (sym site_is k)) in
     let world_is : world_of now sent ≡ after w (Grow i sites) =
     world_added sites (limit_of old) (set nodes i new) now sent added
@@ -124,8 +124,8 @@ still_made nodes sent i sites old new kept l is office same d decided none =
     let entry_is : grows w i sites ≡ None = ap (λ (e : GrowDecision). cond (nat_le sites most_sites) (grown_if e sites) None) (decided_at nodes sent i sites old kept l is ∙ decided)
     ∙ ap (λ (e : Option Entry). cond (nat_le sites most_sites) e None) none ∙ either (nat_le sites most_sites) in
     made_at nodes sent sent i old new (Grow i sites) kept here.found office
-    (ap (λ b. cond b (entered (grows w i sites) i (with_entry (grows w i sites) (site_at w i)) w) w) (lt-ltb i (count w) here.below)
-    ∙ ap (λ (e : Option Entry). entered e i (with_entry e (site_at w i)) w) entry_is
+    (ap (λ b. cond b (entered (grows w i sites) i (with_entry (grows w i sites) (site_numbered w i)) w) w) (lt-ltb i (count w) here.below)
+    ∙ ap (λ (e : Option Entry). entered e i (with_entry e (site_numbered w i)) w) entry_is
     ∙ ap (at_site w i) (here.site ∙ sym same))
   where
     either : (b : Bool) → cond b (let o : Option Entry = None in o) None ≡ None
@@ -172,30 +172,30 @@ stopped_growing w i sites = by_test (nat_lt i (count w)) refl
     entry = grows w i sites
 
     site : Site
-    site = with_entry (grows w i sites) (site_at w i)
+    site = with_entry (grows w i sites) (site_numbered w i)
 
     grown : World
-    grown = entered (grows w i sites) i (with_entry (grows w i sites) (site_at w i)) w
+    grown = entered (grows w i sites) i (with_entry (grows w i sites) (site_numbered w i)) w
 
     by_test : (b : Bool) → nat_lt i (count w) ≡ b → after (after w (Grow i sites)) (Restart i) ≡ after w (Stop i (input.Grow sites) true)
     by_test true q =
         let l : i < count (widened_by entry i w) = omega (arith, ltb-true i (count w) q, more_by w i entry) in
         let there : i < count grown = omega (arith, l, length-set (widened_by entry i w).sites i site) in
         ap (λ (v : World). after v (Restart i)) (ap (λ b. cond b grown w) q)
-        ∙ ap (λ b. cond b (at_site grown i (restarted (site_at grown i))) grown) (lt-ltb i (count grown) there)
+        ∙ ap (λ b. cond b (at_site grown i (restarted (site_numbered grown i))) grown) (lt-ltb i (count grown) there)
         ∙ ap (λ (s : Site). at_site grown i (restarted s)) (site_same (widened_by entry i w) i site l)
         ∙ ap (λ (ss : List Site). let v : World = record (widened_by entry i w) { sites = ss } in v) (set-set (widened_by entry i w).sites i site (restarted site))
         ∙ sym (ap (λ b. cond (b && true) (stopped_in w i entry true) w) q)
     by_test false q =
         ap (λ (v : World). after v (Restart i)) (ap (λ b. cond b grown w) q)
-        ∙ ap (λ b. cond b (at_site w i (restarted (site_at w i))) w) q
+        ∙ ap (λ b. cond b (at_site w i (restarted (site_numbered w i))) w) q
         ∙ sym (ap (λ b. cond (b && true) (stopped_in w i entry true) w) q)
 
 -- where the growth was not stored it just started anew
 pub stopped_before : (w : World) (i sites : ℕ) → after w (Restart i) ≡ after w (Stop i (input.Grow sites) false)
 stopped_before w i sites = by_test (nat_lt i (count w))
   where
-    by_test : (b : Bool) → cond b (at_site w i (restarted (site_at w i))) w ≡ cond (b && true) (stopped_in w i (grows w i sites) false) w
+    by_test : (b : Bool) → cond b (at_site w i (restarted (site_numbered w i))) w ≡ cond (b && true) (stopped_in w i (grows w i sites) false) w
     by_test true = refl
     by_test false = refl
 

@@ -18,9 +18,9 @@ use Rattle.world_steps.specs.declared.step.Outcome.TheVariants as outcomes
 use Rattle.world_steps.specs.declared.step.WorldFault.{WorldFault}
 use Rattle.world_steps.specs.declared.step.WorldFault.TheVariants.{NoSite, NoMessage, Memory}
 use Rattle.world_steps.specs.Nodes.{site_of}
-use Rattle.world_steps.specs.Outcomes.{answered, outcome, delivered_as, IsDue, MayGrow, MayStore}
+use Rattle.world_steps.specs.Outcomes.{answered, outcome, delivered_as, IsDue, MayWantMemory, MayStore}
 use Rattle.world_steps.specs.Reaching.{world_of, IsKept}
-use Rattle.world_steps.specs.World.{World, count, site_at, history_at, office_at, count_at, at_site, are_peers, with_sent, sends, asks, entry_of_input, is_there, stopped_in, after, IsGrowth, IsReached}
+use Rattle.world_steps.specs.World.{World, count, site_numbered, history_at, office_at, count_at, at_site, are_peers, with_sent, sends, asks, entry_of_input, is_there, stopped_in, after, IsGrowth, IsReached}
 use Rattle.world_steps.proofs.Reached.{reached_after, sound_in}
 use Rattle.world_steps.proofs.Widening.{input_adds_none}
 use Rattle.world_steps.proofs.Sites.{IsMade, at_place, made_at, same_world, kept_same, length-sites}
@@ -53,12 +53,12 @@ pub ask_gives : (nodes : List NodeView) (sent : List Message) (i number : ℕ) (
 ask_gives nodes sent i number request old new (Ok o) kept l is office answer memory entered same =
     let w : World = world_of nodes sent in
     let here = at_place nodes sent i old kept l is in
-    let site_is : site_of new ≡ with_entry (asks w i number request) (site_at w i) =
+    let site_is : site_of new ≡ with_entry (asks w i number request) (site_numbered w i) =
     entered
     ∙ ap (λ (f : Office). with_entry (entry_of_ask f old.book.history number request) (site_of old)) (sym here.office)
     ∙ ap (λ (s : Site). with_entry (entry_of_ask (office_at w i) s.history number request) s) (sym here.site) in
     let after_is : after w (Ask i number request) ≡ at_site w i (site_of new) =
-    ap (λ b. cond b (at_site w i (with_entry (asks w i number request) (site_at w i))) w) (lt-ltb i (count w) here.below)
+    ap (λ b. cond b (at_site w i (with_entry (asks w i number request) (site_numbered w i))) w) (lt-ltb i (count w) here.below)
     ∙ ap (at_site w i) (sym site_is) in
     let made = made_at nodes sent sent i old new (Ask i number request) kept here.found office after_is in
     record {
@@ -85,7 +85,7 @@ ask_gives nodes sent i number request old new (Err fault) kept l is office answe
 
 -- a request that wants memory is a fresh one
 pub ask_wants : (nodes : List NodeView) (sent : List Message) (i number : ℕ) (request : Request) (old : NodeView) → IsKept nodes sent → i < length nodes → old ≡ get_or nodes i old
-    → IsFresh (decision old.book.office old.book.history number request) → MayGrow (world_of nodes sent) (Ask i number request)
+    → IsFresh (decision old.book.office old.book.history number request) → MayWantMemory (world_of nodes sent) (Ask i number request)
 ask_wants nodes sent i number request old kept l is fresh =
     let w : World = world_of nodes sent in
     let here = at_place nodes sent i old kept l is in
@@ -94,7 +94,7 @@ ask_wants nodes sent i number request old kept l is fresh =
 
 -- a stop that wants memory stores what wants it
 pub stop_wants : (nodes : List NodeView) (sent : List Message) (i : ℕ) (in_hand : Input) (stored : Bool) (old : NodeView) → IsKept nodes sent → i < length nodes → old ≡ get_or nodes i old
-    → stored ≡ true → MayStore old.book.office old.book.history sent in_hand → MayGrow (world_of nodes sent) (Stop i in_hand stored)
+    → stored ≡ true → MayStore old.book.office old.book.history sent in_hand → MayWantMemory (world_of nodes sent) (Stop i in_hand stored)
 stop_wants nodes sent i in_hand stored old kept l is stores wants =
     let w : World = world_of nodes sent in
     let here = at_place nodes sent i old kept l is in (
@@ -109,9 +109,9 @@ pub restart_made : (nodes : List NodeView) (sent : List Message) (i : ℕ) (old 
 restart_made nodes sent i old new kept l is fresh =
     let w : World = world_of nodes sent in
     let here = at_place nodes sent i old kept l is in
-    let site_is : site_of new ≡ restarted (site_at w i) = ap site_of fresh ∙ ap restarted (sym here.site) in
+    let site_is : site_of new ≡ restarted (site_numbered w i) = ap site_of fresh ∙ ap restarted (sym here.site) in
     made_at nodes sent sent i old new (Restart i) kept here.found (ap (λ (n : NodeView). n.book.office) fresh)
-    (ap (λ b. cond b (at_site w i (restarted (site_at w i))) w) (lt-ltb i (count w) here.below) ∙ ap (at_site w i) (sym site_is))
+    (ap (λ b. cond b (at_site w i (restarted (site_numbered w i))) w) (lt-ltb i (count w) here.below) ∙ ap (at_site w i) (sym site_is))
 
 -- a stop
 pub stop_made : (nodes : List NodeView) (sent : List Message) (i : ℕ) (in_hand : Input) (stored : Bool) (old new : NodeView) → IsKept nodes sent → i < length nodes → old ≡ get_or nodes i old
@@ -121,7 +121,7 @@ stop_made nodes sent i in_hand stored old new kept l is there kind office stoppe
     let w : World = world_of nodes sent in
     let here = at_place nodes sent i old kept l is in
     let entry : Option Entry = entry_of_input (office_at w i) (history_at w i) sent in_hand in
-    let site : Site = stopped_with entry stored (site_at w i) in
+    let site : Site = stopped_with entry stored (site_numbered w i) in
     let site_is : site_of new ≡ site =
     stopped
     ∙ ap (λ (f : Office). stopped_with (entry_of_input f old.book.history sent in_hand) stored (site_of old)) (sym here.office)
@@ -180,9 +180,9 @@ pub send_made : (nodes : List NodeView) (sent : List Message) (i j : ℕ) (old :
 send_made nodes sent i j old due kept l is peers due_is =
     let w : World = world_of nodes sent in
     let here = at_place nodes sent i old kept l is in
-    let same : due ≡ next i (site_at w i) j = due_is ∙ ap (λ (f : Office). next f.me (site_of old) j) (sym here.office) ∙ ap (λ (s : Site). next i s j) (sym here.site) in
+    let same : due ≡ next i (site_numbered w i) j = due_is ∙ ap (λ (f : Office). next f.me (site_of old) j) (sym here.office) ∙ ap (λ (s : Site). next i s j) (sym here.site) in
     sent_made nodes sent (with_sent sent due) (Send i j) kept
-    (ap (λ b. cond b (sends (next i (site_at w i) j) w) w) peers ∙ ap (λ (o : Option Message). world_of nodes (with_sent sent o)) (sym same))
+    (ap (λ b. cond b (sends (next i (site_numbered w i) j) w) w) peers ∙ ap (λ (o : Option Message). world_of nodes (with_sent sent o)) (sym same))
 
 pub peers_in : (nodes : List NodeView) (sent : List Message) (w : World) (i by j : ℕ) → world_of nodes sent ≡ w → i ≡ by → true ≡ are_peers w by j → are_peers (world_of nodes sent) i j ≡ true
 peers_in nodes sent w i by j is here peers = (λ k. are_peers (is k) (here k) j) ∙ sym peers

@@ -18,7 +18,7 @@ use Rattle.rights_lattice.proofs.StateLaws.{same_names, knows-with_names, contai
 use Rattle.rights_lattice.proofs.MarkLaws.{names_of-none, names_in_order-names_of}
 use Rattle.event_catalogue.proofs.NameLaws.{or_comm}
 use Rattle.book_core.specs.declared.entry.Entry.{Entry}
-use Rattle.book_core.specs.History.{state_of, names_of}
+use Rattle.book_core.specs.History.{state_of, names_known}
 use Rattle.book_core.proofs.NameLaws.{known_names}
 use Rattle.world_steps.specs.World.{known_below}
 
@@ -70,19 +70,19 @@ any_same name [] = refl
 any_same name (n ∷ ns) = let rest = any_same name ns in let here = texts_ties name n in λ i. sym here i || rest i
 
 -- the names of a history, in whatever order they are added, make the union
-union_of : (known : Names) (h : List Entry) → with_names known (names_of h) ≡ join_names known (state_of h).names
+union_of : (known : Names) (h : List Entry) → with_names known (names_known h) ≡ join_names known (state_of h).names
 union_of known h = same_names _ _ (λ n.
-    knows-with_names known (names_of h) n
-    ∙ ap (λ b. b || knows known n) (any_same n (names_of h) ∙ known_names h n)
+    knows-with_names known (names_known h) n
+    ∙ ap (λ b. b || knows known n) (any_same n (names_known h) ∙ known_names h n)
     ∙ or_comm (knows (state_of h).names n) (knows known n)
     ∙ sym (contains-union known (state_of h).names n))
 
 -- all names of a book are added
-pub all_added : (old now : List (List ℕ)) (h : List Entry) (k : ℕ) (known : Names) → length (names_of h) ≤ k
-    → (old ≡ names_in_order known → now ≡ names_in_order (with_names known (take k (names_of h)))) → old ≡ names_in_order known → now ≡ names_in_order (join_names known (state_of h).names)
+pub all_added : (old now : List (List ℕ)) (h : List Entry) (k : ℕ) (known : Names) → length (names_known h) ≤ k
+    → (old ≡ names_in_order known → now ≡ names_in_order (with_names known (take k (names_known h)))) → old ≡ names_in_order known → now ≡ names_in_order (join_names known (state_of h).names)
 all_added old now h k known all before start =
     before start
-    ∙ ap (λ (l : List (List ℕ)). names_in_order (with_names known l)) (take_all k (names_of h) all)
+    ∙ ap (λ (l : List (List ℕ)). names_in_order (with_names known l)) (take_all k (names_known h) all)
     ∙ ap (λ (N : Names). names_in_order N) (union_of known h)
 
 -- no names at first

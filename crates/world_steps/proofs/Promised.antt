@@ -20,7 +20,7 @@ use Rattle.world_steps.specs.declared.step.WorldFault.{WorldFault}
 use Rattle.world_steps.specs.World.{IsReached, World, count, after, run, history_at, state_at}
 use Rattle.world_steps.specs.Promises.{NeverOversold, RefundsWithinSales, NoSeatIsLost, OperationsAreDistinct, ViewsBelowOwners, DeltasBelowOwners, RowsAreVersions, JoinsAreCausal, AcknowledgedIsHeld, AcksAreTrue, AgreeOnceAcknowledged, ViewsArePositions, ViewsNotOversold, CountedAreThere, ReceiversAreThere, HoldsPromises, own_state}
 use Rattle.world_steps.proofs.Positions.{sound_position, position_balance}
-use Rattle.world_steps.proofs.Balance.{office_of, not_oversold}
+use Rattle.world_steps.proofs.Balance.{office_numbered, not_oversold}
 use Rattle.world_steps.proofs.FlatList.{distinct_below}
 use Rattle.world_steps.proofs.Seats.{seats_add_up}
 use Rattle.world_steps.proofs.Worlds.{Sound, HasVersion, sound_views, sound_rows, sound_version}
@@ -35,13 +35,13 @@ never_oversold w sound few event =
     )
 
 -- where each history is legal, no more is given back than was sold
-pub refunds_below : (m : ℕ) (n limit : ℕ → ℕ) (h : ℕ → List Entry) (event : List ℕ) → ((i : ℕ) → IsLegal (office_of i (n i) (limit i)) (h i)) → refunded event (operations_below m h) ≤ sold event (operations_below m h)
+pub refunds_below : (m : ℕ) (n limit : ℕ → ℕ) (h : ℕ → List Entry) (event : List ℕ) → ((i : ℕ) → IsLegal (office_numbered i (n i) (limit i)) (h i)) → refunded event (operations_below m h) ≤ sold event (operations_below m h)
 refunds_below zero n limit h event legal = omega arith
 refunds_below (suc m) n limit h event legal =
     omega (
       arith,
       refunds_below m n limit h event legal,
-      legal_refunds (office_of m (n m) (limit m)) (h m) (legal m) event,
+      legal_refunds (office_numbered m (n m) (limit m)) (h m) (legal m) event,
       sum_by-append (counted Refunding event) (operations_below m h) (operations m (h m)),
       sum_by-append (counted Selling event) (operations_below m h) (operations m (h m)),
     )

@@ -9,7 +9,7 @@ use Rattle.book_core.specs.declared.entry.Entry.{Entry}
 use Rattle.rights_lattice.specs.Sums.{max_sites}
 use Rattle.world_steps.specs.declared.step.Step.{Step}
 use Rattle.world_steps.specs.declared.step.Step.TheVariants.{Ask, Send, Deliver, Restart, Stop, Grow}
-use Rattle.world_steps.specs.World.{is_there, IsReached, World, count, run, after, opened, begun, AreBegun, reached, no_site, site_at, history_at, office_at, at_site, are_peers, entered, stopped_in, sends, asks, grows, entry_of_input, judged, delivered}
+use Rattle.world_steps.specs.World.{is_there, IsReached, World, count, run, after, opened, begun, AreBegun, reached, no_site, site_numbered, history_at, office_at, at_site, are_peers, entered, stopped_in, sends, asks, grows, entry_of_input, judged, delivered}
 use Rattle.world_steps.proofs.Worlds.{Sound}
 use Rattle.world_steps.proofs.Steps.{sound_after, sound_run, sound_opened, sound_begun, may_grow, may_store}
 use Rattle.world_steps.proofs.Widening.{few_entered}
@@ -23,27 +23,27 @@ few_at w i site few = omega (arith, few, length-set w.sites i site)
 
 few_given : (o : Option Message) (w : World) → count w ≤ max_sites → count (delivered w o) ≤ max_sites
 few_given None w few = few
-few_given (Some message) w few = few_at w (receiver message) (site_after (judged w message) message (site_at w (receiver message))) few
+few_given (Some message) w few = few_at w (receiver message) (site_after (judged w message) message (site_numbered w (receiver message))) few
 
-few_stopped : (w : World) (i : ℕ) (entry : Option Entry) (stored : Bool) → (stored ≡ true → count (entered entry i (stopped_with entry true (site_at w i)) w) ≤ max_sites) → count w ≤ max_sites
+few_stopped : (w : World) (i : ℕ) (entry : Option Entry) (stored : Bool) → (stored ≡ true → count (entered entry i (stopped_with entry true (site_numbered w i)) w) ≤ max_sites) → count w ≤ max_sites
     → count (stopped_in w i entry stored) ≤ max_sites
 few_stopped w i entry true there few = there refl
-few_stopped w i entry false there few = few_at w i (restarted (site_at w i)) few
+few_stopped w i entry false there few = few_at w i (restarted (site_numbered w i)) few
 
 -- no step adds more sites than there can be
 pub few_after : (w : World) (step : Step) → Sound w → count w ≤ max_sites → count (after w step) ≤ max_sites
 few_after w (Ask i number request) sound few =
-    let site : Site = with_entry (asks w i number request) (site_at w i) in
+    let site : Site = with_entry (asks w i number request) (site_numbered w i) in
     few_either (nat_lt i (count w)) (at_site w i site) w (few_at w i site few) few
-few_after w (Send i j) sound few = few_either (are_peers w i j) (sends (next i (site_at w i) j) w) w few few
+few_after w (Send i j) sound few = few_either (are_peers w i j) (sends (next i (site_numbered w i) j) w) w few few
 few_after w (Deliver index) sound few = few_given (slice_get w.sent index) w few
-few_after w (Restart i) sound few = few_either (nat_lt i (count w)) (at_site w i (restarted (site_at w i))) w (few_at w i (restarted (site_at w i)) few) few
+few_after w (Restart i) sound few = few_either (nat_lt i (count w)) (at_site w i (restarted (site_numbered w i))) w (few_at w i (restarted (site_numbered w i)) few) few
 few_after w (Stop i in_hand stored) sound few =
     let entry : Option Entry = entry_of_input (office_at w i) (history_at w i) w.sent in_hand in
     few_either (nat_lt i (count w) && is_there w.sent in_hand) (stopped_in w i entry stored) w
-    (few_stopped w i entry stored (λ is. few_entered w i entry (stopped_with entry true (site_at w i)) (may_store w i in_hand sound) few) few) few
+    (few_stopped w i entry stored (λ is. few_entered w i entry (stopped_with entry true (site_numbered w i)) (may_store w i in_hand sound) few) few) few
 few_after w (Grow i sites) sound few =
-    let site : Site = with_entry (grows w i sites) (site_at w i) in
+    let site : Site = with_entry (grows w i sites) (site_numbered w i) in
     few_either (nat_lt i (count w)) (entered (grows w i sites) i site w) w (few_entered w i (grows w i sites) site (may_grow w i sites sound) few) few
 
 few_run : (steps : List Step) (w : World) → Sound w → count w ≤ max_sites → count (run steps w) ≤ max_sites

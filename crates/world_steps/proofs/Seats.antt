@@ -61,7 +61,7 @@ pub legal_within : (office : Office) (h : List Entry) → office.me < office.sit
     → (event : List ℕ) (cell : Cell) → 1 ≤ value_at (state_of h).cells event cell → IsCellOf (sites_of office h) cell
 legal_within office h me legal = (legal_of_sites office h me legal).cells
 
-ceded_zero : (X : Cells) (event : List ℕ) (i j : ℕ) → value_at X event (Gave i j) ≡ 0 → rights.ceded X event i j ≡ 0
+ceded_zero : (X : Cells) (event : List ℕ) (i j : ℕ) → value_at X event (Gave i j) ≡ 0 → rights.ceded_in X event i j ≡ 0
 ceded_zero X event i j h = by_test (i == j)
   where
     by_test : (b : Bool) → cond b 0 (value_at X event (Gave i j)) ≡ 0
@@ -101,8 +101,8 @@ seats_add_up w sound few event within =
     let h : ℕ → List Entry = λ i. history_at w i in
     let view : ℕ → Cells = λ i. (state_of (h i)).cells in
     let sellable : ℕ → ℕ = λ i. gained (view i) event i - spent (view i) event i in
-    let given : ℕ → ℕ → ℕ = λ i j. rights.ceded (view i) event i j in
-    let got : ℕ → ℕ → ℕ = λ i j. rights.ceded (view i) event j i in
+    let given : ℕ → ℕ → ℕ = λ i j. rights.ceded_in (view i) event i j in
+    let got : ℕ → ℕ → ℕ = λ i j. rights.ceded_in (view i) event j i in
     let under : ℕ → ℕ → ℕ = λ i j. given i j - got j i in
     let learned : (i j : ℕ) → got j i ≤ given i j = λ i j. ceded_below (view j) (view i) event i j (sound_views w sound j event (Gave i j)) in
     let sum : sum_below n (λ i. value_at (view i) event (Gave i i)) + sum_below n (λ i. value_at (view i) event (Back i))
@@ -150,11 +150,11 @@ seats_add_up w sound few event within =
         )
 
     -- what a site ceded by its own view is what it ceded by its operations
-    ceded_is : (i j : ℕ) → rights.ceded (state_of (history_at w i)).cells event i j ≡ ceded i j event (all_operations w)
+    ceded_is : (i j : ℕ) → rights.ceded_in (state_of (history_at w i)).cells event i j ≡ ceded i j event (all_operations w)
     ceded_is i j =
         by_case ∙ sym (ceded_all (count w) (history_at w) (no_history w) i j event)
       where
-        by_case : rights.ceded (state_of (history_at w i)).cells event i j ≡ total (Ceding j) event (operations i (history_at w i))
+        by_case : rights.ceded_in (state_of (history_at w i)).cells event i j ≡ total (Ceding j) event (operations i (history_at w i))
         by_case = elim (cases_eq j i) [
           | inl e ↦ ap (λ b. cond b 0 (value_at (state_of (history_at w i)).cells event (Gave i j))) (eq-eqb i j (sym e))
               ∙ sym (ceded_self (office_at w i) (history_at w i) (sound.legal i) j e event)

@@ -11,7 +11,7 @@ use Rattle.world_steps.specs.NodeView.{NodeView}
 use Rattle.world_steps.specs.declared.step.Step.{Step}
 use Rattle.world_steps.specs.Nodes.{site_of, limit_of, first_count_of, AreAdded}
 use Rattle.world_steps.specs.Reaching.{world_of, IsKept}
-use Rattle.world_steps.specs.World.{opening, count, no_site, site_at, history_at, office_at, at_site, widened, after, IsReached}
+use Rattle.world_steps.specs.World.{opening, count, no_site, site_numbered, history_at, office_at, at_site, widened, after, IsReached}
 use Rattle.world_steps.proofs.FlatList.{get_append}
 use Rattle.world_steps.proofs.Reached.{reached_after}
 use Rattle.world_steps.proofs.Worlds.{site_kept}
@@ -156,7 +156,7 @@ kept_same nodes sent i old new kept found same_office same = record {
 pub record IsAt (nodes : List NodeView) (sent : List Message) (i : ℕ) (old : NodeView) : Type 0 where
   pub found : slice_get nodes i ≡ Some old
   pub below : i < count (world_of nodes sent)
-  pub site : site_at (world_of nodes sent) i ≡ site_of old
+  pub site : site_numbered (world_of nodes sent) i ≡ site_of old
   pub office : office_at (world_of nodes sent) i ≡ old.book.office
 
 pub at_place : (nodes : List NodeView) (sent : List Message) (i : ℕ) (old : NodeView) → IsKept nodes sent → i < length nodes → old ≡ get_or nodes i old → IsAt nodes sent i old

@@ -2,7 +2,7 @@
 use Rattle.std.proofs.Common.{◌≡◌, ℕ, suc, ◌+◌, ◌*◌, ◌≤◌, ◌<◌, List, refl, sym, ap, ◌∙◌, arith}
 use Rattle.rights_lattice.specs.declared.cell.Cell.{Cell}
 use Rattle.rights_lattice.specs.declared.cell.Cell.TheVariants.{Gave, Used, Back}
-use Rattle.rights_lattice.specs.Cells.{value_at, max_value}
+use Rattle.rights_lattice.specs.Cells.{value_at, greatest_value}
 use Rattle.rights_lattice.specs.Limits.{site_numbers}
 use Rattle.rights_lattice.specs.Sums.{max_sites, sum_below}
 use Rattle.local_rights.specs.declared.report.Totals.{Totals}
@@ -15,7 +15,7 @@ use Rattle.book_core.specs.BookView.{BookView}
 use Rattle.book_core.proofs.Rows.{IsProper, legal_cells}
 use Rattle.world_steps.specs.World.{totals_below}
 use Rattle.world_steps.specs.Reaching.{AreAtMost, with_own}
-use Rattle.world_steps.proofs.Balance.{office_of, total_below}
+use Rattle.world_steps.proofs.Balance.{office_numbered, total_below}
 
 -- a site's own cell
 abbrev pub own_cell : (ℕ → List Entry) → List ℕ → (ℕ → Cell) → ℕ → ℕ
@@ -54,13 +54,13 @@ own_all_more h event i book totals here is before =
     }
 
 -- sums of own cells stay small
-pub own_fits : (i n : ℕ) (totals : Totals) → i < n → n ≤ max_sites → AreAtMost (max_value * i) totals → AreAtMost (max_value * site_numbers) totals
+pub own_fits : (i n : ℕ) (totals : Totals) → i < n → n ≤ max_sites → AreAtMost (greatest_value * i) totals → AreAtMost (greatest_value * site_numbers) totals
 unfolding max_sites
 own_fits i n totals l few at_most =
     record { released = omega (arith, at_most.released); sold = omega (arith, at_most.sold); refunded = omega (arith, at_most.refunded) }
 
 -- one more cell's worth
-pub one_more : (i : ℕ) (totals : Totals) → AreAtMost (max_value * i + max_value) totals → AreAtMost (max_value * (i + 1)) totals
+pub one_more : (i : ℕ) (totals : Totals) → AreAtMost (greatest_value * i + greatest_value) totals → AreAtMost (greatest_value * (i + 1)) totals
 one_more i totals at_most =
     record { released = omega (arith, at_most.released); sold = omega (arith, at_most.sold); refunded = omega (arith, at_most.refunded) }
 
@@ -69,7 +69,7 @@ pub own_none : (h : ℕ → List Entry) (event : List ℕ) → AreOwn 0 h event 
 own_none h event = record { released = refl; sold = refl; refunded = refl }
 
 -- the sums of all own cells are those over the flat list
-pub own_totals : (n i : ℕ) (h : ℕ → List Entry) (sites limit : ℕ → ℕ) (event : List ℕ) (totals : Totals) → ((k : ℕ) → IsLegal (office_of k (sites k) (limit k)) (h k))
+pub own_totals : (n i : ℕ) (h : ℕ → List Entry) (sites limit : ℕ → ℕ) (event : List ℕ) (totals : Totals) → ((k : ℕ) → IsLegal (office_numbered k (sites k) (limit k)) (h k))
     → i ≡ n → AreOwn i h event totals → totals ≡ totals_below n h event
 own_totals n i h sites limit event totals legal all own =
     λ k. record { released = whole Releasing (λ _. tt) totals.released own.released k; sold = whole Selling (λ _. tt) totals.sold own.sold k; refunded = whole Refunding (λ _. tt) totals.refunded own.refunded k }
@@ -77,4 +77,4 @@ own_totals n i h sites limit event totals legal all own =
     whole : (kind : Kind) → ((k : ℕ) → IsProper k kind) → (sum : ℕ) → sum ≡ own_sum i h event (λ k. cell_of k kind) → sum ≡ total kind event (operations_below n h)
     whole kind proper sum is =
         is ∙ ap (λ m. own_sum m h event (λ k. cell_of k kind)) all
-        ∙ sym (total_below n h kind event (λ k. legal_cells (office_of k (sites k) (limit k)) (h k) (legal k) kind (proper k) event))
+        ∙ sym (total_below n h kind event (λ k. legal_cells (office_numbered k (sites k) (limit k)) (h k) (legal k) kind (proper k) event))

@@ -19,7 +19,7 @@ use Rattle.site_exchange.specs.Exchange.{Site, Verdict, verdict, entry_of_take}
 use Rattle.site_exchange.specs.Taking.{extended}
 use Rattle.world_steps.specs.declared.step.Input.{Input}
 use Rattle.world_steps.specs.declared.step.Input.TheVariants as input
-use Rattle.world_steps.specs.World.{World, count, no_site, site_at, history_at, office_at, count_at, widened, widened_by, entered, entry_if_sent, entry_if_stored, entry_of_input, IsGrowth}
+use Rattle.world_steps.specs.World.{World, count, no_site, site_numbered, history_at, office_at, count_at, widened, widened_by, entered, entry_if_sent, entry_if_stored, entry_of_input, IsGrowth}
 use Rattle.world_steps.proofs.Worlds.{Grows, IsAcked, Sound, HasVersion, MayFollow, GoesOn, acked_grows, version_grows, sound_grows, goes_on, sound_site}
 
 -- ---- more sites
@@ -32,7 +32,7 @@ padded (x ∷ xs) n zero d = refl
 padded (x ∷ xs) n (suc i) d = padded xs n i d
 
 -- each site, there or not, is the one that it was
-pub site_widened : (w : World) (sites limit i : ℕ) → site_at (widened sites limit w) i ≡ site_at w i
+pub site_widened : (w : World) (sites limit i : ℕ) → site_numbered (widened sites limit w) i ≡ site_numbered w i
 site_widened w sites limit i = padded w.sites (sites - count w) i no_site
 
 pub count_widened : (w : World) (sites limit : ℕ) → count (widened sites limit w) ≡ count w + (sites - count w)
@@ -66,7 +66,7 @@ sound_widened w sites limit sound =
           (version_grows w v k (state_of (take a (history_at w i))) grown (sound.versions i a k));
       sent = λ k message found. sound_grows w v message grown (sound.sent k message found);
       acked = λ i j. subst (λ (s : Site). IsAcked v i j (get_or s.acked j 0)) (sym (site_widened w sites limit i))
-          (acked_grows w v i j (get_or (site_at w i).acked j 0) grown (sound.acked i j));
+          (acked_grows w v i j (get_or (site_numbered w i).acked j 0) grown (sound.acked i j));
       limits = omega (arith, sound.limits, length-append w.limits (replicate lacking limit), length-replicate lacking limit, more);
       counts = omega (arith, sound.counts, length-append w.counts (replicate lacking sites), length-replicate lacking sites, more);
       own = own_at;
@@ -147,7 +147,7 @@ more_by w i (Some (Grown sites)) = omega (arith, count_widened w sites (get_or w
 record IsWider (w v : World) (i : ℕ) : Type 0 where
   sound : Sound v
   grows : Grows w v
-  site : site_at v i ≡ site_at w i
+  site : site_numbered v i ≡ site_numbered w i
   office : office_at v i ≡ office_at w i
 
 still : (w : World) (i : ℕ) → Sound w → IsWider w w i
@@ -212,7 +212,7 @@ ask_adds_none office h number request i w = by_decision (decision office h numbe
 pub take_adds_none : (office : Office) (h : List Entry) (message : Message) (i : ℕ) (w : World) → widened_by (entry_of_take office h message) i w ≡ w
 take_adds_none office h message i w = by_verdict (verdict office h message) message
   where
-    by_verdict : (v : Verdict) (m : Message) → widened_by (exchange.entry_if v m) i w ≡ w
+    by_verdict : (v : Verdict) (m : Message) → widened_by (exchange.taken_if v m) i w ≡ w
     by_verdict exchange.Joins (Delta by to upto delta) = refl
     by_verdict exchange.Joins (Ack by to upto) = refl
     by_verdict exchange.NothingNew m = refl

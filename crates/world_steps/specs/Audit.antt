@@ -15,8 +15,8 @@ abbrev pub books_of : List (Bor BookView) → List BookView
 books_of books = map (λ book. book.now) books
 
 -- the history of the k-th book, and none past the last
-abbrev pub history_in : List BookView → ℕ → List Entry
-history_in books k = get_or (map (λ book. book.history) books) k []
+abbrev pub history_among : List BookView → ℕ → List Entry
+history_among books k = get_or (map (λ book. book.history) books) k []
 
 -- the book is of site k, and counts no more sites than these so far
 pub record StandsAt (k sites : ℕ) (book : BookView) : Type 0 where
@@ -58,15 +58,15 @@ pub record IsFirstAhead (books : List BookView) (v o : ℕ) : Type 0 where
 
 -- the accepted requests of all books
 abbrev pub operations_in : List BookView → List Operation
-operations_in books = operations_below (length books) (history_in books)
+operations_in books = operations_below (length books) (history_among books)
 
 -- what all books released, sold and took back of an event
 abbrev pub totals_in : List BookView → List ℕ → Totals
-totals_in books = totals_below (length books) (history_in books)
+totals_in books = totals_below (length books) (history_among books)
 
 -- the names that a book knows, rising, each once
 abbrev pub events_in : List BookView → List (List ℕ)
-events_in books = events_below (length books) (history_in books)
+events_in books = events_below (length books) (history_among books)
 
 -- each of these names with its sums
 abbrev pub lines_in : List BookView → List (List ℕ × Totals)

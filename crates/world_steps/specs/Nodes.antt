@@ -3,8 +3,8 @@ use Rattle.std.specs.Prelude.{◌≡◌, ℕ, ◌+◌, ◌-◌, List, [], ◌++�
 use Rattle.site_exchange.specs.Exchange as exchange
 use Rattle.site_exchange.specs.Exchange.{Site, Verdict, zeros}
 use Rattle.world_steps.specs.NodeView.{NodeView}
-use Rattle.world_steps.specs.declared.node.Taken.{Taken}
-use Rattle.world_steps.specs.declared.node.Taken.TheVariants as taken
+use Rattle.world_steps.specs.declared.node.Judged.{Judged}
+use Rattle.world_steps.specs.declared.node.Judged.TheVariants as taken
 
 -- a site's history, and what each peer has acknowledged of it
 abbrev pub site_of : NodeView → Site
@@ -32,7 +32,7 @@ pub record AreAdded (sites limit : ℕ) (old new : List NodeView) : Type 0 where
   pub opened : (k : ℕ) (node : NodeView) → slice_get more k ≡ Some node → IsOpened sites limit (length old + k) node
 
 -- the verdict that a site tells
-abbrev pub verdict_told : Taken → Verdict
+abbrev pub verdict_told : Judged → Verdict
 verdict_told taken.Joined = exchange.Joins
 verdict_told taken.NothingNew = exchange.NothingNew
 verdict_told taken.Acked = exchange.Acks

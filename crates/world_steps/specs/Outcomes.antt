@@ -11,7 +11,7 @@ use Rattle.book_core.specs.Plans.{IsFresh}
 use Rattle.site_exchange.specs.declared.message.Message.{Message}
 use Rattle.site_exchange.specs.Exchange as exchange
 use Rattle.site_exchange.specs.Exchange.{Verdict, next, receiver, verdict}
-use Rattle.site_exchange.specs.Taking.{MayTake, given_back}
+use Rattle.site_exchange.specs.Taking.{MayTake, ack_due}
 use Rattle.world_steps.specs.declared.step.Input.{Input}
 use Rattle.world_steps.specs.declared.step.Input.TheVariants as input
 use Rattle.world_steps.specs.declared.step.Step.{Step}
@@ -20,7 +20,7 @@ use Rattle.world_steps.specs.declared.step.Outcome.{Outcome}
 use Rattle.world_steps.specs.declared.step.Outcome.TheVariants.{Answered, Refused, Sent, NothingToSend, Joined, NothingNew, Acked, NotTaken, Restarted, Stopped, Grown, NotGrown}
 use Rattle.world_steps.specs.declared.step.WorldFault.{WorldFault}
 use Rattle.world_steps.specs.declared.step.WorldFault.TheVariants.{NoSite, NoMessage, Memory}
-use Rattle.world_steps.specs.World.{World, count, office_at, site_at, history_at, is_there, are_peers, judged, after}
+use Rattle.world_steps.specs.World.{World, count, office_at, site_numbered, history_at, is_there, are_peers, judged, after}
 
 abbrev pub answered : decided.Decision → Outcome
 answered (decided.Again place reply) = Answered reply
@@ -52,7 +52,7 @@ delivered_as w (Some message) = Ok (taken_as (judged w message) (length w.sent))
 -- what a step is answered in a world, want of memory aside
 abbrev pub outcome : World → Step → Result Outcome WorldFault
 outcome w (Ask i number request) = if nat_lt i (count w) then Ok (answered (decision (office_at w i) (history_at w i) number request)) else Err NoSite
-outcome w (Send i j) = if are_peers w i j then Ok (sent_as (next i (site_at w i) j) (length w.sent)) else Err NoSite
+outcome w (Send i j) = if are_peers w i j then Ok (sent_as (next i (site_numbered w i) j) (length w.sent)) else Err NoSite
 outcome w (Deliver index) = delivered_as w (slice_get w.sent index)
 outcome w (Restart i) = if nat_lt i (count w) then Ok Restarted else Err NoSite
 outcome w (Stop i in_hand stored) = if nat_lt i (count w) then (if is_there w.sent in_hand then Ok Stopped else Err NoMessage) else Err NoSite
@@ -79,11 +79,11 @@ MayStore office h sent (input.Grow sites) = grow_decision office h sites ≡ gro
 -- Making the step may want memory: a kept number and a full history want none, nor does a send where nothing is due,
 -- a delivery where no acknowledgement is due and that raises no acknowledged number, starting anew, a stop that
 -- stores nothing, or a count of sites that is not taken.
-abbrev pub MayGrow : World → Step → Type 0
-MayGrow w (Ask i number request) = IsFresh (decision (office_at w i) (history_at w i) number request)
-MayGrow w (Send i j) = IsSome (next i (site_at w i) j)
-MayGrow w (Deliver index) =
-    IsSomeAnd (slice_get w.sent index) (λ message. IsSome (given_back (judged w message) message) ⊎ MayTake (judged w message) (site_at w (receiver message)) message)
-MayGrow w (Restart i) = ⊥
-MayGrow w (Stop i in_hand stored) = (stored ≡ true) × MayStore (office_at w i) (history_at w i) w.sent in_hand
-MayGrow w (Grow i sites) = grow_decision (office_at w i) (history_at w i) sites ≡ growing.Grows
+abbrev pub MayWantMemory : World → Step → Type 0
+MayWantMemory w (Ask i number request) = IsFresh (decision (office_at w i) (history_at w i) number request)
+MayWantMemory w (Send i j) = IsSome (next i (site_numbered w i) j)
+MayWantMemory w (Deliver index) =
+    IsSomeAnd (slice_get w.sent index) (λ message. IsSome (ack_due (judged w message) message) ⊎ MayTake (judged w message) (site_numbered w (receiver message)) message)
+MayWantMemory w (Restart i) = ⊥
+MayWantMemory w (Stop i in_hand stored) = (stored ≡ true) × MayStore (office_at w i) (history_at w i) w.sent in_hand
+MayWantMemory w (Grow i sites) = grow_decision (office_at w i) (history_at w i) sites ≡ growing.Grows

@@ -14,7 +14,7 @@ use Rattle.site_exchange.specs.declared.message.Message.{Message}
 use Rattle.site_exchange.specs.declared.message.Message.TheVariants.{Delta, Ack}
 use Rattle.site_exchange.specs.Exchange.{receiver}
 use Rattle.world_steps.specs.declared.step.Step.{Step}
-use Rattle.world_steps.specs.World.{World, count, count_at, history_at, site_at, state_at, run, begun, AreBegun, all_operations}
+use Rattle.world_steps.specs.World.{World, count, count_at, history_at, site_numbered, state_at, run, begun, AreBegun, all_operations}
 
 -- Over every list of requests, messages lost, repeated or reordered, growths, stops and restarts, of sites with any
 -- limits, each counting at first so many of them, itself among them.
@@ -51,7 +51,7 @@ DeltasBelowOwners w = (k by to upto : ℕ) (delta : State)
 
 -- What i counts as acknowledged by j, j has.
 abbrev pub AcknowledgedIsHeld : World → Type 0
-AcknowledgedIsHeld w = (i j : ℕ) → AtOrBelow (state_at (history_at w i) (get_or (site_at w i).acked j 0)) (own_state w j)
+AcknowledgedIsHeld w = (i j : ℕ) → AtOrBelow (state_at (history_at w i) (get_or (site_numbered w i).acked j 0)) (own_state w j)
 
 -- What an acknowledgement ever sent from j to i tells, j has.
 abbrev pub AcksAreTrue : World → Type 0
@@ -79,7 +79,7 @@ JoinsAreCausal w = (k by to upto : ℕ) (delta : State) → slice_get w.sent k �
 
 -- each site counts all of its history as acknowledged by each other
 abbrev pub IsAllAcknowledged : World → Type 0
-IsAllAcknowledged w = (i j : ℕ) → i < count w → j < count w → i ≢ j → get_or (site_at w i).acked j 0 ≡ length (history_at w i)
+IsAllAcknowledged w = (i j : ℕ) → i < count w → j < count w → i ≢ j → get_or (site_numbered w i).acked j 0 ≡ length (history_at w i)
 
 -- Then all sites know the same.
 abbrev pub AgreeOnceAcknowledged : World → Type 0
@@ -99,7 +99,7 @@ pub record SeatsAddUp (w : World) (event : List ℕ) : Type 0 where
   pub under_way : ℕ → ℕ → ℕ
   pub kept_sales : outstanding + refunded event (all_operations w) ≡ sold event (all_operations w)
   pub own_rights : (i : ℕ) → sellable i + spent (own_state w i).cells event i ≡ gained (own_state w i).cells event i
-  pub not_learned : (i j : ℕ) → under_way i j + rights.ceded (own_state w j).cells event i j ≡ ceded i j event (all_operations w)
+  pub not_learned : (i j : ℕ) → under_way i j + rights.ceded_in (own_state w j).cells event i j ≡ ceded i j event (all_operations w)
   pub all_released : released event (all_operations w)
       ≡ outstanding + sum_below (count w) sellable + sum_below (count w) (λ i. sum_below (count w) (under_way i))
 

@@ -18,7 +18,7 @@ use Rattle.book_core.specs.Decision.{Office, entry_of_ask, sites_of}
 use Rattle.book_core.specs.Growing.{entry_of_grow}
 use Rattle.book_core.specs.Operations.{Operation, operations_below, released, sold, refunded}
 use Rattle.site_exchange.specs.Exchange.{Site, zeros, Verdict, next, receiver, verdict, entry_of_take}
-use Rattle.site_exchange.specs.Taking.{with_entry, site_after, given_back, restarted, stopped_with}
+use Rattle.site_exchange.specs.Taking.{with_entry, site_after, ack_due, restarted, stopped_with}
 
 -- the greatest length of each site's history, the count of sites with which it began, the sites, and all messages
 -- ever sent
@@ -36,7 +36,7 @@ no_site = record { history = []; acked = zeros }
 abbrev pub begun : List ℕ → List ℕ → World
 begun limits counts = record { limits = limits; counts = counts; sites = replicate (length limits) no_site; sent = [] }
 
--- each site counts itself, and no more sites than there are
+-- each site has a limit and a count, counts itself, and no more sites than there are
 pub record AreBegun (limits counts : List ℕ) : Type 0 where
   pub each : length counts ≡ length limits
   pub own : (i : ℕ) → i < length limits → i < get_or counts i 0
@@ -53,11 +53,11 @@ opening n limit = opened (replicate n limit)
 abbrev pub count : World → ℕ
 count w = length w.sites
 
-abbrev pub site_at : World → ℕ → Site
-site_at w i = get_or w.sites i no_site
+abbrev pub site_numbered : World → ℕ → Site
+site_numbered w i = get_or w.sites i no_site
 
 abbrev pub history_at : World → ℕ → List Entry
-history_at w i = (site_at w i).history
+history_at w i = (site_numbered w i).history
 
 abbrev pub office_at : World → ℕ → Office
 office_at w i = record { me = i; sites = get_or w.counts i 0; limit = get_or w.limits i 0 }
@@ -115,7 +115,7 @@ judged w message = verdict (office_at w (receiver message)) (history_at w (recei
 -- its receiver took the message with this verdict
 abbrev pub taken_with : Verdict → Message → World → World
 taken_with v message w =
-    sends (given_back v message) (at_site w (receiver message) (site_after v message (site_at w (receiver message))))
+    sends (ack_due v message) (at_site w (receiver message) (site_after v message (site_numbered w (receiver message))))
 
 abbrev pub delivered : World → Option Message → World
 delivered w None = w
@@ -153,21 +153,21 @@ are_peers w i j = nat_lt i (count w) && nat_lt j (count_at w i) && not (i == j)
 
 -- site i stopped in the midst of an input that adds this entry, if any
 abbrev pub stopped_in : World → ℕ → Option Entry → Bool → World
-stopped_in w i entry stored = entered (entry_if_stored stored entry) i (stopped_with entry stored (site_at w i)) w
+stopped_in w i entry stored = entered (entry_if_stored stored entry) i (stopped_with entry stored (site_numbered w i)) w
 
 abbrev pub after : World → Step → World
 after w (Ask i number request) =
-    if nat_lt i (count w) then at_site w i (with_entry (asks w i number request) (site_at w i)) else w
+    if nat_lt i (count w) then at_site w i (with_entry (asks w i number request) (site_numbered w i)) else w
 after w (Send i j) =
-    if are_peers w i j then sends (next i (site_at w i) j) w else w
+    if are_peers w i j then sends (next i (site_numbered w i) j) w else w
 after w (Deliver index) = delivered w (slice_get w.sent index)
-after w (Restart i) = if nat_lt i (count w) then at_site w i (restarted (site_at w i)) else w
+after w (Restart i) = if nat_lt i (count w) then at_site w i (restarted (site_numbered w i)) else w
 after w (Stop i in_hand stored) =
     if nat_lt i (count w) && is_there w.sent in_hand
     then stopped_in w i (entry_of_input (office_at w i) (history_at w i) w.sent in_hand) stored
     else w
 after w (Grow i sites) =
-    if nat_lt i (count w) then entered (grows w i sites) i (with_entry (grows w i sites) (site_at w i)) w else w
+    if nat_lt i (count w) then entered (grows w i sites) i (with_entry (grows w i sites) (site_numbered w i)) w else w
 
 -- a whole list of steps
 abbrev pub run : List Step → World → World

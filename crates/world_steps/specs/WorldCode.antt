@@ -1,4 +1,4 @@
--- The code of a world's view.
+-- The code of a world's view. (Our own.)
 use Rattle.std.specs.Prelude.{ℕ, List, refl}
 use Rattle.std.specs.Coded.{Coded, code_by, coded_ℕ, coded_list, coded×}
 use Rattle.book_core.specs.declared.entry.Entry.{Entry}

@@ -1,6 +1,6 @@
 //! What several books know and did, summed up book by book.
 ghost use Rattle.std.specs.Prelude.{◌≡◌, ◌+◌, ◌*◌, ℕ, IfOk, OnOk};
-ghost use Rattle.rights_lattice.specs.Cells.{max_value};
+ghost use Rattle.rights_lattice.specs.Cells.{greatest_value};
 ghost use Rattle.rights_lattice.specs.Limits.{site_numbers};
 ghost use Rattle.book_core.specs.History.{state_of};
 ghost use Rattle.world_steps.specs.Reaching.{AddsNames, AreAtMost, with_own};
@@ -33,9 +33,9 @@ pub(crate) fn add_names(names: &mut BTreeSet<Event>, book: &Book) -> Result<(), 
 
 /// The sums with those of a book's own row added.
 pub(crate) fn with_own(totals: Totals, book: &Book, event: Event) -> Totals
-    requires small { AreAtMost (max_value * site_numbers) totals }
+    requires small { AreAtMost (greatest_value * site_numbers) totals }
     ensures sums { result ≡ with_own totals book.now event }
-    ensures bound { (most : ℕ) → AreAtMost most totals → AreAtMost (most + max_value) result }
+    ensures bound { (most : ℕ) → AreAtMost most totals → AreAtMost (most + greatest_value) result }
 {
     let me = book.me();
     Totals {

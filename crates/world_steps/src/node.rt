@@ -42,7 +42,7 @@ impl Model for Node {
 }
 
 impl Node {
-    /// A site that has no history: nothing counts as acknowledged, and nothing is pending.
+    /// A site that has no history: nothing counts as acknowledged. Its exchange is fresh.
     pub fn new(alloc: Global, me: SiteId, sites: Sites, limit: Limit) -> Node
         requires { me < sites }
         ensures office { result.book.office ≡ record { me = me; sites = sites; limit = limit } }
@@ -62,7 +62,7 @@ impl Node {
         &self.book
     }
 
-    /// Starts it anew from its history: nothing counts as acknowledged, and nothing is pending.
+    /// Starts it anew from its history: nothing counts as acknowledged. Its exchange is a fresh one.
     pub fn restart(&mut self, alloc: Global)
         ensures { self.new ≡ record self.old { acked = zeros } }
     {
@@ -124,7 +124,7 @@ pub fn add_sites(nodes: &mut Vec<Node>, alloc: Global, sites: Sites, limit: Limi
 
 /// What a site does with a message.
 #[derive(Clone, Copy, PartialEq, Eq, Debug)]
-pub enum Taken {
+pub enum Judged {
     /// The delta is joined.
     Joined,
     /// The site has all of the delta.
@@ -162,18 +162,18 @@ pub fn ask(
 }
 
 /// What a site does with a message, by what it holds now.
-pub fn judge(book: &Book, message: &Message) -> Taken
+pub fn judge(book: &Book, message: &Message) -> Judged
     ensures { verdict_told result ≡ verdict book.now.office book.now.history message.now }
 {
     if let Err(fault) = check(book, message) {
-        return Taken::Refused(TakeFault::from(fault));
+        return Judged::Refused(TakeFault::from(fault));
     }
     match message {
-        Message::Ack { .. } => Taken::Acked,
+        Message::Ack { .. } => Judged::Acked,
         Message::Delta { by, delta, .. } => match book.join_decision(*by, delta) {
-            JoinDecision::Joins => Taken::Joined,
-            JoinDecision::NothingNew => Taken::NothingNew,
-            JoinDecision::Refuses(fault) => Taken::Refused(TakeFault::from(fault)),
+            JoinDecision::Joins => Judged::Joined,
+            JoinDecision::NothingNew => Judged::NothingNew,
+            JoinDecision::Refuses(fault) => Judged::Refused(TakeFault::from(fault)),
         },
     }
 }
@@ -186,10 +186,10 @@ pub fn take(node: &mut Node, alloc: Global, message: &Message) -> Result<(), All
     ensures unchanged { OnErr result (site_of node.new ≡ site_of node.old) }
 {
     match (judge(&node.book, message), message) {
-        (Taken::Joined, Message::Delta { by, delta, .. }) => {
+        (Judged::Joined, Message::Delta { by, delta, .. }) => {
             join(&mut node.book, alloc, *by, delta)
         }
-        (Taken::Acked, Message::Ack { by, upto, .. }) => node.ack(*by, *upto),
+        (Judged::Acked, Message::Ack { by, upto, .. }) => node.ack(*by, *upto),
         _ => Ok(()),
     }
 }
@@ -284,7 +284,7 @@ fn store_delta(book: &mut Book, alloc: Global, message: &Message) -> Result<(), 
     ensures unchanged { OnErr result (book.new.history ≡ book.old.history) }
 {
     match (judge(book, message), message) {
-        (Taken::Joined, Message::Delta { by, delta, .. }) => join(book, alloc, *by, delta),
+        (Judged::Joined, Message::Delta { by, delta, .. }) => join(book, alloc, *by, delta),
         _ => Ok(()),
     }
 }

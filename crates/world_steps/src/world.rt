@@ -2,16 +2,16 @@
 ghost use Rattle.std.specs.Prelude.{IfOk, IfErr, IfSome, OnOk, OnErr, IsSome, option_copied, ◌↔◌, ◌≡◌, ◌+◌, ◌<◌, ◌≤◌, List, length, map, take, Ok, Err, IsTrue, IsSomeAnd, slice_get, vec_len, vec_capacity};
 ghost use Rattle.book_core.specs.Operations.{outstanding, released, sold, refunded};
 ghost use Rattle.site_exchange.specs.Exchange.{receiver};
-ghost use Rattle.site_exchange.specs.Taking.{given_back};
+ghost use Rattle.site_exchange.specs.Taking.{ack_due};
 ghost use Rattle.world_steps.specs.World.{IsReached, after, all_operations, are_peers, count, events_of, history_at, is_there, office_at, opening, run, totals_of, with_sent};
 ghost use Rattle.world_steps.specs.Promises.{HoldsPromises};
 ghost use Rattle.world_steps.specs.declared.step.Input.{Input};
 ghost use Rattle.world_steps.specs.declared.step.Outcome.{Outcome};
-ghost use Rattle.world_steps.specs.Outcomes.{outcome, outcomes, sent_as, taken_as, IsDue, MayGrow};
+ghost use Rattle.world_steps.specs.Outcomes.{outcome, outcomes, sent_as, taken_as, IsDue, MayWantMemory};
 ghost use Rattle.world_steps.specs.Nodes.{verdict_told};
 
 use crate::books::{add_names, listed, with_own};
-use crate::node::{Node, Taken, add_sites, ask, enter, judge, plan_growth, stop, take};
+use crate::node::{Judged, Node, add_sites, ask, enter, judge, plan_growth, stop, take};
 use crate::step::{Input, Outcome, Step, WorldFault};
 use book_core::{Book, GrowFault, Limit};
 use local_rights::Totals;
@@ -74,7 +74,7 @@ impl World {
     pub fn step(&mut self, alloc: Global, step: Step) -> Result<Outcome, WorldFault>
         ensures outcome { IfOk result (λ o. outcome self.old step ≡ Ok o) }
         ensures fault { IfErr result (IsDue self.old step) }
-        ensures memory { result ≡ Err WorldFault.Memory → MayGrow self.old step }
+        ensures memory { result ≡ Err WorldFault.Memory → MayWantMemory self.old step }
         ensures made { OnOk result (self.new ≡ after self.old step) }
         ensures unchanged { OnErr result (self.new ≡ self.old) }
         ensures promises { HoldsPromises self.new }
@@ -108,7 +108,7 @@ impl World {
     ) -> Result<Outcome, WorldFault>
         ensures outcome { IfOk result (λ o. outcome self.old (Step.Ask site number request.now) ≡ Ok o) }
         ensures fault { IfErr result (IsDue self.old (Step.Ask site number request.now)) }
-        ensures memory { result ≡ Err WorldFault.Memory → MayGrow self.old (Step.Ask site number request.now) }
+        ensures memory { result ≡ Err WorldFault.Memory → MayWantMemory self.old (Step.Ask site number request.now) }
         ensures made { OnOk result (self.new ≡ after self.old (Step.Ask site number request.now)) }
         ensures unchanged { OnErr result (self.new ≡ self.old) }
     {
@@ -145,7 +145,7 @@ impl World {
     ) -> Result<Outcome, WorldFault>
         ensures outcome { IfOk result (λ o. outcome self.old (Step.Stop site input stored) ≡ Ok o) }
         ensures fault { IfErr result (IsDue self.old (Step.Stop site input stored)) }
-        ensures memory { result ≡ Err WorldFault.Memory → MayGrow self.old (Step.Stop site input stored) }
+        ensures memory { result ≡ Err WorldFault.Memory → MayWantMemory self.old (Step.Stop site input stored) }
         ensures made { OnOk result (self.new ≡ after self.old (Step.Stop site input stored)) }
         ensures unchanged { OnErr result (self.new ≡ self.old) }
     {
@@ -173,7 +173,7 @@ impl World {
     ) -> Result<Outcome, WorldFault>
         ensures outcome { IfOk result (λ o. outcome self.old (Step.Stop site (Input.Grow sites) stored) ≡ Ok o) }
         ensures fault { IfErr result (IsDue self.old (Step.Stop site (Input.Grow sites) stored)) }
-        ensures memory { result ≡ Err WorldFault.Memory → MayGrow self.old (Step.Stop site (Input.Grow sites) stored) }
+        ensures memory { result ≡ Err WorldFault.Memory → MayWantMemory self.old (Step.Stop site (Input.Grow sites) stored) }
         ensures made { OnOk result (self.new ≡ after self.old (Step.Stop site (Input.Grow sites) stored)) }
         ensures unchanged { OnErr result (self.new ≡ self.old) }
     {
@@ -187,7 +187,7 @@ impl World {
     fn grow(&mut self, alloc: Global, site: SiteId, sites: Sites) -> Result<Outcome, WorldFault>
         ensures outcome { IfOk result (λ o. outcome self.old (Step.Grow site sites) ≡ Ok o) }
         ensures fault { IfErr result (IsDue self.old (Step.Grow site sites)) }
-        ensures memory { result ≡ Err WorldFault.Memory → MayGrow self.old (Step.Grow site sites) }
+        ensures memory { result ≡ Err WorldFault.Memory → MayWantMemory self.old (Step.Grow site sites) }
         ensures made { OnOk result (self.new ≡ after self.old (Step.Grow site sites)) }
         ensures unchanged { OnErr result (self.new ≡ self.old) }
     {
@@ -261,7 +261,7 @@ impl World {
     fn send(&mut self, alloc: Global, by: SiteId, to: SiteId) -> Result<Outcome, WorldFault>
         ensures outcome { IfOk result (λ o. outcome self.old (Step.Send by to) ≡ Ok o) }
         ensures fault { IfErr result (IsDue self.old (Step.Send by to)) }
-        ensures memory { result ≡ Err WorldFault.Memory → MayGrow self.old (Step.Send by to) }
+        ensures memory { result ≡ Err WorldFault.Memory → MayWantMemory self.old (Step.Send by to) }
         ensures made { OnOk result (self.new ≡ after self.old (Step.Send by to)) }
         ensures unchanged { OnErr result (self.new ≡ self.old) }
     {
@@ -288,7 +288,7 @@ impl World {
     fn deliver(&mut self, alloc: Global, index: usize) -> Result<Outcome, WorldFault>
         ensures outcome { IfOk result (λ o. outcome self.old (Step.Deliver index) ≡ Ok o) }
         ensures fault { IfErr result (IsDue self.old (Step.Deliver index)) }
-        ensures memory { result ≡ Err WorldFault.Memory → MayGrow self.old (Step.Deliver index) }
+        ensures memory { result ≡ Err WorldFault.Memory → MayWantMemory self.old (Step.Deliver index) }
         ensures made { OnOk result (self.new ≡ after self.old (Step.Deliver index)) }
         ensures unchanged { OnErr result (self.new ≡ self.old) }
     {
@@ -298,7 +298,7 @@ impl World {
         let message = &self.sent[index];
         let place = receiver(message).number() as usize;
         let taken = judge(self.sites[place].book(), message);
-        let ack = given_back(&taken, message);
+        let ack = ack_due(&taken, message);
         // Room first, so that nothing can fail once the message is taken.
         if make_room(&mut self.sent, ack.is_some()).is_err() {
             return Err(WorldFault::Memory);
@@ -414,23 +414,23 @@ fn sent_as(due: &Option<Message>, index: usize) -> Outcome
 }
 
 // What a delivery is answered, where the acknowledgement gets this index.
-fn taken_as(taken: &Taken, index: usize) -> Outcome
+fn taken_as(taken: &Judged, index: usize) -> Outcome
     ensures { result ≡ taken_as (verdict_told taken.now) index }
 {
     match taken {
-        Taken::Joined => Outcome::Joined { ack: index },
-        Taken::NothingNew => Outcome::NothingNew { ack: index },
-        Taken::Acked => Outcome::Acked,
-        Taken::Refused(fault) => Outcome::NotTaken(*fault),
+        Judged::Joined => Outcome::Joined { ack: index },
+        Judged::NothingNew => Outcome::NothingNew { ack: index },
+        Judged::Acked => Outcome::Acked,
+        Judged::Refused(fault) => Outcome::NotTaken(*fault),
     }
 }
 
 // The acknowledgement that is given back, if any.
-fn given_back(taken: &Taken, message: &Message) -> Option<Message>
-    ensures { result ≡ given_back (verdict_told taken.now) message.now }
+fn ack_due(taken: &Judged, message: &Message) -> Option<Message>
+    ensures { result ≡ ack_due (verdict_told taken.now) message.now }
 {
     match (taken, message) {
-        (Taken::Joined | Taken::NothingNew, Message::Delta { .. }) => Some(ack_for(message)),
+        (Judged::Joined | Judged::NothingNew, Message::Delta { .. }) => Some(ack_for(message)),
         _ => None,
     }
 }

@@ -142,7 +142,7 @@ impl Book {
             return (Reply::TooMany { rest: rest.seats() }, None);
         }
         let me = self.me();
-        // No site gives back more than it sold, so the cell has room.
+        // No site gives back more than it sold, so the cell has room: the prover wants to see this value.
         let _sold = self.rights.get(sale.event, Cell::Used { by: me });
         match refund(self.rights.rights(), me, sale.event, amount) {
             Ok(mark) => (Reply::Done, Some(Item::Cell(mark))),

@@ -1,6 +1,6 @@
 //! A book from the entries of its history.
 ghost use Rattle.std.specs.Prelude.{IfOk, IfErr, OnOk, IsTrue, ◌↔◌, ◌≡◌, ◌<◌};
-ghost use Rattle.delta_mutators.specs.Items.{state_of};
+ghost use Rattle.delta_mutators.specs.Items.{item_state};
 ghost use Rattle.book_core.specs.Decision.{state_of_item};
 ghost use Rattle.book_core.specs.Legal.{IsLegal, IsNext, IsNextAsked, IsNextGrown, IsNextJoined};
 ghost use Rattle.book_core.specs.OwnRow.{HasOwnRights};
@@ -118,7 +118,7 @@ fn is_of_item(delta: &Delta, item: Option<Item>) -> bool
 }
 
 fn is_of_one(delta: &Delta, item: &Item) -> bool
-    ensures { IsTrue result ↔ (delta.now ≡ state_of item.now) }
+    ensures { IsTrue result ↔ (delta.now ≡ item_state item.now) }
 {
     match *item {
         Item::Name(event) => has_lists(delta, &[event], &[]),

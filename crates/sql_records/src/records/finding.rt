@@ -13,7 +13,7 @@ ghost use Rattle.sql_records.specs.Lookups.{IsFirstUnread, IsListFault, IsQueryF
 
 use super::Records;
 use crate::lookup::{FindFault, Found, Listed};
-use crate::reading::{reply_in, request_in, request_number_in, value_at};
+use crate::reading::{column_at, reply_in, request_in, request_number_in};
 use request_ledger::{Request, RequestNumber};
 use rights_lattice::{Amount, Event};
 use sqlite::types::ValueRef;
@@ -77,7 +77,7 @@ fn list_rows<S: Alter>(conn: &mut Connection<S>, event: &Event) -> Result<Vec<Ro
 fn place_in(row: &Row) -> Option<u64>
     ensures { result ≡ place_in row.now }
 {
-    match value_at(row, 0) {
+    match column_at(row, 0) {
         ValueRef::Int(place) => u64::try_from(place).ok(),
         _ => None,
     }
@@ -88,7 +88,7 @@ fn found_of(row: &Row) -> Option<Found>
     ensures { result ≡ found_of row.now }
 {
     let place = place_in(row)?;
-    let reply = reply_in(value_at(row, 1), value_at(row, 2))?;
+    let reply = reply_in(column_at(row, 1), column_at(row, 2))?;
     Some(Found { place, reply })
 }
 
@@ -97,14 +97,14 @@ fn listed_of(row: &Row) -> Option<Listed>
     ensures { result ≡ listed_of row.now }
 {
     let place = place_in(row)?;
-    let number = request_number_in(value_at(row, 1))?;
+    let number = request_number_in(column_at(row, 1))?;
     let request = request_in(
-        value_at(row, 2),
-        value_at(row, 3),
-        value_at(row, 4),
-        value_at(row, 5),
+        column_at(row, 2),
+        column_at(row, 3),
+        column_at(row, 4),
+        column_at(row, 5),
     )?;
-    let reply = reply_in(value_at(row, 6), value_at(row, 7))?;
+    let reply = reply_in(column_at(row, 6), column_at(row, 7))?;
     Some(Listed {
         place,
         number,

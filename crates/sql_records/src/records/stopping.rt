@@ -5,7 +5,7 @@ ghost use Rattle.sqlite.specs.State.{HasCleanDisk};
 ghost use Rattle.sqlite.specs.Held.{Held, IsNew, state};
 ghost use Rattle.sql_records.specs.declared.meta.Meta.{Meta as Numbers};
 ghost use Rattle.sql_records.specs.Held.{IsTrusted, Finds, LeavesSite, MayLeaveIn};
-ghost use Rattle.sql_records.specs.Keeping.{Opens};
+ghost use Rattle.sql_records.specs.Keeping.{CanBeOpened};
 ghost use Rattle.sql_records.specs.Opening.{IsAfterStop, IsFoundAfterStop};
 
 use super::Records;
@@ -47,7 +47,7 @@ impl<S: Alter + Reopen + Drop> Records<S> {
         ensures found { IfOk result (λ it. IsTrusted S.Store it.0 → Finds (state S.Store conn) it.2 it.1.items) }
         ensures numbers { IfOk result (λ it. IsTrusted S.Store it.0 → (meta : Numbers) → LeavesSite (state S.Store conn) meta → it.2 ≡ meta) }
         ensures fault { IfErr result (λ fault. IfSome fault (IsFoundAfterStop S.Store conn)) }
-        ensures opens { IfErr result (λ fault. (after : Held S) × (HasCleanDisk (state S.Store after) → (meta : Numbers) → LeavesSite (state S.Store conn) meta → Opens (MayLeaveIn (state S.Store conn)) → IsAfterStop fault)) }
+        ensures opens { IfErr result (λ fault. (after : Held S) × (HasCleanDisk (state S.Store after) → (meta : Numbers) → LeavesSite (state S.Store conn) meta → CanBeOpened (MayLeaveIn (state S.Store conn)) → IsAfterStop fault)) }
     {
         let Some(again) = come_back(alloc, conn) else {
             return Err(None);

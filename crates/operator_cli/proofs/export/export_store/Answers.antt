@@ -1,21 +1,23 @@
-use Rattle.std.proofs.Common.{◌≡◌, Some, refl, ap, sym, subst, ◌∙◌}
-use Rattle.std.specs.Prelude.{IfOk, List}
+use Rattle.std.proofs.Common.{◌≡◌, Some, refl, ap, sym, subst, subst₂, ◌∙◌}
+use Rattle.std.specs.Prelude.{ℕ, IfOk, List}
 use Rattle.sqlite.specs.Effect.{Database}
 use Rattle.sqlite.specs.Held.{state}
 use Rattle.book_core.specs.declared.entry.Entry.{Entry}
 use Rattle.book_core.specs.Decision.{Office}
 use Rattle.site_exchange.specs.Exchange.{Site}
 use Rattle.sql_records.specs.Held.{Kept, IsTrusted}
-use Rattle.sql_records.specs.Layout.{HasMeta}
-use Rattle.site_desk.specs.SiteView.{SiteView, office_of, site_of}
-use Rattle.operator_cli.specs.Exchanged.{IsDueText, site_in}
+use Rattle.sql_records.specs.Layout.{HasMeta, office_of}
+use Rattle.site_desk.specs.SiteView.{SiteView, site_of}
+use Rattle.operator_cli.specs.Exchanged.{IsDueText, IsDueTold, stored_site}
+use Rattle.operator_cli.specs.declared.status.Status.{Status}
+use Rattle.operator_cli.specs.declared.store_fault.StoreFault.TheVariants as fault
 use Rattle.operator_cli.specs.Printed.{Printed}
-use Rattle.operator_cli.specs.Printed.{IsSentText}
+use Rattle.operator_cli.specs.Printed.{IsMessageText, IsSentText, Unsaid}
 use Rattle.operator_cli.specs.Opened.{IsExportEnd, IsIllegal, IsRefused}
-use Rattle.operator_cli.proofs.EndLaws.{always, if_back, weaker}
-use Rattle.operator_cli.proofs.ExchangeLaws.{export_end}
-use Rattle.operator_cli.proofs.OpenedLaws.{book_back, opened_cause, opened_illegal, opened_ours, refused_cause, refused_illegal, refused_lost, refused_ours}
-use Rattle.operator_cli.proofs.PrintLaws.{ends_printed, if_some_is}
+use Rattle.operator_cli.proofs.EndLaws.{always, fails_as, if_back, on_ok_map, weaker}
+use Rattle.operator_cli.proofs.ExchangeLaws.{due_is_message, export_end}
+use Rattle.operator_cli.proofs.OpenedLaws.{book_back, opened_cause, opened_illegal, opened_ours, refused_cause, refused_illegal, refused_lost, refused_ours, refused_silent}
+use Rattle.operator_cli.proofs.PrintLaws.{came_said, came_unsaid, ends_printed, fails_unsaid, if_some_is, unsaid_as}
 use Rattle.operator_cli.proofs.export.export_store.Goals as goal
 
 pub returns-in-Ok-clause-out : goal.returns-in-Ok-clause-out
@@ -30,10 +32,10 @@ returns-in-Ok-clause-due g c =
     let b = g.W.Write.contents c.write_next-came.new.out in
     let trusted : IsTrusted g.S.Store c.in-Ok.book.keeper = clean in
     let of = c.in-Ok.ensures.book trusted in
-    let site : site_of c.in-Ok.book ≡ site_in db = λ i. record { history = of.history i; acked = of.fresh i } in
+    let site : site_of c.in-Ok.book ≡ stored_site db = λ i. record { history = of.history i; acked = of.fresh i } in
     let here = subst (λ (s : Site). IfOk c.write_next-came.result (Printed (IsDueText c.in-Ok.book.book.office s c.args.to) a b)) site c.write_next-came.ensures.due in
-    let came = subst (λ (o : Office). IfOk c.write_next-came.result (Printed (IsDueText o (site_in db) c.args.to) a b)) (of.office meta has) here in
-    ends_printed (IsDueText (office_of meta) (site_in db) c.args.to) a b (g.W.Write.contents c.close_book.new.out) c.write_next-came.result c.close_book.result.0 came c.close_book.ensures.kept c.close_book.ensures.status)
+    let came = subst (λ (o : Office). IfOk c.write_next-came.result (Printed (IsDueText o (stored_site db) c.args.to) a b)) (of.office meta has) here in
+    ends_printed (IsDueText (office_of meta) (stored_site db) c.args.to) a b (g.W.Write.contents c.close_book.new.out) c.write_next-came.result c.close_book.result.0 came c.close_book.ensures.kept c.close_book.ensures.status)
 
 pub returns-in-Ok-clause-same : goal.returns-in-Ok-clause-same
 returns-in-Ok-clause-same g c =
@@ -56,7 +58,12 @@ returns-in-Err-clause-illegal g c =
 
 pub returns-in-Err-clause-cause : goal.returns-in-Err-clause-cause
 returns-in-Err-clause-cause g c =
-    refused_cause g.S.Store c.args.conn c.in-Err.fault c.in-Err.conn c.in-Err.ensures.fault (IsExportEnd c.args.to) (g.E.Write.contents c.args.err.now) (g.E.Write.contents c.ended.new.err) c.ended.result c.ended.ensures.line
+    refused_cause g.S.Store c.args.conn c.in-Err.fault c.in-Err.conn c.in-Err.ensures.fault (g.W.Write.contents c.args.out.now) (g.W.Write.contents c.ended.new.out) (g.E.Write.contents c.args.err.now) (g.E.Write.contents c.ended.new.err) c.ended.result c.ended.ensures.kept c.ended.ensures.line c.ended.ensures.status
+    (IsExportEnd c.args.to) (IsDueTold (state g.S.Store c.args.conn).now.trees c.args.to)
+
+pub returns-in-Err-clause-silent : goal.returns-in-Err-clause-silent
+returns-in-Err-clause-silent g c =
+    refused_silent g.S.Store c.args.conn c.in-Err.fault c.in-Err.conn c.in-Err.ensures.fault (g.W.Write.contents c.args.out.now) (g.W.Write.contents c.ended.new.out) (g.E.Write.contents c.args.err.now) (g.E.Write.contents c.ended.new.err) c.ended.result c.ended.ensures.kept c.ended.ensures.line c.ended.ensures.status IsMessageText
 
 pub returns-in-Err-clause-ours : goal.returns-in-Err-clause-ours
 returns-in-Err-clause-ours g c =
@@ -73,15 +80,40 @@ returns-in-Ok-clause-illegal g c =
 pub returns-in-Ok-clause-cause : goal.returns-in-Ok-clause-cause
 returns-in-Ok-clause-cause g c =
     if_some_is _ _ _ (c.close_book.ensures.back ∙ ap (λ (b : SiteView (Kept g.row.S.Denot)). Some b.keeper.conn) c.write_next-came.ensures.same) (λ clean.
-    let opened = c.in-Ok.book.keeper.conn in
-    let of = (book_back g.S.Store c.args.conn c.in-Ok.book.keeper.conn c.in-Ok.book c.in-Ok.book.keeper c.in-Ok.book.keeper refl (λ h. h) refl c.in-Ok.ensures.book) clean in
+    let came = c.write_next-came.result in
+    let book = c.in-Ok.book in
+    let opened = book.keeper.conn in
+    let back = book_back g.S.Store c.args.conn opened book book.keeper book.keeper refl (λ h. h) refl c.in-Ok.ensures.book in
+    let of = back clean in
     let same = c.in-Ok.ensures.same clean in
     let now = ap (λ (d : Database). d.trees) same in
-    let site : site_of c.in-Ok.book ≡ site_in (state g.S.Store c.args.conn).now.trees = λ i. record { history = of.history i; acked = of.fresh i } in
-    let ended = weaker _ (IsExportEnd c.args.to (state g.S.Store opened) (state g.S.Store c.in-Ok.book.keeper.conn)) c.write_next-came.result
-    (λ f e meta has. export_end c.args.to c.in-Ok.book meta (state g.S.Store opened).now.trees f of.unclosed (of.office meta (subst (HasMeta meta) now has)) (site ∙ ap site_in (sym now)) e) c.write_next-came.ensures.fault in
-    opened_cause g.S.Store c.args.conn c.in-Ok.book.keeper.conn c.in-Ok.book (book_back g.S.Store c.args.conn c.in-Ok.book.keeper.conn c.in-Ok.book c.in-Ok.book.keeper c.in-Ok.book.keeper refl (λ h. h) refl c.in-Ok.ensures.book) (IsExportEnd c.args.to) opened (g.E.Write.contents c.args.err.now) (g.E.Write.contents c.close_book.new.err) c.write_next-came.result c.close_book.result.0 clean same c.in-Ok.ensures.limit ended (always c.write_next-came.result _ (λ meta has. tt))
+    let db = (state g.S.Store c.args.conn).now.trees in
+    let site : site_of book ≡ stored_site db = λ i. record { history = of.history i; acked = of.fresh i } in
+    let before = g.W.Write.contents c.args.out.now in
+    let between = g.W.Write.contents c.write_next-came.new.out in
+    let after = g.W.Write.contents c.close_book.new.out in
+    let due = IsDueText book.book.office (site_of book) c.args.to in
+    let says = IsDueTold db c.args.to in
+    let same_told : (status : Status) (text : List ℕ) → due status text → says status text =
+    λ status text is meta has. subst₂ (λ (o : Office) (s : Site). IsDueText o s c.args.to status text) (of.office meta has) site is in
+    let ended = weaker _ (IsExportEnd c.args.to (state g.S.Store opened) (state g.S.Store opened)) came
+    (λ f e meta has. export_end c.args.to book meta (state g.S.Store opened).now.trees f of.unclosed (of.office meta (subst (HasMeta meta) now has)) (site ∙ ap stored_site (sym now)) e) c.write_next-came.ensures.fault in
+    opened_cause g.S.Store c.args.conn opened book back (IsExportEnd c.args.to) says opened before after (g.E.Write.contents c.args.err.now) (g.E.Write.contents c.close_book.new.err) came c.close_book.result.0 clean (c.in-Ok.ensures.unchanged clean) c.in-Ok.ensures.limit ended (always came _ (λ meta has. tt))
+    (weaker _ _ came (unsaid_as due says before after same_told) (came_unsaid due before between after came c.close_book.ensures.kept c.write_next-came.ensures.unsaid))
+    (on_ok_map came _ _ (unsaid_as due says before after same_told fault.Write) (came_said due before between after came c.close_book.ensures.kept c.write_next-came.ensures.due c.write_next-came.ensures.ends))
     c.write_next-came.ensures.ends c.close_book.ensures.line c.close_book.ensures.flush)
+
+pub returns-in-Ok-clause-silent : goal.returns-in-Ok-clause-silent
+returns-in-Ok-clause-silent g c =
+    let before = g.W.Write.contents c.args.out.now in
+    let between = g.W.Write.contents c.write_next-came.new.out in
+    let after = g.W.Write.contents c.close_book.new.out in
+    let office = c.in-Ok.book.book.office in
+    let due = IsDueText office (site_of c.in-Ok.book) c.args.to in
+    fails_as (Unsaid due before after) (Unsaid IsMessageText before after) (g.E.Write.contents c.args.err.now) (g.E.Write.contents c.close_book.new.err) c.close_book.result.0
+    (unsaid_as due IsMessageText before after (due_is_message office (site_of c.in-Ok.book) c.args.to))
+    (fails_unsaid due before between after (g.E.Write.contents c.args.err.now) (g.E.Write.contents c.close_book.new.err) c.write_next-came.result c.close_book.result.0 c.close_book.ensures.kept c.write_next-came.ensures.due
+    c.write_next-came.ensures.unsaid c.write_next-came.ensures.ends c.close_book.ensures.line c.close_book.ensures.flush)
 
 pub returns-in-Ok-clause-stopped : goal.returns-in-Ok-clause-stopped
 returns-in-Ok-clause-stopped g c =

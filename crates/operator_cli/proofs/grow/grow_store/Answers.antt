@@ -1,26 +1,24 @@
-use Rattle.std.proofs.Common.{◌≡◌, Some, inl, refl, ap, sym, subst, subst₂, ◌∙◌}
-use Rattle.std.specs.Prelude.{IfOk, List}
+use Rattle.std.proofs.Common.{◌≡◌, ◌≢◌, Some, inl, refl, ap, sym, subst, subst₂, ◌∙◌}
+use Rattle.std.specs.Prelude.{ℕ, IfOk, List, false}
 use Rattle.sqlite.specs.Effect.{Database}
 use Rattle.sqlite.specs.Held.{state}
 use Rattle.book_core.specs.declared.entry.Entry.{Entry}
 use Rattle.book_core.specs.Decision.{Office}
 use Rattle.book_core.specs.Growing.{grow_decision}
 use Rattle.sql_records.specs.Held.{IsTrusted, Kept, MayLeaveIn, history_in}
-use Rattle.sql_records.specs.Layout.{HasMeta}
-use Rattle.site_desk.specs.SiteView.{office_of}
+use Rattle.sql_records.specs.declared.meta.Meta.{Meta}
+use Rattle.sql_records.specs.Layout.{HasMeta, office_of}
 use Rattle.operator_cli.specs.declared.status.Status.{Status}
-use Rattle.operator_cli.specs.declared.status.Status.TheVariants.{Done, Refused}
+use Rattle.operator_cli.specs.declared.status.Status.TheVariants.{Refused}
 use Rattle.operator_cli.specs.declared.store_fault.StoreFault.TheVariants as fault
-use Rattle.operator_cli.specs.declared.told.Told.TheVariants.{Grown}
-use Rattle.operator_cli.specs.Told.{told_line}
-use Rattle.operator_cli.specs.Exchanged.{HoldsOnly, LeavesOneOf, behind_growth, told_of_growth}
-use Rattle.operator_cli.specs.Printed.{Printed, Unsaid, IsTellingOf}
+use Rattle.operator_cli.specs.Exchanged.{HoldsOnly, IsGrowthTold, LeavesAsItWas, LeavesOneOf, behind_growth, told_of_growth}
+use Rattle.operator_cli.specs.Printed.{Printed, IsOfGrowing, IsTellingOf}
 use Rattle.operator_cli.specs.Printed.{IsGrownText}
 use Rattle.operator_cli.specs.Opened.{IsIllegal, IsGrowEnd, IsRefused}
-use Rattle.operator_cli.proofs.EndLaws.{always, both_err, fails_for, holds_behind, if_back, on_ok_map, weaker}
-use Rattle.operator_cli.proofs.ExchangeLaws.{growing_end, kept_as_it_was}
-use Rattle.operator_cli.proofs.OpenedLaws.{book_back, opened_cause, opened_illegal, opened_ours, refused_cause, refused_illegal, refused_lost, refused_ours}
-use Rattle.operator_cli.proofs.PrintLaws.{ends_as, ends_printed, if_some_is, ok_unless_failed, unsaid_kept, unsaid_yet}
+use Rattle.operator_cli.proofs.EndLaws.{both_err, both_ok, holds_behind, if_back, on_ok_map, weaker}
+use Rattle.operator_cli.proofs.ExchangeLaws.{growing_end, growth_is_told, kept_as_it_was}
+use Rattle.operator_cli.proofs.OpenedLaws.{book_back, opened_cause, opened_illegal, opened_ours, refused_cause, refused_illegal, refused_lost, refused_ours, refused_silent}
+use Rattle.operator_cli.proofs.PrintLaws.{came_said, came_unsaid, ends_as, ends_printed, fails_unsaid, if_some_is, ok_unless_failed, telling_as, unsaid_as}
 use Rattle.operator_cli.proofs.grow.grow_store.Goals as goal
 
 pub returns-in-Ok-clause-out : goal.returns-in-Ok-clause-out
@@ -67,7 +65,8 @@ returns-in-Err-clause-illegal g c =
 
 pub returns-in-Err-clause-cause : goal.returns-in-Err-clause-cause
 returns-in-Err-clause-cause g c =
-    refused_cause g.S.Store c.args.conn c.in-Err.fault c.in-Err.conn c.in-Err.ensures.fault (IsGrowEnd c.args.sites) (g.E.Write.contents c.args.err.now) (g.E.Write.contents c.ended.new.err) c.ended.result c.ended.ensures.line
+    refused_cause g.S.Store c.args.conn c.in-Err.fault c.in-Err.conn c.in-Err.ensures.fault (g.W.Write.contents c.args.out.now) (g.W.Write.contents c.ended.new.out) (g.E.Write.contents c.args.err.now) (g.E.Write.contents c.ended.new.err) c.ended.result c.ended.ensures.kept c.ended.ensures.line c.ended.ensures.status
+    (IsGrowEnd c.args.sites) (IsGrowthTold (state g.S.Store c.args.conn).now.trees c.args.sites)
 
 pub returns-in-Err-clause-ours : goal.returns-in-Err-clause-ours
 returns-in-Err-clause-ours g c =
@@ -84,19 +83,42 @@ returns-in-Ok-clause-illegal g c =
 pub returns-in-Ok-clause-cause : goal.returns-in-Ok-clause-cause
 returns-in-Ok-clause-cause g c =
     if_some_is _ _ _ c.close_book.ensures.back (λ clean.
-    let opened = c.in-Ok.book.keeper.conn in
-    let of = (book_back g.S.Store c.args.conn c.write_grown-came.new.book.keeper.conn c.in-Ok.book c.in-Ok.book.keeper c.write_grown-came.new.book.keeper refl c.write_grown-came.ensures.trusted refl c.in-Ok.ensures.book) clean in
+    let came = c.write_grown-came.result in
+    let book = c.in-Ok.book in
+    let left = c.write_grown-came.new.book in
+    let opened = book.keeper.conn in
+    let back = book_back g.S.Store c.args.conn left.keeper.conn book book.keeper left.keeper refl c.write_grown-came.ensures.trusted refl c.in-Ok.ensures.book in
+    let of = back clean in
     let same = c.in-Ok.ensures.same (c.write_grown-came.ensures.trusted clean) in
     let now = ap (λ (d : Database). d.trees) same in
+    let db = (state g.S.Store c.args.conn).now.trees in
     let first = state g.S.Store opened in
-    let last = state g.S.Store c.write_grown-came.new.book.keeper.conn in
-    let ended = both_err c.write_grown-came.result _ _ (IsGrowEnd c.args.sites first last)
-    (λ f left e. (
-      kept_as_it_was g.S.Store f c.in-Ok.book.keeper c.write_grown-came.new.book.keeper left,
-      λ meta has. growing_end c.in-Ok.book meta first.now.trees c.args.sites f (of.office meta (subst (HasMeta meta) now has)) (of.history ∙ ap history_in (sym now)) (e of.unclosed),
+    let last = state g.S.Store left.keeper.conn in
+    let before = g.W.Write.contents c.args.out.now in
+    let between = g.W.Write.contents c.write_grown-came.new.out in
+    let after = g.W.Write.contents c.close_book.new.out in
+    let told = IsTellingOf (λ told. told ≡ told_of_growth (grow_decision book.book.office book.book.history c.args.sites)) in
+    let says = IsGrowthTold db c.args.sites in
+    let same_told : (status : Status) (text : List ℕ) → told status text → says status text =
+    telling_as _ _ (λ t is meta has. is ∙ (λ i. told_of_growth (grow_decision (of.office meta has i) (of.history i) c.args.sites))) in
+    let holds : left.closed ≡ false → HoldsOnly last left.book.history =
+    λ still. holds_behind g.S.Store c.close_book.result.1 left left refl c.close_book.ensures.back c.close_book.ensures.holds still clean in
+    let first_meta : (meta : Meta) → HasMeta meta first.now.trees → book.book.office ≡ office_of meta = λ meta has. of.office meta (subst (HasMeta meta) now has) in
+    let first_history : book.book.history ≡ history_in first.now.trees = of.history ∙ ap history_in (sym now) in
+    let held : (list : List Entry) → left.closed ≡ false → left.book.history ≡ list → HoldsOnly last list = λ list still is. subst (HoldsOnly last) is (holds still) in
+    let ended = both_err came _ _ (IsGrowEnd c.args.sites first last)
+    (λ f p e. (
+      kept_as_it_was g.S.Store f book.keeper left.keeper p.0,
+      λ meta has. growing_end book meta first.now.trees c.args.sites (λ h. left.book.history ≡ h) (HoldsOnly last) f (first_meta meta has) first_history (λ other list. held list (p.1 other of.unclosed)) (e of.unclosed),
     ))
-    c.write_grown-came.ensures.untouched c.write_grown-came.ensures.fault in
-    opened_cause g.S.Store c.args.conn c.write_grown-came.new.book.keeper.conn c.in-Ok.book (book_back g.S.Store c.args.conn c.write_grown-came.new.book.keeper.conn c.in-Ok.book c.in-Ok.book.keeper c.write_grown-came.new.book.keeper refl c.write_grown-came.ensures.trusted refl c.in-Ok.ensures.book) (IsGrowEnd c.args.sites) opened (g.E.Write.contents c.args.err.now) (g.E.Write.contents c.close_book.new.err) c.write_grown-came.result c.close_book.result.0 clean same c.in-Ok.ensures.limit ended (always c.write_grown-came.result _ (tt, λ meta has. tt))
+    (both_err came _ _ (λ f. LeavesAsItWas f book.keeper left.keeper × (f ≢ fault.Store → book.closed ≡ false → left.closed ≡ false))
+    (λ f p q. (p, q)) c.write_grown-came.ensures.untouched c.write_grown-came.ensures.open) c.write_grown-came.ensures.fault in
+    let written = on_ok_map came _ (IsGrowEnd c.args.sites first last fault.Write)
+    (λ p. (tt, λ meta has. growing_end book meta first.now.trees c.args.sites (λ h. left.book.history ≡ h) (HoldsOnly last) fault.Write (first_meta meta has) first_history (λ other list. held list (p.1 of.unclosed)) p.0))
+    (both_ok came _ _ c.write_grown-came.ensures.entered c.write_grown-came.ensures.unclosed) in
+    opened_cause g.S.Store c.args.conn left.keeper.conn book back (IsGrowEnd c.args.sites) says opened before after (g.E.Write.contents c.args.err.now) (g.E.Write.contents c.close_book.new.err) came c.close_book.result.0 clean (c.in-Ok.ensures.unchanged (c.write_grown-came.ensures.trusted clean)) c.in-Ok.ensures.limit ended written
+    (weaker _ _ came (unsaid_as told says before after same_told) (came_unsaid told before between after came c.close_book.ensures.kept c.write_grown-came.ensures.unsaid))
+    (on_ok_map came _ _ (unsaid_as told says before after same_told fault.Write) (came_said told before between after came c.close_book.ensures.kept c.write_grown-came.ensures.told c.write_grown-came.ensures.ends))
     c.write_grown-came.ensures.ends c.close_book.ensures.line c.close_book.ensures.flush)
 
 pub returns-in-Ok-clause-stopped : goal.returns-in-Ok-clause-stopped
@@ -118,16 +140,11 @@ returns-in-Ok-clause-silent g c =
     let before = g.W.Write.contents c.args.out.now in
     let between = g.W.Write.contents c.write_grown-came.new.out in
     let after = g.W.Write.contents c.close_book.new.out in
-    let still = unsaid_kept IsGrownText before between after c.close_book.ensures.kept in
-    fails_for (Unsaid IsGrownText before after) (g.E.Write.contents c.args.err.now) (g.E.Write.contents c.close_book.new.err) c.write_grown-came.result c.close_book.result.0
-    (weaker (Unsaid IsGrownText before between) (Unsaid IsGrownText before after) c.write_grown-came.result still c.write_grown-came.ensures.silent)
-    (on_ok_map c.write_grown-came.result (Unsaid IsGrownText before between fault.Write) (Unsaid IsGrownText before after fault.Write) (still fault.Write) c.write_grown-came.ensures.begun)
-    c.write_grown-came.ensures.ends c.close_book.ensures.line c.close_book.ensures.flush
+    let told = IsTellingOf (λ told. told ≡ told_of_growth (grow_decision c.in-Ok.book.book.office c.in-Ok.book.book.history c.args.sites)) in
+    let to = telling_as _ IsOfGrowing (λ t is. subst IsOfGrowing (sym is) (growth_is_told (grow_decision c.in-Ok.book.book.office c.in-Ok.book.book.history c.args.sites))) in
+    fails_unsaid IsGrownText before between after (g.E.Write.contents c.args.err.now) (g.E.Write.contents c.close_book.new.err) c.write_grown-came.result c.close_book.result.0 c.close_book.ensures.kept c.write_grown-came.ensures.out
+    (weaker _ _ c.write_grown-came.result (unsaid_as told IsGrownText before between to) c.write_grown-came.ensures.unsaid) c.write_grown-came.ensures.ends c.close_book.ensures.line c.close_book.ensures.flush
 
 pub returns-in-Err-clause-silent : goal.returns-in-Err-clause-silent
-returns-in-Err-clause-silent g c = λ failed.
-    let before = g.W.Write.contents c.args.out.now in (
-      c.in-Err.fault,
-      unsaid_kept IsGrownText before before (g.W.Write.contents c.ended.new.out) c.ended.ensures.kept c.in-Err.fault (unsaid_yet IsGrownText before Done (told_line Grown) (Grown, tt, refl, refl) c.in-Err.fault),
-      c.ended.ensures.line,
-    )
+returns-in-Err-clause-silent g c =
+    refused_silent g.S.Store c.args.conn c.in-Err.fault c.in-Err.conn c.in-Err.ensures.fault (g.W.Write.contents c.args.out.now) (g.W.Write.contents c.ended.new.out) (g.E.Write.contents c.args.err.now) (g.E.Write.contents c.ended.new.err) c.ended.result c.ended.ensures.kept c.ended.ensures.line c.ended.ensures.status IsGrownText

@@ -1,15 +1,13 @@
-use Rattle.std.proofs.Common.{◌≡◌, inl, inr, refl, sym, ◌∙◌}
+use Rattle.std.proofs.Common.{◌≡◌, false, refl}
+use Rattle.std.proofs.KnownBytes.{Keeps-refl}
 use Rattle.book_core.specs.Growing.{grow_decision}
 use Rattle.operator_cli.specs.declared.status.Status.{Status}
-use Rattle.operator_cli.specs.declared.status.Status.TheVariants.{Done, Refused}
-use Rattle.operator_cli.specs.Exchanged.{behind_growth, told_of_growth}
-use Rattle.operator_cli.specs.Told.{told_line}
-use Rattle.operator_cli.specs.declared.store_fault.StoreFault.{StoreFault}
+use Rattle.operator_cli.specs.declared.status.Status.TheVariants.{Refused}
+use Rattle.operator_cli.specs.Exchanged.{IsGrowingEnd, told_of_growth}
 use Rattle.operator_cli.specs.declared.store_fault.StoreFault.TheVariants as fault
-use Rattle.operator_cli.specs.declared.told.Told.TheVariants.{Grown}
-use Rattle.operator_cli.proofs.EndLaws.{always, for_write, weaker}
+use Rattle.operator_cli.proofs.EndLaws.{for_write, weaker}
 use Rattle.operator_cli.specs.Printed.{IsGrownText, IsTellingOf}
-use Rattle.operator_cli.proofs.PrintLaws.{told_printed, told_ends, told_unsaid, unsaid_yet}
+use Rattle.operator_cli.proofs.PrintLaws.{told_printed, told_ends, told_unsaid, unsaid_quiet}
 use Rattle.operator_cli.proofs.grow.write_grown.Goals as goal
 
 pub returns-in-Ok-clause-out : goal.returns-in-Ok-clause-out
@@ -24,28 +22,26 @@ returns-in-Ok-clause-told g c =
 pub returns-in-Ok-clause-kept : goal.returns-in-Ok-clause-kept
 returns-in-Ok-clause-kept g c = told_ends (λ (status : Status). status ≡ Refused → c.grow.new.book.keeper ≡ c.args.book.now.keeper) c.tell.result c.in-Ok.told c.tell.ensures.status c.in-Ok.ensures.kept
 
-pub returns-in-Ok-clause-silent : goal.returns-in-Ok-clause-silent
-returns-in-Ok-clause-silent g c =
-    for_write c.tell.result _ c.tell.ensures.fault
-    (told_unsaid IsGrownText (g.W.Write.contents c.args.out.now) (g.W.Write.contents c.tell.new.out) c.tell.result c.in-Ok.told (c.in-Ok.told, c.in-Ok.ensures.kind, refl, refl) c.tell.ensures.written)
-
-pub returns-in-Ok-clause-begun : goal.returns-in-Ok-clause-begun
-returns-in-Ok-clause-begun g c =
-    always c.tell.result _
-    (told_unsaid IsGrownText (g.W.Write.contents c.args.out.now) (g.W.Write.contents c.tell.new.out) c.tell.result c.in-Ok.told (c.in-Ok.told, c.in-Ok.ensures.kind, refl, refl) c.tell.ensures.written)
-
-pub returns-in-Err-clause-silent : goal.returns-in-Err-clause-silent
-returns-in-Err-clause-silent g c = unsaid_yet IsGrownText (g.W.Write.contents c.args.out.now) Done (told_line Grown) (Grown, tt, refl, refl) c.in-Err.fault
-
 pub returns-in-Ok-clause-unsaid : goal.returns-in-Ok-clause-unsaid
 returns-in-Ok-clause-unsaid g c =
-    weaker (λ f. f ≡ fault.Write) (λ f. f ≡ fault.Write → c.grow.new.book.book.history ≡ behind_growth c.args.book.now.book.office c.args.book.now.book.history c.args.sites) c.tell.result (λ f is again. c.in-Ok.ensures.entered) c.tell.ensures.fault
-
-clash : (f : StoreFault) → f ≡ fault.Memory → f ≡ fault.Write → ⊥
-clash f is_a is_b = let e : fault.Memory ≡ fault.Write = sym is_a ∙ is_b in cc
-
-other_clash : (f : StoreFault) → f ≡ fault.Store → f ≡ fault.Write → ⊥
-other_clash f is_a is_b = let e : fault.Store ≡ fault.Write = sym is_a ∙ is_b in cc
+    let P = IsTellingOf (λ told. told ≡ told_of_growth (grow_decision c.args.book.now.book.office c.args.book.now.book.history c.args.sites)) in
+    for_write c.tell.result _ c.tell.ensures.fault
+    (told_unsaid P (g.W.Write.contents c.args.out.now) (g.W.Write.contents c.tell.new.out) c.tell.result c.in-Ok.told (c.in-Ok.told, c.in-Ok.ensures.told, refl, refl) c.tell.ensures.written)
 
 pub returns-in-Err-clause-unsaid : goal.returns-in-Err-clause-unsaid
-returns-in-Err-clause-unsaid g c = λ is. absurd (elim c.in-Err.ensures.store [ inl memory ↦ clash c.in-Err.fault memory is | inr store ↦ other_clash c.in-Err.fault store is ])
+returns-in-Err-clause-unsaid g c =
+    let before = g.W.Write.contents c.args.out.now in
+    unsaid_quiet _ before before (Keeps-refl before) c.in-Err.fault c.in-Err.ensures.written
+
+pub returns-in-Ok-clause-fault : goal.returns-in-Ok-clause-fault
+returns-in-Ok-clause-fault g c =
+    let now = c.grow.new.book.book.history in
+    let held : IsGrowingEnd c.args.book.now.book.office c.args.book.now.book.history c.args.sites (λ h. now ≡ h) fault.Write = c.in-Ok.ensures.entered in
+    for_write c.tell.result (λ f. c.args.book.now.closed ≡ false → IsGrowingEnd c.args.book.now.book.office c.args.book.now.book.history c.args.sites (λ h. now ≡ h) f) c.tell.ensures.fault (λ still. held)
+
+pub returns-in-Ok-clause-open : goal.returns-in-Ok-clause-open
+returns-in-Ok-clause-open g c =
+    weaker (λ f. f ≡ fault.Write) _ c.tell.result (λ f is other still. c.in-Ok.ensures.unclosed still) c.tell.ensures.fault
+
+pub returns-in-Err-clause-open : goal.returns-in-Err-clause-open
+returns-in-Err-clause-open g c = c.in-Err.ensures.open

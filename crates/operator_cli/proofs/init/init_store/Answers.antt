@@ -9,8 +9,8 @@ use Rattle.sql_records.specs.Layout.{has_our_table}
 use Rattle.operator_cli.specs.declared.store_fault.StoreFault.TheVariants as fault
 use Rattle.operator_cli.specs.Printed.{IsMadeText, Unsaid}
 use Rattle.operator_cli.specs.Opened.{IsMakeEnd}
-use Rattle.operator_cli.proofs.EndLaws.{fails_for, weaker, on_ok_map}
-use Rattle.operator_cli.proofs.PrintLaws.{ends_printed, ends_as, unsaid_kept}
+use Rattle.operator_cli.proofs.EndLaws.{both_err, both_ok, fails_for}
+use Rattle.operator_cli.proofs.PrintLaws.{came_said, came_unsaid, ends_printed, ends_as, fails_unsaid}
 use Rattle.operator_cli.proofs.init.init_store.Goals as goal
 
 pub returns-clause-out : goal.returns-clause-out
@@ -42,17 +42,18 @@ returns-clause-kept g c =
 pub returns-clause-cause : goal.returns-clause-cause
 returns-clause-cause g c clean =
     let numbers : Meta = record { me = c.args.me; sites = c.args.sites; limit = c.args.limit } in
-    fails_for (IsMakeEnd g.S.Store c.args.conn.now c.write_made-came.new.conn numbers) (g.E.Write.contents c.args.err.now) (g.E.Write.contents c.ended.new.err) c.write_made-came.result c.ended.result (c.write_made-came.ensures.fault clean) (c.write_made-came.ensures.unsaid clean)
+    let came = c.write_made-came.result in
+    let ends = IsMakeEnd g.S.Store c.args.conn.now c.write_made-came.new.conn numbers in
+    let says = IsMadeText c.args.me c.args.sites (has_our_table c.args.conn.now.schema) in
+    let before = g.W.Write.contents c.args.out.now in
+    let between = g.W.Write.contents c.write_made-came.new.out in
+    let after = g.W.Write.contents c.ended.new.out in
+    fails_for (λ f. ends f × Unsaid says before after f) (g.E.Write.contents c.args.err.now) (g.E.Write.contents c.ended.new.err) came c.ended.result
+    (both_err came ends (Unsaid says before after) (λ f. ends f × Unsaid says before after f) (λ f e s. (e, s)) (c.write_made-came.ensures.fault clean) (came_unsaid says before between after came c.ended.ensures.kept c.write_made-came.ensures.silent))
+    (both_ok came (ends fault.Write) (Unsaid says before after fault.Write) (c.write_made-came.ensures.unsaid clean) (came_said says before between after came c.ended.ensures.kept c.write_made-came.ensures.out c.write_made-came.ensures.ends))
     c.write_made-came.ensures.ends c.ended.ensures.line c.ended.ensures.flush
 
 pub returns-clause-silent : goal.returns-clause-silent
 returns-clause-silent g c =
-    let P = IsMadeText c.args.me c.args.sites (has_our_table c.args.conn.now.schema) in
-    let before = g.W.Write.contents c.args.out.now in
-    let between = g.W.Write.contents c.write_made-came.new.out in
-    let after = g.W.Write.contents c.ended.new.out in
-    let still = unsaid_kept P before between after c.ended.ensures.kept in
-    fails_for (Unsaid P before after) (g.E.Write.contents c.args.err.now) (g.E.Write.contents c.ended.new.err) c.write_made-came.result c.ended.result
-    (weaker (Unsaid P before between) (Unsaid P before after) c.write_made-came.result still c.write_made-came.ensures.silent)
-    (on_ok_map c.write_made-came.result (Unsaid P before between fault.Write) (Unsaid P before after fault.Write) (still fault.Write) c.write_made-came.ensures.begun)
-    c.write_made-came.ensures.ends c.ended.ensures.line c.ended.ensures.flush
+    fails_unsaid (IsMadeText c.args.me c.args.sites (has_our_table c.args.conn.now.schema)) (g.W.Write.contents c.args.out.now) (g.W.Write.contents c.write_made-came.new.out) (g.W.Write.contents c.ended.new.out) (g.E.Write.contents c.args.err.now) (g.E.Write.contents c.ended.new.err) c.write_made-came.result c.ended.result
+    c.ended.ensures.kept c.write_made-came.ensures.out c.write_made-came.ensures.silent c.write_made-came.ensures.ends c.ended.ensures.line c.ended.ensures.flush

@@ -14,15 +14,11 @@ returns-clause-out g c =
 
 pub returns-clause-cause : goal.returns-clause-cause
 returns-clause-cause g c =
-    fails_for (λ f. f ≡ fault.Write) (g.E.Write.contents c.args.err.now) (g.E.Write.contents c.ended.new.err) c.tell-came.result c.ended.result c.tell-came.ensures.fault (always c.tell-came.result _ refl)
-    (told_lives c.tell-came.result NoSite c.tell-came.ensures.status) c.ended.ensures.line c.ended.ensures.flush
-
-pub returns-clause-silent : goal.returns-clause-silent
-returns-clause-silent g c =
     let P = IsTellingOf (λ told. told ≡ NoSite) in
     let before = g.W.Write.contents c.args.out.now in
     let between = g.W.Write.contents c.tell-came.new.out in
     let after = g.W.Write.contents c.ended.new.out in
     let front = unsaid_kept P before between after c.ended.ensures.kept fault.Write (told_unsaid P before between c.tell-came.result NoSite (NoSite, refl, refl, refl) c.tell-came.ensures.written) in
-    fails_for (Unsaid P before after) (g.E.Write.contents c.args.err.now) (g.E.Write.contents c.ended.new.err) c.tell-came.result c.ended.result (for_write c.tell-came.result (Unsaid P before after) c.tell-came.ensures.fault front)
-    (always c.tell-came.result _ front) (told_lives c.tell-came.result NoSite c.tell-came.ensures.status) c.ended.ensures.line c.ended.ensures.flush
+    fails_for (λ f. (f ≡ fault.Write) × Unsaid P before after f) (g.E.Write.contents c.args.err.now) (g.E.Write.contents c.ended.new.err) c.tell-came.result c.ended.result
+    (for_write c.tell-came.result (λ f. (f ≡ fault.Write) × Unsaid P before after f) c.tell-came.ensures.fault (refl, front))
+    (always c.tell-came.result _ (refl, front)) (told_lives c.tell-came.result NoSite c.tell-came.ensures.status) c.ended.ensures.line c.ended.ensures.flush

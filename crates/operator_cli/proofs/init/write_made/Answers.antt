@@ -58,10 +58,6 @@ pub returns-in-Ok-clause-silent : goal.returns-in-Ok-clause-silent
 returns-in-Ok-clause-silent g c =
     for_write c.tell.result _ c.tell.ensures.fault (told_unsaid (IsMadeText c.args.me c.args.sites (has_our_table c.args.conn.now.schema)) (g.W.Write.contents c.args.out.now) (g.W.Write.contents c.tell.new.out) c.tell.result c.in-Ok.told (c.in-Ok.told, c.in-Ok.ensures.told, refl, refl) c.tell.ensures.written)
 
-pub returns-in-Ok-clause-begun : goal.returns-in-Ok-clause-begun
-returns-in-Ok-clause-begun g c =
-    always c.tell.result _ (told_unsaid (IsMadeText c.args.me c.args.sites (has_our_table c.args.conn.now.schema)) (g.W.Write.contents c.args.out.now) (g.W.Write.contents c.tell.new.out) c.tell.result c.in-Ok.told (c.in-Ok.told, c.in-Ok.ensures.told, refl, refl) c.tell.ensures.written)
-
 pub returns-in-Err-clause-silent : goal.returns-in-Err-clause-silent
 returns-in-Err-clause-silent g c =
     let told = told_of_making c.args.me c.args.sites (has_our_table c.args.conn.now.schema) in

@@ -1,14 +1,14 @@
 use Rattle.std.proofs.Common.{Some, ap, sym, subst, ◌∙◌}
 use Rattle.std.specs.Prelude.{List, IfOk, IfErr, IsTrue}
-use Rattle.sqlite.specs.State.{HasCleanDisk}
+use Rattle.sqlite.specs.State.{HasCleanDisk, IsUnchanged}
 use Rattle.sqlite.specs.Held.{Held, state}
 use Rattle.book_core.specs.declared.entry.Entry.{Entry}
 use Rattle.sql_records.specs.Held.{IsTrusted, Kept, MayLeaveIn, kept_in, history_in}
-use Rattle.operator_cli.specs.Printed.{Printed, IsListText, IsListIn}
+use Rattle.operator_cli.specs.Printed.{Printed, Unsaid, IsListText, IsListIn}
 use Rattle.operator_cli.specs.Opened.{IsIllegal, IsRefused, IsListEnd}
 use Rattle.operator_cli.proofs.EndLaws.{if_back, on_ok_map}
-use Rattle.operator_cli.proofs.OpenedLaws.{book_back, opened_cause, opened_illegal, opened_ours, refused_cause, refused_illegal, refused_lost, refused_ours}
-use Rattle.operator_cli.proofs.PrintLaws.{ends_printed, ok_unless_failed}
+use Rattle.operator_cli.proofs.OpenedLaws.{book_back, opened_cause, opened_illegal, opened_ours, refused_cause, refused_illegal, refused_lost, refused_ours, refused_silent}
+use Rattle.operator_cli.proofs.PrintLaws.{came_said, came_unsaid, ends_printed, fails_unsaid, ok_unless_failed}
 use Rattle.operator_cli.proofs.list.list_store.Goals as goal
 
 pub returns-in-Ok-clause-out : goal.returns-in-Ok-clause-out
@@ -44,7 +44,12 @@ returns-in-Err-clause-illegal g c =
 
 pub returns-in-Err-clause-cause : goal.returns-in-Err-clause-cause
 returns-in-Err-clause-cause g c =
-    refused_cause g.S.Store c.args.conn c.in-Err.fault c.in-Err.conn c.in-Err.ensures.fault (IsListEnd c.args.event.now) (g.E.Write.contents c.args.err.now) (g.E.Write.contents c.ended-in-Err.new.err) c.ended-in-Err.result c.ended-in-Err.ensures.line
+    refused_cause g.S.Store c.args.conn c.in-Err.fault c.in-Err.conn c.in-Err.ensures.fault (g.W.Write.contents c.args.out.now) (g.W.Write.contents c.ended-in-Err.new.out) (g.E.Write.contents c.args.err.now) (g.E.Write.contents c.ended-in-Err.new.err) c.ended-in-Err.result c.ended-in-Err.ensures.kept c.ended-in-Err.ensures.line c.ended-in-Err.ensures.status
+    (IsListEnd c.args.event.now) (IsListIn (history_in (state g.S.Store c.args.conn).now.trees) c.args.event.now)
+
+pub returns-in-Err-clause-silent : goal.returns-in-Err-clause-silent
+returns-in-Err-clause-silent g c =
+    refused_silent g.S.Store c.args.conn c.in-Err.fault c.in-Err.conn c.in-Err.ensures.fault (g.W.Write.contents c.args.out.now) (g.W.Write.contents c.ended-in-Err.new.out) (g.E.Write.contents c.args.err.now) (g.E.Write.contents c.ended-in-Err.new.err) c.ended-in-Err.result c.ended-in-Err.ensures.kept c.ended-in-Err.ensures.line c.ended-in-Err.ensures.status IsListText
 
 pub returns-in-Err-clause-ours : goal.returns-in-Err-clause-ours
 returns-in-Err-clause-ours g c =
@@ -63,13 +68,27 @@ returns-in-Ok-clause-cause g c clean =
     let left : IsTrusted g.S.Store c.write_listed-came.new.records = subst (λ (conn : Held g.row.S.Denot). HasCleanDisk (state g.S.Store conn)) c.close.ensures clean in
     let before = subst (IsTrusted g.S.Store) c.into_keeper-records.ensures (c.write_listed-came.ensures.trusted left) in
     let opened = c.into_keeper-records.result.conn in
-    let same = ap (λ (k : Kept g.row.S.Denot). (state g.S.Store k.conn).now) c.into_keeper-records.ensures ∙ c.in-Ok.ensures.same before in
     let limit = ap (λ (k : Kept g.row.S.Denot). k.conn.step_limit) c.into_keeper-records.ensures ∙ c.in-Ok.ensures.limit in
     let sound = ap (λ (k : Kept g.row.S.Denot). k.failures) c.into_keeper-records.ensures ∙ c.in-Ok.ensures.open in
     let fault = subst (λ (conn : Held g.row.S.Denot). IfErr c.write_listed-came.result (IsListEnd c.args.event.now (state g.S.Store opened) (state g.S.Store conn))) (sym c.close.ensures) (c.write_listed-came.ensures.fault sound left) in
     let written = on_ok_map c.write_listed-came.result _ _ (λ is. ap (λ (conn : Held g.row.S.Denot). (state g.S.Store conn).now) c.close.ensures ∙ is) (c.write_listed-came.ensures.same left) in
-    opened_cause g.S.Store c.args.conn c.close.result c.in-Ok.book (book_back g.S.Store c.args.conn c.close.result c.in-Ok.book c.into_keeper-records.result c.write_listed-came.new.records c.into_keeper-records.ensures c.write_listed-came.ensures.trusted c.close.ensures c.in-Ok.ensures.book) (IsListEnd c.args.event.now) opened (g.E.Write.contents c.args.err.now) (g.E.Write.contents c.ended.new.err) c.write_listed-came.result c.ended.result clean same limit fault written
+    let unchanged = subst (λ (k : Kept g.row.S.Denot). IsUnchanged (state g.S.Store c.args.conn) (state g.S.Store k.conn)) (sym c.into_keeper-records.ensures) (c.in-Ok.ensures.unchanged before) in
+    let entries = ap (kept_in g.S.Store) c.into_keeper-records.ensures ∙ c.in-Ok.ensures.kept before in
+    let start = g.W.Write.contents c.args.out.now in
+    let between = g.W.Write.contents c.write_listed-came.new.out in
+    let after = g.W.Write.contents c.ended.new.out in
+    let says = IsListIn (history_in (state g.S.Store c.args.conn).now.trees) c.args.event.now in
+    let printed = subst (λ (h : List Entry). IfOk c.write_listed-came.result (Printed (IsListIn h c.args.event.now) start between)) entries (c.write_listed-came.ensures.listed left) in
+    let unsaid = subst (λ (h : List Entry). IfErr c.write_listed-came.result (Unsaid (IsListIn h c.args.event.now) start between)) entries (c.write_listed-came.ensures.unsaid left) in
+    opened_cause g.S.Store c.args.conn c.close.result c.in-Ok.book (book_back g.S.Store c.args.conn c.close.result c.in-Ok.book c.into_keeper-records.result c.write_listed-came.new.records c.into_keeper-records.ensures c.write_listed-came.ensures.trusted c.close.ensures c.in-Ok.ensures.book)
+    (IsListEnd c.args.event.now) says opened start after (g.E.Write.contents c.args.err.now) (g.E.Write.contents c.ended.new.err) c.write_listed-came.result c.ended.result clean unchanged limit fault written
+    (came_unsaid says start between after c.write_listed-came.result c.ended.ensures.kept unsaid) (came_said says start between after c.write_listed-came.result c.ended.ensures.kept printed c.write_listed-came.ensures.ends)
     c.write_listed-came.ensures.ends c.ended.ensures.line c.ended.ensures.flush
+
+pub returns-in-Ok-clause-silent : goal.returns-in-Ok-clause-silent
+returns-in-Ok-clause-silent g c =
+    fails_unsaid IsListText (g.W.Write.contents c.args.out.now) (g.W.Write.contents c.write_listed-came.new.out) (g.W.Write.contents c.ended.new.out) (g.E.Write.contents c.args.err.now) (g.E.Write.contents c.ended.new.err) c.write_listed-came.result c.ended.result
+    c.ended.ensures.kept c.write_listed-came.ensures.out c.write_listed-came.ensures.silent c.write_listed-came.ensures.ends c.ended.ensures.line c.ended.ensures.flush
 
 pub returns-in-Ok-clause-stopped : goal.returns-in-Ok-clause-stopped
 returns-in-Ok-clause-stopped g c clean left may =

@@ -1,4 +1,4 @@
-use Rattle.std.proofs.Common.{◌≡◌, length, IfOk, IfErr, sym, subst}
+use Rattle.std.proofs.Common.{◌≡◌, ◌≢◌, length, IfOk, IfErr, sym, subst}
 use Rattle.sqlite.specs.Held.{state}
 use Rattle.sql_records.specs.declared.meta.Meta.{Meta}
 use Rattle.sql_records.specs.declared.version.Version.TheVariants.{First}
@@ -8,10 +8,11 @@ use Rattle.sql_records.specs.Keeping.{LeavesOnly}
 use Rattle.sql_records.specs.Migrating.{IsAsBefore, IsMigrated, IsLegalFirst, IsMigrateFault}
 use Rattle.sql_records.specs.declared.fault.MigrateFault.TheVariants.{Nothing}
 use Rattle.operator_cli.specs.declared.status.Status.TheVariants.{Done, Refused}
+use Rattle.operator_cli.specs.declared.store_fault.StoreFault.TheVariants.{Write}
 use Rattle.operator_cli.specs.Told.{told_status}
 use Rattle.operator_cli.specs.Printed.{IsOfMigrating}
 use Rattle.operator_cli.specs.Opened.{IsMigrateEnd}
-use Rattle.operator_cli.proofs.MigrateLaws.{refusal_told, refusal_done, refusal_nothing, refusal_kept, refusal_ends}
+use Rattle.operator_cli.proofs.MigrateLaws.{refusal_told, refusal_unwritten, refusal_done, refusal_nothing, refusal_kept, refusal_ends}
 use Rattle.operator_cli.proofs.migrate.migrate.Goals as goal
 
 pub returns-in-Err-clause-told : goal.returns-in-Err-clause-told
@@ -56,3 +57,6 @@ pub returns-in-Err-clause-fault : goal.returns-in-Err-clause-fault
 returns-in-Err-clause-fault g c clean =
     subst (λ r. IfErr r (IsMigrateEnd g.S.Store c.args.conn.now c.migrate.new.conn)) (sym c.ended_by_migrate.ensures)
     (refusal_ends g.S.Store c.args.conn.now c.migrate.new.conn c.in-Err.fault (c.in-Err.ensures.as_before clean) (c.in-Err.ensures.fault clean))
+
+pub returns-in-Err-clause-written : goal.returns-in-Err-clause-written
+returns-in-Err-clause-written g c = subst (λ r. IfErr r (λ told. told ≢ Write)) (sym c.ended_by_migrate.ensures) (refusal_unwritten c.in-Err.fault)

@@ -10,10 +10,10 @@ use Rattle.sql_records.specs.declared.fault.MigrateFault.TheVariants.{Nothing}
 use Rattle.operator_cli.specs.declared.status.Status.{Status}
 use Rattle.operator_cli.specs.declared.store_fault.StoreFault.TheVariants as fault
 use Rattle.operator_cli.specs.declared.status.Status.TheVariants.{Done, Refused}
-use Rattle.operator_cli.specs.Printed.{IsMigratedText, Unsaid}
-use Rattle.operator_cli.specs.Opened.{IsMigrateEnd}
-use Rattle.operator_cli.proofs.EndLaws.{fails_for, weaker, on_ok_map}
-use Rattle.operator_cli.proofs.PrintLaws.{ends_printed, ends_as, unsaid_kept}
+use Rattle.operator_cli.specs.Printed.{IsMigratedText, IsTellingOf, Unsaid}
+use Rattle.operator_cli.specs.Opened.{IsMigrateEnd, IsMigrationTold}
+use Rattle.operator_cli.proofs.EndLaws.{both_err, both_ok, fails_for}
+use Rattle.operator_cli.proofs.PrintLaws.{came_said, came_told, came_unsaid, ends_printed, ends_as, fails_unsaid}
 use Rattle.operator_cli.proofs.migrate.migrate_store.Goals as goal
 
 pub returns-clause-out : goal.returns-clause-out
@@ -50,16 +50,20 @@ returns-clause-kept g c clean =
 
 pub returns-clause-cause : goal.returns-clause-cause
 returns-clause-cause g c clean =
-    fails_for (IsMigrateEnd g.S.Store c.args.conn.now c.write_migrated-came.new.conn) (g.E.Write.contents c.args.err.now) (g.E.Write.contents c.ended.new.err) c.write_migrated-came.result c.ended.result (c.write_migrated-came.ensures.fault clean)
-    (c.write_migrated-came.ensures.unsaid clean) c.write_migrated-came.ensures.ends c.ended.ensures.line c.ended.ensures.flush
-
-pub returns-clause-silent : goal.returns-clause-silent
-returns-clause-silent g c =
+    let came = c.write_migrated-came.result in
+    let ends = IsMigrateEnd g.S.Store c.args.conn.now c.write_migrated-came.new.conn in
+    let Told = IsMigrationTold g.S.Store c.args.conn.now c.write_migrated-came.new.conn in
+    let says = IsTellingOf Told in
     let before = g.W.Write.contents c.args.out.now in
     let between = g.W.Write.contents c.write_migrated-came.new.out in
     let after = g.W.Write.contents c.ended.new.out in
-    let still = unsaid_kept IsMigratedText before between after c.ended.ensures.kept in
-    fails_for (Unsaid IsMigratedText before after) (g.E.Write.contents c.args.err.now) (g.E.Write.contents c.ended.new.err) c.write_migrated-came.result c.ended.result
-    (weaker (Unsaid IsMigratedText before between) (Unsaid IsMigratedText before after) c.write_migrated-came.result still c.write_migrated-came.ensures.silent)
-    (on_ok_map c.write_migrated-came.result (Unsaid IsMigratedText before between fault.Write) (Unsaid IsMigratedText before after fault.Write) (still fault.Write) c.write_migrated-came.ensures.begun)
+    let told = c.write_migrated-came.ensures.told clean in
+    fails_for (λ f. ends f × Unsaid says before after f) (g.E.Write.contents c.args.err.now) (g.E.Write.contents c.ended.new.err) came c.ended.result
+    (both_err came ends (Unsaid says before after) (λ f. ends f × Unsaid says before after f) (λ f e s. (e, s)) (c.write_migrated-came.ensures.fault clean) (came_unsaid says before between after came c.ended.ensures.kept (c.write_migrated-came.ensures.unsaid clean)))
+    (both_ok came (ends fault.Write) (Unsaid says before after fault.Write) (came_told Told before between came told c.write_migrated-came.ensures.ends) (came_said says before between after came c.ended.ensures.kept told c.write_migrated-came.ensures.ends))
     c.write_migrated-came.ensures.ends c.ended.ensures.line c.ended.ensures.flush
+
+pub returns-clause-silent : goal.returns-clause-silent
+returns-clause-silent g c =
+    fails_unsaid IsMigratedText (g.W.Write.contents c.args.out.now) (g.W.Write.contents c.write_migrated-came.new.out) (g.W.Write.contents c.ended.new.out) (g.E.Write.contents c.args.err.now) (g.E.Write.contents c.ended.new.err) c.write_migrated-came.result c.ended.result
+    c.ended.ensures.kept c.write_migrated-came.ensures.out c.write_migrated-came.ensures.silent c.write_migrated-came.ensures.ends c.ended.ensures.line c.ended.ensures.flush

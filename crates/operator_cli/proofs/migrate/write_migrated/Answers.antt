@@ -1,4 +1,5 @@
 use Rattle.std.proofs.Common.{◌≡◌, length, refl}
+use Rattle.std.proofs.KnownBytes.{Keeps-refl}
 use Rattle.sqlite.specs.Held.{state}
 use Rattle.sql_records.specs.declared.meta.Meta.{Meta}
 use Rattle.sql_records.specs.declared.version.Version.TheVariants.{First}
@@ -9,12 +10,11 @@ use Rattle.sql_records.specs.Migrating.{IsAsBefore, IsMigrated, IsLegalFirst, Is
 use Rattle.sql_records.specs.declared.fault.MigrateFault.TheVariants as fault
 use Rattle.operator_cli.specs.declared.status.Status.{Status}
 use Rattle.operator_cli.specs.declared.status.Status.TheVariants.{Done, Refused}
-use Rattle.operator_cli.specs.declared.told.Told.TheVariants.{Nothing}
-use Rattle.operator_cli.specs.Told.{told_line}
-use Rattle.operator_cli.specs.Printed.{IsMigratedText}
-use Rattle.operator_cli.proofs.EndLaws.{for_write, told_lives, always}
-use Rattle.operator_cli.proofs.PrintLaws.{told_printed, told_ends, told_unsaid, unsaid_yet}
-use Rattle.operator_cli.proofs.MigrateLaws.{unsaid}
+use Rattle.operator_cli.specs.Printed.{IsMigratedText, IsTellingOf}
+use Rattle.operator_cli.specs.Opened.{IsMigrateEnd, IsMigrationTold}
+use Rattle.operator_cli.proofs.EndLaws.{for_write, told_lives}
+use Rattle.operator_cli.proofs.PrintLaws.{told_printed, told_ends, told_unsaid, unsaid_quiet}
+use Rattle.operator_cli.proofs.MigrateLaws.{migration_told}
 use Rattle.operator_cli.proofs.migrate.write_migrated.Goals as goal
 
 pub returns-in-Ok-clause-out : goal.returns-in-Ok-clause-out
@@ -51,11 +51,19 @@ returns-in-Ok-clause-kept g c clean =
 
 pub returns-in-Ok-clause-fault : goal.returns-in-Ok-clause-fault
 returns-in-Ok-clause-fault g c clean =
-    for_write c.tell.result _ c.tell.ensures.fault (unsaid g.S.Store c.args.conn.now c.migrate.new.conn c.in-Ok.told c.in-Ok.ensures.told (c.in-Ok.ensures.first clean) (c.in-Ok.ensures.set clean) (c.in-Ok.ensures.kept clean) (c.in-Ok.ensures.nothing clean))
+    let is = migration_told g.S.Store c.args.conn.now c.migrate.new.conn c.in-Ok.told c.in-Ok.ensures.told (c.in-Ok.ensures.first clean) (c.in-Ok.ensures.set clean) (c.in-Ok.ensures.kept clean) (c.in-Ok.ensures.nothing clean) in
+    for_write c.tell.result (IsMigrateEnd g.S.Store c.args.conn.now c.migrate.new.conn) c.tell.ensures.fault (c.in-Ok.told, is)
+
+pub returns-in-Ok-clause-told : goal.returns-in-Ok-clause-told
+returns-in-Ok-clause-told g c clean =
+    let is = migration_told g.S.Store c.args.conn.now c.migrate.new.conn c.in-Ok.told c.in-Ok.ensures.told (c.in-Ok.ensures.first clean) (c.in-Ok.ensures.set clean) (c.in-Ok.ensures.kept clean) (c.in-Ok.ensures.nothing clean) in
+    told_printed (IsTellingOf (IsMigrationTold g.S.Store c.args.conn.now c.migrate.new.conn)) (g.W.Write.contents c.args.out.now) (g.W.Write.contents c.tell.new.out) c.tell.result c.in-Ok.told (c.in-Ok.told, is, refl, refl) c.tell.ensures.written c.tell.ensures.status
 
 pub returns-in-Ok-clause-unsaid : goal.returns-in-Ok-clause-unsaid
 returns-in-Ok-clause-unsaid g c clean =
-    always c.tell.result _ (unsaid g.S.Store c.args.conn.now c.migrate.new.conn c.in-Ok.told c.in-Ok.ensures.told (c.in-Ok.ensures.first clean) (c.in-Ok.ensures.set clean) (c.in-Ok.ensures.kept clean) (c.in-Ok.ensures.nothing clean))
+    let is = migration_told g.S.Store c.args.conn.now c.migrate.new.conn c.in-Ok.told c.in-Ok.ensures.told (c.in-Ok.ensures.first clean) (c.in-Ok.ensures.set clean) (c.in-Ok.ensures.kept clean) (c.in-Ok.ensures.nothing clean) in
+    for_write c.tell.result _ c.tell.ensures.fault
+    (told_unsaid (IsTellingOf (IsMigrationTold g.S.Store c.args.conn.now c.migrate.new.conn)) (g.W.Write.contents c.args.out.now) (g.W.Write.contents c.tell.new.out) c.tell.result c.in-Ok.told (c.in-Ok.told, is, refl, refl) c.tell.ensures.written)
 
 pub returns-in-Ok-clause-ends : goal.returns-in-Ok-clause-ends
 returns-in-Ok-clause-ends g c = told_lives c.tell.result c.in-Ok.told c.tell.ensures.status
@@ -64,10 +72,12 @@ pub returns-in-Ok-clause-silent : goal.returns-in-Ok-clause-silent
 returns-in-Ok-clause-silent g c =
     for_write c.tell.result _ c.tell.ensures.fault (told_unsaid IsMigratedText (g.W.Write.contents c.args.out.now) (g.W.Write.contents c.tell.new.out) c.tell.result c.in-Ok.told (c.in-Ok.told, c.in-Ok.ensures.told, refl, refl) c.tell.ensures.written)
 
-pub returns-in-Ok-clause-begun : goal.returns-in-Ok-clause-begun
-returns-in-Ok-clause-begun g c =
-    always c.tell.result _ (told_unsaid IsMigratedText (g.W.Write.contents c.args.out.now) (g.W.Write.contents c.tell.new.out) c.tell.result c.in-Ok.told (c.in-Ok.told, c.in-Ok.ensures.told, refl, refl) c.tell.ensures.written)
-
 pub returns-in-Err-clause-silent : goal.returns-in-Err-clause-silent
 returns-in-Err-clause-silent g c =
-    unsaid_yet IsMigratedText (g.W.Write.contents c.args.out.now) Refused (told_line Nothing) (Nothing, tt, refl, refl) c.in-Err.fault
+    let before = g.W.Write.contents c.args.out.now in
+    unsaid_quiet _ before before (Keeps-refl before) c.in-Err.fault c.in-Err.ensures.written
+
+pub returns-in-Err-clause-unsaid : goal.returns-in-Err-clause-unsaid
+returns-in-Err-clause-unsaid g c clean =
+    let before = g.W.Write.contents c.args.out.now in
+    unsaid_quiet _ before before (Keeps-refl before) c.in-Err.fault c.in-Err.ensures.written

@@ -1,5 +1,5 @@
 use Rattle.std.proofs.Common.{◌≡◌, ◌⊎◌, List, Bool, true, false, inl, inr, refl, ◌∙◌, ap, sym, subst, subst₂}
-use Rattle.sqlite.specs.State.{HasCleanDisk}
+use Rattle.sqlite.specs.State.{HasCleanDisk, IsUnchanged}
 use Rattle.sqlite.specs.Held.{Held, state}
 use Rattle.book_core.specs.declared.entry.Entry.{Entry}
 use Rattle.book_core.specs.Decision.{Office}
@@ -7,7 +7,7 @@ use Rattle.book_core.specs.Legal.{IsLegal}
 use Rattle.book_core.specs.Replay.{IsReplayFault}
 use Rattle.sql_records.specs.Held.{IsOf, Kept, MayLeaveIn, history_in}
 use Rattle.sql_records.specs.Keeping.{LeavesOnly}
-use Rattle.site_desk.specs.SiteView.{office_of}
+use Rattle.sql_records.specs.Layout.{office_of}
 use Rattle.operator_cli.proofs.opening.open_book.Goals as goal
 
 pub returns-in-Ok-start-clause-book : goal.returns-in-Ok-start-clause-book
@@ -66,3 +66,8 @@ returns-in-Err-start-clause-fault g c =
           (c.in-Ok.ensures.entries trusted ∙ ap (λ store. history_in store.trees) (c.in-Ok.ensures.same trusted))
           c.in-Err-start.ensures.fault.1;
     }
+
+pub returns-in-Ok-start-clause-unchanged : goal.returns-in-Ok-start-clause-unchanged
+returns-in-Ok-start-clause-unchanged g c = λ clean.
+    let trusted = subst (λ kept. HasCleanDisk (state g.S.Store kept.conn)) (c.in-Ok-start.ensures.keeper) clean in
+    subst (λ (kept : Kept g.row.S.Denot). IsUnchanged (state g.S.Store c.args.conn) (state g.S.Store kept.conn)) (sym c.in-Ok-start.ensures.keeper) (c.in-Ok.ensures.unchanged trusted)

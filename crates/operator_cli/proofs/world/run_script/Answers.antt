@@ -4,16 +4,16 @@ use Rattle.operator_cli.proofs.BreakLaws.{broke_script, not_out, err_is}
 use Rattle.operator_cli.proofs.ScriptLaws.{at_err, script_unread, refusal_broken, script_broken, script_done}
 use Rattle.operator_cli.proofs.world.run_script.Goals as goal
 
-pub returns-in_err-run_sites-clause-ran : goal.returns-in_err-run_sites-clause-ran
-returns-in_err-run_sites-clause-ran g c =
+pub returns-in_err-run_world-clause-ran : goal.returns-in_err-run_world-clause-ran
+returns-in_err-run_world-clause-ran g c =
     let started = rw c.in-Some.is at c.in_ok-sites.ensures.ran in
-    at_err c.from_residual-in_err-run_sites.result (ScriptRan (g.R.Read.remaining c.args.reader.now) (g.W.Write.contents c.args.out.now) (g.W.Write.contents c.run_sites.new.out)) _ c.from_residual-in_err-run_sites.ensures.1
-    (λ f e. rw e (script_broken _ _ _ _ c.in-Some.sites _ started c.in_err-run_sites.ensures.ran))
+    at_err c.from_residual-in_err-run_world.result (ScriptRan (g.R.Read.remaining c.args.reader.now) (g.W.Write.contents c.args.out.now) (g.W.Write.contents c.run_world.new.out)) _ c.from_residual-in_err-run_world.ensures.1
+    (λ f e. rw e (script_broken _ _ _ _ c.in-Some.sites _ started c.in_err-run_world.ensures.ran))
 
 pub returns-clause-ran : goal.returns-clause-ran
 returns-clause-ran g c =
     let started = rw c.in-Some.is at c.in_ok-sites.ensures.ran in
-    script_done _ _ _ _ c.in-Some.sites started c.in_ok-run_sites.ensures.ran
+    script_done _ _ _ _ c.in-Some.sites started c.in_ok-run_world.ensures.ran
 
 pub returns-in_err-sites-clause-ran : goal.returns-in_err-sites-clause-ran
 returns-in_err-sites-clause-ran g c =
@@ -29,11 +29,11 @@ returns-in_err-write_bytes-clause-ran g c =
 pub returns-in_err-sites-clause-reads : goal.returns-in_err-sites-clause-reads
 returns-in_err-sites-clause-reads g c is = c.in_err-sites.ensures.reads (err_is c.from_residual.result _ c.from_residual.ensures.1 is) (g.W.Write.contents c.args.out.now)
 
-pub returns-in_err-run_sites-clause-reads : goal.returns-in_err-run_sites-clause-reads
-returns-in_err-run_sites-clause-reads g c is =
+pub returns-in_err-run_world-clause-reads : goal.returns-in_err-run_world-clause-reads
+returns-in_err-run_world-clause-reads g c is =
     let started = rw c.in-Some.is at c.in_ok-sites.ensures.ran in
-    broke_script 999999 c.in-Some.sites (g.R.Read.remaining c.args.reader.now) (g.R.Read.remaining c.read_start.new.reader) (g.R.Read.remaining c.run_sites.new.reader) (g.W.Write.contents c.args.out.now) (g.W.Write.contents c.run_sites.new.out) started
-    (c.in_err-run_sites.ensures.reads (err_is c.from_residual-in_err-run_sites.result _ c.from_residual-in_err-run_sites.ensures.1 is))
+    broke_script 999999 c.in-Some.sites (g.R.Read.remaining c.args.reader.now) (g.R.Read.remaining c.read_start.new.reader) (g.R.Read.remaining c.run_world.new.reader) (g.W.Write.contents c.args.out.now) (g.W.Write.contents c.run_world.new.out) started
+    (c.in_err-run_world.ensures.reads (err_is c.from_residual-in_err-run_world.result _ c.from_residual-in_err-run_world.ensures.1 is))
 
 pub returns-in_err-write_bytes-clause-reads : goal.returns-in_err-write_bytes-clause-reads
 returns-in_err-write_bytes-clause-reads g c is = absurd (not_out c.from_residual-in_err-write_bytes.result Write c.from_residual-in_err-write_bytes.ensures.1 tt is)

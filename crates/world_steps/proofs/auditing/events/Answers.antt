@@ -1,7 +1,7 @@
 use Rattle.std.proofs.Common.{◌≡◌, ℕ, List, length, sym, ap, subst, ◌∙◌, arith}
 use Rattle.std.specs.Prelude.{IfOk}
 use Rattle.world_steps.specs.World.{events_below}
-use Rattle.world_steps.specs.Audit.{books_of, history_in, events_in}
+use Rattle.world_steps.specs.Audit.{books_of, history_among, events_in}
 use Rattle.world_steps.proofs.Names.{known_more, none_known}
 use Rattle.world_steps.proofs.Audits.{found_view, history_there, length-views}
 use Rattle.world_steps.proofs.auditing.events.Goals as goal
@@ -14,7 +14,7 @@ loop-book-preserved c =
     let books = c.args.books.now in
     let i = c.loop-book.book-index in
     let book = c.book-item.result in
-    known_more (history_in (books_of books)) i book.now.history c.loop-book.names.keys c.add_names.new.names.keys
+    known_more (history_among (books_of books)) i book.now.history c.loop-book.names.keys c.add_names.new.names.keys
     (history_there (books_of books) i book.now (found_view books i book c.loop-book-test.true c.book-item.is)) c.loop-book.invariant c.in_ok-add_names.ensures
 
 pub returns : goal.returns
@@ -22,5 +22,5 @@ returns c =
     let books = c.args.books.now in
     let whole : c.loop-book.book-index ≡ length (books_of books) =
     omega (arith, c.loop-book.auto.book-index-end, c.loop-book-test.false, length-views books) in
-    let all : c.loop-book.names.keys ≡ events_in (books_of books) = c.loop-book.invariant ∙ ap (λ n. events_below n (history_in (books_of books))) whole in
+    let all : c.loop-book.names.keys ≡ events_in (books_of books) = c.loop-book.invariant ∙ ap (λ n. events_below n (history_among (books_of books))) whole in
     subst (λ (xs : List (List ℕ)). IfOk c.listed.result (λ list. list.items ≡ xs)) all c.listed.ensures

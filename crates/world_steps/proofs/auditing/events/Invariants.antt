@@ -1,8 +1,8 @@
 use Rattle.std.proofs.Common.{◌≡◌}
 use Rattle.rights_lattice.specs.State.{names_in_order}
 use Rattle.world_steps.specs.World.{known_below}
-use Rattle.world_steps.specs.Audit.{books_of, history_in}
+use Rattle.world_steps.specs.Audit.{books_of, history_among}
 use Rattle.world_steps.proofs.auditing.events.Given as goal
 
 abbrev pub invariant-loop-book : goal.invariant-loop-book
-invariant-loop-book l = l.names.keys ≡ names_in_order (known_below l.book-index (history_in (books_of l.books)))
+invariant-loop-book l = l.names.keys ≡ names_in_order (known_below l.book-index (history_among (books_of l.books)))

@@ -1,6 +1,6 @@
 use Rattle.std.proofs.Common.{◌≡◌, ◌≤◌, ℕ, Some, sym, ap, ◌∙◌, subst, arith, refl}
 use Rattle.rights_lattice.specs.declared.cell.Cell.TheVariants.{Used, Back}
-use Rattle.rights_lattice.specs.Cells.{Cells, value_at, max_value}
+use Rattle.rights_lattice.specs.Cells.{Cells, value_at, greatest_value}
 use Rattle.book_core.specs.Decision.{Office}
 use Rattle.book_core.specs.BookView.{BookView}
 use Rattle.book_core.specs.History.{sale_of}
@@ -15,7 +15,7 @@ unreachable-requires c =
     subst (λ (b : BookView). sale_of b.history c.args.number ≡ Some c.in-Some.sale) (sym c.self.view_is) (sym c.sale.ensures ∙ c.in-Some.is) in
     let same : c.me-me.result ≡ fields.rights.me = c.me-me.ensures.me ∙ sym (ap (λ (b : BookView). b.office.me) c.self.view_is) in
     let sold = c.get-sold.ensures.value ∙ ap (λ (by : ℕ). value_at fields.rights.cells c.in-Some.sale.event (Used by)) same in
-    let most : value_at fields.rights.cells c.in-Some.sale.event (Used fields.rights.me) ≤ max_value = omega (arith, sold, c.get-sold.ensures.at_most_max) in
+    let most : value_at fields.rights.cells c.in-Some.sale.event (Used fields.rights.me) ≤ greatest_value = omega (arith, sold, c.get-sold.ensures.at_most_max) in
     let back : value_at c.rights.result.now.cells c.in-Some.sale.event (Back c.me-me.result) ≡ value_at fields.rights.cells c.in-Some.sale.event (Back fields.rights.me) =
     ap (λ (X : Cells). value_at X c.in-Some.sale.event (Back c.me-me.result)) c.rights.ensures.cells ∙ ap (λ (by : ℕ). value_at fields.rights.cells c.in-Some.sale.event (Back by)) same in
     let over = c.in-Err.ensures.full.0 refl in

@@ -2,7 +2,7 @@ use Rattle.std.proofs.Common.{◌≡◌, ℕ, ◌-◌, ◌≤◌, sym, ap, ◌�
 use Rattle.std.specs.Prelude.{◌==◌, IsSome}
 use Rattle.std.specs.Map.{lookup}
 use Rattle.rights_lattice.specs.Cell.{same_event}
-use Rattle.rights_lattice.specs.Cells.{Cells, Valued, max_value, value_at, raise}
+use Rattle.rights_lattice.specs.Cells.{Cells, Valued, greatest_value, value_at, raise}
 use Rattle.rights_lattice.specs.RightsView.{IsCellOf}
 use Rattle.rights_lattice.specs.Sums.{max_sites}
 use Rattle.local_rights.specs.declared.effect.Effect.TheVariants.{Takes, Leaves}
@@ -45,7 +45,7 @@ invariant_of-self c =
     let asked : HasRights (raise s.rights.cells m) m.event s.me = subst (λ (v : CountedView). HasRights (raise v.cells m) m.event v.me) (sym c.self.view_is) c.requires.not_negative in
     let leaves : c.of-effect.result ≡ Leaves = search rules in
     let effect : Leaves ≡ effect_of m.cell s.me = sym leaves ∙ c.of-effect.ensures ∙ ap (λ (x : Valued). effect_of x.cell s.me) c.mark-2.view_is in
-    let most : m.value ≤ max_value = subst (λ (x : Valued). x.value ≤ max_value) c.mark.view_is c.mark.invariant.1 in
+    let most : m.value ≤ greatest_value = subst (λ (x : Valued). x.value ≤ greatest_value) c.mark.view_is c.mark.invariant.1 in
     let old : c.get-old.result ≡ value_at s.rights.cells m.event m.cell = c.get-old.ensures.value ∙ ap (λ (x : Valued). value_at s.rights.cells x.event x.cell) c.mark.view_is in
     let some : 1 ≤ value_at s.rights.cells m.event m.cell = omega (arith, old, c.if-old-gt0.true) in (
       kept_alone s.left.entries s.rights.sites r.sites s.me s.rights.cells r.cells m c.self.invariant.0 c.raise.ensures.sites c.raise.ensures.cells most of asked effect some,
@@ -64,7 +64,7 @@ invariant_of-self-then-old-eq0 c =
     let more : c.saturating_sub-more.result ≡ m.value - value_at s.rights.cells m.event m.cell =
     risen s.rights.cells m (record { event = c.mark.inside.event; cell = c.mark.inside.cell; value = c.mark.inside.value }) c.get-old.result c.saturating_sub-more.result c.mark.view_is c.get-old.ensures.value c.saturating_sub-more.ensures in
     let event : c.mark-2.inside.event ≡ m.event = ap (λ (x : Valued). x.event) c.mark-2.view_is in
-    let most : m.value ≤ max_value = subst (λ (x : Valued). x.value ≤ max_value) c.mark.view_is c.mark.invariant.1 in
+    let most : m.value ≤ greatest_value = subst (λ (x : Valued). x.value ≤ greatest_value) c.mark.view_is c.mark.invariant.1 in
     let kept = kept_after s.left.entries c.keep.new.kept.entries s.rights.sites r.sites s.me s.rights.cells r.cells m c.mark-2.inside.event c.of-effect.result c.saturating_sub-more.result c.self.invariant.0 c.raise.ensures.sites c.raise.ensures.cells most of asked event effect more c.keep.ensures.left in (
       kept,
       room_taken (value_at s.rights.cells m.event m.cell == 0) s.room s.rights.room r.room c.self.invariant.1 c.raise.ensures.room,
@@ -82,7 +82,7 @@ invariant_of-self-else-old-eq0 c =
     let more : c.saturating_sub-more.result ≡ m.value - value_at s.rights.cells m.event m.cell =
     risen s.rights.cells m (record { event = c.mark.inside.event; cell = c.mark.inside.cell; value = c.mark.inside.value }) c.get-old.result c.saturating_sub-more.result c.mark.view_is c.get-old.ensures.value c.saturating_sub-more.ensures in
     let event : c.mark-2.inside.event ≡ m.event = ap (λ (x : Valued). x.event) c.mark-2.view_is in
-    let most : m.value ≤ max_value = subst (λ (x : Valued). x.value ≤ max_value) c.mark.view_is c.mark.invariant.1 in
+    let most : m.value ≤ greatest_value = subst (λ (x : Valued). x.value ≤ greatest_value) c.mark.view_is c.mark.invariant.1 in
     let kept = kept_after s.left.entries c.keep.new.kept.entries s.rights.sites r.sites s.me s.rights.cells r.cells m c.mark-2.inside.event c.of-effect.result c.saturating_sub-more.result c.self.invariant.0 c.raise.ensures.sites c.raise.ensures.cells most of asked event effect more c.keep.ensures.left in
     let old : c.get-old.result ≡ value_at s.rights.cells m.event m.cell = c.get-old.ensures.value ∙ ap (λ (x : Valued). value_at s.rights.cells x.event x.cell) c.mark.view_is in
     let some : 1 ≤ value_at s.rights.cells m.event m.cell = omega (arith, old, c.if-old-eq0.false) in

@@ -7,7 +7,7 @@ use Rattle.site_desk.proofs.locked.Locked.finish.Goals as goal
 
 pub returns-in-Some-clause-fault : goal.returns-in-Some-clause-fault
 returns-in-Some-clause-fault g c =
-    let count : shares_of c.args.seats.items ≡ asked_since (length g.L.Opens.began) c.self.inside.book.book.history = sym c.gather.ensures.sum ∙ c.if-gather-total.false ∙ c.self.invariant.1 in
+    let count : shares_of c.args.seats.items ≡ asked_since (length g.L.Opens.began) c.self.inside.book.book.history = sym c.gather.ensures.sum ∙ c.if-gather-total.false ∙ c.self.invariant.counted in
     rw (← c.self.view_is) (count, subst (λ (b : BookView). FirstNot (StandsIn b.history) c.args.receipts.now c.in-Some.at) c.book.ensures.book c.in-Some.ensures)
 
 pub returns-in-Some-clause-legal : goal.returns-in-Some-clause-legal
@@ -18,7 +18,7 @@ returns-in-Some-clause-has_rights g c = rw (← c.self.view_is) c.book-book.ensu
 
 pub returns-in-Some-first_stranger_seen-clause-fault : goal.returns-in-Some-first_stranger_seen-clause-fault
 returns-in-Some-first_stranger_seen-clause-fault g c =
-    let count : shares_of c.args.seats.items ≡ asked_since (length g.L.Opens.began) c.self.inside.book.book.history = sym c.gather.ensures.sum ∙ c.if-gather-total.false ∙ c.self.invariant.1 in
+    let count : shares_of c.args.seats.items ≡ asked_since (length g.L.Opens.began) c.self.inside.book.book.history = sym c.gather.ensures.sum ∙ c.if-gather-total.false ∙ c.self.invariant.counted in
     rw (← c.self.view_is) (
       count,
       subst (λ (b : BookView). All (StandsIn b.history) c.args.receipts.now) c.book.ensures.book c.in_default.ensures,

@@ -59,3 +59,6 @@ returns-in_err-entries-clause-version g c foreign outside =
 
 pub returns-clause-limit : goal.returns-clause-limit
 returns-clause-limit g c = c.read_records.ensures.limit
+
+pub returns-clause-unchanged : goal.returns-clause-unchanged
+returns-clause-unchanged g c clean = c.in_ok-entries.ensures.same clean

@@ -2,7 +2,7 @@ use Rattle.std.proofs.Common.{◌≡◌, ℕ, subst, rules}
 use Rattle.std.specs.Prelude.{Ok, IfOk, IfErr, OnOk, OnErr, slice_set}
 use Rattle.world_steps.specs.declared.step.Step.TheVariants.{Ask}
 use Rattle.world_steps.specs.World.{World, after}
-use Rattle.world_steps.specs.Outcomes.{outcome, IsDue, MayGrow}
+use Rattle.world_steps.specs.Outcomes.{outcome, IsDue, MayWantMemory}
 use Rattle.world_steps.specs.Reaching.{world_of}
 use Rattle.world_steps.proofs.Making.{IsGiven, ask_gives, ask_wants}
 use Rattle.world_steps.proofs.world.World.ask.Goals as goal
@@ -27,8 +27,8 @@ returns-clause-fault c =
 
 pub returns-clause-memory : goal.returns-clause-memory
 returns-clause-memory c refused =
-    subst (λ (n : ℕ). MayGrow c.args.self.now (Ask n c.args.number c.args.request.now)) c.number-place.ensures.number
-    (subst (λ (w : World). MayGrow w (Ask c.number-place.result c.args.number c.args.request.now)) c.self.view_is
+    subst (λ (n : ℕ). MayWantMemory c.args.self.now (Ask n c.args.number c.args.request.now)) c.number-place.ensures.number
+    (subst (λ (w : World). MayWantMemory w (Ask c.number-place.result c.args.number c.args.request.now)) c.self.view_is
     (ask_wants c.self.inside.sites.items c.self.inside.sent.items c.number-place.result c.args.number c.args.request.now c.index_mut-node.result.now
     c.self.invariant (search rules) c.index_mut-node.ensures.value (c.ask.ensures.wanted refused)))
 

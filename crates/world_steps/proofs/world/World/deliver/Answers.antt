@@ -2,14 +2,14 @@ use Rattle.std.proofs.Common.{◌≡◌, ◌<◌, List, inl, inr, subst, sym, �
 use Rattle.std.specs.Prelude.{Some, Ok, Result, IsSome, slice_get, slice_set}
 use Rattle.site_exchange.specs.declared.message.Message.{Message}
 use Rattle.site_exchange.specs.Exchange.{verdict, Verdict}
-use Rattle.site_exchange.specs.Taking.{MayTake, given_back, site_after}
+use Rattle.site_exchange.specs.Taking.{MayTake, ack_due, site_after}
 use Rattle.world_steps.specs.NodeView.{NodeView}
 use Rattle.world_steps.specs.declared.step.Step.TheVariants.{Deliver}
 use Rattle.world_steps.specs.declared.step.Outcome.{Outcome}
 use Rattle.world_steps.specs.declared.step.WorldFault.{WorldFault}
 use Rattle.world_steps.specs.declared.step.WorldFault.TheVariants.{Memory}
 use Rattle.world_steps.specs.Nodes.{site_of, verdict_told}
-use Rattle.world_steps.specs.Outcomes.{outcome, taken_as, IsDue, MayGrow}
+use Rattle.world_steps.specs.Outcomes.{outcome, taken_as, IsDue, MayWantMemory}
 use Rattle.world_steps.specs.Reaching.{world_of, IsKept}
 use Rattle.world_steps.specs.World.{World, after, with_sent}
 use Rattle.world_steps.proofs.Making.{sent_is_due}
@@ -40,11 +40,11 @@ returns-then-is_err-2-clause-fault c =
 pub returns-then-is_err-clause-memory : goal.returns-then-is_err-clause-memory
 returns-then-is_err-clause-memory c refused =
     let there = is_for c.self.inside.sites.items c.self.inside.sent.items c.args.index c.number-place.result c.index-message.result.now c.self.invariant (search rules) c.index-message.ensures (c.number-place.ensures.number ∙ c.receiver.ensures) in
-    let acknowledged : IsSome c.given_back-ack.result = search rules in
-    subst (λ (w : World). MayGrow w (Deliver c.args.index)) c.self.view_is
+    let acknowledged : IsSome c.ack_due-ack.result = search rules in
+    subst (λ (w : World). MayWantMemory w (Deliver c.args.index)) c.self.view_is
     (deliver_wants c.self.inside.sites.items c.self.inside.sent.items c.args.index c.number-place.result c.index-message.result.now c.index.result.now
     c.self.invariant there.sent_is there.to there.below c.index.ensures
-    (inl (subst IsSome (c.given_back-ack.ensures ∙ ap (λ (v : Verdict). given_back v c.index-message.result.now) (verdict_by _ c.index-message.result.now c.book.result.now c.index.result.now.book c.judge-taken.ensures c.book.ensures)) acknowledged)))
+    (inl (subst IsSome (c.ack_due-ack.ensures ∙ ap (λ (v : Verdict). ack_due v c.index-message.result.now) (verdict_by _ c.index-message.result.now c.book.result.now c.index.result.now.book c.judge-taken.ensures c.book.ensures)) acknowledged)))
 
 in_err : (c : goal.Joined-ack-3) → IsFor c.self.inside.sites.items c.self.inside.sent.items c.args.index c.number-place.result c.index-message.result.now
 in_err c = is_for c.self.inside.sites.items c.self.inside.sent.items c.args.index c.number-place.result c.index-message.result.now c.self.invariant (search rules) c.index-message.ensures (c.number-place.ensures.number ∙ c.receiver.ensures)
@@ -57,7 +57,7 @@ returns-then-is_err-2-clause-memory c refused =
     let node : NodeView = c.index_mut-node.result.now in
     let wanted : MayTake (verdict node.book.office node.book.history c.index-2.result.now) (site_of node) c.index-2.result.now = search rules in
     let same = same_message c.self.inside.sent.items c.make_room.new.sent.items c.args.index c.index-message.result.now c.index-2.result.now c.make_room.ensures.items (search rules) c.index-message.ensures c.index-2.ensures in
-    subst (λ (w : World). MayGrow w (Deliver c.args.index)) c.self.view_is
+    subst (λ (w : World). MayWantMemory w (Deliver c.args.index)) c.self.view_is
     (deliver_wants c.self.inside.sites.items c.self.inside.sent.items c.args.index c.number-place.result c.index-message.result.now node
     c.self.invariant (in_err c).sent_is (in_err c).to (in_err c).below c.index_mut-node.ensures.value
     (inr (subst (λ (m : Message). MayTake (verdict node.book.office node.book.history m) (site_of node) m) same wanted)))
@@ -73,7 +73,7 @@ returns-then-is_err-2-clause-unchanged c =
     ∙ same_world c.self.inside.sites.items c.self.inside.sent.items c.number-place.result c.index_mut-node.result.now c.take.new.node (node_in_err c) c.take.ensures.office (search rules)
     ∙ c.self.view_is
 
-given : (c : goal.After-put) → IsDelivered c.self.inside.sites.items c.self.inside.sent.items (slice_set c.self.inside.sites.items c.number-place.result c.take.new.node) (with_sent c.self.inside.sent.items (given_back (verdict_told c.judge-taken.result) c.index-message.result.now)) c.args.index (taken_as (verdict_told c.judge-taken.result) (length c.self.inside.sent.items))
+given : (c : goal.After-put) → IsDelivered c.self.inside.sites.items c.self.inside.sent.items (slice_set c.self.inside.sites.items c.number-place.result c.take.new.node) (with_sent c.self.inside.sent.items (ack_due (verdict_told c.judge-taken.result) c.index-message.result.now)) c.args.index (taken_as (verdict_told c.judge-taken.result) (length c.self.inside.sent.items))
 given c =
     let old : NodeView = c.index_mut-node.result.now in
     let there = is_for c.self.inside.sites.items c.self.inside.sent.items c.args.index c.number-place.result c.index-message.result.now c.self.invariant (search rules) c.index-message.ensures (c.number-place.ensures.number ∙ c.receiver.ensures) in
@@ -86,9 +86,9 @@ given c =
     ∙ ap (λ (m : Message). site_after (verdict old.book.office old.book.history m) m (site_of old))
     (same_message c.self.inside.sent.items c.make_room.new.sent.items c.args.index c.index-message.result.now c.index-2.result.now c.make_room.ensures.items (search rules) c.index-message.ensures c.index-2.ensures))
 
-sent_now : (c : goal.After-put) → with_sent c.self.inside.sent.items (given_back (verdict_told c.judge-taken.result) c.index-message.result.now) ≡ c.put.new.sent.items
+sent_now : (c : goal.After-put) → with_sent c.self.inside.sent.items (ack_due (verdict_told c.judge-taken.result) c.index-message.result.now) ≡ c.put.new.sent.items
 sent_now c =
-    (λ k. with_sent (sym c.make_room.ensures.items k) (sym c.given_back-ack.ensures k)) ∙ sym c.put.ensures
+    (λ k. with_sent (sym c.make_room.ensures.items k) (sym c.ack_due-ack.ensures k)) ∙ sym c.put.ensures
 
 pub invariant_of-self-2 : goal.invariant_of-self-2
 invariant_of-self-2 c = subst (λ (sent : List Message). IsKept (slice_set c.self.inside.sites.items c.number-place.result c.take.new.node) sent) (sent_now c) (given c).kept

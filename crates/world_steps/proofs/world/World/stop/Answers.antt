@@ -5,7 +5,7 @@ use Rattle.world_steps.specs.declared.step.Step.TheVariants.{Stop}
 use Rattle.site_exchange.specs.Taking.{stopped_with}
 use Rattle.world_steps.specs.World.{World, after, is_there, entry_of_input}
 use Rattle.world_steps.specs.Nodes.{site_of}
-use Rattle.world_steps.specs.Outcomes.{outcome, IsDue, MayGrow, MayStore}
+use Rattle.world_steps.specs.Outcomes.{outcome, IsDue, MayWantMemory, MayStore}
 use Rattle.world_steps.specs.Reaching.{world_of}
 use Rattle.world_steps.proofs.Making.{IsGiven, stop_gives, stop_wants}
 use Rattle.world_steps.proofs.world.World.stop.Goals as goal
@@ -34,8 +34,8 @@ returns-clause-fault c =
 
 pub returns-clause-memory : goal.returns-clause-memory
 returns-clause-memory c refused =
-    subst (λ (n : ℕ). MayGrow c.args.self.now (Stop n c.args.input c.args.stored)) c.number-place.ensures.number
-    (subst (λ (w : World). MayGrow w (Stop c.number-place.result c.args.input c.args.stored)) c.self.view_is
+    subst (λ (n : ℕ). MayWantMemory c.args.self.now (Stop n c.args.input c.args.stored)) c.number-place.ensures.number
+    (subst (λ (w : World). MayWantMemory w (Stop c.number-place.result c.args.input c.args.stored)) c.self.view_is
     (stop_wants c.self.inside.sites.items c.self.inside.sent.items c.number-place.result c.args.input c.args.stored c.index_mut-node.result.now
     c.self.invariant (search rules) c.index_mut-node.ensures.value (c.stop.ensures.stores refused)
     (subst (λ (sent : List Message). MayStore c.index_mut-node.result.now.book.office c.index_mut-node.result.now.book.history sent c.args.input) c.deref.ensures.value (c.stop.ensures.wanted refused))))

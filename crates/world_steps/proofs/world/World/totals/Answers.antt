@@ -1,6 +1,6 @@
 use Rattle.std.proofs.Common.{◌≡◌, ◌+◌, ◌*◌, ◌≤◌, List, arith, sym, ap, ◌∙◌, subst, length, get_or}
 use Rattle.std.specs.Prelude.{slice_get, Some}
-use Rattle.rights_lattice.specs.Cells.{max_value}
+use Rattle.rights_lattice.specs.Cells.{greatest_value}
 use Rattle.rights_lattice.specs.Sums.{max_sites}
 use Rattle.book_core.specs.BookView.{BookView}
 use Rattle.world_steps.specs.NodeView.{NodeView}
@@ -35,7 +35,7 @@ loop-node-preserved c =
     record {
       own = subst (AreOwn (i + 1) (history_at c.args.self.now) c.args.event) (sym c.with_own-totals.ensures.sums)
           (own_all_more (history_at c.args.self.now) c.args.event i book c.loop-node.totals here is c.loop-node.invariant.own);
-      bound = one_more i c.with_own-totals.result (c.with_own-totals.ensures.bound (max_value * i) c.loop-node.invariant.bound);
+      bound = one_more i c.with_own-totals.result (c.with_own-totals.ensures.bound (greatest_value * i) c.loop-node.invariant.bound);
     }
 
 pub with_own-totals-requires : goal.with_own-totals-requires

@@ -1,7 +1,7 @@
 use Rattle.std.proofs.Common.{ap₂, ◌∙◌}
 use Rattle.clap.specs.Words.{with_rule}
 use Rattle.operator_cli.proofs.Adding.{at_ok}
-use Rattle.operator_cli.proofs.words.init.Goals as goal
+use Rattle.operator_cli.proofs.grammar.init.Goals as goal
 
 pub returns-clause-app : goal.returns-clause-app
 returns-clause-app c =

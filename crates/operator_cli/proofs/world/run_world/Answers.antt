@@ -5,7 +5,7 @@ use Rattle.operator_cli.specs.Ran.{SitesRan}
 use Rattle.operator_cli.specs.Script.{replies_at}
 use Rattle.operator_cli.proofs.BreakLaws.{broke_here, broke_sites, not_out_of}
 use Rattle.operator_cli.proofs.ScriptLaws.{at_err, sites_unread, sites_second, sites_alone}
-use Rattle.operator_cli.proofs.world.run_sites.Goals as goal
+use Rattle.operator_cli.proofs.world.run_world.Goals as goal
 
 pub returns-in_err-next_line-clause-ran : goal.returns-in_err-next_line-clause-ran
 returns-in_err-next_line-clause-ran g c =

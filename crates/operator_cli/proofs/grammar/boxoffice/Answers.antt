@@ -2,7 +2,7 @@ use Rattle.std.proofs.Common.{ap, ap₂, ◌∙◌}
 use Rattle.clap.specs.Words.{App, Shape, with_subcommand}
 use Rattle.clap.specs.Simple.{app_of_fields}
 use Rattle.operator_cli.specs.Orders.{needing}
-use Rattle.operator_cli.proofs.words.boxoffice.Goals as goal
+use Rattle.operator_cli.proofs.grammar.boxoffice.Goals as goal
 
 top_of : App → Shape
 top_of a = a.top
