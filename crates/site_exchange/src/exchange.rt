@@ -97,13 +97,13 @@ impl Exchange {
         let place = peer.number() as usize;
         let n = upto.entries() as usize;
         forget(self.alloc, &mut self.pendings, place, book, n)?;
-        self.acked[place] = self.acked[place].max(upto.entries());
+        self.acked[place] = upto.entries();
         Ok(())
     }
 
     /// The message that is due to a peer: the delta-interval from what it has acknowledged to the end of the
-    /// history, and none where it has acknowledged all, which takes no memory. What is pending is kept, so that no entry
-    /// that was added is added again.
+    /// history, and none where it has acknowledged all, which takes no memory and changes nothing. What is pending is
+    /// kept, so that no entry that was added is added again.
     ///
     /// An error leaves the acknowledged numbers, and all messages given later, as they would have been.
     pub fn next(
