@@ -305,10 +305,12 @@ impl Crossing {
         self.missed.store(1, Ordering::SeqCst);
     }
 
-    // Lets session 1 go on, and waits for its answer.
-    fn hold(&self) {
-        self.inside.store(1, Ordering::SeqCst);
-        self.wait_for(&self.answered);
+    // Inside site 0, lets session 1 go on and waits for its answer.
+    fn hold(&self, site: SiteId) {
+        if site.number() == 0 {
+            self.inside.store(1, Ordering::SeqCst);
+            self.wait_for(&self.answered);
+        }
     }
 }
 
@@ -319,7 +321,7 @@ impl Gate for Crossing {
                 session: 1,
                 line: 1,
             } => self.wait_for(&self.inside),
-            Place::Inside { site } if site.number() == 0 => self.hold(),
+            Place::Inside { site } => self.hold(site),
             Place::Answered {
                 session: 1,
                 line: 1,
