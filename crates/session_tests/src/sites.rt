@@ -305,11 +305,24 @@ impl Crossing {
         self.missed.store(1, Ordering::SeqCst);
     }
 
-    // Inside site 0, lets session 1 go on and waits for its answer.
-    fn hold(&self, site: SiteId) {
-        if site.number() == 0 {
-            self.inside.store(1, Ordering::SeqCst);
-            self.wait_for(&self.answered);
+    // Lets session 1 go on, and waits for its answer.
+    fn hold(&self) {
+        self.inside.store(1, Ordering::SeqCst);
+        self.wait_for(&self.answered);
+    }
+
+    // Session 1 waits before its line, and tells once it is answered.
+    fn pass_outside(&self, place: Place) {
+        match place {
+            Place::Asking {
+                session: 1,
+                line: 1,
+            } => self.wait_for(&self.inside),
+            Place::Answered {
+                session: 1,
+                line: 1,
+            } => self.answered.store(1, Ordering::SeqCst),
+            _ => {}
         }
     }
 }
@@ -317,16 +330,8 @@ impl Crossing {
 impl Gate for Crossing {
     fn pass<R: Wait>(&self, _rt: &R, place: Place) {
         match place {
-            Place::Asking {
-                session: 1,
-                line: 1,
-            } => self.wait_for(&self.inside),
-            Place::Inside { site } => self.hold(site),
-            Place::Answered {
-                session: 1,
-                line: 1,
-            } => self.answered.store(1, Ordering::SeqCst),
-            _ => {}
+            Place::Inside { site } if site.number() == 0 => self.hold(),
+            _ => self.pass_outside(place),
         }
     }
 }
