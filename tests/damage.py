@@ -9,7 +9,8 @@ Two kinds of damage cannot be told from a file that was never damaged, and are c
 as one that a stop cut short, so that answers are those of an older state; and where C SQLite too finds a sound file with
 other rows, answers are by those rows. With `--strict` they fail as well.
 
-With `--full` each byte is turned, else one of eight of a spread of them and of the headers.
+With `--full` each byte of the file is turned, and each that the log holds, those behind its headers for one command in
+turn; else one of eight of a spread of them and of the headers.
 Says what differs and ends with status 1 where anything does.
 """
 
@@ -31,7 +32,7 @@ from trial import PROGRAM, call, free_port, opened
 FULL = "--full" in FLAGS
 STRICT = "--strict" in FLAGS
 MEMORY = "/dev/shm" if os.path.isdir("/dev/shm") else None
-PROCESSES = 2
+PROCESSES = os.cpu_count() or 2 if FULL else 2
 # How far the bytes of the spread are from one another.
 SPREAD = 37
 # One of so many of the spread is tried.
@@ -343,9 +344,11 @@ def places(part, content):
     """The bytes that are turned, each with what it is turned by."""
     end = len(content)
     heads = {at for at in headers(part, content) if at < end}
-    if FULL:
-        return [(at, 0xFF) for at in range(end)] + [(at, 1) for at in range(end) if content[at]]
+    # Behind what a log holds there are zeros, of which a few will do.
     told = len(content.rstrip(b"\0")) + FRAME
+    if FULL:
+        every = [at for at in range(end) if at < told or at % (SPREAD * 64) == 0]
+        return [(at, 0xFF) for at in every] + [(at, 1) for at in every if content[at]]
     spread = [at for at in range(0, end, SPREAD) if at < told or at % (SPREAD * 64) == 0]
     return sorted({(at, 0xFF) for at in heads} | {(at, (0xFF, 1)[k % 2]) for k, at in enumerate(spread)})
 
@@ -522,12 +525,22 @@ class Judge:
         return call(self.folder, ["list", FILE, "gala"]) in [(*one.listed("gala"), "") for one in behind]
 
 
+def tried(damage):
+    """The commands that are tried of it. What stands behind a log's headers is told by the sums in them alone."""
+    every = commands()
+    if FULL and damage.part == LOG and damage.how == "turned":
+        at = damage.values[0]
+        if at not in headers(LOG, VARIANTS[damage.variant].parts[LOG]):
+            return [every[at % len(every)]]
+    return every
+
+
 def try_damages(some):
     finding = Finding()
     with tempfile.TemporaryDirectory(dir=MEMORY) as folder:
         for damage in some:
             judge = Judge(folder, damage, finding)
-            for name, words, given in commands():
+            for name, words, given in tried(damage):
                 judge.run(name, words, given)
     return finding
 
