@@ -171,18 +171,18 @@ pub(crate) fn open_or_make<S: Start>(
 }
 
 /// The status of a command that came to this and gave its connection back: the log is copied into
-/// the file, and both are closed. A fault is told, unless the command failed before.
+/// the file, and both are closed. A fault is told. Where the command failed the file may be damaged, so it
+/// and its log are left as they are.
 pub(crate) fn close<S: Start>(
     rt: &HostRuntime,
     came: (Status, Option<Connection<Files<S>>>),
 ) -> Status {
-    let (status, conn) = came;
-    let Some(conn) = conn else {
-        return status;
-    };
-    match conn.close() {
-        Ok(()) => status,
-        Err(_) if status == Status::Failed => status,
-        Err(error) => failed(rt, fault_of_closing(error)),
+    match came {
+        (Status::Failed, _) => Status::Failed,
+        (status, None) => status,
+        (status, Some(conn)) => match conn.close() {
+            Ok(()) => status,
+            Err(error) => failed(rt, fault_of_closing(error)),
+        },
     }
 }
