@@ -203,15 +203,6 @@ def read_by_sqlite(folder, file):
         return None
 
 
-def is_moved(log, before, after):
-    """Whether each page of the file behind is as before, or as a frame of the log has it."""
-    told = collections.defaultdict(list)
-    for at in frames(log):
-        told[int.from_bytes(log[at : at + 4], "big")].append(log[at + FRAME_HEADER : at + FRAME])
-    pages_there = [(at // PAGE + 1, after[at : at + PAGE], before[at : at + PAGE]) for at in range(0, len(after), PAGE)]
-    return all(page == old or page in told[number] for number, page, old in pages_there)
-
-
 def log_is_empty(log):
     return log is None or len(log) in (0, EMPTY_LOG)
 
@@ -474,9 +465,7 @@ class Judge:
         word = re.sub(r"\d+", "K", err.strip())
         log, before = left.get(LOG), self.parts.get(LOG)
         if left[FILE] != self.parts[FILE]:
-            # `migrate` closes what it opened and refuses, so that the log moves into the file.
-            is_well = name == "migrate" and log_is_empty(log) and is_moved(before, self.parts[FILE], left[FILE])
-            return f"{word} and its log moved", is_well
+            return f"{word} and another file", False
         if log == before:
             return word, True
         return f"{word} and another empty log", log_is_empty(log) and log_is_empty(before)
@@ -545,6 +534,39 @@ def try_damages(some):
     return finding
 
 
+# A history that could not stand.
+
+
+def spoilt():
+    """The site's files with a seat more in its release, which stands in the log."""
+    with tempfile.TemporaryDirectory(dir=MEMORY) as folder:
+        write(folder, {**VARIANTS["killed"].parts, **VARIANTS["killed"].peer})
+        with opened(folder, FILE) as db:
+            db.execute("PRAGMA wal_autocheckpoint = 0")
+            db.execute("UPDATE entries SET amount = amount + 1 WHERE pos = 2")
+            return read(folder, [FILE, LOG])
+
+
+def try_spoilt():
+    """All pages are sound, and each row is that of an entry: it is told, and neither the file nor its log is changed."""
+    finding = Finding()
+    parts = spoilt()
+    for command, words, given in commands():
+        # The history is none of their affair.
+        if command in ("init", "migrate"):
+            continue
+        with tempfile.TemporaryDirectory(dir=MEMORY) as folder:
+            write(folder, {**parts, **VARIANTS["killed"].peer})
+            told = call(folder, words, given, 20)
+            left = read(folder, [FILE, LOG])
+        if told == (3, "", "damaged 2\n") and left == parts:
+            finding.told["spoilt: damaged 2"] += 1
+            finding.passed += 1
+        else:
+            finding.differing.append(f"spoilt: {command}: told {told!r}, the files are {'' if left == parts else 'not '}as they were")
+    return finding
+
+
 # Files of other programs.
 
 
@@ -604,6 +626,7 @@ def judge_foreign(finding, what, command, parts, told, left):
 def try_all(finding):
     for name, content in foreign_files().items():
         finding.add(try_foreign(name, content))
+    finding.add(try_spoilt())
     for text in finding.differing:
         print(text[:1000], flush=True)
     all_damages = [damage for variant in VARIANTS.values() for damage in damages(variant)]

@@ -54,7 +54,11 @@ def commands(file):
 def tree(folder):
     found = {}
     for name in sorted(os.listdir(folder)):
-        with open(os.path.join(folder, name), "rb") as file:
+        path = os.path.join(folder, name)
+        if not os.path.exists(path):
+            found[name] = os.readlink(path)
+            continue
+        with open(path, "rb") as file:
             found[name] = file.read()
     return found
 
@@ -103,6 +107,12 @@ def too_short(folder):
         refused(folder, f"a file of {len(content)} bytes", commands(name), "not-ours")
     make(folder, "empty")
     ask(folder, "empty", ASKED)
+
+
+def link_to_nothing(folder):
+    os.symlink("nowhere.db", os.path.join(folder, "link.db"))
+    refused(folder, "a link to no file", commands("link.db"), "not-ours")
+    refused(folder, "a link to no file", [["init", "link.db", "0", "2", "1000"]], "disk")
 
 
 def paths_as_they_stand(folder):
@@ -229,6 +239,17 @@ def words_not_understood(folder):
     same("made by words that are not understood", os.listdir(folder), [])
 
 
-TRIALS = [tended, too_short, paths_as_they_stand, no_database, damaged, other_records, locked_out, in_use, words_not_understood]
+TRIALS = [
+    tended,
+    too_short,
+    link_to_nothing,
+    paths_as_they_stand,
+    no_database,
+    damaged,
+    other_records,
+    locked_out,
+    in_use,
+    words_not_understood,
+]
 
 sys.exit(try_each(TRIALS, "the files bear what operators do"))
