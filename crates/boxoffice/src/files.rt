@@ -170,9 +170,9 @@ pub(crate) fn open_or_make<S: Start>(
     }
 }
 
-/// The status of a command that came to this and gave its connection back: the log is copied into
-/// the file, and both are closed. A fault is told. Where the command failed the file may be damaged, so it
-/// and its log are left as they are.
+/// The status of a command that came to this and gave its connection back. Unless it failed, the log is
+/// copied into the file, and both are closed; a fault of that is told. Where it failed the file may be
+/// damaged, so it and its log are left as they are.
 pub(crate) fn close<S: Start>(
     rt: &HostRuntime,
     came: (Status, Option<Connection<Files<S>>>),

@@ -196,7 +196,7 @@ fn open_all<S: Start>(
     Ok(())
 }
 
-// The status of a command that came to this over a file among others, which is closed.
+// The status of a command that came to this over a file among others, which is closed unless it failed.
 fn close_site<S: Start>(
     rt: &HostRuntime,
     status: Status,
@@ -292,7 +292,7 @@ fn close_ends<S: Start, R: Read + Drop, V: Write + Drop>(
     status
 }
 
-// Runs the sites, whose callers are there, and closes their files.
+// Runs the sites, whose callers are there, and closes their files unless that failed.
 fn serve_callers<S: Start + Send>(
     rt: &HostRuntime,
     host: &(impl Threads + Wait + Sync),
