@@ -10,7 +10,7 @@ as one that a stop cut short, so that answers are those of an older state; and w
 other rows, answers are by those rows. With `--strict` they fail as well.
 
 With `--full` each byte of the file is turned, and each that the log holds, those behind its headers for one command in
-turn; else one of eight of a spread of them and of the headers.
+turn, and a few of the zeros behind them; else one of eight of a spread of them and of the headers.
 Says what differs and ends with status 1 where anything does.
 """
 
@@ -45,6 +45,8 @@ FILE, LOG, PEER = "site.db", "site.db-wal", "peer.db"
 ROWS = "SELECT pos, peer, number, verb, event, amount, target, reply, rest, delta FROM entries ORDER BY pos"
 # The log that a command may leave beside a database that it had to open.
 EMPTY_LOG = 41
+# So many may be put behind a log that another program wrote.
+ZEROS = 9
 
 FIRST = ["announce 1 gala", "announce 2 gala", "release 3 gala 100", "cede 4 gala 40 1", "sell 5 gala 61", "sell 6 gala 7"]
 PEERS = ["sell 1 gala 4", "cede 2 gala 9 0", "announce 3 expo", "release 4 expo 50", "cede 5 expo 20 0", "refund 6 1"]
@@ -231,8 +233,8 @@ def must(words, told, wanted):
         sys.exit(f"{words}: found {told!r}, wanted {wanted!r}")
 
 
-def asked_and_killed(folder, lines):
-    program = subprocess.Popen([PROGRAM, "ask", FILE], stdin=subprocess.PIPE, stdout=subprocess.PIPE, cwd=folder)
+def asked_and_killed(folder, lines, file=FILE):
+    program = subprocess.Popen([PROGRAM, "ask", file], stdin=subprocess.PIPE, stdout=subprocess.PIPE, cwd=folder)
     program.stdin.write(text_of(lines).encode())
     program.stdin.flush()
     for _ in lines:
@@ -520,7 +522,8 @@ def tried(damage):
     if FULL and damage.part == LOG and damage.how == "turned":
         at = damage.values[0]
         if at not in headers(LOG, VARIANTS[damage.variant].parts[LOG]):
-            return [every[at % len(every)]]
+            # Another command at the same place of the next frame.
+            return [every[(at + at // FRAME) % len(every)]]
     return every
 
 
@@ -537,33 +540,45 @@ def try_damages(some):
 # A history that could not stand.
 
 
-def spoilt():
+def spoilt(variant):
     """The site's files with a seat more in its release, which stands in the log."""
     with tempfile.TemporaryDirectory(dir=MEMORY) as folder:
-        write(folder, {**VARIANTS["killed"].parts, **VARIANTS["killed"].peer})
+        write(folder, {**variant.parts, **variant.peer})
         with opened(folder, FILE) as db:
             db.execute("PRAGMA wal_autocheckpoint = 0")
             db.execute("UPDATE entries SET amount = amount + 1 WHERE pos = 2")
             return read(folder, [FILE, LOG])
 
 
-def try_spoilt():
-    """All pages are sound, and each row is that of an entry: it is told, and neither the file nor its log is changed."""
+def with_log(variant):
+    """The peer's files with what it was last asked in the log alone."""
+    with tempfile.TemporaryDirectory(dir=MEMORY) as folder:
+        write(folder, variant.peer)
+        asked_and_killed(folder, ["sell 7 gala 1"], PEER)
+        return read(folder, [PEER, PEER + "-wal"])
+
+
+def try_spoilt(variant):
+    """All pages are sound, and each row is that of an entry: it is told, and neither the file nor its log is changed, nor
+    those of another site that were opened before it."""
     finding = Finding()
-    parts = spoilt()
-    for command, words, given in commands():
-        # The history is none of their affair.
-        if command in ("init", "migrate"):
-            continue
+    parts = {**spoilt(variant), **with_log(variant)}
+    behind = [parts, {**parts, LOG: parts[LOG] + bytes(ZEROS)}]
+    # The history is none of `init`'s and `migrate`'s affair.
+    all_words = [one for one in commands() if one[0] not in ("init", "migrate")]
+    # Behind another site's file, which is no first one: `audit` opens both before it looks.
+    all_words.append(("audit behind", ["audit", PEER, FILE], ""))
+    for command, words, given in all_words:
         with tempfile.TemporaryDirectory(dir=MEMORY) as folder:
-            write(folder, {**parts, **VARIANTS["killed"].peer})
+            write(folder, parts)
             told = call(folder, words, given, 20)
-            left = read(folder, [FILE, LOG])
-        if told == (3, "", "damaged 2\n") and left == parts:
+            left = read(folder, parts)
+        if told == (3, "", "damaged 2\n") and left in behind:
             finding.told["spoilt: damaged 2"] += 1
             finding.passed += 1
         else:
-            finding.differing.append(f"spoilt: {command}: told {told!r}, the files are {'' if left == parts else 'not '}as they were")
+            what = "as they were" if left in behind else "others"
+            finding.differing.append(f"{variant.name}, spoilt: {command}: told {told!r}, the files are {what}")
     return finding
 
 
@@ -626,7 +641,8 @@ def judge_foreign(finding, what, command, parts, told, left):
 def try_all(finding):
     for name, content in foreign_files().items():
         finding.add(try_foreign(name, content))
-    finding.add(try_spoilt())
+    for variant in VARIANTS.values():
+        finding.add(try_spoilt(variant))
     for text in finding.differing:
         print(text[:1000], flush=True)
     all_damages = [damage for variant in VARIANTS.values() for damage in damages(variant)]
