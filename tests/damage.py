@@ -281,6 +281,7 @@ def make_variants():
         killed = read(folder, names)
         must("find", call(folder, ["find", FILE, "19"]), (0, "19 done\n", ""))
         ended = read(folder, names)
+        must("the log behind it", log_is_empty(ended.get(LOG)), True)
         gone = {part: content for part, content in killed.items() if part != LOG}
         return {name: Variant(name, parts) for name, parts in [("killed", killed), ("log gone", gone), ("ended", ended)]}
 
