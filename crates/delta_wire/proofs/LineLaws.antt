@@ -13,8 +13,8 @@ use Rattle.delta_mutators.specs.declared.delta.Item.TheVariants as item
 use Rattle.rights_lattice.specs.EventName.{IsEventName}
 use Rattle.book_core.specs.Limits.{greatest_limit}
 use Rattle.plain_words.specs.Words.{is_space, first_word, ended, ◌>>=◌}
-use Rattle.delta_wire.specs.declared.items.Kind.{Kind}
-use Rattle.delta_wire.specs.declared.items.Kind.TheVariants as kind
+use Rattle.delta_wire.specs.declared.items.ItemKind.{ItemKind}
+use Rattle.delta_wire.specs.declared.items.ItemKind.TheVariants as kind
 use Rattle.delta_wire.specs.declared.header.Header.{Header}
 use Rattle.delta_wire.specs.declared.header.Purpose.{Purpose}
 use Rattle.delta_wire.specs.declared.header.Purpose.TheVariants as purpose
@@ -36,14 +36,14 @@ word_step text w u v rest next e = elim (cases_Bool (bytes_eq w (text u))) [
   | inr other ↦ let chosen : rest ≡ Some v = rw other at e in next chosen
 ]
 
-kind_again : (v : Kind) → kind_of (kind_text v) ≡ Some v
+kind_again : (v : ItemKind) → kind_of (kind_text v) ≡ Some v
 unfolding kind_of
 kind_again kind.Name = refl
 kind_again kind.Gave = refl
 kind_again kind.Used = refl
 kind_again kind.Back = refl
 
-kind_found : (w : List ℕ) (v : Kind) → kind_of w ≡ Some v → w ≡ kind_text v
+kind_found : (w : List ℕ) (v : ItemKind) → kind_of w ≡ Some v → w ≡ kind_text v
 unfolding kind_of
 kind_found w v e = word_step kind_text w kind.Name v _ (word_step kind_text w kind.Gave v _ (word_step kind_text w kind.Used v _ (word_step kind_text w kind.Back v None (λ n. absurd cc)))) e
 
@@ -58,12 +58,12 @@ purpose_found w v e = word_step purpose_text w purpose.Delta v _ (word_step purp
 
 -- ---- a word, and the words after it
 
-kind_at_found : (words : List (List ℕ)) (x : Kind × List (List ℕ)) → kind_at words ≡ Some x → words ≡ kind_text x.0 ∷ x.1
+kind_at_found : (words : List (List ℕ)) (x : ItemKind × List (List ℕ)) → kind_at words ≡ Some x → words ≡ kind_text x.0 ∷ x.1
 unfolding kind_at
 kind_at_found words x e =
     let a = bind_some (first_word words) (λ w. kind_of w.0 >>= λ v. Some (v, w.1)) x e in
     let b = bind_some (kind_of a.0.0) (λ v. Some (v, a.0.1)) x a.2 in
-    word_found words a.0 a.1 ∙ ap (λ (w : List ℕ). w ∷ a.0.1) (kind_found a.0.0 b.0 b.1) ∙ ap (λ (p : Kind × List (List ℕ)). kind_text p.0 ∷ p.1) (some_is (b.0, a.0.1) x b.2)
+    word_found words a.0 a.1 ∙ ap (λ (w : List ℕ). w ∷ a.0.1) (kind_found a.0.0 b.0 b.1) ∙ ap (λ (p : ItemKind × List (List ℕ)). kind_text p.0 ∷ p.1) (some_is (b.0, a.0.1) x b.2)
 
 purpose_at_found : (words : List (List ℕ)) (x : Purpose × List (List ℕ)) → purpose_at words ≡ Some x → words ≡ purpose_text x.0 ∷ x.1
 unfolding purpose_at
@@ -136,7 +136,7 @@ back_item_found words i e =
     subst (Spells (codes "back" ∷ words)) m.3
     (ap (λ (t : List (List ℕ)). codes "back" ∷ t) (f.0 ∙ ap (λ (t : List (List ℕ)). a.0.0 ∷ t) (g.0 ∙ ap (λ (t : List (List ℕ)). decimal b.0.0 ∷ t) m.1)), (f.1, g.1, m.2))
 
-after_kind_found : (k : Kind) (words : List (List ℕ)) (i : Item) → after_kind k words ≡ Some i → Spells (kind_text k ∷ words) i
+after_kind_found : (k : ItemKind) (words : List (List ℕ)) (i : Item) → after_kind k words ≡ Some i → Spells (kind_text k ∷ words) i
 after_kind_found kind.Name words i e = name_item_found words i e
 after_kind_found kind.Gave words i e = gave_item_found words i e
 after_kind_found kind.Used words i e = used_item_found words i e
@@ -184,7 +184,7 @@ header_found line x e =
 
 -- ---- back
 
-kind_at_again : (v : Kind) (ws : List (List ℕ)) → kind_at (kind_text v ∷ ws) ≡ Some (v, ws)
+kind_at_again : (v : ItemKind) (ws : List (List ℕ)) → kind_at (kind_text v ∷ ws) ≡ Some (v, ws)
 unfolding kind_at
 kind_at_again v ws = rw (kind_again v) refl
 

@@ -10,28 +10,28 @@ use Rattle.book_core.specs.Limits.{greatest_limit}
 use Rattle.plain_words.specs.Number.{number_at}
 use Rattle.plain_words.specs.Words.{first_word, is_space, ended, ◌>>=◌}
 use Rattle.delta_wire.specs.Fields.{event_at, site_at, natural_at}
-use Rattle.delta_wire.specs.declared.items.Kind.{Kind}
-use Rattle.delta_wire.specs.declared.items.Kind.TheVariants as kind
+use Rattle.delta_wire.specs.declared.items.ItemKind.{ItemKind}
+use Rattle.delta_wire.specs.declared.items.ItemKind.TheVariants as kind
 use Rattle.delta_wire.specs.declared.header.Header.{Header}
 use Rattle.delta_wire.specs.declared.header.Purpose.{Purpose}
 use Rattle.delta_wire.specs.declared.header.Purpose.TheVariants as purpose
 
 -- ---- items
 
-abbrev pub kind_text : Kind → List ℕ
+abbrev pub kind_text : ItemKind → List ℕ
 kind_text kind.Name = codes "name"
 kind_text kind.Gave = codes "gave"
 kind_text kind.Used = codes "used"
 kind_text kind.Back = codes "back"
 
-unfoldable pub kind_of : List ℕ → Option Kind
+unfoldable pub kind_of : List ℕ → Option ItemKind
 kind_of w =
     if bytes_eq w (codes "name") then Some kind.Name else (
     if bytes_eq w (codes "gave") then Some kind.Gave else (
     if bytes_eq w (codes "used") then Some kind.Used else (
     if bytes_eq w (codes "back") then Some kind.Back else None)))
 
-unfoldable pub kind_at : List (List ℕ) → Option (Kind × List (List ℕ))
+unfoldable pub kind_at : List (List ℕ) → Option (ItemKind × List (List ℕ))
 kind_at words = do
   w ← first_word words
   k ← kind_of w.0
@@ -67,7 +67,7 @@ back_item words = do
   i ← site_at e.1
   mark_item e.0 (Back i.0) i.1
 
-abbrev pub after_kind : Kind → List (List ℕ) → Option Item
+abbrev pub after_kind : ItemKind → List (List ℕ) → Option Item
 after_kind kind.Name words = name_item words
 after_kind kind.Gave words = gave_item words
 after_kind kind.Used words = used_item words

@@ -10,7 +10,7 @@ use rights_lattice::{Cell, Event, Mark};
 
 /// The first word of an item's line.
 #[derive(Clone, Copy, Debug, PartialEq, Eq)]
-pub enum Kind {
+pub enum ItemKind {
     Name,
     Gave,
     Used,
@@ -18,24 +18,24 @@ pub enum Kind {
 }
 
 #[tactic(auto, unfolding(crate::specs::Reading::kind_of))]
-fn kind_of(word: &[u8]) -> Option<Kind>
+fn kind_of(word: &[u8]) -> Option<ItemKind>
     ensures { result ≡ kind_of word.now }
 {
     if word == b"name".as_slice() {
-        Some(Kind::Name)
+        Some(ItemKind::Name)
     } else if word == b"gave".as_slice() {
-        Some(Kind::Gave)
+        Some(ItemKind::Gave)
     } else if word == b"used".as_slice() {
-        Some(Kind::Used)
+        Some(ItemKind::Used)
     } else if word == b"back".as_slice() {
-        Some(Kind::Back)
+        Some(ItemKind::Back)
     } else {
         None
     }
 }
 
 #[tactic(auto, unfolding(crate::specs::Reading::kind_at))]
-fn kind_at(words: &mut Words<'_>) -> Option<Kind>
+fn kind_at(words: &mut Words<'_>) -> Option<ItemKind>
     ensures { option_map (λ x. (x, words.new)) result ≡ kind_at words.old }
 {
     let word = words.next()?;
@@ -99,14 +99,14 @@ fn back_item(words: &mut Words<'_>) -> Option<Item>
     mark_item(event, &Cell::Back { by }, words)
 }
 
-fn after_kind(kind: Kind, words: &mut Words<'_>) -> Option<Item>
+fn after_kind(kind: ItemKind, words: &mut Words<'_>) -> Option<Item>
     ensures { result ≡ after_kind kind words.old }
 {
     match kind {
-        Kind::Name => name_item(words),
-        Kind::Gave => gave_item(words),
-        Kind::Used => used_item(words),
-        Kind::Back => back_item(words),
+        ItemKind::Name => name_item(words),
+        ItemKind::Gave => gave_item(words),
+        ItemKind::Used => used_item(words),
+        ItemKind::Back => back_item(words),
     }
 }
 

@@ -23,7 +23,7 @@ use Rattle.desk_lines.specs.declared.line.Line.TheVariants.{Ask, Left, Totals, Q
 use Rattle.request_ledger.specs.Ranges.{IsRequest}
 use Rattle.desk_lines.specs.Grammar.{request_words, operands, session_words, session_text, request_line, IsSessionLine}
 use Rattle.desk_lines.specs.Requests.{request_from}
-use Rattle.desk_lines.specs.Reading.{left_in, totals_in, ask_in, asked_after, asked_in, session_line_of}
+use Rattle.desk_lines.specs.Reading.{left_line_in, totals_line_in, ask_in, asked_after, asked_in, session_line_of}
 use Rattle.desk_lines.proofs.RequestLaws.{request_from_found, request_from_again, request_lacks}
 
 -- the words are those of the line
@@ -37,16 +37,16 @@ ask_found word words l e =
     let p = request_from_found word words a.0 a.1 in
     subst (SpellsSession (word ∷ words)) (some_is (Ask a.0.0 a.0.1) l a.2) (p.0, (p.1, p.2))
 
-left_found : (words : List (List ℕ)) (l : Line) → left_in words ≡ Some l → SpellsSession (codes "left" ∷ words) l
-unfolding left_in
+left_found : (words : List (List ℕ)) (l : Line) → left_line_in words ≡ Some l → SpellsSession (codes "left" ∷ words) l
+unfolding left_line_in
 left_found words l e =
     let a = bind_some (event_at words) (λ v. ended (Left v.0) v.1) l e in
     let p = event_at_found words a.0 a.1 in
     let z = ended_found (Left a.0.0) l a.0.1 a.2 in
     subst (SpellsSession (codes "left" ∷ words)) z.1 (ap (λ (t : List (List ℕ)). codes "left" ∷ t) (p.0 ∙ ap (λ (t : List (List ℕ)). a.0.0 ∷ t) z.0), p.1)
 
-totals_found : (words : List (List ℕ)) (l : Line) → totals_in words ≡ Some l → SpellsSession (codes "totals" ∷ words) l
-unfolding totals_in
+totals_found : (words : List (List ℕ)) (l : Line) → totals_line_in words ≡ Some l → SpellsSession (codes "totals" ∷ words) l
+unfolding totals_line_in
 totals_found words l e =
     let a = bind_some (event_at words) (λ v. ended (Totals v.0) v.1) l e in
     let p = event_at_found words a.0 a.1 in
@@ -63,8 +63,8 @@ look_or look word words here other l f g e = elim (cases_Bool (bytes_eq word loo
 
 after_found : (word : List ℕ) (words : List (List ℕ)) (l : Line) → asked_after word words ≡ Some l → SpellsSession (word ∷ words) l
 after_found word words l e =
-    look_or (codes "left") word words (left_in words) _ l (left_found words l)
-    (look_or (codes "totals") word words (totals_in words) (ask_in word words) l (totals_found words l) (ask_found word words l)) e
+    look_or (codes "left") word words (left_line_in words) _ l (left_found words l)
+    (look_or (codes "totals") word words (totals_line_in words) (ask_in word words) l (totals_found words l) (ask_found word words l)) e
 
 pub asked_found : (words : List (List ℕ)) (l : Line) → asked_in words ≡ Some l → SpellsSession words l
 unfolding asked_in
@@ -99,11 +99,11 @@ unfolding asked_in ask_in
 ask_again n q h g = rw (ask_follows (request_verb q) (decimal n ∷ operands q), request_from_again n q h g) refl
 
 pub left_again : (e : List ℕ) → IsEventName e → asked_in (codes "left" ∷ e ∷ []) ≡ Some (Left e)
-unfolding asked_in left_in
+unfolding asked_in left_line_in
 left_again e h = rw (event_again e [] h) refl
 
 pub totals_again : (e : List ℕ) → IsEventName e → asked_in (codes "totals" ∷ e ∷ []) ≡ Some (Totals e)
-unfolding asked_in totals_in
+unfolding asked_in totals_line_in
 totals_again e h = rw (event_again e [] h) refl
 
 request_splits : (n : ℕ) (q : Request) → IsValue n → IsRequest q → slice_split is_space (join_with_byte 32 (request_words n q)) ≡ request_words n q

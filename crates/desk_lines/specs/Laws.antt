@@ -5,7 +5,7 @@ use Rattle.book_core.specs.Limits.{IsLimit}
 use Rattle.desk_lines.specs.declared.line.Line.{Line}
 use Rattle.desk_lines.specs.declared.script_line.ScriptLine.{ScriptLine}
 use Rattle.desk_lines.specs.Grammar.{session_text, script_text, sites_words, limit_words, IsSessionLine, IsScriptLine, IsSites}
-use Rattle.desk_lines.specs.Reading.{session_line_of, line_of, sites_of, limit_of}
+use Rattle.desk_lines.specs.Reading.{session_line_of, line_of, sites_from_line, limit_from_line}
 
 -- each line of a session is read from its text
 abbrev pub SessionLinesAreRead : Type 0
@@ -23,13 +23,13 @@ abbrev pub OnlyLinesAreRead : Type 0
 OnlyLinesAreRead = (bytes : List ℕ) (l : ScriptLine) → line_of bytes ≡ Some l → IsScriptLine l × (bytes ≡ script_text l)
 
 abbrev pub SitesAreRead : Type 0
-SitesAreRead = (n : ℕ) → IsSites n → sites_of (join_with_byte 32 (sites_words n)) ≡ Some n
+SitesAreRead = (n : ℕ) → IsSites n → sites_from_line (join_with_byte 32 (sites_words n)) ≡ Some n
 
 abbrev pub OnlySitesAreRead : Type 0
-OnlySitesAreRead = (bytes : List ℕ) (n : ℕ) → sites_of bytes ≡ Some n → IsSites n × (bytes ≡ join_with_byte 32 (sites_words n))
+OnlySitesAreRead = (bytes : List ℕ) (n : ℕ) → sites_from_line bytes ≡ Some n → IsSites n × (bytes ≡ join_with_byte 32 (sites_words n))
 
 abbrev pub LimitsAreRead : Type 0
-LimitsAreRead = (n : ℕ) → IsLimit n → limit_of (join_with_byte 32 (limit_words n)) ≡ Some n
+LimitsAreRead = (n : ℕ) → IsLimit n → limit_from_line (join_with_byte 32 (limit_words n)) ≡ Some n
 
 abbrev pub OnlyLimitsAreRead : Type 0
-OnlyLimitsAreRead = (bytes : List ℕ) (n : ℕ) → limit_of bytes ≡ Some n → IsLimit n × (bytes ≡ join_with_byte 32 (limit_words n))
+OnlyLimitsAreRead = (bytes : List ℕ) (n : ℕ) → limit_from_line bytes ≡ Some n → IsLimit n × (bytes ≡ join_with_byte 32 (limit_words n))

@@ -15,13 +15,13 @@ use Rattle.desk_lines.specs.declared.script_line.ScriptLine.TheVariants as scrip
 use Rattle.desk_lines.specs.Requests.{request_from}
 use Rattle.desk_lines.specs.Commands.{commanded}
 
-unfoldable pub left_in : List (List ℕ) → Option Line
-left_in words = do
+unfoldable pub left_line_in : List (List ℕ) → Option Line
+left_line_in words = do
   e ← event_at words
   ended (Left e.0) e.1
 
-unfoldable pub totals_in : List (List ℕ) → Option Line
-totals_in words = do
+unfoldable pub totals_line_in : List (List ℕ) → Option Line
+totals_line_in words = do
   e ← event_at words
   ended (Totals e.0) e.1
 
@@ -33,8 +33,8 @@ ask_in word words = do
 -- a line with this first word
 abbrev pub asked_after : List ℕ → List (List ℕ) → Option Line
 asked_after word words =
-    if bytes_eq word (codes "left") then left_in words else (
-    if bytes_eq word (codes "totals") then totals_in words else ask_in word words)
+    if bytes_eq word (codes "left") then left_line_in words else (
+    if bytes_eq word (codes "totals") then totals_line_in words else ask_in word words)
 
 -- a line that asks or looks
 unfoldable pub asked_in : List (List ℕ) → Option Line
@@ -81,9 +81,9 @@ named_number name high words = do
   ended n.0 n.1
 
 -- the count of sites, where the line gives it
-abbrev pub sites_of : List ℕ → Option ℕ
-sites_of bytes = named_number (codes "sites") most_sites (slice_split is_space bytes)
+abbrev pub sites_from_line : List ℕ → Option ℕ
+sites_from_line bytes = named_number (codes "sites") most_sites (slice_split is_space bytes)
 
 -- the limit of a history, where the line gives it
-abbrev pub limit_of : List ℕ → Option ℕ
-limit_of bytes = named_number (codes "limit") greatest_limit (slice_split is_space bytes)
+abbrev pub limit_from_line : List ℕ → Option ℕ
+limit_from_line bytes = named_number (codes "limit") greatest_limit (slice_split is_space bytes)

@@ -9,7 +9,7 @@ ghost use Rattle.plain_words.specs.Number.{number_of};
 ghost use Rattle.book_core.specs.Limits.{IsLimit};
 ghost use Rattle.desk_lines.specs.declared.script_line.ScriptLine.{ScriptLine};
 ghost use Rattle.desk_lines.specs.Grammar.{script_text, IsScriptLine, sites_words, IsSites, limit_words};
-ghost use Rattle.desk_lines.specs.Reading.{at_site, line_of, named_number, sites_of, limit_of};
+ghost use Rattle.desk_lines.specs.Reading.{at_site, line_of, named_number, sites_from_line, limit_from_line};
 
 use crate::commands::commanded;
 use crate::line::{BadLine, Line};
@@ -89,7 +89,7 @@ fn named_number(name: &[u8], high: u64, bytes: &[u8]) -> Option<u64>
 pub fn read_sites(bytes: &[u8]) -> Option<Sites>
     ensures found { IfSome result (λ n. IsSites n × (bytes.now ≡ join_with_byte 32 (sites_words n))) }
     ensures only { (n : ℕ) → IsSites n → bytes.now ≡ join_with_byte 32 (sites_words n) → result ≡ Some n }
-    ensures exact { result ≡ sites_of bytes.now }
+    ensures exact { result ≡ sites_from_line bytes.now }
 {
     let count = named_number(b"sites", MOST_SITES, bytes)?;
     let sites = Sites::of(count)?;
@@ -100,7 +100,7 @@ pub fn read_sites(bytes: &[u8]) -> Option<Sites>
 pub fn read_limit(bytes: &[u8]) -> Option<Limit>
     ensures found { IfSome result (λ n. IsLimit n × (bytes.now ≡ join_with_byte 32 (limit_words n))) }
     ensures only { (n : ℕ) → IsLimit n → bytes.now ≡ join_with_byte 32 (limit_words n) → result ≡ Some n }
-    ensures exact { result ≡ limit_of bytes.now }
+    ensures exact { result ≡ limit_from_line bytes.now }
 {
     let entries = named_number(b"limit", Limit::GREATEST, bytes)?;
     let limit = Limit::of(entries)?;

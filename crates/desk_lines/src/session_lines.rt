@@ -4,16 +4,16 @@ ghost use Rattle.std.specs.Prelude.{◌≡◌, Ok, IfOk};
 ghost use Rattle.std.specs.Result.{result_ok};
 ghost use Rattle.desk_lines.specs.declared.line.Line.{Line};
 ghost use Rattle.desk_lines.specs.Grammar.{session_text, IsSessionLine};
-ghost use Rattle.desk_lines.specs.Reading.{left_in, totals_in, ask_in, asked_in, session_line_of};
+ghost use Rattle.desk_lines.specs.Reading.{left_line_in, totals_line_in, ask_in, asked_in, session_line_of};
 
 use crate::line::{BadLine, Line};
 use crate::requests::request_from;
 use delta_wire::event_at;
 use plain_words::Words;
 
-#[tactic(auto, unfolding(crate::specs::Reading::left_in))]
-fn left_in(words: &mut Words<'_>) -> Option<Line>
-    ensures { result ≡ left_in words.old }
+#[tactic(auto, unfolding(crate::specs::Reading::left_line_in))]
+fn left_line_in(words: &mut Words<'_>) -> Option<Line>
+    ensures { result ≡ left_line_in words.old }
 {
     let event = event_at(words)?;
     if words.is_empty() {
@@ -23,9 +23,9 @@ fn left_in(words: &mut Words<'_>) -> Option<Line>
     }
 }
 
-#[tactic(auto, unfolding(crate::specs::Reading::totals_in))]
-fn totals_in(words: &mut Words<'_>) -> Option<Line>
-    ensures { result ≡ totals_in words.old }
+#[tactic(auto, unfolding(crate::specs::Reading::totals_line_in))]
+fn totals_line_in(words: &mut Words<'_>) -> Option<Line>
+    ensures { result ≡ totals_line_in words.old }
 {
     let event = event_at(words)?;
     if words.is_empty() {
@@ -50,9 +50,9 @@ pub(crate) fn asked_in(words: &mut Words<'_>) -> Option<Line>
 {
     let word = words.next()?;
     if word == b"left".as_slice() {
-        left_in(words)
+        left_line_in(words)
     } else if word == b"totals".as_slice() {
-        totals_in(words)
+        totals_line_in(words)
     } else {
         ask_in(word, words)
     }

@@ -7,7 +7,7 @@ use Rattle.sqlite.specs.State.{HasCleanDisk}
 use Rattle.sqlite.specs.Held.{Held, state}
 use Rattle.plain_words.specs.Writing.{AppendsFront, Writes}
 use Rattle.plain_words.proofs.WriteLaws.{AppendsFront-nothing}
-use Rattle.sql_records.specs.Held.{Kept}
+use Rattle.sql_records.specs.Held.{RecordsView}
 use Rattle.site_desk.specs.SiteView.{SiteView}
 use Rattle.operator_cli.specs.declared.status.Status.{Status}
 use Rattle.operator_cli.specs.declared.status.Status.TheVariants.{Done, Refused, NotUnderstood, Failed}
@@ -101,8 +101,8 @@ if_back None P Q R h to = tt
 if_back (Some a) P Q R h to = to a h
 
 -- and that holds the history of its book, which is open
-pub holds_behind : {S : Type 0} (g : Ghosts S) (back : Option (Held S)) (book behind : SiteView (Kept S)) → book ≡ behind → back ≡ Some book.keeper.conn
+pub holds_behind : {S : Type 0} (g : Ghosts S) (back : Option (Held S)) (book behind : SiteView (RecordsView S)) → book ≡ behind → back ≡ Some book.keeper.conn
     → (book.closed ≡ false → IfSome back (λ after. HasCleanDisk (state g after) → HoldsOnly (state g after) book.book.history)) → behind.closed ≡ false → HasCleanDisk (state g book.keeper.conn) → HoldsOnly (state g book.keeper.conn) behind.book.history
 holds_behind g back book behind is came holds unclosed clean =
-    subst (λ (b : SiteView (Kept _)). HoldsOnly (state g book.keeper.conn) b.book.history) is
-    (subst (λ o. IfSome o (λ after. HasCleanDisk (state g after) → HoldsOnly (state g after) book.book.history)) came (holds (ap (λ (b : SiteView (Kept _)). b.closed) is ∙ unclosed)) clean)
+    subst (λ (b : SiteView (RecordsView _)). HoldsOnly (state g book.keeper.conn) b.book.history) is
+    (subst (λ o. IfSome o (λ after. HasCleanDisk (state g after) → HoldsOnly (state g after) book.book.history)) came (holds (ap (λ (b : SiteView (RecordsView _)). b.closed) is ∙ unclosed)) clean)

@@ -8,9 +8,9 @@ use Rattle.book_core.specs.declared.entry.Entry.{Entry}
 use Rattle.book_core.specs.Decision.{Office}
 use Rattle.book_core.specs.Growing.{GrowDecision}
 use Rattle.book_core.specs.Growing as growing
-use Rattle.site_exchange.specs.Exchange.{Site}
+use Rattle.site_exchange.specs.Exchange.{SitePart}
 use Rattle.sql_records.specs.declared.meta.Meta.{Meta}
-use Rattle.sql_records.specs.Held.{Kept, history_in}
+use Rattle.sql_records.specs.Held.{RecordsView, history_in}
 use Rattle.sql_records.specs.Keeping.{LeavesOnly}
 use Rattle.sql_records.specs.Layout.{office_of}
 use Rattle.site_desk.specs.SiteView.{SiteView, site_of}
@@ -29,7 +29,7 @@ pub export_end : {K : Type 0} (to : ℕ) (book : SiteView K) (meta : Meta) (db :
     → IsNextEnd book.closed book.book.office (site_of book) to cause → IsNextEnd false (office_of meta) (stored_site db) to cause
 export_end to book meta db cause unclosed office site e =
     let first = subst (λ b. IsNextEnd b book.book.office (site_of book) to cause) unclosed e in
-    subst₂ (λ (o : Office) (s : Site). IsNextEnd false o s to cause) office site first
+    subst₂ (λ (o : Office) (s : SitePart). IsNextEnd false o s to cause) office site first
 
 -- what ended the command, from the book to the records that hold its history where its keeper did not fail
 input_moved : (office : Office) (h : List Entry) (input : Option (List ℕ)) (P Q : List Entry → Type 0) (cause : StoreFault) → (cause ≢ fault.Store → (list : List Entry) → P list → Q list) → IsInputEnd office h input P cause → IsInputEnd office h input Q cause
@@ -56,9 +56,9 @@ growing_end book meta db sites P Q cause office history to e =
     subst₂ (λ (o : Office) (h : List Entry). IsGrowingEnd o h sites Q cause) office history (growing_moved book.book.office book.book.history sites P Q cause to e)
 
 -- a keeper that is as it was holds what it held
-pub kept_as_it_was : {S : Type 0} (g : Ghosts S) (f : StoreFault) (old new : Kept S) → LeavesAsItWas f old new → LeavesAsItWas f (state g old.conn).now (state g new.conn).now
-kept_as_it_was g fault.Memory old new h = ap (λ (k : Kept _). (state g k.conn).now) h
-kept_as_it_was g fault.Read old new h = ap (λ (k : Kept _). (state g k.conn).now) h
+pub kept_as_it_was : {S : Type 0} (g : Ghosts S) (f : StoreFault) (old new : RecordsView S) → LeavesAsItWas f old new → LeavesAsItWas f (state g old.conn).now (state g new.conn).now
+kept_as_it_was g fault.Memory old new h = ap (λ (k : RecordsView _). (state g k.conn).now) h
+kept_as_it_was g fault.Read old new h = ap (λ (k : RecordsView _). (state g k.conn).now) h
 kept_as_it_was g _ old new h = tt
 
 -- the records are as they were
@@ -77,7 +77,7 @@ due_is_told : (is_peer : Bool) (told : Told) → told ≡ (if is_peer then Nothi
 due_is_told true told e = subst IsOfSending (sym e) tt
 due_is_told false told e = subst IsOfSending (sym e) tt
 
-pub due_is_message : (office : Office) (site : Site) (to : ℕ) (status : Status) (text : List ℕ) → IsDueText office site to status text → IsMessageText status text
+pub due_is_message : (office : Office) (site : SitePart) (to : ℕ) (status : Status) (text : List ℕ) → IsDueText office site to status text → IsMessageText status text
 due_is_message office site to Done text h = (h.0, h.1.2)
 due_is_message office site to Refused text h = (h.0, due_is_told (is_peer office site.history to) h.0 h.1.0, h.2, h.3)
 due_is_message office site to NotUnderstood text h = (h.0, due_is_told (is_peer office site.history to) h.0 h.1.0, h.2, h.3)

@@ -6,7 +6,7 @@ use Rattle.sqlite.specs.Store.{Ghosts}
 use Rattle.sqlite.specs.State.{State, HasCleanDisk, IsUnchanged}
 use Rattle.sqlite.specs.Held.{Held, state}
 use Rattle.plain_words.specs.Writing.{AppendsFront}
-use Rattle.sql_records.specs.Held.{Kept, IsTrusted, history_in}
+use Rattle.sql_records.specs.Held.{RecordsView, IsTrusted, history_in}
 use Rattle.sql_records.specs.Lookups.{IsListFault, IsQueryFault, listed_in}
 use Rattle.sql_records.specs.declared.lookup.FindFault.{FindFault}
 use Rattle.sql_records.specs.declared.lookup.FindFault.TheVariants as find
@@ -67,7 +67,7 @@ module _ {S : Type 0} (g : Ghosts S) (conn : Held S) (cause : StoreFault) (back 
 -- ---- the records were opened
 
 -- the book that was opened, from the connection that came back
-pub book_back : {S : Type 0} (g : Ghosts S) (conn last : Held S) (book : SiteView (Kept S)) (first left : Kept S) → first ≡ book.keeper → (IsTrusted g left → IsTrusted g first) → last ≡ left.conn
+pub book_back : {S : Type 0} (g : Ghosts S) (conn last : Held S) (book : SiteView (RecordsView S)) (first left : RecordsView S) → first ≡ book.keeper → (IsTrusted g left → IsTrusted g first) → last ≡ left.conn
     → (IsTrusted g book.keeper → IsBookOf (state g conn).now.trees book) → HasCleanDisk (state g last) → IsBookOf (state g conn).now.trees book
 book_back g conn last book first left is trusted closed of clean = of (subst (IsTrusted g) is (trusted (subst (λ h. HasCleanDisk (state g h)) closed clean)))
 

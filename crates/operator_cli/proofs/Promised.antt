@@ -8,7 +8,7 @@ use Rattle.world_steps.proofs.Reached.{few_reached, sound_reached}
 use Rattle.desk_lines.specs.declared.script_line.ScriptLine.{ScriptLine}
 use Rattle.desk_lines.specs.declared.script_line.ScriptLine.TheVariants.{Make, Left, Totals}
 use Rattle.desk_lines.specs.Grammar.{IsSites}
-use Rattle.desk_lines.specs.Reading.{line_of, limit_of}
+use Rattle.desk_lines.specs.Reading.{line_of, limit_from_line}
 use Rattle.operator_cli.specs.Answering.{answer_to}
 use Rattle.book_core.specs.Limits.{greatest_limit}
 use Rattle.operator_cli.specs.Script.{world_behind, opened_world, opened_by}
@@ -33,7 +33,7 @@ opened_steps sites second lines (Some limit) = (limit, behind_steps (opening sit
 
 pub scripts_make_steps : ScriptsMakeSteps
 scripts_make_steps sites [] = (greatest_limit, refl)
-scripts_make_steps sites (second ∷ lines) = opened_steps sites second lines (limit_of second)
+scripts_make_steps sites (second ∷ lines) = opened_steps sites second lines (limit_from_line second)
 
 fits : (n m : ℕ) → IsSites n → m ≡ n → m ≤ max_sites
 unfolding max_sites

@@ -17,7 +17,7 @@ use Rattle.operator_cli.specs.declared.fault.ScriptFault.TheVariants as fault
 use Rattle.rights_lattice.specs.Limits.{most_sites}
 use Rattle.book_core.specs.Limits.{greatest_limit}
 use Rattle.desk_lines.specs.Grammar.{most_lines, IsSites, sites_words}
-use Rattle.desk_lines.specs.Reading.{line_of, sites_of, limit_of}
+use Rattle.desk_lines.specs.Reading.{line_of, sites_from_line, limit_from_line}
 use Rattle.desk_lines.specs.ScriptReplies.{script_reply_line}
 use Rattle.operator_cli.specs.Answering.{answer_to}
 use Rattle.operator_cli.specs.Faults.{IsOutFault, of_line_fault}
@@ -125,7 +125,7 @@ not_too_long : (line : Text) (lines : Lines) → length line ≤ longest_line �
 not_too_long line lines short long = absurd (omega arith)
 
 pub start_ran : (a b : Option Text) (line : Text) (r : Option ℕ) → length line ≤ longest_line → Between a b (λ xs ys. lines_of xs ≡ line ∷ lines_of ys)
-    → IfSome r (λ n. IsSites n × (line ≡ join_with_byte 32 (sites_words n))) → ((n : ℕ) → IsSites n → line ≡ join_with_byte 32 (sites_words n) → r ≡ Some n) → r ≡ sites_of line
+    → IfSome r (λ n. IsSites n × (line ≡ join_with_byte 32 (sites_words n))) → ((n : ℕ) → IsSites n → line ≡ join_with_byte 32 (sites_words n) → r ≡ Some n) → r ≡ sites_from_line line
     → StartRan a b (Ok r)
 start_ran None b line None short p found only exact = tt
 start_ran None b line (Some n) short p found only exact = tt
@@ -261,18 +261,18 @@ first_empty (Some x) (Some y) p = p.0
 pub open_unmade : (sites : ℕ) (second : Text) (old : Option Text) (f : ScriptFault) → f ≡ fault.Memory → OpenRan sites second old old (Err f)
 open_unmade sites second old f e = rw e (tt, λ more. AppendsFront-nothing old old _ (Keeps-refl old))
 
-limited_by : (sites : ℕ) (second : Text) (o : Option ℕ) → limit_of second ≡ o → (more : Lines)
+limited_by : (sites : ℕ) (second : Text) (o : Option ℕ) → limit_from_line second ≡ o → (more : Lines)
     → (replies_at sites (second ∷ more) ≡ answers (opened_by sites o second more).0 (opened_by sites o second more).1) × (run_at sites (second ∷ more) ≡ replies_and_totals (opened_by sites o second more).0 (opened_by sites o second more).1)
 limited_by sites second o known more =
     (ap (λ (l : Option ℕ). answers (opened_by sites l second more).0 (opened_by sites l second more).1) known, ap (λ (l : Option ℕ). replies_and_totals (opened_by sites l second more).0 (opened_by sites l second more).1) known)
 
 -- it gives the limit
-pub opens_limited : (sites limit : ℕ) (second : Text) (old : Option Text) (w : World) → limit_of second ≡ Some limit → w ≡ opening sites limit → OpenRan sites second old old (Ok w)
+pub opens_limited : (sites limit : ℕ) (second : Text) (old : Option Text) (w : World) → limit_from_line second ≡ Some limit → w ≡ opening sites limit → OpenRan sites second old old (Ok w)
 opens_limited sites limit second old w known is =
     ([], Appends-nil old, λ more. let e = limited_by sites second (Some limit) known more in (e.0 ∙ ap (λ (v : World). answers v more) (sym is), e.1 ∙ ap (λ (v : World). replies_and_totals v more) (sym is)))
 
 -- it is the first to be answered
-pub opens_answered : (sites : ℕ) (second : Text) (old new : Option Text) (w w' : World) → limit_of second ≡ None → w ≡ opening sites greatest_limit
+pub opens_answered : (sites : ℕ) (second : Text) (old new : Option Text) (w w' : World) → limit_from_line second ≡ None → w ≡ opening sites greatest_limit
     → Appends old new (script_reply_line (answer_to w (line_of second)).0) → w' ≡ (answer_to w (line_of second)).1 → OpenRan sites second old new (Ok w')
 opens_answered sites second old new w w' known is out after =
     let reply = script_reply_line (answer_to w (line_of second)).0 in
@@ -285,7 +285,7 @@ opens_answered sites second old new w w' known is out after =
       ),
     )
 
-pub open_broken : (sites : ℕ) (second : Text) (old new : Option Text) (w : World) (f : ScriptFault) → limit_of second ≡ None → w ≡ opening sites greatest_limit
+pub open_broken : (sites : ℕ) (second : Text) (old new : Option Text) (w : World) (f : ScriptFault) → limit_from_line second ≡ None → w ≡ opening sites greatest_limit
     → AppendsFront old new (script_reply_line (answer_to w (line_of second)).0) → IsOutFault f → OpenRan sites second old new (Err f)
 open_broken sites second old new w f known is out h =
     (h, λ more. subst (AppendsFront old new) (sym ((limited_by sites second None known more).0 ∙ ap (λ (v : World). answers v (second ∷ more)) (sym is))) (AppendsFront-longer old new _ _ out))
@@ -359,10 +359,10 @@ sites_alone most sites (Some x) (Some y) old new (Err f) p out h =
 -- ---- the whole script
 
 -- what a script with this first line prints
-started_some : (first : Text) (n : ℕ) (lines : Lines) → sites_of first ≡ Some n → replies (first ∷ lines) ≡ replies_at n lines
+started_some : (first : Text) (n : ℕ) (lines : Lines) → sites_from_line first ≡ Some n → replies (first ∷ lines) ≡ replies_at n lines
 started_some first n lines known = ap (λ (o : Option ℕ). replies_started o lines) known
 
-started_whole : (first : Text) (n : ℕ) (lines : Lines) → sites_of first ≡ Some n → script_of_lines (first ∷ lines) ≡ run_at n lines
+started_whole : (first : Text) (n : ℕ) (lines : Lines) → sites_from_line first ≡ Some n → script_of_lines (first ∷ lines) ≡ run_at n lines
 started_whole first n lines known = ap (λ (o : Option ℕ). run_started o lines) known
 
 pub script_done : (a b old new : Option Text) (n : ℕ) → StartRan a b (Ok (Some n)) → SitesRan 999999 n b old new (Ok tt) → ScriptRan a old new (Ok true)
@@ -402,11 +402,11 @@ script_unread (Some x) b old f h = h 999999 old
 
 -- ---- a first line that gives no count of sites
 
-no_count : (first : Text) (lines : Lines) → (StartsWell (first ∷ lines) → ⊥) → (o : Option ℕ) → sites_of first ≡ o → o ≡ None
+no_count : (first : Text) (lines : Lines) → (StartsWell (first ∷ lines) → ⊥) → (o : Option ℕ) → sites_from_line first ≡ o → o ≡ None
 no_count first lines h None e = refl
 no_count first lines h (Some n) e = let f = named_takes (codes "sites") most_sites first n (lit< tt) e in absurd (h (n, f.0, f.1))
 
-printed_bad : (end : End) (first : Text) (lines : Lines) → sites_of first ≡ None → printed end replies script_of_lines (first ∷ lines) ≡ bad_line
+printed_bad : (end : End) (first : Text) (lines : Lines) → sites_from_line first ≡ None → printed end replies script_of_lines (first ∷ lines) ≡ bad_line
 printed_bad AtEnd first lines e = ap (λ (o : Option ℕ). run_started o lines) e
 printed_bad AtLongLine first lines e = ap (λ (o : Option ℕ). replies_started o lines) e
 printed_bad AtTooMany first lines e = ap (λ (o : Option ℕ). replies_started o lines) e
@@ -416,7 +416,7 @@ bad_is_printed more [] h short = ap (λ (t : Taken). printed t.end replies scrip
 bad_is_printed more (first ∷ lines) h short =
     let le : length first ≤ longest_line = elim (cases_lt longest_line (length first)) [ inl q ↦ absurd (short q) | inr p ↦ p ] in
     ap (λ (t : Taken). printed t.end replies script_of_lines t.lines) (taken-line more first lines le)
-    ∙ printed_bad (taken more lines).end first (taken more lines).lines (no_count first lines h (sites_of first) refl)
+    ∙ printed_bad (taken more lines).end first (taken more lines).lines (no_count first lines h (sites_from_line first) refl)
 
 -- it was refused, and that did not go out
 pub refusal_broken : (a b old new : Option Text) → StartRan a b (Ok None) → AppendsFront old new bad_line → ScriptRan a old new (Err fault.Write)

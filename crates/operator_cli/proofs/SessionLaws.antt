@@ -8,7 +8,7 @@ use Rattle.sqlite.specs.State.{HasCleanDisk}
 use Rattle.sqlite.specs.Held.{Held, state}
 use Rattle.plain_words.specs.Writing.{AppendsFront}
 use Rattle.sql_records.specs.declared.meta.Meta.{Meta}
-use Rattle.sql_records.specs.Held.{Kept, IsOf, IsTrusted, LeavesSite, MayLeaveIn}
+use Rattle.sql_records.specs.Held.{RecordsView, IsOf, IsTrusted, LeavesSite, MayLeaveIn}
 use Rattle.sql_records.specs.Layout.{HasMeta}
 use Rattle.site_desk.specs.Answers.{LeavesEither}
 use Rattle.site_desk.specs.SiteView.{SiteView, entry_in}
@@ -28,7 +28,7 @@ use Rattle.operator_cli.specs.Session.{IsToldAs, SessionRan, records, status_of}
 use Rattle.operator_cli.specs.Told.{FaultTold, store_fault_line}
 
 -- a stop leaves records of the site of the book that was opened
-pub site_at_first : {S : Type 0} (g : Ghosts S) (conn : Held S) (first book : SiteView (Kept S)) → first ≡ book
+pub site_at_first : {S : Type 0} (g : Ghosts S) (conn : Held S) (first book : SiteView (RecordsView S)) → first ≡ book
     → (IsTrusted g book.keeper → (meta : Meta) → HasMeta meta (state g conn).now.trees → IsOf g book.keeper meta) → (meta : Meta) → HasMeta meta (state g conn).now.trees → IsTrusted g first.keeper → IsOf g first.keeper meta
 site_at_first g conn first book is site meta has = subst (λ b. IsTrusted g b.keeper → IsOf g b.keeper meta) (sym is) (λ clean. site clean meta has)
 
@@ -52,7 +52,7 @@ wrote_kept (Err talk.LineTooLong) a b c answers w k = Appends-kept a b c _ w k
 wrote_kept (Err talk.Memory) a b c answers w k = Appends-kept a b c _ w k
 wrote_kept (Err talk.NotStarted) a b c answers w k = absurd w
 
-pub session_ran : {S : Type 0} (g : Ghosts S) (conn last : Held S) (book behind : SiteView (Kept S)) (input old mid new old_err new_err : Option (List ℕ)) (came : Result Ended TalkFault) (told : Result Status StoreFault) (status : Status)
+pub session_ran : {S : Type 0} (g : Ghosts S) (conn last : Held S) (book behind : SiteView (RecordsView S)) (input old mid new old_err new_err : Option (List ℕ)) (came : Result Ended TalkFault) (told : Result Status StoreFault) (status : Status)
     → IsBookOf (state g conn).now.trees book → Talked (BookStep (records g)) input old mid book behind came → told ≡ status_of came → Keeps mid new → FaultTold old_err new_err status
     → IfErr told (λ f. AppendsFront old_err new_err (store_fault_line f)) → IfOk told (λ s. status ≢ s → AppendsFront old_err new_err (store_fault_line fault.Write)) → MatchResult told (λ s. (status ≡ s) ⊎ (status ≡ Failed)) (λ f. status ≡ Failed)
     → (behind.closed ≡ false → HoldsOnly (state g last) behind.book.history) → ((meta : Meta) → HasMeta meta (state g conn).now.trees → IsTrusted g book.keeper → IsOf g book.keeper meta)

@@ -10,7 +10,7 @@ use Rattle.book_core.specs.Growing.{GrowDecision, entry_of_grow, grow_decision}
 use Rattle.book_core.specs.Legal.{IsLegal}
 use Rattle.site_exchange.specs.declared.message.Message.{Message}
 use Rattle.site_exchange.specs.Exchange as exchange
-use Rattle.site_exchange.specs.Exchange.{Site, Verdict, entry_of_take, next, verdict, zeros}
+use Rattle.site_exchange.specs.Exchange.{SitePart, Verdict, entry_of_take, next, verdict, zeros}
 use Rattle.site_exchange.specs.Taking.{extended}
 use Rattle.delta_wire.specs.declared.fault.WireFault.{WireFault}
 use Rattle.delta_wire.specs.Grammar.{message_text, most_bytes}
@@ -85,22 +85,22 @@ abbrev pub behind_growth : Office → List Entry → ℕ → List Entry
 behind_growth office h sites = extended (entry_of_grow office h sites) h
 
 -- the message that is due to a peer, or why there is none
-abbrev pub IsDueText : Office → Site → ℕ → Status → List ℕ → Type 0
+abbrev pub IsDueText : Office → SitePart → ℕ → Status → List ℕ → Type 0
 IsDueText office site to Done text = (message : Message) × (IsTrue (is_peer office site.history to) × (next office.me site to ≡ Some message) × (text ≡ message_text message))
 IsDueText office site to status text =
     IsTellingOf (λ told. (told ≡ (if is_peer office site.history to then Nothing else NoSite)) × (IsTrue (is_peer office site.history to) → next office.me site to ≡ None)) status text
 
 -- the site that records tell: their history, and nothing acknowledged
-abbrev pub stored_site : Trees → Site
+abbrev pub stored_site : Trees → SitePart
 stored_site db = record { history = history_in db; acked = zeros }
 
 -- the input is so long, or all of it was read
-abbrev pub IsInput : List ℕ → Option (List ℕ) → Type 0
-IsInput input None = most_bytes < length input
-IsInput input (Some bytes) = (bytes ≡ input) × (length input ≤ most_bytes)
+abbrev pub IsInputRead : List ℕ → Option (List ℕ) → Type 0
+IsInputRead input None = most_bytes < length input
+IsInputRead input (Some bytes) = (bytes ≡ input) × (length input ≤ most_bytes)
 
 -- what ends sending early: the book is closed, memory is wanted for a message that is due to a peer, or it is not written
-abbrev pub IsNextEnd : Bool → Office → Site → ℕ → StoreFault → Type 0
+abbrev pub IsNextEnd : Bool → Office → SitePart → ℕ → StoreFault → Type 0
 IsNextEnd closed office site to fault.Store = closed ≡ true
 IsNextEnd closed office site to fault.Memory = IsTrue (is_peer office site.history to) × IsSome (next office.me site to)
 IsNextEnd closed office site to fault.Write = ⊤

@@ -10,7 +10,7 @@ use Rattle.operator_cli.specs.declared.fault.ScriptFault.TheVariants.{Read, Writ
 use Rattle.operator_cli.specs.declared.status.Status.{Status}
 use Rattle.operator_cli.specs.declared.status.Status.TheVariants as status
 use Rattle.desk_lines.specs.Grammar.{most_lines, IsSites, sites_words}
-use Rattle.desk_lines.specs.Reading.{line_of, sites_of}
+use Rattle.desk_lines.specs.Reading.{line_of, sites_from_line}
 use Rattle.desk_lines.specs.ScriptReplies.{script_reply_line}
 use Rattle.operator_cli.specs.Answering.{answer_to}
 use Rattle.operator_cli.specs.Faults.{IsOutFault, fault_line}
@@ -85,7 +85,7 @@ SitesRan most sites input old new (Err f) = IfSome input (λ xs. EndsEarly Alway
 
 -- the first line
 abbrev pub StartRan : Option (List ℕ) → Option (List ℕ) → Result (Option ℕ) ScriptFault → Type 0
-StartRan input rest (Ok (Some n)) = Between input rest (λ xs ys. (first : List ℕ) × (lines_of xs ≡ first ∷ lines_of ys) × (length first ≤ longest_line) × (sites_of first ≡ Some n) × StartsWell (lines_of xs))
+StartRan input rest (Ok (Some n)) = Between input rest (λ xs ys. (first : List ℕ) × (lines_of xs ≡ first ∷ lines_of ys) × (length first ≤ longest_line) × (sites_from_line first ≡ Some n) × StartsWell (lines_of xs))
 StartRan input rest (Ok None) = IfSome input (λ xs. (StartsWell (lines_of xs) → ⊥) × (BeginsTooLong (lines_of xs) → ⊥))
 StartRan input rest (Err f) = IfSome input (λ xs. (more : ℕ) (out : Option (List ℕ)) → EndsEarly MayGoOn replies script_of_lines (taken (suc more) (lines_of xs)) out out f)
 

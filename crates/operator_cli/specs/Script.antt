@@ -6,7 +6,7 @@ use Rattle.book_core.specs.Limits.{greatest_limit}
 use Rattle.plain_words.specs.Input.{lines_of}
 use Rattle.world_steps.specs.World.{World, opening, totals_of, events_of}
 use Rattle.local_rights.specs.declared.report.Totals.{Totals}
-use Rattle.desk_lines.specs.Reading.{line_of, sites_of, limit_of}
+use Rattle.desk_lines.specs.Reading.{line_of, sites_from_line, limit_from_line}
 use Rattle.desk_lines.specs.ScriptReplies.{script_reply_line}
 use Rattle.operator_cli.specs.Answering.{answer_to}
 
@@ -43,7 +43,7 @@ opened_by sites (Some limit) second lines = (opening sites limit, lines)
 -- the world that the lines after the first open, and those of them that are answered
 abbrev pub opened_world : ℕ → List (List ℕ) → World × List (List ℕ)
 opened_world sites [] = (opening sites greatest_limit, [])
-opened_world sites (second ∷ lines) = opened_by sites (limit_of second) second lines
+opened_world sites (second ∷ lines) = opened_by sites (limit_from_line second) second lines
 
 -- the replies to the lines after the first
 abbrev pub replies_at : ℕ → List (List ℕ) → List ℕ
@@ -64,12 +64,12 @@ run_started (Some sites) lines = run_at sites lines
 -- what the lines of a script are answered, without the totals
 abbrev pub replies : List (List ℕ) → List ℕ
 replies [] = []
-replies (first ∷ lines) = replies_started (sites_of first) lines
+replies (first ∷ lines) = replies_started (sites_from_line first) lines
 
 -- and with them
 abbrev pub script_of_lines : List (List ℕ) → List ℕ
 script_of_lines [] = bad_line
-script_of_lines (first ∷ lines) = run_started (sites_of first) lines
+script_of_lines (first ∷ lines) = run_started (sites_from_line first) lines
 
 -- what a script prints
 unfoldable pub script : List ℕ → List ℕ

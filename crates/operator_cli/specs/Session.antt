@@ -6,7 +6,7 @@ use Rattle.sqlite.specs.Store.{Ghosts}
 use Rattle.sqlite.specs.Held.{Held, state}
 use Rattle.request_ledger.specs.declared.request.Request.{Request}
 use Rattle.sql_records.specs.declared.meta.Meta.{Meta}
-use Rattle.sql_records.specs.Held.{Kept, IsOf, IsTrusted, LeavesSite, MayLeave, MayLeaveIn, kept_in}
+use Rattle.sql_records.specs.Held.{RecordsView, IsOf, IsTrusted, LeavesSite, MayLeave, MayLeaveIn, kept_in}
 use Rattle.sql_records.specs.Layout.{HasMeta}
 use Rattle.site_desk.specs.declared.fault.AskFault.TheVariants as ask
 use Rattle.site_desk.specs.Answers.{LeavesEither}
@@ -44,13 +44,13 @@ IsToldAs (Ok came) old_err new_err status = ((status ≡ came) × Keeps old_err 
 IsToldAs (Err f) old_err new_err status = (status ≡ Failed) × AppendsFront old_err new_err (store_fault_line f)
 
 -- what records show as a keeper
-abbrev pub records : {S : Type 0} → Ghosts S → Keeping (Kept S)
+abbrev pub records : {S : Type 0} → Ghosts S → Keeping (RecordsView S)
 records g = record { failed = λ k. k.failures; is_trusted = IsTrusted g; kept = kept_in g; may_leave = MayLeave g; is_of = IsOf g }
 
 -- A session over records: their book, open as it is when they are opened, answered the lines of the input, and its connection comes back. Unless it is closed behind them, the records hold its history, which a stop leaves; where it is closed, a line that asked something was answered `store`, and a stop leaves that history with that request's entry at its end or without. Whatever a stop leaves is of the same site.
 pub record SessionRan {S : Type 0} (g : Ghosts S) (conn : Held S) (input old_out new_out old_err new_err : Option (List ℕ)) (after : Held S) (status : Status) : Type 0 where
-  pub book : SiteView (Kept S)
-  pub behind : SiteView (Kept S)
+  pub book : SiteView (RecordsView S)
+  pub behind : SiteView (RecordsView S)
   pub opened : IsBookOf (state g conn).now.trees book
   pub came : Result Ended TalkFault
   pub talked : Talked (BookStep (records g)) input old_out new_out book behind came

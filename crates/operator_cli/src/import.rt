@@ -5,7 +5,7 @@ ghost use Rattle.sqlite.specs.State.{HasCleanDisk};
 ghost use Rattle.sqlite.specs.Held.{state};
 ghost use Rattle.sql_records.specs.Layout.{HasMeta, office_of};
 ghost use Rattle.sql_records.specs.declared.meta.Meta.{Meta as Numbers};
-ghost use Rattle.operator_cli.specs.Exchanged.{HoldsOnly, LeavesOneOf, IsTakeEnd, IsInput, IsInputEnd, IsInputTold, IsTakenOf, LeavesAsItWas, behind_bytes, behind_read, told_of_bytes, told_of_read};
+ghost use Rattle.operator_cli.specs.Exchanged.{HoldsOnly, LeavesOneOf, IsTakeEnd, IsInputRead, IsInputEnd, IsInputTold, IsTakenOf, LeavesAsItWas, behind_bytes, behind_read, told_of_bytes, told_of_read};
 ghost use Rattle.delta_wire.specs.Grammar.{most_bytes};
 ghost use Rattle.delta_wire.specs.Wire.{message_of};
 ghost use Rattle.sql_records.specs.Held.{MayLeaveIn, history_in};
@@ -32,7 +32,7 @@ use std::io::{ErrorKind, Read, Write};
 fn read_input<R: Read + Drop>(alloc: Global, input: R) -> Result<Option<Vec<u8>>, StoreFault>
     ensures few { IfOk result (λ read. IfSome read (λ bytes. vec_len bytes ≤ most_bytes)) }
     ensures read { IfOk result (λ read. IfSome (R.remaining input)
-        (λ bytes. IsInput bytes (option_map (λ v. v.items) read))) }
+        (λ bytes. IsInputRead bytes (option_map (λ v. v.items) read))) }
     ensures fault { IfErr result (λ fault. (fault ≡ WantsMemory) ⊎ (fault ≡ ReadFailed)) }
 {
     let mut bytes = Vec::new(alloc);

@@ -4,7 +4,7 @@ use Rattle.std.specs.Prelude.{IfErr, OnErr}
 use Rattle.request_ledger.specs.declared.request.Request.{Request}
 use Rattle.book_core.specs.declared.entry.Entry.{Entry}
 use Rattle.book_core.specs.Decision.{Office, entry_of_ask}
-use Rattle.site_exchange.specs.Exchange.{Site}
+use Rattle.site_exchange.specs.Exchange.{SitePart}
 use Rattle.sql_records.specs.declared.meta.Meta.{Meta}
 use Rattle.site_desk.specs.declared.answer.Answer.{Answer}
 use Rattle.site_desk.specs.declared.fault.AskFault.{AskFault}
@@ -54,7 +54,7 @@ module _ {K : Type 0} (k : Keeping K) where
       → IsShutBy number request a → IsShutBy number request b
   came_left number request a b n r came h left =
       let refused = h.shut.1 left.0 in
-      let history = ap (λ (s : Site). s.history) (on_err came _ ask.Closed h.unchanged refused) in
+      let history = ap (λ (s : SitePart). s.history) (on_err came _ ask.Closed h.unchanged refused) in
       let keeper = if_err came _ ask.Closed h.untouched refused (λ e. cc) in (
         h.closes.1 (inl left.0),
         (λ trusted.
@@ -71,7 +71,7 @@ module _ {K : Type 0} (k : Keeping K) where
   came_shut a b number request answered came h is unclosed shut = elim (h.closes.0 shut) [
     | inl was ↦ (let bad : true ≡ false = sym was ∙ unclosed in cc)
     | inr store ↦ (
-        let history = ap (λ (s : Site). s.history) (on_err came _ ask.Store h.unchanged store) in (
+        let history = ap (λ (s : SitePart). s.history) (on_err came _ ask.Store h.unchanged store) in (
           number,
           request,
           refl,

@@ -9,9 +9,9 @@ use Rattle.session_server.specs.declared.peer.PeerEnd.{PeerEnd}
 use Rattle.session_server.specs.declared.settling.Through.{Through}
 use Rattle.session_server.specs.declared.settling.Went.{Went}
 use Rattle.session_server.specs.declared.site.LinkEnd.{LinkEnd}
-use Rattle.session_server.specs.LinkNames.{both, first_links, link_names, name_of}
+use Rattle.session_server.specs.LinkNames.{both, first_links, link_names, link_name_of}
 use Rattle.session_server.specs.Mesh.{AreInTurn, AreJoined, CameTo, IsMesh, each_with, linkage_left, others_of, rows_of}
-use Rattle.session_server.specs.Settled.{AreAcknowledged, AreInOrder, AreSettled, AreTold, EndsJoined, GotFirst, IsAcknowledged, IsCounted, IsLeftOfNew, IsSettledWith, both_went, ends_to, first_ends, link_end, link_ends, went}
+use Rattle.session_server.specs.Settled.{AreAcknowledged, AreInOrder, AreSettled, AreLinksTold, EndsJoined, GotFirst, IsAcknowledged, IsCounted, IsLeftOfNew, IsSettledWith, both_went, ends_to, first_ends, link_end, link_ends, went}
 use Rattle.session_server.proofs.Meshes.{Undone, images, left_before, undone}
 use Rattle.session_server.proofs.Rows.{All-pushed, all_before, all_each, each_push, full_rows, length_rows, mapped_push}
 
@@ -148,22 +148,22 @@ site_added sites told k by row before some all lt len is was eb es ea =
     ∙ (λ i. first_ends sites told k ++ ends_to (is i) (take k sites ++ drop (k + 1) sites) (was i))
     ∙ ap (first_ends sites told) next
 
-names_to : (by : ℕ) (others : List ℕ) (told : List Went) → length told ≡ length others → map name_of (ends_to by others told) ≡ flat_map (both by) others
+names_to : (by : ℕ) (others : List ℕ) (told : List Went) → length told ≡ length others → map link_name_of (ends_to by others told) ≡ flat_map (both by) others
 names_to by [] told e = refl
 names_to by (o ∷ others) [] e = absurd (omega (arith, e))
 names_to by (o ∷ others) (w ∷ told) e = ap (λ l. record { by = by; to = o; acks = false } ∷ record { by = by; to = o; acks = true } ∷ l) (names_to by others told (omega (arith, e)))
 
-names_first : (sites : List ℕ) (told : List (List Went)) (k : ℕ) → k ≤ length sites → length told ≡ length sites → All (λ row. length row + 1 ≡ length sites) told → map name_of (first_ends sites told k) ≡ first_links sites k
+names_first : (sites : List ℕ) (told : List (List Went)) (k : ℕ) → k ≤ length sites → length told ≡ length sites → All (λ row. length row + 1 ≡ length sites) told → map link_name_of (first_ends sites told k) ≡ first_links sites k
 names_first sites told zero le len full = refl
 names_first sites told (suc k) le len full =
     let row = slice_index_or told k [] in
     let others = take k sites ++ drop (k + 1) sites in
     let one_less : length row + 1 ≡ length sites = All-get_or (λ row. length row + 1 ≡ length sites) told k [] (omega (arith, le, len)) full in
     let count : length row ≡ length others = omega (arith, le, one_less, length-append (take k sites) (drop (k + 1) sites), length-take-le k sites (omega (arith, le)), length-drop (k + 1) sites) in
-    map-append name_of (first_ends sites told k) (ends_to (slice_index sites k) others row)
+    map-append link_name_of (first_ends sites told k) (ends_to (slice_index sites k) others row)
     ∙ (λ i. names_first sites told k (omega (arith, le)) len full i ++ names_to (slice_index sites k) others row count i)
 
-names_told : (sites : List ℕ) (told : List (List Went)) → length told ≡ length sites → All (λ row. length row + 1 ≡ length sites) told → map name_of (link_ends sites told) ≡ link_names sites
+names_told : (sites : List ℕ) (told : List (List Went)) → length told ≡ length sites → All (λ row. length row + 1 ≡ length sites) told → map link_name_of (link_ends sites told) ≡ link_names sites
 names_told sites told len full = names_first sites told (length sites) (omega (arith)) len full
 
 bounded_to : (rounds by : ℕ) (others : List ℕ) (told : List Went) → All (WentBounded rounds) told → All (IsBounded rounds) (ends_to by others told)
@@ -239,18 +239,18 @@ rows_bounded rounds (c ∷ earlier) t h o =
     All-push (λ row. All (WentBounded rounds) row) (each_with (rows_of (map (map both_went) earlier)) (map (λ p. p.0) (map both_went c))) (map (λ p. p.1) (map both_went c))
     (all_each (WentBounded rounds) (rows_of (map (map both_went) earlier)) (map (λ p. p.0) (map both_went c)) before bounded.0) bounded.1
 
-all_bounded : (rounds : ℕ) (sites : List ℕ) (links : List LinkEnd) → AreTold rounds sites links → All (IsBounded rounds) links
+all_bounded : (rounds : ℕ) (sites : List ℕ) (links : List LinkEnd) → AreLinksTold rounds sites links → All (IsBounded rounds) links
 all_bounded rounds sites links a =
     let told = rows_of (map (map both_went) a.came) in
     let count : length told ≡ length sites = length_rows (map (map both_went) a.came) ∙ length-map a.came (map both_went) ∙ a.count in
     All-same (IsBounded rounds) links (link_ends sites told) a.links_are (bounded_first rounds sites told (length sites) (omega (arith, count)) (rows_bounded rounds a.came a.in_turn a.left a.in_order))
 
 -- of each link no more was refused than was got, and no more got than put
-pub all_counted : (rounds : ℕ) (sites : List ℕ) (links : List LinkEnd) → AreTold rounds sites links → All IsCounted links
+pub all_counted : (rounds : ℕ) (sites : List ℕ) (links : List LinkEnd) → AreLinksTold rounds sites links → All IsCounted links
 all_counted rounds sites links a = All-weaker (IsBounded rounds) IsCounted (λ link h. h.0) links (all_bounded rounds sites links a)
 
 -- into each link no more was put than there were rounds
-pub all_within : (rounds : ℕ) (sites : List ℕ) (links : List LinkEnd) → AreTold rounds sites links → All (λ link. link.put ≤ rounds) links
+pub all_within : (rounds : ℕ) (sites : List ℕ) (links : List LinkEnd) → AreLinksTold rounds sites links → All (λ link. link.put ≤ rounds) links
 all_within rounds sites links a = All-weaker (IsBounded rounds) (λ link. link.put ≤ rounds) (λ link h. h.1) links (all_bounded rounds sites links a)
 
 pairs_acknowledged : (rounds : ℕ) (pairs : List (PeerEnd × PeerEnd)) → All (IsLeftOfNew rounds) (map (λ p. p.0) pairs) → All (IsLeftOfNew rounds) (map (λ p. p.1) pairs) → All IsAcknowledged (map both_went pairs)
@@ -269,7 +269,7 @@ each_acknowledged rounds (c ∷ earlier) t h =
     All-cons (λ pairs. All IsAcknowledged pairs) (map both_went c) (map (map both_went) earlier) (pairs_acknowledged rounds c each.1 split.1) (each_acknowledged rounds earlier t.1 each.0)
 
 -- of what the sites got, they acknowledged no more than they did not refuse
-pub all_acknowledged : (rounds : ℕ) (sites : List ℕ) (links : List LinkEnd) → AreTold rounds sites links → AreAcknowledged sites links
+pub all_acknowledged : (rounds : ℕ) (sites : List ℕ) (links : List LinkEnd) → AreLinksTold rounds sites links → AreAcknowledged sites links
 all_acknowledged rounds sites links a = record {
   came = map (map both_went) a.came;
   count = length-map a.came (map both_went) ∙ a.count;
@@ -279,17 +279,17 @@ all_acknowledged rounds sites links a = record {
 }
 
 -- the links have their names
-pub all_named : (rounds : ℕ) (sites : List ℕ) (links : List LinkEnd) → AreTold rounds sites links → map name_of links ≡ link_names sites
+pub all_named : (rounds : ℕ) (sites : List ℕ) (links : List LinkEnd) → AreLinksTold rounds sites links → map link_name_of links ≡ link_names sites
 all_named rounds sites links a =
     let came = map (map both_went) a.came in
     let told = rows_of came in
     let same : length came ≡ length sites = length-map a.came (map both_went) ∙ a.count in
-    ap (map name_of) a.links_are
+    ap (map link_name_of) a.links_are
     ∙ names_told sites told (length_rows came ∙ same)
     (All-weaker (λ row. length row + 1 ≡ length came) (λ row. length row + 1 ≡ length sites) (λ row e. e ∙ same) told (full_rows came (turns both_went a.came a.in_turn)))
 
 -- what the ends tell is told
-pub all_told : (rounds : ℕ) (sites : List ℕ) (links : List LinkEnd) (ends : List (List PeerEnd)) (told : List (List Went)) → AreSettled ends told → length ends ≡ length sites → All (λ row. All (IsLeftOfNew rounds) row) ends → map (map (λ e. e.to)) ends ≡ others_of sites → links ≡ link_ends sites told → AreTold rounds sites links
+pub all_told : (rounds : ℕ) (sites : List ℕ) (links : List LinkEnd) (ends : List (List PeerEnd)) (told : List (List Went)) → AreSettled ends told → length ends ≡ length sites → All (λ row. All (IsLeftOfNew rounds) row) ends → map (map (λ e. e.to)) ends ≡ others_of sites → links ≡ link_ends sites told → AreLinksTold rounds sites links
 all_told rounds sites links ends told a n left named e = record {
   came = a.came;
   count = sym (ap length a.ends_are ∙ length_rows a.came) ∙ n;

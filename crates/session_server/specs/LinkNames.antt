@@ -9,8 +9,8 @@ pub record LinkName : Type 0 where
   pub to : ℕ
   pub acks : Bool
 
-abbrev pub name_of : LinkEnd → LinkName
-name_of link = record { by = link.by; to = link.to; acks = link.acks }
+abbrev pub link_name_of : LinkEnd → LinkName
+link_name_of link = record { by = link.by; to = link.to; acks = link.acks }
 
 -- the two links from one site to another
 abbrev pub both : ℕ → ℕ → List LinkName

@@ -89,7 +89,7 @@ abbrev pub IsLeftOfNew : ℕ → PeerEnd → Type 0
 IsLeftOfNew rounds end = (peer : Peer) × IsNew peer × Exchanged rounds peer end
 
 -- The links between these sites, each told of as its two ends tell it, which the exchanges of two sites for so many rounds left, each for the other by its number. What came out of each is a prefix of what was put into it.
-pub record AreTold (rounds : ℕ) (sites : List ℕ) (links : List LinkEnd) : Type 0 where
+pub record AreLinksTold (rounds : ℕ) (sites : List ℕ) (links : List LinkEnd) : Type 0 where
   pub came : List (List (PeerEnd × PeerEnd))
   pub count : length came ≡ length sites
   pub in_turn : AreInTurn came

@@ -2,7 +2,7 @@
 
 ghost use Rattle.std.specs.Prelude.{◌≡◌, ℕ, ◌+◌, ◌++◌, All, IfOk, OnOk, length, map, vec_len};
 ghost use Rattle.session_server.specs.Mesh.{IsMesh, linkage_left, others_of};
-ghost use Rattle.session_server.specs.Settled.{AreTold, IsLeftOfNew, ends_to, link_end as link_end_of, link_ends as ends_between};
+ghost use Rattle.session_server.specs.Settled.{AreLinksTold, IsLeftOfNew, ends_to, link_end as link_end_of, link_ends as ends_between};
 
 use crate::peer::PeerEnd;
 use crate::settling::{Through, Went, settle_all};
@@ -36,7 +36,7 @@ pub(crate) fn link_ends(
     requires count { vec_len ends ≡ length sites.now }
     requires mesh { IsMesh (map (λ row. map linkage_left row.items) ends.items) }
     requires named { map (λ row. map (λ e. e.to) row.items) ends.items ≡ others_of sites.now }
-    ensures { IfOk result (λ links. (rounds : ℕ) → All (λ row. All (IsLeftOfNew rounds) row) (map (λ row. row.items) ends.items) → AreTold rounds sites.now links.items) }
+    ensures { IfOk result (λ links. (rounds : ℕ) → All (λ row. All (IsLeftOfNew rounds) row) (map (λ row. row.items) ends.items) → AreLinksTold rounds sites.now links.items) }
 {
     let told = settle_all(alloc, ends)?;
     links_told(alloc, sites, &told)

@@ -13,7 +13,7 @@ use std::io::{Read, Write};
 
 // A site with its ends of its links.
 #[derive(Drop)]
-pub(crate) struct Linked<K: Keeper + Drop, R: Read + Drop, W: Write + Drop> {
+pub(crate) struct LinkedSite<K: Keeper + Drop, R: Read + Drop, W: Write + Drop> {
     pub(crate) site: Site<K, R, W>,
     pub(crate) peers: Vec<Peer>,
 }
@@ -57,14 +57,14 @@ pub(crate) fn link_all<K: Keeper + Drop, R: Read + Drop, W: Write + Drop>(
     alloc: Global,
     sites: Vec<Site<K, R, W>>,
     capacity: usize,
-) -> Result<Vec<Linked<K, R, W>>, AllocError>
+) -> Result<Vec<LinkedSite<K, R, W>>, AllocError>
     requires { 0 < capacity }
     ensures sites { IfOk result (λ linked. map (λ l. l.site) linked.items ≡ sites.items) }
     ensures mesh { IfOk result (λ linked. IsMesh (map (λ l. map linkage_of l.peers.items) linked.items)) }
     ensures new { IfOk result (λ linked. All (λ l. All IsNew l.peers.items) linked.items) }
     ensures named { IfOk result (λ linked. map (λ l. map (λ p. p.to) l.peers.items) linked.items ≡ others_of (map (λ l. l.site.book.book.office.me) linked.items)) }
 {
-    let mut linked: Vec<Linked<K, R, W>> = Vec::new(alloc);
+    let mut linked: Vec<LinkedSite<K, R, W>> = Vec::new(alloc);
     for site in sites {
         linked = with_site(alloc, capacity, linked, site)?;
     }
@@ -75,9 +75,9 @@ pub(crate) fn link_all<K: Keeper + Drop, R: Read + Drop, W: Write + Drop>(
 fn with_site<K: Keeper + Drop, R: Read + Drop, W: Write + Drop>(
     alloc: Global,
     capacity: usize,
-    earlier: Vec<Linked<K, R, W>>,
+    earlier: Vec<LinkedSite<K, R, W>>,
     site: Site<K, R, W>,
-) -> Result<Vec<Linked<K, R, W>>, AllocError>
+) -> Result<Vec<LinkedSite<K, R, W>>, AllocError>
     requires capacity { 0 < capacity }
     requires mesh { IsMesh (map (λ l. map linkage_of l.peers.items) earlier.items) }
     requires new { All (λ l. All IsNew l.peers.items) earlier.items }
@@ -88,7 +88,7 @@ fn with_site<K: Keeper + Drop, R: Read + Drop, W: Write + Drop>(
     ensures named { IfOk result (λ linked. map (λ l. map (λ p. p.to) l.peers.items) linked.items ≡ others_of (map (λ l. l.site.book.book.office.me) linked.items)) }
 {
     let (mut linked, peers) = linked_with(alloc, capacity, site.book.book().me(), earlier)?;
-    linked.push(Linked { site, peers })?;
+    linked.push(LinkedSite { site, peers })?;
     Ok(linked)
 }
 
@@ -97,8 +97,8 @@ fn linked_with<K: Keeper + Drop, R: Read + Drop, W: Write + Drop>(
     alloc: Global,
     capacity: usize,
     me: SiteId,
-    earlier: Vec<Linked<K, R, W>>,
-) -> Result<(Vec<Linked<K, R, W>>, Vec<Peer>), AllocError>
+    earlier: Vec<LinkedSite<K, R, W>>,
+) -> Result<(Vec<LinkedSite<K, R, W>>, Vec<Peer>), AllocError>
     requires { 0 < capacity }
     ensures sites { IfOk result (λ r. map (λ l. l.site) r.0.items ≡ map (λ l. l.site) earlier.items) }
     ensures came { IfOk result (λ r. CameTo (map (λ l. map linkage_of l.peers.items) earlier.items) (map (λ l. map linkage_of l.peers.items) r.0.items) (map linkage_of r.1.items)) }
@@ -120,15 +120,15 @@ fn link_with<K: Keeper + Drop, R: Read + Drop, W: Write + Drop>(
     alloc: Global,
     capacity: usize,
     me: SiteId,
-    other: Linked<K, R, W>,
-) -> Result<(Linked<K, R, W>, Peer), AllocError>
+    other: LinkedSite<K, R, W>,
+) -> Result<(LinkedSite<K, R, W>, Peer), AllocError>
     requires { 0 < capacity }
     ensures site { IfOk result (λ r. r.0.site ≡ other.site) }
     ensures peers { IfOk result (λ r. GotPeer other.peers.items r.0.peers.items r.1) }
     ensures named { IfOk result (λ r. (map (λ p. p.to) r.0.peers.items ≡ map (λ p. p.to) other.peers.items ++ me ∷ []) × (r.1.to ≡ other.site.book.book.office.me)) }
 {
-    let Linked { site, mut peers } = other;
+    let LinkedSite { site, mut peers } = other;
     let (there, here) = pair(alloc, capacity, site.book.book().me(), me)?;
     peers.push(there)?;
-    Ok((Linked { site, peers }, here))
+    Ok((LinkedSite { site, peers }, here))
 }

@@ -10,7 +10,7 @@ ghost use Rattle.session_server.specs.Exchanged.{Exchanged};
 ghost use Rattle.session_server.specs.Finished.{IsCompared, IsLeftOf, given_since};
 
 use crate::exchange::{ExchangeFault, exchange_all};
-use crate::links::Linked;
+use crate::links::LinkedSite;
 use crate::peer::{Peer, PeerEnd};
 use crate::seating::seated;
 use crate::serve::serve_all;
@@ -44,7 +44,7 @@ pub(crate) fn run_site<
 >(
     rt: &T,
     alloc: Global,
-    linked: Linked<K, R, W>,
+    linked: LinkedSite<K, R, W>,
     rounds: u64,
     gate: &G,
 ) -> Result<Left<K, R, W>, ExchangeFault>
@@ -54,7 +54,7 @@ pub(crate) fn run_site<
     ensures left { IfOk result (λ left. IsLeftOf linked.site.book.book left.0.book (All (λ e. IsSome e.writer) left.1.items) (flat_map (λ e. e.receipts.items) left.1.items) (flat_map (λ e. e.seen.items) left.1.items) left.2.0) }
     ensures peers { IfOk result (λ left. AllZip (Exchanged rounds) linked.peers.items left.2.1.items) }
 {
-    let Linked { site, peers } = linked;
+    let LinkedSite { site, peers } = linked;
     let Some(parts) = (site.sessions.len() as u64).checked_add(1) else {
         return Err(ExchangeFault::Memory);
     };

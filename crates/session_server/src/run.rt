@@ -4,12 +4,12 @@ ghost use Rattle.std.specs.Prelude.{◌≡◌, ◌≢◌, ◌<◌, ◌≤◌, []
 ghost use Rattle.std.specs.List.{AllZip, flat_map};
 ghost use Rattle.session_server.specs.Exchanged.{Exchanged};
 ghost use Rattle.session_server.specs.Finished.{IsLeftOf};
-ghost use Rattle.session_server.specs.LinkNames.{link_names, name_of};
-ghost use Rattle.session_server.specs.Settled.{AreAcknowledged, AreTold, IsCounted};
+ghost use Rattle.session_server.specs.LinkNames.{link_names, link_name_of};
+ghost use Rattle.session_server.specs.Settled.{AreAcknowledged, AreLinksTold, IsCounted};
 
 use crate::exchange::ExchangeFault;
 use crate::link_ends::{link_ends, numbers};
-use crate::links::{Linked, link_all};
+use crate::links::{LinkedSite, link_all};
 use crate::one_site::{Left, run_site};
 use crate::peer::PeerEnd;
 use crate::site::{LinkEnd, Site, SiteEnd};
@@ -25,7 +25,7 @@ use std::thread::{Promise, Threads};
 // The site that a thread is begun with, and for how many rounds.
 #[derive(Drop)]
 struct SiteOf<K: Keeper + Drop, R: Read + Drop, W: Write + Drop> {
-    linked: Snapshot<Linked<K, R, W>>,
+    linked: Snapshot<LinkedSite<K, R, W>>,
     rounds: u64,
 }
 
@@ -70,8 +70,8 @@ pub fn run_all<
     ensures readers { IfOk result (λ r. map (λ e. map (λ x. x.reader_began.value) e.sessions.items) r.0.items ≡ map (λ s. map (λ v. v.reader) s.sessions.items) sites.items) }
     ensures writers { IfOk result (λ r. map (λ e. map (λ x. x.writer_began.value) e.sessions.items) r.0.items ≡ map (λ s. map (λ v. v.writer) s.sessions.items) sites.items) }
     ensures left { IfOk result (λ r. AllZip (λ site end. IsLeftOf site.book.book end.book.book (All (λ x. IsSome x.writer) end.sessions.items) (flat_map (λ x. x.receipts.items) end.sessions.items) (flat_map (λ x. x.seen.items) end.sessions.items) end.finished) sites.items r.0.items) }
-    ensures links { IfOk result (λ r. map name_of r.1.items ≡ link_names (map (λ s. s.book.book.office.me) sites.items)) }
-    ensures told { IfOk result (λ r. AreTold rounds (map (λ s. s.book.book.office.me) sites.items) r.1.items) }
+    ensures links { IfOk result (λ r. map link_name_of r.1.items ≡ link_names (map (λ s. s.book.book.office.me) sites.items)) }
+    ensures told { IfOk result (λ r. AreLinksTold rounds (map (λ s. s.book.book.office.me) sites.items) r.1.items) }
     ensures counted { IfOk result (λ r. All IsCounted r.1.items) }
     ensures within { IfOk result (λ r. All (λ link. link.put ≤ rounds) r.1.items) }
     ensures acknowledged { IfOk result (λ r. AreAcknowledged (map (λ s. s.book.book.office.me) sites.items) r.1.items) }
@@ -80,7 +80,7 @@ pub fn run_all<
     let linked = link_all(alloc, sites, capacity)?;
     let mut jobs = Vec::with_capacity(alloc, linked.len())?;
     begun(linked, rounds, &mut jobs);
-    let run = |one: Linked<K, R, W>| -> Result<Left<K, R, W>, ExchangeFault>
+    let run = |one: LinkedSite<K, R, W>| -> Result<Left<K, R, W>, ExchangeFault>
         ensures { IfOk result (λ left. (map (λ e. e.id) left.1.items ≡ map (λ v. v.id) one.site.sessions.items) × (map (λ e. e.reader_began.value) left.1.items ≡ map (λ v. v.reader) one.site.sessions.items) × (map (λ e. e.writer_began.value) left.1.items ≡ map (λ v. v.writer) one.site.sessions.items) × IsLeftOf one.site.book.book left.0.book (All (λ e. IsSome e.writer) left.1.items) (flat_map (λ e. e.receipts.items) left.1.items) (flat_map (λ e. e.seen.items) left.1.items) left.2.0 × AllZip (Exchanged rounds) one.peers.items left.2.1.items) }
     { run_site(rt, alloc, one, rounds, gate) };
     let done = work_all(rt, alloc, jobs, &run)?;
@@ -93,9 +93,9 @@ pub fn run_all<
 
 // Each site, with what its thread is to promise.
 fn begun<K: Keeper + Drop, R: Read + Drop, W: Write + Drop>(
-    mut linked: Vec<Linked<K, R, W>>,
+    mut linked: Vec<LinkedSite<K, R, W>>,
     rounds: u64,
-    jobs: &mut Vec<(Linked<K, R, W>, SiteOf<K, R, W>)>,
+    jobs: &mut Vec<(LinkedSite<K, R, W>, SiteOf<K, R, W>)>,
 )
     requires empty { jobs.old.items ≡ [] }
     requires room { vec_len linked ≤ vec_capacity jobs.old }

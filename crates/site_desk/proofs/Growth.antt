@@ -12,7 +12,7 @@ use Rattle.book_core.proofs.Histories.{sites_of-push}
 use Rattle.site_exchange.proofs.Counts.{count_asked}
 use Rattle.site_exchange.specs.declared.message.Message.{Message}
 use Rattle.site_exchange.specs.declared.message.Message.TheVariants.{Delta, Ack}
-use Rattle.site_exchange.specs.Exchange.{Site, Verdict, Joins, NothingNew, Acks, Refuses}
+use Rattle.site_exchange.specs.Exchange.{SitePart, Verdict, Joins, NothingNew, Acks, Refuses}
 use Rattle.site_exchange.specs.Taking.{extended, site_after}
 use Rattle.site_desk.specs.declared.answer.Answer.{Answer}
 use Rattle.site_desk.specs.declared.fault.AskFault.{AskFault}
@@ -45,7 +45,7 @@ pub asked_since_below : (opening : ℕ) (es : List Entry) → opening ≤ length
 asked_since_below opening es within = omega (arith, count_by-le-length is_asked (drop opening es), length-drop opening es)
 
 -- a message adds no request
-after_verdict : (v : Verdict) (m : Message) (old : Site) (opening : ℕ) → opening ≤ length old.history
+after_verdict : (v : Verdict) (m : Message) (old : SitePart) (opening : ℕ) → opening ≤ length old.history
     → (asked_since opening (site_after v m old).history ≡ asked_since opening old.history) × (opening ≤ length (site_after v m old).history)
 after_verdict Joins (Delta by to upto delta) old opening within =
     (asked_since_push opening old.history (Joined by delta) within ∙ (let e : asked_since opening old.history + 0 ≡ asked_since opening old.history = omega arith in e), omega (arith, within, length-append old.history (Joined by delta ∷ [])))
@@ -55,11 +55,11 @@ after_verdict Acks (Ack by to upto) old opening within = (refl, within)
 after_verdict Acks (Delta by to upto delta) old opening within = (refl, within)
 after_verdict (Refuses fault) m old opening within = (refl, within)
 
-pub taken : {A E : Type 0} (result : Result A E) (v : Verdict) (m : Message) (old new : Site) (opening : ℕ) → opening ≤ length old.history
+pub taken : {A E : Type 0} (result : Result A E) (v : Verdict) (m : Message) (old new : SitePart) (opening : ℕ) → opening ≤ length old.history
     → OnOk result (new ≡ site_after v m old) → OnErr result (new ≡ old)
     → (asked_since opening new.history ≡ asked_since opening old.history) × (opening ≤ length new.history)
-taken (Ok a) v m old new opening within is same = subst (λ (s : Site). (asked_since opening s.history ≡ asked_since opening old.history) × (opening ≤ length s.history)) (sym is) (after_verdict v m old opening within)
-taken (Err e) v m old new opening within is same = subst (λ (s : Site). (asked_since opening s.history ≡ asked_since opening old.history) × (opening ≤ length s.history)) (sym same) (refl, within)
+taken (Ok a) v m old new opening within is same = subst (λ (s : SitePart). (asked_since opening s.history ≡ asked_since opening old.history) × (opening ≤ length s.history)) (sym is) (after_verdict v m old opening within)
+taken (Err e) v m old new opening within is same = subst (λ (s : SitePart). (asked_since opening s.history ≡ asked_since opening old.history) × (opening ≤ length s.history)) (sym same) (refl, within)
 
 -- neither a request nor a message changes the count of sites
 pub sites_asked : (result : Result Answer AskFault) (office : Office) (old new : List Entry) (number : ℕ) (request : Request)
@@ -67,7 +67,7 @@ pub sites_asked : (result : Result Answer AskFault) (office : Office) (old new :
 sites_asked (Ok a) office old new number request now same = ap (sites_of office) now ∙ count_asked office old number request
 sites_asked (Err fault) office old new number request now same = ap (sites_of office) same
 
-sites_after_verdict : (v : Verdict) (m : Message) (old : Site) (office : Office) → sites_of office (site_after v m old).history ≡ sites_of office old.history
+sites_after_verdict : (v : Verdict) (m : Message) (old : SitePart) (office : Office) → sites_of office (site_after v m old).history ≡ sites_of office old.history
 sites_after_verdict Joins (Delta by to upto delta) old office = sites_of-push office old.history (Joined by delta)
 sites_after_verdict Joins (Ack by to upto) old office = refl
 sites_after_verdict NothingNew m old office = refl
@@ -75,7 +75,7 @@ sites_after_verdict Acks (Ack by to upto) old office = refl
 sites_after_verdict Acks (Delta by to upto delta) old office = refl
 sites_after_verdict (Refuses fault) m old office = refl
 
-pub sites_taken : {A E : Type 0} (result : Result A E) (v : Verdict) (m : Message) (old new : Site) (office : Office)
+pub sites_taken : {A E : Type 0} (result : Result A E) (v : Verdict) (m : Message) (old new : SitePart) (office : Office)
     → OnOk result (new ≡ site_after v m old) → OnErr result (new ≡ old) → sites_of office new.history ≡ sites_of office old.history
-sites_taken (Ok a) v m old new office is same = ap (λ (s : Site). sites_of office s.history) is ∙ sites_after_verdict v m old office
-sites_taken (Err e) v m old new office is same = ap (λ (s : Site). sites_of office s.history) same
+sites_taken (Ok a) v m old new office is same = ap (λ (s : SitePart). sites_of office s.history) is ∙ sites_after_verdict v m old office
+sites_taken (Err e) v m old new office is same = ap (λ (s : SitePart). sites_of office s.history) same

@@ -10,7 +10,7 @@ use Rattle.site_exchange.specs.declared.message.Message.{Message}
 use Rattle.site_exchange.specs.declared.message.Message.TheVariants.{Delta, Ack}
 use Rattle.site_exchange.specs.declared.message.CheckFault.{CheckFault}
 use Rattle.site_exchange.specs.declared.message.TakeFault.{TakeFault}
-use Rattle.site_exchange.specs.Exchange.{Site, Acks, ack_for, check, next, receiver, verdict, verdict_if, verdict_of}
+use Rattle.site_exchange.specs.Exchange.{SitePart, Acks, ack_for, check, next, receiver, verdict, verdict_if, verdict_of}
 use Rattle.site_desk.specs.declared.answer.Taken.{Taken}
 use Rattle.site_desk.specs.declared.answer.Taken.TheVariants.{Joined, NothingNew, Acked}
 use Rattle.site_desk.specs.declared.fault.NextFault.{NextFault}
@@ -37,7 +37,7 @@ next_if : (has_all : Bool) (me to upto : ℕ) (delta : State) → IfSome (if has
 next_if true me to upto delta = tt
 next_if false me to upto delta = refl
 
-pub next_sent : (result : Result (Option Message) NextFault) (me : ℕ) (site : Site) (to : ℕ) → IfOk result (λ message. message ≡ next me site to) → IfOk result (λ message. IfSome message (λ m. receiver m ≡ to))
+pub next_sent : (result : Result (Option Message) NextFault) (me : ℕ) (site : SitePart) (to : ℕ) → IfOk result (λ message. message ≡ next me site to) → IfOk result (λ message. IfSome message (λ m. receiver m ≡ to))
 next_sent (Ok message) me site to is =
     subst (λ (sent : Option Message). IfSome sent (λ m. receiver m ≡ to)) (sym is) (next_if (get_or site.acked to 0 == length site.history) me to (length site.history) (interval site.history (get_or site.acked to 0) (length site.history)))
 next_sent (Err fault) me site to is = tt

@@ -9,7 +9,7 @@ use Rattle.book_core.specs.Decision.{Decision, decision, entry_of_ask}
 use Rattle.book_core.specs.Growing.{GrowDecision, entry_of_grow, grow_decision}
 use Rattle.book_core.specs.OwnRow.{HasOwnRights}
 use Rattle.site_exchange.specs.declared.message.Message.{Message}
-use Rattle.site_exchange.specs.Exchange.{Site, Verdict, verdict}
+use Rattle.site_exchange.specs.Exchange.{SitePart, Verdict, verdict}
 use Rattle.site_exchange.specs.Pendings.{ExchangeView, IsExchangeOf}
 use Rattle.sql_records.specs.Keeping.{LeavesOnly}
 
@@ -36,7 +36,7 @@ pub record IsInStep (closed : Bool) (failed : ℕ) (is_trusted : Type 0) (kept :
   pub has_rights : HasOwnRights book
 
 -- the history, and what each peer has acknowledged of it
-abbrev pub site_of : {K : Type 0} → SiteView K → Site
+abbrev pub site_of : {K : Type 0} → SiteView K → SitePart
 site_of s = record { history = s.book.history; acked = s.acked }
 
 -- what the book decides on a request, and the entry that the request adds, if any

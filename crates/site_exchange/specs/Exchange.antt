@@ -18,7 +18,7 @@ use Rattle.site_exchange.specs.declared.message.TakeFault.{TakeFault}
 use Rattle.site_exchange.specs.declared.message.TakeFault.TheVariants as fault
 
 -- what a site holds: its history, and what each peer has acknowledged of it
-pub record Site : Type 0 where
+pub record SitePart : Type 0 where
   pub history : List Entry
   pub acked : List ℕ
 
@@ -27,7 +27,7 @@ abbrev pub zeros : List ℕ
 zeros = replicate max_sites 0
 
 -- the message to a peer, with what the peer has not acknowledged; none where it has all
-abbrev pub next : ℕ → Site → ℕ → Option Message
+abbrev pub next : ℕ → SitePart → ℕ → Option Message
 next me site to =
     let a = get_or site.acked to 0 in
     if a == length site.history then None

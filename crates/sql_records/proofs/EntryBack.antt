@@ -23,12 +23,12 @@ use Rattle.delta_wire.specs.Grammar.{most_bytes, IsDelta, delta_text}
 use Rattle.rights_lattice.proofs.EventLaws.{name_of_again}
 use Rattle.delta_wire.proofs.Texts.{delta_again}
 use Rattle.delta_wire.specs.Wire.{state_from, items_from}
-use Rattle.sql_records.specs.Rows.{event_column, amount_column, target_column, number_column, rest_column, columns_of, HasReplyColumns, IsStorable, number_within, value_in, site_in, event_in, verb_in, announce_of, release_of, sell_of, part_in, refund_in_columns, cede_of, request_in, rest_in, reply_in, delta_in, asked_of, joined_of, is_grow, grown_of, entry_of}
+use Rattle.sql_records.specs.Rows.{event_column, amount_column, target_column, number_column, rest_column, columns_of, HasReplyColumns, IsStorable, number_within, positive_in, site_in, event_in, verb_in, announce_of, release_of, sell_of, part_in, refund_in_columns, cede_of, request_in, rest_in, reply_in, delta_in, asked_of, joined_of, is_grow, grown_of, entry_of}
 
 pub within_back : (low high n : ℕ) → low ≤ n → n ≤ high → number_within low high (Int (pos n)) ≡ Some n
 within_back low high n p q = cond-true _ _ _ (and_from _ _ (le-leb _ _ p) (le-leb _ _ q))
 
-pub value_back : (n : ℕ) → IsValue n → value_in (Int (pos n)) ≡ Some n
+pub value_back : (n : ℕ) → IsValue n → positive_in (Int (pos n)) ≡ Some n
 value_back n h = within_back 1 greatest_value n h.0 h.1
 
 pub site_back : (n : ℕ) → IsSite n → site_in (Int (pos n)) ≡ Some n

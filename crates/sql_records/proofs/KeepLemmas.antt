@@ -9,12 +9,12 @@ use Rattle.sql_records.specs.declared.keeper.KeepFault.TheVariants.{Memory, Disk
 use Rattle.sql_records.specs.Faults.{told}
 use Rattle.sql_records.specs.Texts.{insert_text}
 use Rattle.sql_records.specs.Rows.{columns_of}
-use Rattle.sql_records.specs.Held.{Kept, IsAtRest, IsKeepFault, kept_in}
+use Rattle.sql_records.specs.Held.{RecordsView, IsAtRest, IsKeepFault, kept_in}
 use Rattle.sql_records.proofs.FaultLemmas.{told_either}
 use Rattle.sql_records.proofs.OpeningLemmas.{rest_count}
 
 -- an INSERT that failed is told as it failed
-pub told_keep : {S : Type 0} (g : Ghosts S) (old new : Kept S) (entry : Entry) (count : ℕ) (e : Error) → IsAtRest (state g old.conn) count
+pub told_keep : {S : Type 0} (g : Ghosts S) (old new : RecordsView S) (entry : Entry) (count : ℕ) (e : Error) → IsAtRest (state g old.conn) count
     → Executes insert_text (columns_of count entry) (state g old.conn) (state g new.conn) (Err e) → IsKeepFault g old new entry (told Memory Disk e)
 told_keep g old new entry count e rest h =
     let at = subst (λ n. Executes insert_text (columns_of n entry) (state g old.conn) (state g new.conn) (Err e)) (sym (rest_count (state g old.conn) count rest)) h in

@@ -39,7 +39,7 @@ use Rattle.request_ledger.specs.declared.verb.Verb.{Verb}
 use Rattle.request_ledger.specs.declared.verb.Verb.TheVariants as verb
 use Rattle.sqlite.specs.State.{State as Store}
 use Rattle.sql_records.proofs.OpeningLemmas.{has_some}
-use Rattle.sql_records.specs.Rows.{is_null, text_in, number_within, value_in, site_in, event_in, verb_in, event_column, announce_of, release_of, sell_of, part_in, refund_in_columns, cede_of, request_of, request_in, reply_in, delta_in, asks_nothing, asked_of, joined_of, sites_in, is_grow, only_grows, grown_of, own_of, entry_with, entry_of, AreWhole}
+use Rattle.sql_records.specs.Rows.{is_null, text_in, number_within, positive_in, site_in, event_in, verb_in, event_column, announce_of, release_of, sell_of, part_in, refund_in_columns, cede_of, request_of, request_in, reply_in, delta_in, asks_nothing, asked_of, joined_of, sites_in, is_grow, only_grows, grown_of, own_of, entry_with, entry_of, AreWhole}
 use Rattle.sql_records.specs.Lookups.{IsFirstUnread, IsListFault, IsQueryFault, ReadsSome, found_in, listed_in, names_event, listing, has_number, has_event, found_columns, listed_columns, found_of, listed_of, first_found}
 
 -- ---- what was read from a value
@@ -84,21 +84,21 @@ named verb.Announce event amount target q e =
     let a = bind_some (event_in event) (λ x. cond (is_null amount && is_null target) (Some (Announce x)) None) q e in
     event_found event a.0 a.1 ∙ ap event_column (cond_is _ (Announce a.0) q a.2).1
 named verb.Release event amount target q e =
-    let a = bind_some (event_in event) (λ x. value_in amount >>= λ n. cond (is_null target) (Some (Release x n)) None) q e in
-    let b = bind_some (value_in amount) (λ n. cond (is_null target) (Some (Release a.0 n)) None) q a.2 in
+    let a = bind_some (event_in event) (λ x. positive_in amount >>= λ n. cond (is_null target) (Some (Release x n)) None) q e in
+    let b = bind_some (positive_in amount) (λ n. cond (is_null target) (Some (Release a.0 n)) None) q a.2 in
     event_found event a.0 a.1 ∙ ap event_column (cond_is _ (Release a.0 b.0) q b.2).1
 named verb.Sell event amount target q e =
-    let a = bind_some (event_in event) (λ x. value_in amount >>= λ n. cond (is_null target) (Some (Sell x n)) None) q e in
-    let b = bind_some (value_in amount) (λ n. cond (is_null target) (Some (Sell a.0 n)) None) q a.2 in
+    let a = bind_some (event_in event) (λ x. positive_in amount >>= λ n. cond (is_null target) (Some (Sell x n)) None) q e in
+    let b = bind_some (positive_in amount) (λ n. cond (is_null target) (Some (Sell a.0 n)) None) q a.2 in
     event_found event a.0 a.1 ∙ ap event_column (cond_is _ (Sell a.0 b.0) q b.2).1
 named verb.Refund event amount target q e =
-    let a = bind_some (value_in target) (λ sale. part_in amount >>= λ part. cond (is_null event) (Some (Refund sale part)) None) q e in
+    let a = bind_some (positive_in target) (λ sale. part_in amount >>= λ part. cond (is_null event) (Some (Refund sale part)) None) q e in
     let b = bind_some (part_in amount) (λ part. cond (is_null event) (Some (Refund a.0 part)) None) q a.2 in
     let d = cond_is _ (Refund a.0 b.0) q b.2 in
     null_found event d.0 ∙ ap event_column d.1
 named verb.Cede event amount target q e =
-    let a = bind_some (event_in event) (λ x. value_in amount >>= λ n. site_in target >>= λ to. Some (Cede x to n)) q e in
-    let b = bind_some (value_in amount) (λ n. site_in target >>= λ to. Some (Cede a.0 to n)) q a.2 in
+    let a = bind_some (event_in event) (λ x. positive_in amount >>= λ n. site_in target >>= λ to. Some (Cede x to n)) q e in
+    let b = bind_some (positive_in amount) (λ n. site_in target >>= λ to. Some (Cede a.0 to n)) q a.2 in
     let d = bind_some (site_in target) (λ to. Some (Cede a.0 to b.0)) q b.2 in
     event_found event a.0 a.1 ∙ ap event_column (some_is (Cede a.0 d.0 b.0) q d.2)
 
@@ -110,14 +110,14 @@ event_is word event amount target q e = let v = bind_some (verb_in word) (λ v. 
 
 abbrev HasParts : Row → Entry → Type 0
 HasParts values (Asked number request reply delta) =
-    (column values 2 ≡ Int (pos number)) × (value_in (column values 2) ≡ Some number) × (request_in (column values 3) (column values 4) (column values 5) (column values 6) ≡ Some request) × (reply_in (column values 7) (column values 8) ≡ Some reply)
+    (column values 2 ≡ Int (pos number)) × (positive_in (column values 2) ≡ Some number) × (request_in (column values 3) (column values 4) (column values 5) (column values 6) ≡ Some request) × (reply_in (column values 7) (column values 8) ≡ Some reply)
 HasParts values (Joined peer delta) = (column values 2 ≡ Null) × (column values 4 ≡ Null)
 HasParts values (Grown sites) = (column values 2 ≡ Null) × (column values 4 ≡ Null)
 
 asked_parts : (values : Row) (delta : State) (e : Entry) → asked_of values delta ≡ Some e → HasParts values e
 unfolding asked_of
 asked_parts values delta e h =
-    let n = bind_some (value_in (column values 2)) (λ n. request_in (column values 3) (column values 4) (column values 5) (column values 6) >>= λ q. reply_in (column values 7) (column values 8) >>= λ r. Some (Asked n q r delta)) e h in
+    let n = bind_some (positive_in (column values 2)) (λ n. request_in (column values 3) (column values 4) (column values 5) (column values 6) >>= λ q. reply_in (column values 7) (column values 8) >>= λ r. Some (Asked n q r delta)) e h in
     let q = bind_some (request_in (column values 3) (column values 4) (column values 5) (column values 6)) (λ q. reply_in (column values 7) (column values 8) >>= λ r. Some (Asked n.0 q r delta)) e n.2 in
     let r = bind_some (reply_in (column values 7) (column values 8)) (λ r. Some (Asked n.0 q.0 r delta)) e q.2 in
     subst (HasParts values) (some_is (Asked n.0 q.0 r.0 delta) e r.2) (within_found 1 greatest_value n.0 (column values 2) n.1, n.1, q.1, r.1)
@@ -246,7 +246,7 @@ reads_all (Some a) e = cc
 abbrev AreListedIn : List ℕ → List Row → KeptByNumber → Type 0
 AreListedIn name rows keeping = map listed_of (map listed_columns (filter (has_event name) rows)) ≡ map Some (map listing (filter (λ a. names_event name a.1.request) keeping))
 
-listed_reads : (from number : ℕ) (values : Row) (request : Request) (reply : Reply) → column values 0 ≡ Int (pos from) → value_in (column values 2) ≡ Some number → request_in (column values 3) (column values 4) (column values 5) (column values 6) ≡ Some request
+listed_reads : (from number : ℕ) (values : Row) (request : Request) (reply : Reply) → column values 0 ≡ Int (pos from) → positive_in (column values 2) ≡ Some number → request_in (column values 3) (column values 4) (column values 5) (column values 6) ≡ Some request
     → reply_in (column values 7) (column values 8) ≡ Some reply → listed_of (listed_columns values) ≡ Some (record { place = from; number = number; request = request; reply = reply })
 unfolding listed_of
 listed_reads from number values request reply at n q r = rw (at, n, q, r) refl

@@ -93,24 +93,24 @@ abbrev pub LeavesAsBeforeOrNew : Meta → State → State → Type 0
 LeavesAsBeforeOrNew meta old new = (db : Trees) → new.may_leave db → old.may_leave db ⊎ IsNewIn meta db
 
 -- what contracts see of the records
-pub record Kept (S : Type 0) : Type 0 where
+pub record RecordsView (S : Type 0) : Type 0 where
   pub conn : Held S
   pub failures : ℕ
 
-abbrev pub kept_code : {S : Type 0} → Coded S → Coded (Kept S)
+abbrev pub kept_code : {S : Type 0} → Coded S → Coded (RecordsView S)
 kept_code {S} store = code_by (Held S × ℕ) (coded× (held_code store) coded_ℕ) (λ k. (k.conn, k.failures)) (λ p. record { conn = p.0; failures = p.1 }) (λ _. refl)
 
 module _ {S : Type 0} (g : Ghosts S) where
-  abbrev pub kept_in : Kept S → List Entry
+  abbrev pub kept_in : RecordsView S → List Entry
   kept_in k = history_in (state g k.conn).now.trees
 
-  abbrev pub MayLeave : Kept S → Option (List Entry) → Type 0
+  abbrev pub MayLeave : RecordsView S → Option (List Entry) → Type 0
   MayLeave k = MayLeaveIn (state g k.conn)
 
-  abbrev pub IsOf : Kept S → Meta → Type 0
+  abbrev pub IsOf : RecordsView S → Meta → Type 0
   IsOf k = LeavesSite (state g k.conn)
 
-  abbrev pub IsTrusted : Kept S → Type 0
+  abbrev pub IsTrusted : RecordsView S → Type 0
   IsTrusted k = HasCleanDisk (state g k.conn)
 
   -- unless it has failed, the connection is at rest
@@ -122,7 +122,7 @@ abbrev pub most : ℕ
 most = 2 ^ 61
 
 -- why an entry is not known to be kept
-module _ {S : Type 0} (g : Ghosts S) (old new : Kept S) (entry : Entry) where
+module _ {S : Type 0} (g : Ghosts S) (old new : RecordsView S) (entry : Entry) where
   -- the INSERT of the entry at the end was answered with this error
   abbrev pub FailsToInsert : Error → Type 0
   FailsToInsert e = Executes insert_text (columns_of (length (kept_in g old)) entry) (state g old.conn) (state g new.conn) (Err e)

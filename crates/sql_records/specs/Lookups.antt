@@ -21,7 +21,7 @@ use Rattle.sql_records.specs.declared.lookup.FindFault.{FindFault}
 use Rattle.sql_records.specs.declared.lookup.FindFault.TheVariants.{Shut, Damaged, Memory, Disk}
 use Rattle.sql_records.specs.declared.lookup.Found.{Found}
 use Rattle.sql_records.specs.declared.lookup.Listed.{Listed}
-use Rattle.sql_records.specs.Rows.{value_in, request_in, reply_in}
+use Rattle.sql_records.specs.Rows.{positive_in, request_in, reply_in}
 
 -- ---- over the entries
 
@@ -79,7 +79,7 @@ found_of values = do
 unfoldable pub listed_of : Row → Option Listed
 listed_of values = do
   place ← place_in values
-  number ← value_in (column values 1)
+  number ← positive_in (column values 1)
   request ← request_in (column values 2) (column values 3) (column values 4) (column values 5)
   reply ← reply_in (column values 6) (column values 7)
   Some (record { place = place; number = number; request = request; reply = reply })

@@ -127,8 +127,8 @@ number_within low high (Int (pos n)) = if nat_le low n && nat_le n high then Som
 number_within low high _ = None
 
 -- a request number or an amount
-abbrev pub value_in : Value → Option ℕ
-value_in v = number_within 1 greatest_value v
+abbrev pub positive_in : Value → Option ℕ
+positive_in v = number_within 1 greatest_value v
 
 abbrev pub site_in : Value → Option ℕ
 site_in v = number_within 0 greatest_site v
@@ -154,29 +154,29 @@ announce_of event amount target = do
 unfoldable pub release_of : Value → Value → Value → Option Request
 release_of event amount target = do
   e ← event_in event
-  n ← value_in amount
+  n ← positive_in amount
   if is_null target then Some (Release e n) else None
 
 unfoldable pub sell_of : Value → Value → Value → Option Request
 sell_of event amount target = do
   e ← event_in event
-  n ← value_in amount
+  n ← positive_in amount
   if is_null target then Some (Sell e n) else None
 
 -- the part of a sale, or none where the column is null
 unfoldable pub part_in : Value → Option (Option ℕ)
-part_in amount = if is_null amount then Some None else option_map (λ n. Some n) (value_in amount)
+part_in amount = if is_null amount then Some None else option_map (λ n. Some n) (positive_in amount)
 
 unfoldable pub refund_in_columns : Value → Value → Value → Option Request
 refund_in_columns event amount target = do
-  sale ← value_in target
+  sale ← positive_in target
   part ← part_in amount
   if is_null event then Some (Refund sale part) else None
 
 unfoldable pub cede_of : Value → Value → Value → Option Request
 cede_of event amount target = do
   e ← event_in event
-  n ← value_in amount
+  n ← positive_in amount
   to ← site_in target
   Some (Cede e to n)
 
@@ -215,7 +215,7 @@ delta_in v = do
 
 unfoldable pub asked_of : Row → State → Option Entry
 asked_of values delta = do
-  number ← value_in (column values 2)
+  number ← positive_in (column values 2)
   request ← request_in (column values 3) (column values 4) (column values 5) (column values 6)
   reply ← reply_in (column values 7) (column values 8)
   Some (Asked number request reply delta)

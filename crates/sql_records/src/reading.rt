@@ -5,7 +5,7 @@ ghost use Rattle.sqlite.specs.Order.{column};
 ghost use Rattle.sqlite.specs.declared.types.Value.TheVariants.{Text};
 ghost use Rattle.sqlite_value.specs.Value.{owned};
 ghost use Rattle.rights_lattice.specs.State.{State};
-ghost use Rattle.sql_records.specs.Rows.{is_null, text_in, number_within, value_in, site_in, sites_in, event_in, verb_in, announce_of, release_of, sell_of, part_in, refund_in_columns, cede_of, request_of, request_in, rest_in, reply_in, delta_in, asks_nothing, asked_of, joined_of, is_grow, is_empty, only_grows, grown_of, own_of, entry_with, entry_of, with_delta, WantsForDelta, WantsForEntry, HasPart, IsOfVersion, too_many};
+ghost use Rattle.sql_records.specs.Rows.{is_null, text_in, number_within, positive_in, site_in, sites_in, event_in, verb_in, announce_of, release_of, sell_of, part_in, refund_in_columns, cede_of, request_of, request_in, rest_in, reply_in, delta_in, asks_nothing, asked_of, joined_of, is_grow, is_empty, only_grows, grown_of, own_of, entry_with, entry_of, with_delta, WantsForDelta, WantsForEntry, HasPart, IsOfVersion, too_many};
 
 use crate::columns::grow_word;
 use crate::version::Version;
@@ -58,14 +58,14 @@ pub fn number_within(low: u64, high: u64, value: ValueRef<'_>) -> Option<u64>
 
 /// A request number.
 pub fn request_number_in(value: ValueRef<'_>) -> Option<RequestNumber>
-    ensures { result ≡ value_in (owned value.entry) }
+    ensures { result ≡ positive_in (owned value.entry) }
 {
     let number = number_within(1, GREATEST_VALUE, value)?;
     RequestNumber::of(number)
 }
 
 fn amount_in(value: ValueRef<'_>) -> Option<Amount>
-    ensures { result ≡ value_in (owned value.entry) }
+    ensures { result ≡ positive_in (owned value.entry) }
 {
     let seats = number_within(1, GREATEST_VALUE, value)?;
     Amount::of(seats)

@@ -33,9 +33,9 @@ pub struct Records<S: Alter> {
 }
 
 impl<S: Alter> Model for Records<S> {
-    ghost use Rattle.sql_records.specs.Held.{Kept, kept_code, IsUnbroken};
+    ghost use Rattle.sql_records.specs.Held.{RecordsView, kept_code, IsUnbroken};
 
-    ghost Value = { Kept S };
+    ghost Value = { RecordsView S };
 
     ghost coded = { kept_code S.code };
 

@@ -6,7 +6,7 @@ use Rattle.book_core.specs.BookView.{BookView}
 use Rattle.book_core.specs.Decision.{Office}
 use Rattle.site_exchange.specs.declared.message.Message.{Message}
 use Rattle.site_exchange.specs.declared.message.Message.TheVariants.{Delta, Ack}
-use Rattle.site_exchange.specs.Exchange.{Site, Verdict, receiver, verdict}
+use Rattle.site_exchange.specs.Exchange.{SitePart, Verdict, receiver, verdict}
 use Rattle.site_exchange.specs.Taking.{MayTake, site_after, ack_due}
 use Rattle.world_steps.specs.NodeView.{NodeView}
 use Rattle.world_steps.specs.declared.node.Judged.{Judged}
@@ -69,7 +69,7 @@ judged_is nodes sent i message old kept to l is =
     let w : World = world_of nodes sent in
     let here = at_place nodes sent i old kept l is in
     ap (λ (f : Office). verdict f old.book.history message) (sym here.office)
-    ∙ ap (λ (s : Site). verdict (office_at w i) s.history message) (sym here.site)
+    ∙ ap (λ (s : SitePart). verdict (office_at w i) s.history message) (sym here.site)
     ∙ ap (λ k. verdict (office_at w k) (history_at w k) message) to
 
 -- a delivery that wants memory is acknowledged, or is taken with more memory
@@ -82,7 +82,7 @@ deliver_wants nodes sent index i message old kept sent_is to l is wants =
     let here = at_place nodes sent i old kept l is in
     let site_is : site_of old ≡ site_numbered w (receiver message) = sym here.site ∙ ap (site_numbered w) to in
     subst (λ (o : Option Message). IsSomeAnd o (λ m. IsSome (ack_due (judged w m) m) ⊎ MayTake (judged w m) (site_numbered w (receiver m)) m)) (sym sent_is)
-    (subst (λ (s : Site). IsSome (ack_due (judged w message) message) ⊎ MayTake (judged w message) s message) site_is
+    (subst (λ (s : SitePart). IsSome (ack_due (judged w message) message) ⊎ MayTake (judged w message) s message) site_is
     (subst (λ (v : Verdict). IsSome (ack_due v message) ⊎ MayTake v (site_of old) message) (judged_is nodes sent i message old kept to l is) wants))
 
 -- what a delivery gives
@@ -102,7 +102,7 @@ deliver_gives nodes sent index i message old new taken kept sent_is to l is offi
     let verdict_is = judged_is nodes sent i message old kept to l is in
     let told_is : verdict_told taken ≡ judged w message = taken_is ∙ verdict_is in
     let site_is : site_of new ≡ site_after (judged w message) message (site_numbered w i) =
-    changed ∙ ap (λ v. site_after v message (site_of old)) verdict_is ∙ ap (λ (s : Site). site_after (judged w message) message s) (sym here.site) in
+    changed ∙ ap (λ v. site_after v message (site_of old)) verdict_is ∙ ap (λ (s : SitePart). site_after (judged w message) message s) (sym here.site) in
     let after_is : after w (Deliver index) ≡ at_site (world_of nodes (with_sent sent (ack_due (verdict_told taken) message))) i (site_of new) =
     ap (delivered w) sent_is
     ∙ (λ k. record {

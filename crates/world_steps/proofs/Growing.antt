@@ -13,7 +13,7 @@ use Rattle.book_core.specs.Growing as growing
 use Rattle.book_core.specs.Growing.{GrowDecision, grow_decision, grown_if, entry_of_grow}
 use Rattle.book_core.specs.Plans.{IsGrowFault, IsGrowPlan}
 use Rattle.site_exchange.specs.declared.message.Message.{Message}
-use Rattle.site_exchange.specs.Exchange.{Site}
+use Rattle.site_exchange.specs.Exchange.{SitePart}
 use Rattle.site_exchange.specs.Taking.{with_entry, restarted}
 use Rattle.world_steps.specs.NodeView.{NodeView}
 use Rattle.world_steps.specs.declared.step.Input.TheVariants as input
@@ -53,7 +53,7 @@ pub decided_at : (nodes : List NodeView) (sent : List Message) (i sites : ℕ) (
 decided_at nodes sent i sites old kept l is =
     let w : World = world_of nodes sent in
     let here = at_place nodes sent i old kept l is in
-    ap (λ (s : Site). grow_decision (office_at w i) s.history sites) here.site
+    ap (λ (s : SitePart). grow_decision (office_at w i) s.history sites) here.site
     ∙ ap (λ (f : Office). grow_decision f old.book.history sites) here.office
 
 -- what a growth of a site is answered
@@ -66,7 +66,7 @@ grow_outcome nodes sent i sites old kept l is =
     ∙ ap (λ (d : GrowDecision). let r : Result Outcome WorldFault = Ok (grown_as d) in r) (decided_at nodes sent i sites old kept l is)
 
 -- more sites behind those that are there, of which one is another
-widened_at : (w : World) (i sites limit : ℕ) (site : Site) → i < count w → widened sites limit (at_site w i site) ≡ at_site (widened sites limit w) i site
+widened_at : (w : World) (i sites limit : ℕ) (site : SitePart) → i < count w → widened sites limit (at_site w i site) ≡ at_site (widened sites limit w) i site
 widened_at w i sites limit site l =
     let n : ℕ = sites - count w in
     let lacking : sites - length (set w.sites i site) ≡ n = ap (λ k. sites - k) (length-set w.sites i site) in
@@ -76,7 +76,7 @@ widened_at w i sites limit site l =
       sites = set w.sites i site ++ replicate k no_site;
       sent = w.sent;
     } in v) lacking
-    ∙ ap (λ (ss : List Site). let v : World = record {
+    ∙ ap (λ (ss : List SitePart). let v : World = record {
       limits = w.limits ++ replicate n limit;
       counts = w.counts ++ replicate n sites;
       sites = ss;
@@ -141,7 +141,7 @@ refused_gives nodes sent i sites old new fault kept l is office same told other 
     same_decision : grow_decision old.book.office old.book.history sites ≡ grow_decision new.book.office new.book.history sites
     same_decision =
         ap (λ (f : Office). grow_decision f old.book.history sites) (sym office)
-        ∙ ap (λ (s : Site). grow_decision new.book.office s.history sites) (sym same)
+        ∙ ap (λ (s : SitePart). grow_decision new.book.office s.history sites) (sym same)
 
     given : (d : GrowDecision) (f : GrowFault) → grow_decision new.book.office new.book.history sites ≡ d → grown_if d sites ≡ None → grown_as d ≡ outcomes.NotGrown f
         → IsGiven nodes sent (set nodes i new) (Grow i sites) (Ok (outcomes.NotGrown f))
@@ -171,7 +171,7 @@ stopped_growing w i sites = by_test (nat_lt i (count w)) refl
     entry : Option Entry
     entry = grows w i sites
 
-    site : Site
+    site : SitePart
     site = with_entry (grows w i sites) (site_numbered w i)
 
     grown : World
@@ -183,8 +183,8 @@ stopped_growing w i sites = by_test (nat_lt i (count w)) refl
         let there : i < count grown = omega (arith, l, length-set (widened_by entry i w).sites i site) in
         ap (λ (v : World). after v (Restart i)) (ap (λ b. cond b grown w) q)
         ∙ ap (λ b. cond b (at_site grown i (restarted (site_numbered grown i))) grown) (lt-ltb i (count grown) there)
-        ∙ ap (λ (s : Site). at_site grown i (restarted s)) (site_same (widened_by entry i w) i site l)
-        ∙ ap (λ (ss : List Site). let v : World = record (widened_by entry i w) { sites = ss } in v) (set-set (widened_by entry i w).sites i site (restarted site))
+        ∙ ap (λ (s : SitePart). at_site grown i (restarted s)) (site_same (widened_by entry i w) i site l)
+        ∙ ap (λ (ss : List SitePart). let v : World = record (widened_by entry i w) { sites = ss } in v) (set-set (widened_by entry i w).sites i site (restarted site))
         ∙ sym (ap (λ b. cond (b && true) (stopped_in w i entry true) w) q)
     by_test false q =
         ap (λ (v : World). after v (Restart i)) (ap (λ b. cond b grown w) q)
@@ -210,13 +210,13 @@ grown_made nodes sent i sites limit old planned node new entry reserved now kept
     let planned_is : node ≡ planned = node_is ∙ ap (λ (ns : List NodeView). get_or ns i node) reserved_is ∙ get_or-set_same nodes i planned node l in
     let decided : grow_decision old.book.office old.book.history sites ≡ growing.Grows =
     ap (λ (f : Office). grow_decision f old.book.history sites) (sym office)
-    ∙ ap (λ (s : Site). grow_decision planned.book.office s.history sites) (sym same)
+    ∙ ap (λ (s : SitePart). grow_decision planned.book.office s.history sites) (sym same)
     ∙ plan.grows in
     let now_office : new.book.office ≡ old.book.office = entered_office ∙ ap (λ (n : NodeView). n.book.office) planned_is ∙ office in
     let now_site : site_of new ≡ with_entry (Some (Grown sites)) (site_of old) =
     entered_site
     ∙ ap (λ (e : Entry). with_entry (Some e) (site_of node)) plan.is_growth
-    ∙ ap (λ (s : Site). with_entry (Some (Grown sites)) s) (ap site_of planned_is ∙ same) in
+    ∙ ap (λ (s : SitePart). with_entry (Some (Grown sites)) s) (ap site_of planned_is ∙ same) in
     let limit_of_old : limit ≡ limit_of old = limit_is ∙ ap (λ (n : NodeView). n.book.office.limit) planned_is ∙ ap (λ (f : Office). f.limit) office in
     let set_is : set reserved i new ≡ set nodes i new = ap (λ (ns : List NodeView). set ns i new) reserved_is ∙ set-set nodes i planned new in
     grow_made nodes sent i sites old new now kept l is now_office decided few now_site

@@ -7,7 +7,7 @@ use Rattle.book_core.specs.declared.entry.Entry.{Entry}
 use Rattle.book_core.specs.Decision.{Office, decision, entry_of_ask, sites_of}
 use Rattle.book_core.specs.Plans.{IsFresh}
 use Rattle.site_exchange.specs.declared.message.Message.{Message}
-use Rattle.site_exchange.specs.Exchange.{Site, zeros, next}
+use Rattle.site_exchange.specs.Exchange.{SitePart, zeros, next}
 use Rattle.site_exchange.specs.Taking.{with_entry, restarted, stopped_with}
 use Rattle.world_steps.specs.NodeView.{NodeView}
 use Rattle.world_steps.specs.declared.step.Input.{Input}
@@ -56,7 +56,7 @@ ask_gives nodes sent i number request old new (Ok o) kept l is office answer mem
     let site_is : site_of new ≡ with_entry (asks w i number request) (site_numbered w i) =
     entered
     ∙ ap (λ (f : Office). with_entry (entry_of_ask f old.book.history number request) (site_of old)) (sym here.office)
-    ∙ ap (λ (s : Site). with_entry (entry_of_ask (office_at w i) s.history number request) s) (sym here.site) in
+    ∙ ap (λ (s : SitePart). with_entry (entry_of_ask (office_at w i) s.history number request) s) (sym here.site) in
     let after_is : after w (Ask i number request) ≡ at_site w i (site_of new) =
     ap (λ b. cond b (at_site w i (with_entry (asks w i number request) (site_numbered w i))) w) (lt-ltb i (count w) here.below)
     ∙ ap (at_site w i) (sym site_is) in
@@ -65,7 +65,7 @@ ask_gives nodes sent i number request old new (Ok o) kept l is office answer mem
       kept = made.kept;
       outcome =
           answered_at w i number request here.below
-          ∙ ap (λ (s : Site). let r : Result Outcome WorldFault = Ok (answered (decision (office_at w i) s.history number request)) in r) here.site
+          ∙ ap (λ (s : SitePart). let r : Result Outcome WorldFault = Ok (answered (decision (office_at w i) s.history number request)) in r) here.site
           ∙ ap (λ (f : Office). let r : Result Outcome WorldFault = Ok (answered (decision f old.book.history number request)) in r) here.office
           ∙ ap (λ (a : Outcome). let r : Result Outcome WorldFault = Ok a in r) (sym answer);
       due = tt;
@@ -89,7 +89,7 @@ pub ask_wants : (nodes : List NodeView) (sent : List Message) (i number : ℕ) (
 ask_wants nodes sent i number request old kept l is fresh =
     let w : World = world_of nodes sent in
     let here = at_place nodes sent i old kept l is in
-    subst (λ (s : Site). IsFresh (decision (office_at w i) s.history number request)) (sym here.site)
+    subst (λ (s : SitePart). IsFresh (decision (office_at w i) s.history number request)) (sym here.site)
     (subst (λ (f : Office). IsFresh (decision f old.book.history number request)) (sym here.office) fresh)
 
 -- a stop that wants memory stores what wants it
@@ -99,7 +99,7 @@ stop_wants nodes sent i in_hand stored old kept l is stores wants =
     let w : World = world_of nodes sent in
     let here = at_place nodes sent i old kept l is in (
       stores,
-      subst (λ (s : Site). MayStore (office_at w i) s.history sent in_hand) (sym here.site)
+      subst (λ (s : SitePart). MayStore (office_at w i) s.history sent in_hand) (sym here.site)
           (subst (λ (f : Office). MayStore f old.book.history sent in_hand) (sym here.office) wants),
     )
 
@@ -121,11 +121,11 @@ stop_made nodes sent i in_hand stored old new kept l is there kind office stoppe
     let w : World = world_of nodes sent in
     let here = at_place nodes sent i old kept l is in
     let entry : Option Entry = entry_of_input (office_at w i) (history_at w i) sent in_hand in
-    let site : Site = stopped_with entry stored (site_numbered w i) in
+    let site : SitePart = stopped_with entry stored (site_numbered w i) in
     let site_is : site_of new ≡ site =
     stopped
     ∙ ap (λ (f : Office). stopped_with (entry_of_input f old.book.history sent in_hand) stored (site_of old)) (sym here.office)
-    ∙ ap (λ (s : Site). stopped_with (entry_of_input (office_at w i) s.history sent in_hand) stored s) (sym here.site) in
+    ∙ ap (λ (s : SitePart). stopped_with (entry_of_input (office_at w i) s.history sent in_hand) stored s) (sym here.site) in
     made_at nodes sent sent i old new (Stop i in_hand stored) kept here.found office
     ((λ k. cond (lt-ltb i (count w) here.below k && there k) (stopped_in w i entry stored) w)
     ∙ ap (λ (v : World). at_site v i site) (input_adds_none (office_at w i) (history_at w i) sent in_hand kind stored i w)
@@ -180,7 +180,7 @@ pub send_made : (nodes : List NodeView) (sent : List Message) (i j : ℕ) (old :
 send_made nodes sent i j old due kept l is peers due_is =
     let w : World = world_of nodes sent in
     let here = at_place nodes sent i old kept l is in
-    let same : due ≡ next i (site_numbered w i) j = due_is ∙ ap (λ (f : Office). next f.me (site_of old) j) (sym here.office) ∙ ap (λ (s : Site). next i s j) (sym here.site) in
+    let same : due ≡ next i (site_numbered w i) j = due_is ∙ ap (λ (f : Office). next f.me (site_of old) j) (sym here.office) ∙ ap (λ (s : SitePart). next i s j) (sym here.site) in
     sent_made nodes sent (with_sent sent due) (Send i j) kept
     (ap (λ b. cond b (sends (next i (site_numbered w i) j) w) w) peers ∙ ap (λ (o : Option Message). world_of nodes (with_sent sent o)) (sym same))
 
@@ -202,7 +202,7 @@ peer_counted nodes sent i j old kept l is peers =
     omega (
       arith,
       ltb-true j (count_at w i) (and_parts (nat_lt i (count w)) (nat_lt j (count_at w i)) front).1,
-      ap (λ (s : Site). sites_of (office_at w i) s.history) here.site,
+      ap (λ (s : SitePart). sites_of (office_at w i) s.history) here.site,
       ap (λ (f : Office). sites_of f old.book.history) here.office,
     )
 
@@ -212,7 +212,7 @@ pub acked_within : (nodes : List NodeView) (sent : List Message) (i : ℕ) (old 
 acked_within nodes sent i old kept l is j =
     let w : World = world_of nodes sent in
     let here = at_place nodes sent i old kept l is in
-    subst (λ (s : Site). get_or s.acked j 0 ≤ length s.history) here.site ((sound_in w kept.reached).acked i j).0
+    subst (λ (s : SitePart). get_or s.acked j 0 ≤ length s.history) here.site ((sound_in w kept.reached).acked i j).0
 
 -- a delivery of a message that was sent is not refused
 pub sent_is_due : (w : World) (index : ℕ) → index < length w.sent → IsDue w (Deliver index) Memory

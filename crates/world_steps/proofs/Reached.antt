@@ -3,7 +3,7 @@ use Rattle.std.proofs.Common.{◌≡◌, ℕ, ◌≤◌, Bool, true, false, cond
 use Rattle.std.specs.Prelude.{nat_lt, slice_get, length}
 use Rattle.std.proofs.lemmas.List.{length-replicate, get_or_past}
 use Rattle.site_exchange.specs.declared.message.Message.{Message}
-use Rattle.site_exchange.specs.Exchange.{Site, next, receiver}
+use Rattle.site_exchange.specs.Exchange.{SitePart, next, receiver}
 use Rattle.site_exchange.specs.Taking.{with_entry, site_after, restarted, stopped_with}
 use Rattle.book_core.specs.declared.entry.Entry.{Entry}
 use Rattle.rights_lattice.specs.Sums.{max_sites}
@@ -18,7 +18,7 @@ few_either : (b : Bool) (u w : World) → count u ≤ max_sites → count w ≤ 
 few_either true u w there here = there
 few_either false u w there here = here
 
-few_at : (w : World) (i : ℕ) (site : Site) → count w ≤ max_sites → count (at_site w i site) ≤ max_sites
+few_at : (w : World) (i : ℕ) (site : SitePart) → count w ≤ max_sites → count (at_site w i site) ≤ max_sites
 few_at w i site few = omega (arith, few, length-set w.sites i site)
 
 few_given : (o : Option Message) (w : World) → count w ≤ max_sites → count (delivered w o) ≤ max_sites
@@ -33,7 +33,7 @@ few_stopped w i entry false there few = few_at w i (restarted (site_numbered w i
 -- no step adds more sites than there can be
 pub few_after : (w : World) (step : Step) → Sound w → count w ≤ max_sites → count (after w step) ≤ max_sites
 few_after w (Ask i number request) sound few =
-    let site : Site = with_entry (asks w i number request) (site_numbered w i) in
+    let site : SitePart = with_entry (asks w i number request) (site_numbered w i) in
     few_either (nat_lt i (count w)) (at_site w i site) w (few_at w i site few) few
 few_after w (Send i j) sound few = few_either (are_peers w i j) (sends (next i (site_numbered w i) j) w) w few few
 few_after w (Deliver index) sound few = few_given (slice_get w.sent index) w few
@@ -43,7 +43,7 @@ few_after w (Stop i in_hand stored) sound few =
     few_either (nat_lt i (count w) && is_there w.sent in_hand) (stopped_in w i entry stored) w
     (few_stopped w i entry stored (λ is. few_entered w i entry (stopped_with entry true (site_numbered w i)) (may_store w i in_hand sound) few) few) few
 few_after w (Grow i sites) sound few =
-    let site : Site = with_entry (grows w i sites) (site_numbered w i) in
+    let site : SitePart = with_entry (grows w i sites) (site_numbered w i) in
     few_either (nat_lt i (count w)) (entered (grows w i sites) i site w) w (few_entered w i (grows w i sites) site (may_grow w i sites sound) few) few
 
 few_run : (steps : List Step) (w : World) → Sound w → count w ≤ max_sites → count (run steps w) ≤ max_sites
@@ -66,7 +66,7 @@ few_reached limits steps few =
 
 -- a site that is not there has no history
 pub no_history : (w : World) (i : ℕ) → count w ≤ i → history_at w i ≡ []
-no_history w i l = ap (λ (site : Site). site.history) (get_or_past w.sites i no_site l)
+no_history w i l = ap (λ (site : SitePart). site.history) (get_or_past w.sites i no_site l)
 
 pub run-append : (steps more : List Step) (w : World) → run (steps ++ more) w ≡ run more (run steps w)
 run-append [] more w = refl

@@ -6,7 +6,7 @@ use Rattle.std.proofs.lemmas.List.{length-replicate, map-append, set-get_or}
 use Rattle.rights_lattice.specs.Sums.{max_sites}
 use Rattle.book_core.specs.Decision.{Office}
 use Rattle.site_exchange.specs.declared.message.Message.{Message}
-use Rattle.site_exchange.specs.Exchange.{Site, zeros}
+use Rattle.site_exchange.specs.Exchange.{SitePart, zeros}
 use Rattle.world_steps.specs.NodeView.{NodeView}
 use Rattle.world_steps.specs.declared.step.Step.{Step}
 use Rattle.world_steps.specs.Nodes.{site_of, limit_of, first_count_of, AreAdded}
@@ -41,7 +41,7 @@ all_counting sites (node ∷ nodes) same =
 pub sites_set : (nodes : List NodeView) (i : ℕ) (node : NodeView) → map site_of (set nodes i node) ≡ set (map site_of nodes) i (site_of node)
 sites_set [] i node = refl
 sites_set (n ∷ nodes) zero node = refl
-sites_set (n ∷ nodes) (suc i) node = ap (λ (ss : List Site). site_of n ∷ ss) (sites_set nodes i node)
+sites_set (n ∷ nodes) (suc i) node = ap (λ (ss : List SitePart). site_of n ∷ ss) (sites_set nodes i node)
 
 -- a site with the same limit in its place
 limits_set : (nodes : List NodeView) (i : ℕ) (old new : NodeView) → slice_get nodes i ≡ Some old → limit_of new ≡ limit_of old → map limit_of (set nodes i new) ≡ map limit_of nodes
@@ -79,7 +79,7 @@ length-sites (n ∷ nodes) = ap suc (length-sites nodes)
 
 -- the history of a site of the program
 pub history_found : (nodes : List NodeView) (sent : List Message) (i : ℕ) (node : NodeView) → slice_get nodes i ≡ Some node → history_at (world_of nodes sent) i ≡ node.book.history
-history_found nodes sent i node found = ap (λ (s : Site). s.history) (site_found nodes i node found)
+history_found nodes sent i node found = ap (λ (s : SitePart). s.history) (site_found nodes i node found)
 
 -- the book is of the site that its place names
 abbrev IsInPlace : ℕ → NodeView → Type 0

@@ -15,7 +15,7 @@ use Rattle.book_core.proofs.Histories.{sites_of-push}
 use Rattle.site_exchange.specs.declared.message.Message.{Message}
 use Rattle.site_exchange.specs.declared.message.Message.TheVariants.{Delta, Ack}
 use Rattle.site_exchange.specs.Exchange as exchange
-use Rattle.site_exchange.specs.Exchange.{Site, Verdict, verdict, entry_of_take}
+use Rattle.site_exchange.specs.Exchange.{SitePart, Verdict, verdict, entry_of_take}
 use Rattle.site_exchange.specs.Taking.{extended}
 use Rattle.world_steps.specs.declared.step.Input.{Input}
 use Rattle.world_steps.specs.declared.step.Input.TheVariants as input
@@ -55,17 +55,17 @@ count_added w sites limit i sound m l =
 pub widened_grows : (w : World) (sites limit : ℕ) → Grows w (widened sites limit w)
 widened_grows w sites limit = record {
   count = omega (arith, count_widened w sites limit);
-  histories = λ i. ([], ap (λ (s : Site). s.history) (site_widened w sites limit i) ∙ sym (append-nil (history_at w i)));
+  histories = λ i. ([], ap (λ (s : SitePart). s.history) (site_widened w sites limit i) ∙ sym (append-nil (history_at w i)));
 }
 
 pub sound_widened : (w : World) (sites limit : ℕ) → Sound w → Sound (widened sites limit w)
 sound_widened w sites limit sound =
     record {
       legal = legal_at;
-      versions = λ i a k. subst (λ (s : Site). HasVersion v k (state_of (take a s.history))) (sym (site_widened w sites limit i))
+      versions = λ i a k. subst (λ (s : SitePart). HasVersion v k (state_of (take a s.history))) (sym (site_widened w sites limit i))
           (version_grows w v k (state_of (take a (history_at w i))) grown (sound.versions i a k));
       sent = λ k message found. sound_grows w v message grown (sound.sent k message found);
-      acked = λ i j. subst (λ (s : Site). IsAcked v i j (get_or s.acked j 0)) (sym (site_widened w sites limit i))
+      acked = λ i j. subst (λ (s : SitePart). IsAcked v i j (get_or s.acked j 0)) (sym (site_widened w sites limit i))
           (acked_grows w v i j (get_or (site_numbered w i).acked j 0) grown (sound.acked i j));
       limits = omega (arith, sound.limits, length-append w.limits (replicate lacking limit), length-replicate lacking limit, more);
       counts = omega (arith, sound.counts, length-append w.counts (replicate lacking sites), length-replicate lacking sites, more);
@@ -86,12 +86,12 @@ sound_widened w sites limit sound =
     grown = widened_grows w sites limit
 
     none : (i : ℕ) → count w ≤ i → history_at (widened sites limit w) i ≡ []
-    none i m = ap (λ (s : Site). s.history) (site_widened w sites limit i ∙ get_or_past w.sites i no_site m)
+    none i m = ap (λ (s : SitePart). s.history) (site_widened w sites limit i ∙ get_or_past w.sites i no_site m)
 
     legal_at : (i : ℕ) → IsLegal (office_at (widened sites limit w) i) (history_at (widened sites limit w) i)
     legal_at i = elim (cases_lt i (count w)) [
       | inl l ↦ subst (λ (o : Office). IsLegal o (history_at (widened sites limit w) i)) (sym (office_widened w sites limit i sound l))
-          (subst (λ (s : Site). IsLegal (office_at w i) s.history) (sym (site_widened w sites limit i)) (sound.legal i))
+          (subst (λ (s : SitePart). IsLegal (office_at w i) s.history) (sym (site_widened w sites limit i)) (sound.legal i))
       | inr m ↦ λ k entry found. cc (ap (λ (h : List Entry). slice_get h k) (none i m))
     ]
 
@@ -107,7 +107,7 @@ sound_widened w sites limit sound =
         arith,
         sound.few i,
         ap (λ (o : Office). sites_of o (history_at (widened sites limit w) i)) (office_widened w sites limit i sound l),
-        ap (λ (s : Site). sites_of (office_at w i) s.history) (site_widened w sites limit i),
+        ap (λ (s : SitePart). sites_of (office_at w i) s.history) (site_widened w sites limit i),
         more,
       )
       | inr m ↦ elim (cases_lt i (count (widened sites limit w))) [
@@ -170,25 +170,25 @@ wider w i (Some (Grown sites)) sound l =
 may_widened : (w v : World) (i : ℕ) (o : Option Entry) → IsWider w v i → MayFollow w i o → MayFollow v i o
 may_widened w v i None wide may = tt
 may_widened w v i (Some entry) wide may = (
-  subst (λ (o : Office). IsNext o (history_at v i) entry) (sym wide.office) (subst (λ (s : Site). IsNext (office_at w i) s.history entry) (sym wide.site) may.0),
-  λ k ne. subst (λ (s : Site). HasVersion v k (state_of (s.history ++ entry ∷ []))) (sym wide.site)
+  subst (λ (o : Office). IsNext o (history_at v i) entry) (sym wide.office) (subst (λ (s : SitePart). IsNext (office_at w i) s.history entry) (sym wide.site) may.0),
+  λ k ne. subst (λ (s : SitePart). HasVersion v k (state_of (s.history ++ entry ∷ []))) (sym wide.site)
       (version_grows w v k (state_of (history_at w i ++ entry ∷ [])) wide.grows (may.1 k ne)),
 )
 
 -- an entry that may follow keeps what holds, with the sites that it adds
-pub sound_entered : (w : World) (i : ℕ) (o : Option Entry) (site : Site) → Sound w → i < count w → MayFollow w i o → site.history ≡ extended o (history_at w i)
+pub sound_entered : (w : World) (i : ℕ) (o : Option Entry) (site : SitePart) → Sound w → i < count w → MayFollow w i o → site.history ≡ extended o (history_at w i)
     → ((j : ℕ) → IsAcked w i j (get_or site.acked j 0)) → Sound (entered o i site w)
 sound_entered w i o site sound l may is acked =
     let v : World = widened_by o i w in
     let wide = wider w i o sound l in
-    let history_is : extended o (history_at v i) ≡ site.history = ap (λ (s : Site). extended o s.history) wide.site ∙ sym is in
+    let history_is : extended o (history_at v i) ≡ site.history = ap (λ (s : SitePart). extended o s.history) wide.site ∙ sym is in
     sound_site v i site wide.sound (omega (arith, l, wide.grows.count))
     (subst (GoesOn v i) history_is (goes_on v i o wide.sound (may_widened w v i o wide may)))
     (omega (arith, fewer w i o sound, ap (λ (f : Office). sites_of f site.history) wide.office, ap (sites_of (office_at w i)) is))
     (λ j. acked_grows w v i j (get_or site.acked j 0) wide.grows (acked j))
 
 -- no more sites than there can be are added
-pub few_entered : (w : World) (i : ℕ) (o : Option Entry) (site : Site) → MayFollow w i o → count w ≤ max_sites → count (entered o i site w) ≤ max_sites
+pub few_entered : (w : World) (i : ℕ) (o : Option Entry) (site : SitePart) → MayFollow w i o → count w ≤ max_sites → count (entered o i site w) ≤ max_sites
 unfolding max_sites
 few_entered w i o site may few = omega (arith, length-set (widened_by o i w).sites i site, by_entry o may)
   where

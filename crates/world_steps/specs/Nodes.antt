@@ -1,13 +1,13 @@
 -- The sites of a world as the program holds them. (Our own.)
 use Rattle.std.specs.Prelude.{◌≡◌, ℕ, ◌+◌, ◌-◌, List, [], ◌++◌, length, slice_get, Some}
 use Rattle.site_exchange.specs.Exchange as exchange
-use Rattle.site_exchange.specs.Exchange.{Site, Verdict, zeros}
+use Rattle.site_exchange.specs.Exchange.{SitePart, Verdict, zeros}
 use Rattle.world_steps.specs.NodeView.{NodeView}
 use Rattle.world_steps.specs.declared.node.Judged.{Judged}
 use Rattle.world_steps.specs.declared.node.Judged.TheVariants as taken
 
 -- a site's history, and what each peer has acknowledged of it
-abbrev pub site_of : NodeView → Site
+abbrev pub site_of : NodeView → SitePart
 site_of node = record { history = node.book.history; acked = node.acked }
 
 -- the greatest length of a site's history

@@ -17,7 +17,7 @@ use Rattle.book_core.specs.History.{state_of}
 use Rattle.book_core.specs.Decision.{Office, entry_of_ask, sites_of}
 use Rattle.book_core.specs.Growing.{entry_of_grow}
 use Rattle.book_core.specs.Operations.{Operation, operations_below, released, sold, refunded}
-use Rattle.site_exchange.specs.Exchange.{Site, zeros, Verdict, next, receiver, verdict, entry_of_take}
+use Rattle.site_exchange.specs.Exchange.{SitePart, zeros, Verdict, next, receiver, verdict, entry_of_take}
 use Rattle.site_exchange.specs.Taking.{with_entry, site_after, ack_due, restarted, stopped_with}
 
 -- the greatest length of each site's history, the count of sites with which it began, the sites, and all messages
@@ -25,11 +25,11 @@ use Rattle.site_exchange.specs.Taking.{with_entry, site_after, ack_due, restarte
 pub record World : Type 0 where
   pub limits : List ℕ
   pub counts : List ℕ
-  pub sites : List Site
+  pub sites : List SitePart
   pub sent : List Message
 
 -- a site before any step
-abbrev pub no_site : Site
+abbrev pub no_site : SitePart
 no_site = record { history = []; acked = zeros }
 
 -- sites with these limits, before any step, each counting so many
@@ -53,7 +53,7 @@ opening n limit = opened (replicate n limit)
 abbrev pub count : World → ℕ
 count w = length w.sites
 
-abbrev pub site_numbered : World → ℕ → Site
+abbrev pub site_numbered : World → ℕ → SitePart
 site_numbered w i = get_or w.sites i no_site
 
 abbrev pub history_at : World → ℕ → List Entry
@@ -67,7 +67,7 @@ abbrev pub count_at : World → ℕ → ℕ
 count_at w i = sites_of (office_at w i) (history_at w i)
 
 -- the world with this site in the place of the one that was there
-abbrev pub at_site : World → ℕ → Site → World
+abbrev pub at_site : World → ℕ → SitePart → World
 at_site w i site = record w { sites = set w.sites i site }
 
 -- with the sites that it lacks of so many: each empty, with this limit, and counting so many
@@ -89,7 +89,7 @@ widened_by (Some (Joined peer delta)) i w = w
 widened_by (Some (Grown sites)) i w = widened sites (get_or w.limits i 0) w
 
 -- site i got this entry, if any, and became this site
-abbrev pub entered : Option Entry → ℕ → Site → World → World
+abbrev pub entered : Option Entry → ℕ → SitePart → World → World
 entered entry i site w = at_site (widened_by entry i w) i site
 
 -- the list with this message, if any, at its end

@@ -19,7 +19,8 @@ use std::alloc::Global;
 impl Book {
     /// The book with this history.
     ///
-    /// `IllegalAt` where an entry may not follow those before it; it names the place of the first, from 0.
+    /// `IllegalAt` where an entry may not follow those before it; it names the place of the first, from 0. `Memory`
+    /// where room was wanting for an entry that may follow; what stands behind it was not looked at.
     pub fn replay(
         alloc: Global,
         me: SiteId,

@@ -4,8 +4,8 @@ use Rattle.sqlite.specs.Effect.{Database}
 use Rattle.sqlite.specs.Held.{state}
 use Rattle.book_core.specs.declared.entry.Entry.{Entry}
 use Rattle.book_core.specs.Decision.{Office}
-use Rattle.site_exchange.specs.Exchange.{Site}
-use Rattle.sql_records.specs.Held.{Kept, IsTrusted}
+use Rattle.site_exchange.specs.Exchange.{SitePart}
+use Rattle.sql_records.specs.Held.{RecordsView, IsTrusted}
 use Rattle.sql_records.specs.Layout.{HasMeta, office_of}
 use Rattle.site_desk.specs.SiteView.{SiteView, site_of}
 use Rattle.operator_cli.specs.Exchanged.{IsDueText, IsDueTold, stored_site}
@@ -26,20 +26,20 @@ returns-in-Ok-clause-out g c =
 
 pub returns-in-Ok-clause-due : goal.returns-in-Ok-clause-due
 returns-in-Ok-clause-due g c =
-    if_some_is _ _ _ (c.close_book.ensures.back ∙ ap (λ (b : SiteView (Kept g.row.S.Denot)). Some b.keeper.conn) c.write_next-came.ensures.same) (λ clean meta has.
+    if_some_is _ _ _ (c.close_book.ensures.back ∙ ap (λ (b : SiteView (RecordsView g.row.S.Denot)). Some b.keeper.conn) c.write_next-came.ensures.same) (λ clean meta has.
     let db = (state g.S.Store c.args.conn).now.trees in
     let a = g.W.Write.contents c.args.out.now in
     let b = g.W.Write.contents c.write_next-came.new.out in
     let trusted : IsTrusted g.S.Store c.in-Ok.book.keeper = clean in
     let of = c.in-Ok.ensures.book trusted in
     let site : site_of c.in-Ok.book ≡ stored_site db = λ i. record { history = of.history i; acked = of.fresh i } in
-    let here = subst (λ (s : Site). IfOk c.write_next-came.result (Printed (IsDueText c.in-Ok.book.book.office s c.args.to) a b)) site c.write_next-came.ensures.due in
+    let here = subst (λ (s : SitePart). IfOk c.write_next-came.result (Printed (IsDueText c.in-Ok.book.book.office s c.args.to) a b)) site c.write_next-came.ensures.due in
     let came = subst (λ (o : Office). IfOk c.write_next-came.result (Printed (IsDueText o (stored_site db) c.args.to) a b)) (of.office meta has) here in
     ends_printed (IsDueText (office_of meta) (stored_site db) c.args.to) a b (g.W.Write.contents c.close_book.new.out) c.write_next-came.result c.close_book.result.0 came c.close_book.ensures.kept c.close_book.ensures.status)
 
 pub returns-in-Ok-clause-same : goal.returns-in-Ok-clause-same
 returns-in-Ok-clause-same g c =
-    if_some_is _ _ _ (c.close_book.ensures.back ∙ ap (λ (b : SiteView (Kept g.row.S.Denot)). Some b.keeper.conn) c.write_next-came.ensures.same) (λ clean.
+    if_some_is _ _ _ (c.close_book.ensures.back ∙ ap (λ (b : SiteView (RecordsView g.row.S.Denot)). Some b.keeper.conn) c.write_next-came.ensures.same) (λ clean.
     let trusted : IsTrusted g.S.Store c.in-Ok.book.keeper = clean in
     (c.in-Ok.ensures.same trusted, c.in-Ok.ensures.autocommit trusted ∙ sym c.in-Ok.ensures.settled))
 
@@ -71,15 +71,15 @@ returns-in-Err-clause-ours g c =
 
 pub returns-in-Ok-clause-ours : goal.returns-in-Ok-clause-ours
 returns-in-Ok-clause-ours g c =
-    if_some_is _ _ _ (c.close_book.ensures.back ∙ ap (λ (b : SiteView (Kept g.row.S.Denot)). Some b.keeper.conn) c.write_next-came.ensures.same) (opened_ours g.S.Store c.args.conn c.in-Ok.book.keeper.conn c.in-Ok.book (book_back g.S.Store c.args.conn c.in-Ok.book.keeper.conn c.in-Ok.book c.in-Ok.book.keeper c.in-Ok.book.keeper refl (λ h. h) refl c.in-Ok.ensures.book))
+    if_some_is _ _ _ (c.close_book.ensures.back ∙ ap (λ (b : SiteView (RecordsView g.row.S.Denot)). Some b.keeper.conn) c.write_next-came.ensures.same) (opened_ours g.S.Store c.args.conn c.in-Ok.book.keeper.conn c.in-Ok.book (book_back g.S.Store c.args.conn c.in-Ok.book.keeper.conn c.in-Ok.book c.in-Ok.book.keeper c.in-Ok.book.keeper refl (λ h. h) refl c.in-Ok.ensures.book))
 
 pub returns-in-Ok-clause-illegal : goal.returns-in-Ok-clause-illegal
 returns-in-Ok-clause-illegal g c =
-    if_some_is _ _ _ (c.close_book.ensures.back ∙ ap (λ (b : SiteView (Kept g.row.S.Denot)). Some b.keeper.conn) c.write_next-came.ensures.same) (opened_illegal g.S.Store c.args.conn c.in-Ok.book.keeper.conn c.in-Ok.book (book_back g.S.Store c.args.conn c.in-Ok.book.keeper.conn c.in-Ok.book c.in-Ok.book.keeper c.in-Ok.book.keeper refl (λ h. h) refl c.in-Ok.ensures.book) (g.W.Write.contents c.args.out.now) (g.W.Write.contents c.close_book.new.out) (g.E.Write.contents c.args.err.now) (g.E.Write.contents c.close_book.new.err) c.close_book.result.0)
+    if_some_is _ _ _ (c.close_book.ensures.back ∙ ap (λ (b : SiteView (RecordsView g.row.S.Denot)). Some b.keeper.conn) c.write_next-came.ensures.same) (opened_illegal g.S.Store c.args.conn c.in-Ok.book.keeper.conn c.in-Ok.book (book_back g.S.Store c.args.conn c.in-Ok.book.keeper.conn c.in-Ok.book c.in-Ok.book.keeper c.in-Ok.book.keeper refl (λ h. h) refl c.in-Ok.ensures.book) (g.W.Write.contents c.args.out.now) (g.W.Write.contents c.close_book.new.out) (g.E.Write.contents c.args.err.now) (g.E.Write.contents c.close_book.new.err) c.close_book.result.0)
 
 pub returns-in-Ok-clause-cause : goal.returns-in-Ok-clause-cause
 returns-in-Ok-clause-cause g c =
-    if_some_is _ _ _ (c.close_book.ensures.back ∙ ap (λ (b : SiteView (Kept g.row.S.Denot)). Some b.keeper.conn) c.write_next-came.ensures.same) (λ clean.
+    if_some_is _ _ _ (c.close_book.ensures.back ∙ ap (λ (b : SiteView (RecordsView g.row.S.Denot)). Some b.keeper.conn) c.write_next-came.ensures.same) (λ clean.
     let came = c.write_next-came.result in
     let book = c.in-Ok.book in
     let opened = book.keeper.conn in
@@ -95,7 +95,7 @@ returns-in-Ok-clause-cause g c =
     let due = IsDueText book.book.office (site_of book) c.args.to in
     let says = IsDueTold db c.args.to in
     let same_told : (status : Status) (text : List ℕ) → due status text → says status text =
-    λ status text is meta has. subst₂ (λ (o : Office) (s : Site). IsDueText o s c.args.to status text) (of.office meta has) site is in
+    λ status text is meta has. subst₂ (λ (o : Office) (s : SitePart). IsDueText o s c.args.to status text) (of.office meta has) site is in
     let ended = weaker _ (IsExportEnd c.args.to (state g.S.Store opened) (state g.S.Store opened)) came
     (λ f e meta has. export_end c.args.to book meta (state g.S.Store opened).now.trees f of.unclosed (of.office meta (subst (HasMeta meta) now has)) (site ∙ ap stored_site (sym now)) e) c.write_next-came.ensures.fault in
     opened_cause g.S.Store c.args.conn opened book back (IsExportEnd c.args.to) says opened before after (g.E.Write.contents c.args.err.now) (g.E.Write.contents c.close_book.new.err) came c.close_book.result.0 clean (c.in-Ok.ensures.unchanged clean) c.in-Ok.ensures.limit ended (always came _ (λ meta has. tt))
@@ -117,7 +117,7 @@ returns-in-Ok-clause-silent g c =
 
 pub returns-in-Ok-clause-stopped : goal.returns-in-Ok-clause-stopped
 returns-in-Ok-clause-stopped g c =
-    if_some_is _ _ _ (c.close_book.ensures.back ∙ ap (λ (b : SiteView (Kept g.row.S.Denot)). Some b.keeper.conn) c.write_next-came.ensures.same) (λ clean left may.
+    if_some_is _ _ _ (c.close_book.ensures.back ∙ ap (λ (b : SiteView (RecordsView g.row.S.Denot)). Some b.keeper.conn) c.write_next-came.ensures.same) (λ clean left may.
     let trusted : IsTrusted g.S.Store c.in-Ok.book.keeper = clean in
     (c.in-Ok.ensures.rests trusted).alone left may ∙ ap (λ (h : List Entry). Some h) (c.in-Ok.ensures.kept trusted))
 

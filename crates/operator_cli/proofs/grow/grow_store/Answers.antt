@@ -5,7 +5,7 @@ use Rattle.sqlite.specs.Held.{state}
 use Rattle.book_core.specs.declared.entry.Entry.{Entry}
 use Rattle.book_core.specs.Decision.{Office}
 use Rattle.book_core.specs.Growing.{grow_decision}
-use Rattle.sql_records.specs.Held.{IsTrusted, Kept, MayLeaveIn, history_in}
+use Rattle.sql_records.specs.Held.{IsTrusted, RecordsView, MayLeaveIn, history_in}
 use Rattle.sql_records.specs.declared.meta.Meta.{Meta}
 use Rattle.sql_records.specs.Layout.{HasMeta, office_of}
 use Rattle.operator_cli.specs.declared.status.Status.{Status}
@@ -42,7 +42,7 @@ returns-in-Ok-clause-kept g c =
     if_some_is _ _ _ c.close_book.ensures.back (λ clean refused.
     let after : IsTrusted g.S.Store c.write_grown-came.new.book.keeper = clean in
     let unchanged = ends_as (λ (status : Status). status ≡ Refused → c.write_grown-came.new.book.keeper ≡ c.in-Ok.book.keeper) c.write_grown-came.result c.close_book.result.0 c.write_grown-came.ensures.kept (λ e. absurd (let is = e in cc)) c.close_book.ensures.status refused in
-    ap (λ (k : Kept g.row.S.Denot). (state g.S.Store k.conn).now) unchanged
+    ap (λ (k : RecordsView g.row.S.Denot). (state g.S.Store k.conn).now) unchanged
     ∙ c.in-Ok.ensures.same (c.write_grown-came.ensures.trusted after))
 
 pub returns-in-Ok-clause-holds : goal.returns-in-Ok-clause-holds

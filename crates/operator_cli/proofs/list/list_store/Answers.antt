@@ -3,7 +3,7 @@ use Rattle.std.specs.Prelude.{List, IfOk, IfErr, IsTrue}
 use Rattle.sqlite.specs.State.{HasCleanDisk, IsUnchanged}
 use Rattle.sqlite.specs.Held.{Held, state}
 use Rattle.book_core.specs.declared.entry.Entry.{Entry}
-use Rattle.sql_records.specs.Held.{IsTrusted, Kept, MayLeaveIn, kept_in, history_in}
+use Rattle.sql_records.specs.Held.{IsTrusted, RecordsView, MayLeaveIn, kept_in, history_in}
 use Rattle.operator_cli.specs.Printed.{Printed, Unsaid, IsListText, IsListIn}
 use Rattle.operator_cli.specs.Opened.{IsIllegal, IsRefused, IsListEnd}
 use Rattle.operator_cli.proofs.EndLaws.{if_back, on_ok_map}
@@ -31,7 +31,7 @@ returns-in-Ok-clause-same g c clean alive =
     let before = subst (IsTrusted g.S.Store) c.into_keeper-records.ensures (c.write_listed-came.ensures.trusted trusted) in
     ap (λ (conn : Held g.row.S.Denot). (state g.S.Store conn).now) c.close.ensures
     ∙ ok_unless_failed _ c.write_listed-came.result c.ended.result (c.write_listed-came.ensures.same trusted) c.ended.ensures.status alive
-    ∙ ap (λ (k : Kept g.row.S.Denot). (state g.S.Store k.conn).now) c.into_keeper-records.ensures
+    ∙ ap (λ (k : RecordsView g.row.S.Denot). (state g.S.Store k.conn).now) c.into_keeper-records.ensures
     ∙ c.in-Ok.ensures.same before
 
 pub returns-in-Err-clause-lost : goal.returns-in-Err-clause-lost
@@ -68,11 +68,11 @@ returns-in-Ok-clause-cause g c clean =
     let left : IsTrusted g.S.Store c.write_listed-came.new.records = subst (λ (conn : Held g.row.S.Denot). HasCleanDisk (state g.S.Store conn)) c.close.ensures clean in
     let before = subst (IsTrusted g.S.Store) c.into_keeper-records.ensures (c.write_listed-came.ensures.trusted left) in
     let opened = c.into_keeper-records.result.conn in
-    let limit = ap (λ (k : Kept g.row.S.Denot). k.conn.step_limit) c.into_keeper-records.ensures ∙ c.in-Ok.ensures.limit in
-    let sound = ap (λ (k : Kept g.row.S.Denot). k.failures) c.into_keeper-records.ensures ∙ c.in-Ok.ensures.open in
+    let limit = ap (λ (k : RecordsView g.row.S.Denot). k.conn.step_limit) c.into_keeper-records.ensures ∙ c.in-Ok.ensures.limit in
+    let sound = ap (λ (k : RecordsView g.row.S.Denot). k.failures) c.into_keeper-records.ensures ∙ c.in-Ok.ensures.open in
     let fault = subst (λ (conn : Held g.row.S.Denot). IfErr c.write_listed-came.result (IsListEnd c.args.event.now (state g.S.Store opened) (state g.S.Store conn))) (sym c.close.ensures) (c.write_listed-came.ensures.fault sound left) in
     let written = on_ok_map c.write_listed-came.result _ _ (λ is. ap (λ (conn : Held g.row.S.Denot). (state g.S.Store conn).now) c.close.ensures ∙ is) (c.write_listed-came.ensures.same left) in
-    let unchanged = subst (λ (k : Kept g.row.S.Denot). IsUnchanged (state g.S.Store c.args.conn) (state g.S.Store k.conn)) (sym c.into_keeper-records.ensures) (c.in-Ok.ensures.unchanged before) in
+    let unchanged = subst (λ (k : RecordsView g.row.S.Denot). IsUnchanged (state g.S.Store c.args.conn) (state g.S.Store k.conn)) (sym c.into_keeper-records.ensures) (c.in-Ok.ensures.unchanged before) in
     let entries = ap (kept_in g.S.Store) c.into_keeper-records.ensures ∙ c.in-Ok.ensures.kept before in
     let start = g.W.Write.contents c.args.out.now in
     let between = g.W.Write.contents c.write_listed-came.new.out in
@@ -96,7 +96,7 @@ returns-in-Ok-clause-stopped g c clean left may =
     let before = subst (IsTrusted g.S.Store) c.into_keeper-records.ensures (c.write_listed-came.ensures.trusted trusted) in
     let last : MayLeaveIn (state g.S.Store c.write_listed-came.new.records.conn) left = subst (λ (conn : Held g.row.S.Denot). MayLeaveIn (state g.S.Store conn) left) c.close.ensures may in
     let first : MayLeaveIn (state g.S.Store c.into_keeper-records.result.conn) left = (last.0, c.write_listed-came.ensures.left trusted last.0 last.1, last.2) in
-    let opened = subst (λ (k : Kept g.row.S.Denot). MayLeaveIn (state g.S.Store k.conn) left) c.into_keeper-records.ensures first in
+    let opened = subst (λ (k : RecordsView g.row.S.Denot). MayLeaveIn (state g.S.Store k.conn) left) c.into_keeper-records.ensures first in
     (c.in-Ok.ensures.rests before).alone left opened ∙ ap (λ (h : List Entry). Some h) (c.in-Ok.ensures.kept before)
 
 pub returns-in-Err-clause-stopped : goal.returns-in-Err-clause-stopped
@@ -110,9 +110,9 @@ returns-in-Ok-clause-still g c clean on =
     let before = subst (IsTrusted g.S.Store) c.into_keeper-records.ensures (c.write_listed-came.ensures.trusted trusted) in
     let still = c.write_listed-came.ensures.still trusted (subst (λ (conn : Held g.row.S.Denot). IsTrue (state g.S.Store conn).is_open) c.close.ensures on) in (
       ap (λ (conn : Held g.row.S.Denot). (state g.S.Store conn).now) c.close.ensures ∙ still.0
-          ∙ ap (λ (k : Kept g.row.S.Denot). (state g.S.Store k.conn).now) c.into_keeper-records.ensures ∙ c.in-Ok.ensures.same before,
+          ∙ ap (λ (k : RecordsView g.row.S.Denot). (state g.S.Store k.conn).now) c.into_keeper-records.ensures ∙ c.in-Ok.ensures.same before,
       ap (λ (conn : Held g.row.S.Denot). (state g.S.Store conn).in_transaction) c.close.ensures ∙ still.1
-          ∙ ap (λ (k : Kept g.row.S.Denot). (state g.S.Store k.conn).in_transaction) c.into_keeper-records.ensures ∙ c.in-Ok.ensures.autocommit before ∙ sym c.in-Ok.ensures.settled,
+          ∙ ap (λ (k : RecordsView g.row.S.Denot). (state g.S.Store k.conn).in_transaction) c.into_keeper-records.ensures ∙ c.in-Ok.ensures.autocommit before ∙ sym c.in-Ok.ensures.settled,
     )
 
 pub returns-in-Err-clause-still : goal.returns-in-Err-clause-still

@@ -5,7 +5,7 @@ use Rattle.book_core.specs.declared.entry.Entry.{Entry}
 use Rattle.book_core.specs.Decision.{Office}
 use Rattle.book_core.specs.Legal.{IsLegal}
 use Rattle.book_core.specs.Replay.{IsReplayFault}
-use Rattle.sql_records.specs.Held.{IsOf, Kept, MayLeaveIn, history_in}
+use Rattle.sql_records.specs.Held.{IsOf, RecordsView, MayLeaveIn, history_in}
 use Rattle.sql_records.specs.Keeping.{LeavesOnly}
 use Rattle.sql_records.specs.Layout.{office_of}
 use Rattle.operator_cli.proofs.opening.open_book.Goals as goal
@@ -27,7 +27,7 @@ returns-in-Ok-start-clause-book g c = λ clean.
 pub returns-in-Ok-start-clause-site : goal.returns-in-Ok-start-clause-site
 returns-in-Ok-start-clause-site g c = λ clean meta has.
     let trusted = subst (λ kept. HasCleanDisk (state g.S.Store kept.conn)) (c.in-Ok-start.ensures.keeper) clean in
-    subst (λ (kept : Kept g.row.S.Denot). IsOf g.S.Store kept meta) (sym c.in-Ok-start.ensures.keeper)
+    subst (λ (kept : RecordsView g.row.S.Denot). IsOf g.S.Store kept meta) (sym c.in-Ok-start.ensures.keeper)
     (subst (IsOf g.S.Store c.in-Ok.opened.0) (c.in-Ok.ensures.given trusted meta has) (c.in-Ok.ensures.site trusted))
 
 either : (b : Bool) → (b ≡ true) ⊎ (b ≡ false)
@@ -46,7 +46,7 @@ returns-in-Err-clause-fault g c = record {
 
 pub returns-in-Err-start-clause-fault : goal.returns-in-Err-start-clause-fault
 returns-in-Err-start-clause-fault g c =
-    let back = c.close.ensures ∙ ap (λ (k : Kept g.row.S.Denot). k.conn) c.in-Err-start.ensures.fault.0 in
+    let back = c.close.ensures ∙ ap (λ (k : RecordsView g.row.S.Denot). k.conn) c.in-Err-start.ensures.fault.0 in
     record {
       cause = c.in-Err-start.fault;
       told = c.of_replay_fault.ensures;
@@ -70,4 +70,4 @@ returns-in-Err-start-clause-fault g c =
 pub returns-in-Ok-start-clause-unchanged : goal.returns-in-Ok-start-clause-unchanged
 returns-in-Ok-start-clause-unchanged g c = λ clean.
     let trusted = subst (λ kept. HasCleanDisk (state g.S.Store kept.conn)) (c.in-Ok-start.ensures.keeper) clean in
-    subst (λ (kept : Kept g.row.S.Denot). IsUnchanged (state g.S.Store c.args.conn) (state g.S.Store kept.conn)) (sym c.in-Ok-start.ensures.keeper) (c.in-Ok.ensures.unchanged trusted)
+    subst (λ (kept : RecordsView g.row.S.Denot). IsUnchanged (state g.S.Store c.args.conn) (state g.S.Store kept.conn)) (sym c.in-Ok-start.ensures.keeper) (c.in-Ok.ensures.unchanged trusted)

@@ -7,7 +7,7 @@ use Rattle.session_server.specs.declared.session.SessionEnd.{SessionEnd}
 use Rattle.session_server.specs.Exchanged.{Exchanged}
 use Rattle.session_server.specs.Finished.{IsLeftOf}
 use Rattle.session_server.specs.Mesh.{IsMesh, linkage_left, linkage_of, others_of}
-use Rattle.session_server.specs.Settled.{AreTold}
+use Rattle.session_server.specs.Settled.{AreLinksTold}
 use Rattle.session_server.proofs.Exchanges.{exchanged_as, rows_left, rows_linked, rows_named}
 use Rattle.session_server.proofs.Settles.{all_acknowledged, all_counted, all_named, all_within}
 use Rattle.session_server.proofs.Sites.{if_ok_then, map_after, pairs_through, renamed, same_through, through, with_first}
@@ -91,7 +91,7 @@ returns-clause-told g c =
     (λ one job left with r s t. exchanged_as _ _ _ _ _ _ r.2 (ap (λ l. l.peers.items) r.1) (ap (λ v. v.items) t) s.4)
     c.begun.ensures.begun c.in_ok-done.ensures c.gathered.ensures.peers in
     let new = rows_left c.args.rounds (λ one. one.peers.items) (λ with. with.items) linked peers c.in_ok-linked.ensures.new rows in
-    subst (λ ids. AreTold c.args.rounds ids c.in_ok-links.links.items) (c.as_slice.ensures.value ∙ c.in_ok-ids.ensures) (c.in_ok-links.ensures c.args.rounds new)
+    subst (λ ids. AreLinksTold c.args.rounds ids c.in_ok-links.links.items) (c.as_slice.ensures.value ∙ c.in_ok-ids.ensures) (c.in_ok-links.ensures c.args.rounds new)
 
 pub returns-clause-links : goal.returns-clause-links
 returns-clause-links g c = all_named _ _ _ (returns-clause-told g c)

@@ -2,7 +2,7 @@ use Rattle.std.proofs.Common.{◌≡◌, ℕ, List, Bool, true, false, inl, inr,
 use Rattle.sqlite.specs.Held.{state}
 use Rattle.delta_wire.specs.Grammar.{delta_text}
 use Rattle.sql_records.specs.Rows.{HasRoom}
-use Rattle.sql_records.specs.Held.{Kept}
+use Rattle.sql_records.specs.Held.{RecordsView}
 use Rattle.sql_records.proofs.OpeningLemmas.{if_err, leaves_still, rest_count}
 use Rattle.sql_records.proofs.KeepLemmas.{told_keep}
 use Rattle.sql_records.proofs.records.store.Goals as goal
@@ -35,7 +35,7 @@ returns-then-place-ge-MOST-clause-cause g c clean =
 pub returns-in_err-insert-clause-cause : goal.returns-in_err-insert-clause-cause
 returns-in_err-insert-clause-cause g c =
     if_err c.from_residual-in_err-insert.result _ _ c.from_residual-in_err-insert.ensures.1 (λ f e clean.
-    let old : Kept g.row.S.Denot = record { conn = c.args.conn.now; failures = 0 } in
-    let new : Kept g.row.S.Denot = record { conn = c.insert.new.conn; failures = 1 } in
+    let old : RecordsView g.row.S.Denot = record { conn = c.args.conn.now; failures = 0 } in
+    let new : RecordsView g.row.S.Denot = record { conn = c.insert.new.conn; failures = 1 } in
     let is = told_keep g.S.Store old new c.args.entry.now c.args.place c.in_err-insert.field-0.0 (c.requires.rest (c.insert.ensures.clean clean)) (c.in_err-insert.ensures.fails clean) in
     rw e is)
