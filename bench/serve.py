@@ -5,10 +5,12 @@ usage: serve.py PROGRAM [FOLDER]
 
 PROGRAM is the built boxoffice. 1, 4 and 16 callers (bench/callers.rs, which rustc has to be there for) sell over
 loopback, each line behind the reply to the one before; each sale is in the file and synced before it is answered.
-PostgreSQL does the same work in one transaction, sent as one statement over a local socket by pgbench with as many
-clients, its commits synchronous: it takes a seat where one is left, and inserts the request's number. Where PostgreSQL's
-server and pgbench are not installed, this is said, and `serve` is timed alone. The files stand in FOLDER (a temporary one
-without it), and each rate is the median of five runs, which take turns.
+PostgreSQL does the same work in one transaction over a local socket by pgbench with as many clients, its commits
+synchronous: it takes a seat where one is left, and inserts the request's number. It is timed in two forms: as a
+transaction of an UPDATE and an INSERT, as a client of a database writes it, and as one statement that holds both, which
+saves the ways between client and server. Where PostgreSQL's server and pgbench are not installed, this is said, and
+`serve` is timed alone. The files stand in FOLDER (a temporary one without it), and each rate is the median of five runs,
+which take turns.
 """
 import glob
 import os
@@ -20,10 +22,17 @@ import sys
 import tempfile
 
 SALES = 8000
-SALE = (
-    "WITH sale AS (UPDATE events SET seats_left = seats_left - 1 WHERE name = 'gala' AND seats_left >= 1 RETURNING 1)"
-    " INSERT INTO requests (number, event, amount) SELECT nextval('numbers'), 'gala', 1 FROM sale;\n"
-)
+TAKE = "UPDATE events SET seats_left = seats_left - 1 WHERE name = 'gala' AND seats_left >= 1"
+FORMS = {
+    'a transaction of two statements': (
+        "BEGIN;\n%s;\n"
+        "INSERT INTO requests (number, event, amount) VALUES (nextval('numbers'), 'gala', 1);\nCOMMIT;\n" % TAKE
+    ),
+    'one statement': (
+        "WITH sale AS (%s RETURNING 1)"
+        " INSERT INTO requests (number, event, amount) SELECT nextval('numbers'), 'gala', 1 FROM sale;\n" % TAKE
+    ),
+}
 
 
 def free_port():
@@ -73,9 +82,6 @@ class Postgres:
         self.sql('CREATE TABLE requests (number BIGINT PRIMARY KEY, event TEXT NOT NULL, amount BIGINT NOT NULL)')
         self.sql('CREATE SEQUENCE numbers CACHE 1000')
         self.sql("INSERT INTO events VALUES ('gala', 1000000000)")
-        self.script = os.path.join(self.folder, 'sale.sql')
-        with open(self.script, 'w') as out:
-            out.write(SALE)
 
     def run(self, name, *words):
         words = [*self.as_user, os.path.join(self.binaries, name), *words]
@@ -87,9 +93,12 @@ class Postgres:
     def sql(self, line):
         self.run('psql', '-h', self.folder, '-U', 'seller', '-d', 'postgres', '-q', '-c', line)
 
-    def rate(self, callers):
+    def rate(self, form, callers):
+        script = os.path.join(self.folder, 'sale.sql')
+        with open(script, 'w') as out:
+            out.write(form)
         told = self.run(
-            'pgbench', '-h', self.folder, '-U', 'seller', '-n', '-M', 'prepared', '-f', self.script,
+            'pgbench', '-h', self.folder, '-U', 'seller', '-n', '-M', 'prepared', '-f', script,
             '-c', str(callers), '-j', str(min(callers, os.cpu_count())), '-t', str(SALES // callers), 'postgres',
         )
         return next(float(line.split()[2]) for line in told.splitlines() if line.startswith('tps'))
@@ -111,13 +120,16 @@ def main(words):
         if server is None:
             print('PostgreSQL is not installed here: serve alone')
         for callers in (1, 4, 16):
-            runs = [(ours(program, caller, folder, callers), server.rate(callers) if server else None) for _ in range(5)]
-            mine = statistics.median(run[0] for run in runs)
-            line = '%d callers: %.0f durable sales a second' % (callers, mine)
-            if server:
-                theirs = statistics.median(run[1] for run in runs)
-                line += ', PostgreSQL %.0f, ratio %.2f' % (theirs, mine / theirs)
-            print(line)
+            rates = {name: [] for name in FORMS if server}
+            mine = []
+            for _ in range(5):
+                mine.append(ours(program, caller, folder, callers))
+                for name in rates:
+                    rates[name].append(server.rate(FORMS[name], callers))
+            print('%d callers: %.0f durable sales a second' % (callers, statistics.median(mine)))
+            for name, theirs in rates.items():
+                ratio = statistics.median(mine) / statistics.median(theirs)
+                print('  PostgreSQL, %s: %.0f, ratio %.2f' % (name, statistics.median(theirs), ratio))
         if server:
             server.stop()
 

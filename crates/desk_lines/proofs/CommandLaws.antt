@@ -23,7 +23,7 @@ use Rattle.desk_lines.specs.declared.commands.Command.{Command}
 use Rattle.desk_lines.specs.declared.commands.Command.TheVariants as command
 use Rattle.desk_lines.specs.Grammar.{greatest_index, input_words, stored_text, script_words, IsIndex, IsInput, IsScriptLine, IsSites}
 use Rattle.desk_lines.specs.Requests.{request_from}
-use Rattle.desk_lines.specs.Commands.{command_text, command_of, index_at, count_at, stored_of, stored_at, take_at, grow_input_at, request_input_of, input_at, send_at, deliver_at, restart_at, grow_at, stop_at, after_command, commanded}
+use Rattle.desk_lines.specs.Commands.{command_text, command_of, index_at, sites_at, stored_of, stored_at, take_at, grow_input_at, request_input_of, input_at, send_at, deliver_at, restart_at, grow_at, stop_at, after_command, commanded}
 use Rattle.desk_lines.proofs.RequestLaws.{request_from_found, request_from_again, LackSpaces, request_lacks}
 
 -- ---- commands
@@ -88,7 +88,7 @@ take_found words x e =
 grow_input_found : (words : List (List ℕ)) (x : Input) → grow_input_at words ≡ Some x → SpellsInput (codes "grow" ∷ words) x
 unfolding grow_input_at
 grow_input_found words x e =
-    let a = bind_some (count_at words) (λ n. ended (input.Grow n.0) n.1) x e in
+    let a = bind_some (sites_at words) (λ n. ended (input.Grow n.0) n.1) x e in
     let p = number_at_found 1 most_sites words a.0 (lit< tt) a.1 in
     let z = ended_found (input.Grow a.0.0) x a.0.1 a.2 in
     subst (SpellsInput (codes "grow" ∷ words)) z.1 (ap (λ (t : List (List ℕ)). codes "grow" ∷ t) (p.0 ∙ ap (λ (t : List (List ℕ)). decimal a.0.0 ∷ t) z.0), (p.1, p.2))
@@ -160,8 +160,8 @@ restart_found words l e =
 grow_found : (words : List (List ℕ)) (l : ScriptLine) → grow_at words ≡ Some l → SpellsWhole (codes "grow" ∷ words) l
 unfolding grow_at
 grow_found words l e =
-    let a = bind_some (site_at words) (λ i. count_at i.1 >>= λ n. ended (Make (step.Grow i.0 n.0)) n.1) l e in
-    let b = bind_some (count_at a.0.1) (λ n. ended (Make (step.Grow a.0.0 n.0)) n.1) l a.2 in
+    let a = bind_some (site_at words) (λ i. sites_at i.1 >>= λ n. ended (Make (step.Grow i.0 n.0)) n.1) l e in
+    let b = bind_some (sites_at a.0.1) (λ n. ended (Make (step.Grow a.0.0 n.0)) n.1) l a.2 in
     let p = site_at_found words a.0 a.1 in
     let q = number_at_found 1 most_sites a.0.1 b.0 (lit< tt) b.1 in
     let z = ended_found (Make (step.Grow a.0.0 b.0.0)) l b.0.1 b.2 in
@@ -199,7 +199,7 @@ commanded_found word words l e =
 pub index_again : (k : ℕ) (ws : List (List ℕ)) → IsIndex k → index_at (decimal k ∷ ws) ≡ Some (k, ws)
 index_again k ws h = number_at_again 0 greatest_index k ws (lit< tt) (omega arith) h
 
-pub count_again : (n : ℕ) (ws : List (List ℕ)) → IsSites n → count_at (decimal n ∷ ws) ≡ Some (n, ws)
+pub count_again : (n : ℕ) (ws : List (List ℕ)) → IsSites n → sites_at (decimal n ∷ ws) ≡ Some (n, ws)
 count_again n ws h = number_at_again 1 most_sites n ws (lit< tt) h.0 h.1
 
 -- no verb of a request is `deliver` or `grow`

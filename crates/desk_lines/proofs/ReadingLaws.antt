@@ -22,7 +22,7 @@ use Rattle.desk_lines.specs.declared.commands.Command.{Command}
 use Rattle.desk_lines.specs.declared.commands.Command.TheVariants as command
 use Rattle.desk_lines.specs.Grammar.{request_words, session_words, input_words, stored_text, script_words, script_text, IsSessionLine, IsScriptLine}
 use Rattle.desk_lines.specs.Commands.{command_text, send_at, deliver_at, restart_at, grow_at, after_command, commanded}
-use Rattle.desk_lines.specs.Reading.{asked_in, at_a_site, at_site, after_first, line_of_words, line_of, named_number}
+use Rattle.desk_lines.specs.Reading.{asked_in, at_a_site, line_at_site, after_first, line_of_words, line_of, named_number}
 use Rattle.desk_lines.proofs.RequestLaws.{request_lacks}
 use Rattle.desk_lines.proofs.SessionLaws.{asked_found, ask_again, left_again, totals_again}
 use Rattle.desk_lines.proofs.CommandLaws.{SpellsWhole, command_again, command_is_no_number, commanded_found, index_again, count_again, stop_again, index_lacks, count_lacks, stored_lacks, input_lacks}
@@ -36,8 +36,8 @@ asked_at_found i (line.Left v) s site e fits = subst (SpellsWhole (decimal i ∷
 asked_at_found i (line.Totals v) s site e fits = subst (SpellsWhole (decimal i ∷ codes "totals" ∷ v ∷ [])) (some_is (Totals i v) s e) (refl, (site, fits))
 asked_at_found i line.Quit s site e fits = absurd cc
 
-at_site_found : (i : ℕ) (words : List (List ℕ)) (s : ScriptLine) → IsSite i → at_site i words ≡ Some s → SpellsWhole (decimal i ∷ words) s
-unfolding at_site
+at_site_found : (i : ℕ) (words : List (List ℕ)) (s : ScriptLine) → IsSite i → line_at_site i words ≡ Some s → SpellsWhole (decimal i ∷ words) s
+unfolding line_at_site
 at_site_found i words s site e =
     let a = bind_some (asked_in words) (λ l. at_a_site i l) s e in
     let p = asked_found words a.0 a.1 in
@@ -78,7 +78,7 @@ unfolding line_of_words commanded
 command_line_again c words = rw (command_is_no_number c, command_again c) refl
 
 line_again : (l : ScriptLine) → IsScriptLine l → line_of_words (script_words l) ≡ Some l
-unfolding line_of_words at_site send_at deliver_at restart_at grow_at
+unfolding line_of_words line_at_site send_at deliver_at restart_at grow_at
 line_again (Make (step.Ask i n q)) h = rw (first_again i h.0, ask_again n q h.1 h.2) refl
 line_again (Make (step.Send i j)) h = command_line_again command.Send (decimal i ∷ decimal j ∷ []) ∙ rw (site_again i (decimal j ∷ []) h.0, site_again j [] h.1) refl
 line_again (Make (step.Deliver k)) h = command_line_again command.Deliver (decimal k ∷ []) ∙ rw (index_again k [] h) refl

@@ -23,15 +23,15 @@ use Rattle.desk_lines.specs.declared.line.Line.TheVariants.{Ask, Left, Totals, Q
 use Rattle.request_ledger.specs.Ranges.{IsRequest}
 use Rattle.desk_lines.specs.Grammar.{request_words, operands, session_words, session_text, request_line, IsSessionLine}
 use Rattle.desk_lines.specs.Requests.{request_from}
-use Rattle.desk_lines.specs.Reading.{left_line_in, totals_line_in, ask_in, asked_after, asked_in, session_line_of}
+use Rattle.desk_lines.specs.Reading.{left_line_in, totals_line_in, ask_line_in, asked_after, asked_in, session_line_of}
 use Rattle.desk_lines.proofs.RequestLaws.{request_from_found, request_from_again, request_lacks}
 
 -- the words are those of the line
 abbrev pub SpellsSession : List (List ℕ) → Line → Type 0
 SpellsSession words l = (words ≡ session_words l) × IsSessionLine l
 
-ask_found : (word : List ℕ) (words : List (List ℕ)) (l : Line) → ask_in word words ≡ Some l → SpellsSession (word ∷ words) l
-unfolding ask_in
+ask_found : (word : List ℕ) (words : List (List ℕ)) (l : Line) → ask_line_in word words ≡ Some l → SpellsSession (word ∷ words) l
+unfolding ask_line_in
 ask_found word words l e =
     let a = bind_some (request_from word words) (λ n. Some (Ask n.0 n.1)) l e in
     let p = request_from_found word words a.0 a.1 in
@@ -64,7 +64,7 @@ look_or look word words here other l f g e = elim (cases_Bool (bytes_eq word loo
 after_found : (word : List ℕ) (words : List (List ℕ)) (l : Line) → asked_after word words ≡ Some l → SpellsSession (word ∷ words) l
 after_found word words l e =
     look_or (codes "left") word words (left_line_in words) _ l (left_found words l)
-    (look_or (codes "totals") word words (totals_line_in words) (ask_in word words) l (totals_found words l) (ask_found word words l)) e
+    (look_or (codes "totals") word words (totals_line_in words) (ask_line_in word words) l (totals_found words l) (ask_found word words l)) e
 
 pub asked_found : (words : List (List ℕ)) (l : Line) → asked_in words ≡ Some l → SpellsSession words l
 unfolding asked_in
@@ -87,7 +87,7 @@ session_takes bytes l e = elim (cases_Bool (bytes_eq bytes (codes "quit"))) [
 -- ---- back
 
 -- no verb of a request is a word that looks
-ask_follows : (v : Verb) (words : List (List ℕ)) → asked_after (verb_word v) words ≡ ask_in (verb_word v) words
+ask_follows : (v : Verb) (words : List (List ℕ)) → asked_after (verb_word v) words ≡ ask_line_in (verb_word v) words
 ask_follows verb.Announce words = refl
 ask_follows verb.Release words = refl
 ask_follows verb.Sell words = refl
@@ -95,7 +95,7 @@ ask_follows verb.Refund words = refl
 ask_follows verb.Cede words = refl
 
 pub ask_again : (n : ℕ) (q : Request) → IsValue n → IsRequest q → asked_in (request_words n q) ≡ Some (Ask n q)
-unfolding asked_in ask_in
+unfolding asked_in ask_line_in
 ask_again n q h g = rw (ask_follows (request_verb q) (decimal n ∷ operands q), request_from_again n q h g) refl
 
 pub left_again : (e : List ℕ) → IsEventName e → asked_in (codes "left" ∷ e ∷ []) ≡ Some (Left e)

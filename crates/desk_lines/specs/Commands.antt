@@ -35,8 +35,8 @@ abbrev pub index_at : List (List ℕ) → Option (ℕ × List (List ℕ))
 index_at words = number_at 0 greatest_index words
 
 -- a count of sites
-abbrev pub count_at : List (List ℕ) → Option (ℕ × List (List ℕ))
-count_at words = number_at 1 most_sites words
+abbrev pub sites_at : List (List ℕ) → Option (ℕ × List (List ℕ))
+sites_at words = number_at 1 most_sites words
 
 -- whether what a stopped site had in hand was stored
 unfoldable pub stored_of : List ℕ → Option Bool
@@ -56,7 +56,7 @@ take_at words = do
 
 unfoldable pub grow_input_at : List (List ℕ) → Option Input
 grow_input_at words = do
-  n ← count_at words
+  n ← sites_at words
   ended (input.Grow n.0) n.1
 
 unfoldable pub request_input_of : List ℕ → List (List ℕ) → Option Input
@@ -88,7 +88,7 @@ restart_at words = do
 unfoldable pub grow_at : List (List ℕ) → Option ScriptLine
 grow_at words = do
   i ← site_at words
-  n ← count_at i.1
+  n ← sites_at i.1
   ended (Make (step.Grow i.0 n.0)) n.1
 
 unfoldable pub stop_at : List (List ℕ) → Option ScriptLine

@@ -25,8 +25,8 @@ totals_line_in words = do
   e ← event_at words
   ended (Totals e.0) e.1
 
-unfoldable pub ask_in : List ℕ → List (List ℕ) → Option Line
-ask_in word words = do
+unfoldable pub ask_line_in : List ℕ → List (List ℕ) → Option Line
+ask_line_in word words = do
   a ← request_from word words
   Some (Ask a.0 a.1)
 
@@ -34,7 +34,7 @@ ask_in word words = do
 abbrev pub asked_after : List ℕ → List (List ℕ) → Option Line
 asked_after word words =
     if bytes_eq word (codes "left") then left_line_in words else (
-    if bytes_eq word (codes "totals") then totals_line_in words else ask_in word words)
+    if bytes_eq word (codes "totals") then totals_line_in words else ask_line_in word words)
 
 -- a line that asks or looks
 unfoldable pub asked_in : List (List ℕ) → Option Line
@@ -54,14 +54,14 @@ at_a_site site (Totals e) = Some (script.Totals site e)
 at_a_site site Quit = None
 
 -- a line that begins with a site's number
-unfoldable pub at_site : ℕ → List (List ℕ) → Option ScriptLine
-at_site site words = do
+unfoldable pub line_at_site : ℕ → List (List ℕ) → Option ScriptLine
+line_at_site site words = do
   l ← asked_in words
   at_a_site site l
 
 -- the number of a site, or else a command, stands first
 abbrev pub after_first : Option ℕ → List ℕ → List (List ℕ) → Option ScriptLine
-after_first (Some site) word words = at_site site words
+after_first (Some site) word words = line_at_site site words
 after_first None word words = commanded word words
 
 unfoldable pub line_of_words : List (List ℕ) → Option ScriptLine

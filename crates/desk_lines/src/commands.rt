@@ -2,7 +2,7 @@
 
 ghost use Rattle.std.specs.Prelude.{◌≡◌};
 ghost use Rattle.std.specs.Option.{option_map};
-ghost use Rattle.desk_lines.specs.Commands.{command_of, index_at, count_at, stored_of, stored_at, take_at, grow_input_at, request_input_of, input_at, send_at, deliver_at, restart_at, grow_at, stop_at, after_command, commanded};
+ghost use Rattle.desk_lines.specs.Commands.{command_of, index_at, sites_at, stored_of, stored_at, take_at, grow_input_at, request_input_of, input_at, send_at, deliver_at, restart_at, grow_at, stop_at, after_command, commanded};
 
 use crate::requests::request_from;
 use crate::script_line::ScriptLine;
@@ -50,8 +50,8 @@ fn index_at(words: &mut Words<'_>) -> Option<usize>
     Some(index as usize)
 }
 
-fn count_at(words: &mut Words<'_>) -> Option<Sites>
-    ensures { option_map (λ n. (n, words.new)) result ≡ count_at words.old }
+fn sites_at(words: &mut Words<'_>) -> Option<Sites>
+    ensures { option_map (λ n. (n, words.new)) result ≡ sites_at words.old }
 {
     let count = number_at(words, 1, MOST_SITES)?;
     let sites = Sites::of(count)?;
@@ -96,7 +96,7 @@ fn take_at(words: &mut Words<'_>) -> Option<Input>
 fn grow_input_at(words: &mut Words<'_>) -> Option<Input>
     ensures { result ≡ grow_input_at words.old }
 {
-    let sites = count_at(words)?;
+    let sites = sites_at(words)?;
     if words.is_empty() {
         Some(Input::Grow { sites })
     } else {
@@ -168,7 +168,7 @@ fn grow_at(words: &mut Words<'_>) -> Option<ScriptLine>
     ensures { result ≡ grow_at words.old }
 {
     let site = site_at(words)?;
-    let sites = count_at(words)?;
+    let sites = sites_at(words)?;
     if words.is_empty() {
         Some(ScriptLine::Make(Step::Grow { site, sites }))
     } else {

@@ -9,7 +9,7 @@ ghost use Rattle.plain_words.specs.Number.{number_of};
 ghost use Rattle.book_core.specs.Limits.{IsLimit};
 ghost use Rattle.desk_lines.specs.declared.script_line.ScriptLine.{ScriptLine};
 ghost use Rattle.desk_lines.specs.Grammar.{script_text, IsScriptLine, sites_words, IsSites, limit_words};
-ghost use Rattle.desk_lines.specs.Reading.{at_site, line_of, named_number, sites_from_line, limit_from_line};
+ghost use Rattle.desk_lines.specs.Reading.{line_at_site, line_of, named_number, sites_from_line, limit_from_line};
 
 use crate::commands::commanded;
 use crate::line::{BadLine, Line};
@@ -20,9 +20,9 @@ use plain_words::{Words, number_at, read_number};
 use rights_lattice::{GREATEST_SITE, MOST_SITES, SiteId, Sites};
 use world_steps::Step;
 
-#[tactic(auto, unfolding(crate::specs::Reading::at_site))]
-fn at_site(site: SiteId, words: &mut Words<'_>) -> Option<ScriptLine>
-    ensures { result ≡ at_site site words.old }
+#[tactic(auto, unfolding(crate::specs::Reading::line_at_site))]
+fn line_at_site(site: SiteId, words: &mut Words<'_>) -> Option<ScriptLine>
+    ensures { result ≡ line_at_site site words.old }
 {
     match asked_in(words)? {
         Line::Ask { number, request } => Some(ScriptLine::Make(Step::Ask {
@@ -51,7 +51,7 @@ fn line_of(bytes: &[u8]) -> Option<ScriptLine>
     let mut words = Words::new(bytes);
     let word = words.next()?;
     match site_of(word) {
-        Some(site) => at_site(site, &mut words),
+        Some(site) => line_at_site(site, &mut words),
         None => commanded(word, &mut words),
     }
 }

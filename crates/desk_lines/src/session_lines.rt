@@ -4,7 +4,7 @@ ghost use Rattle.std.specs.Prelude.{◌≡◌, Ok, IfOk};
 ghost use Rattle.std.specs.Result.{result_ok};
 ghost use Rattle.desk_lines.specs.declared.line.Line.{Line};
 ghost use Rattle.desk_lines.specs.Grammar.{session_text, IsSessionLine};
-ghost use Rattle.desk_lines.specs.Reading.{left_line_in, totals_line_in, ask_in, asked_in, session_line_of};
+ghost use Rattle.desk_lines.specs.Reading.{left_line_in, totals_line_in, ask_line_in, asked_in, session_line_of};
 
 use crate::line::{BadLine, Line};
 use crate::requests::request_from;
@@ -35,9 +35,9 @@ fn totals_line_in(words: &mut Words<'_>) -> Option<Line>
     }
 }
 
-#[tactic(auto, unfolding(crate::specs::Reading::ask_in))]
-fn ask_in(word: &[u8], words: &mut Words<'_>) -> Option<Line>
-    ensures { result ≡ ask_in word.now words.old }
+#[tactic(auto, unfolding(crate::specs::Reading::ask_line_in))]
+fn ask_line_in(word: &[u8], words: &mut Words<'_>) -> Option<Line>
+    ensures { result ≡ ask_line_in word.now words.old }
 {
     let (number, request) = request_from(word, words)?;
     Some(Line::Ask { number, request })
@@ -54,7 +54,7 @@ pub(crate) fn asked_in(words: &mut Words<'_>) -> Option<Line>
     } else if word == b"totals".as_slice() {
         totals_line_in(words)
     } else {
-        ask_in(word, words)
+        ask_line_in(word, words)
     }
 }
 

@@ -22,7 +22,7 @@ use Rattle.desk_lines.specs.ScriptReplies.{script_reply_line}
 use Rattle.operator_cli.specs.Answering.{answer_to}
 use Rattle.operator_cli.specs.Faults.{IsOutFault, of_line_fault}
 use Rattle.operator_cli.specs.Script.{answers, world_behind, replies_and_totals, opened_by, replies_at, run_at, replies_started, run_started, replies, total_lines, bad_line, script, script_of_lines}
-use Rattle.operator_cli.specs.Ran.{StartsWell, MayGoOn, Always, printed, EndsEarly, NextRan, AllAnswered, RestRan, OpensWorld, OpenRan, SecondRan, SitesRan, StartRan, ScriptRan}
+use Rattle.operator_cli.specs.Ran.{StartsWell, MayGoOn, AnyLines, printed, EndsEarly, NextRan, AllAnswered, RestRan, OpensWorld, OpenRan, SecondRan, SitesRan, StartRan, ScriptRan}
 use Rattle.desk_lines.proofs.ReadingLaws.{named_takes}
 
 -- the exit of a `?`
@@ -48,13 +48,13 @@ line_broken goes some whole (Some x) (Some y) line line_fault.LineTooLong start 
     subst (λ (t : Taken). EndsEarly goes some whole t out out fault.LineTooLong) (sym (taken-long more (lines_of x) h.1)) (refl, start, subst (Appends out out) (sym none) (Appends-nil out))
 
 pub next_unread : (w : World) (a b old : Option Text) (line : Text) (f : LineFault) → LineGives a b line (Err f)
-    → IfSome a (λ xs. (more : ℕ) → EndsEarly Always (answers w) (replies_and_totals w) (taken (suc more) (lines_of xs)) old old (of_line_fault f))
+    → IfSome a (λ xs. (more : ℕ) → EndsEarly AnyLines (answers w) (replies_and_totals w) (taken (suc more) (lines_of xs)) old old (of_line_fault f))
 next_unread w None b old line f h = tt
-next_unread w (Some x) b old line f h = λ more. line_broken Always (answers w) (replies_and_totals w) (Some x) b line f tt refl h more old
+next_unread w (Some x) b old line f h = λ more. line_broken AnyLines (answers w) (replies_and_totals w) (Some x) b line f tt refl h more old
 
 pub sites_unread : (most sites : ℕ) (a b old : Option Text) (line : Text) (f : LineFault) → LineGives a b line (Err f) → SitesRan (suc most) sites a old old (Err (of_line_fault f))
 sites_unread most sites None b old line f h = tt
-sites_unread most sites (Some x) b old line f h = line_broken Always (replies_at sites) (run_at sites) (Some x) b line f tt refl h most old
+sites_unread most sites (Some x) b old line f h = line_broken AnyLines (replies_at sites) (run_at sites) (Some x) b line f tt refl h most old
 
 -- writing or memory failed
 pub out_broken : (goes : Lines → Type 0) (some whole : Lines → Text) (t : Taken) (old new : Option Text) (f : ScriptFault) → IsOutFault f → AppendsFront old new (printed t.end some whole t.lines) → EndsEarly goes some whole t old new f
@@ -92,7 +92,7 @@ behind_lines goes goes' some whole front t old new fault.TooManyLines g e = (e.0
 behind_lines goes goes' some whole front t old new fault.Write g e = subst (AppendsFront old new) (printed_behind t.end some whole front t.lines) e
 behind_lines goes goes' some whole front t old new fault.Memory g e = subst (AppendsFront old new) (printed_behind t.end some whole front t.lines) e
 
-always : (front lines : Lines) → Always lines → Always (front ++ lines)
+always : (front lines : Lines) → AnyLines lines → AnyLines (front ++ lines)
 always front lines h = tt
 
 -- a front of the replies is one of all that is printed
@@ -105,14 +105,14 @@ printed_longer AtTooMany some whole lines rest a b e p = p
 
 -- a reply line that went out in part
 pub reply_broken : (a b old new : Option Text) (w : World) (line : Text) (f : ScriptFault) → length line ≤ longest_line → Between a b (λ xs ys. lines_of xs ≡ line ∷ lines_of ys)
-    → AppendsFront old new (script_reply_line (answer_to w (line_of line)).0) → IsOutFault f → IfSome a (λ xs. (more : ℕ) → EndsEarly Always (answers w) (replies_and_totals w) (taken (suc more) (lines_of xs)) old new f)
+    → AppendsFront old new (script_reply_line (answer_to w (line_of line)).0) → IsOutFault f → IfSome a (λ xs. (more : ℕ) → EndsEarly AnyLines (answers w) (replies_and_totals w) (taken (suc more) (lines_of xs)) old new f)
 reply_broken None b old new w line f short p q h = tt
 reply_broken (Some x) None old new w line f short p q h = absurd p
 reply_broken (Some x) (Some y) old new w line f short p q h = λ more.
     let t = taken more (lines_of y) in
     let front = AppendsFront-longer old new (script_reply_line (answer_to w (line_of line)).0) (answers (answer_to w (line_of line)).1 t.lines) q in
-    subst (λ (u : Taken). EndsEarly Always (answers w) (replies_and_totals w) u old new f) (sym (ap (taken (suc more)) p ∙ taken-line more line (lines_of y) short))
-    (out_broken Always (answers w) (replies_and_totals w) (with_line line t) old new f h (printed_longer t.end (answers w) (replies_and_totals w) (line ∷ t.lines) (total_lines (world_behind w (line ∷ t.lines))) old new refl front))
+    subst (λ (u : Taken). EndsEarly AnyLines (answers w) (replies_and_totals w) u old new f) (sym (ap (taken (suc more)) p ∙ taken-line more line (lines_of y) short))
+    (out_broken AnyLines (answers w) (replies_and_totals w) (with_line line t) old new f h (printed_longer t.end (answers w) (replies_and_totals w) (line ∷ t.lines) (total_lines (world_behind w (line ∷ t.lines))) old new refl front))
 
 -- ---- the first line
 
@@ -206,17 +206,17 @@ taken_after most more xs ys lines count read short counted most_is =
 
 -- a fault behind the lines so far
 broken_after : (most more : ℕ) (x y : Text) (old new new' : Option Text) (start now : World) (count : ℕ) (f : ScriptFault) → SoFar (Some x) (Some y) old new start now count → most ≡ count + more
-    → EndsEarly Always (answers now) (replies_and_totals now) (taken more (lines_of y)) new new' f → EndsEarly Always (answers start) (replies_and_totals start) (taken most (lines_of x)) old new' f
+    → EndsEarly AnyLines (answers now) (replies_and_totals now) (taken more (lines_of y)) new new' f → EndsEarly AnyLines (answers start) (replies_and_totals start) (taken most (lines_of x)) old new' f
 broken_after most more x y old new new' start now count f h most_is e =
     let some = answered start now h.lines h.made in
     let whole : (l : Lines) → replies_and_totals start (h.lines ++ l) ≡ answers start h.lines ++ replies_and_totals now l = λ l. replies_and_totals-append start h.lines l ∙ ap (λ (w : World). answers start h.lines ++ replies_and_totals w l) (sym h.made) in
-    subst (λ (t : Taken). EndsEarly Always (answers start) (replies_and_totals start) t old new' f) (sym (taken_after most more (lines_of x) (lines_of y) h.lines count h.read h.short h.counted most_is))
-    (behind_lines Always Always (answers start) (replies_and_totals start) h.lines (taken more (lines_of y)) old new' f (always h.lines)
-    (after_text Always (answers now) (replies_and_totals now) (λ l. answers start (h.lines ++ l)) (λ l. replies_and_totals start (h.lines ++ l)) (taken more (lines_of y)) (answers start h.lines) old new new' f some whole h.written e))
+    subst (λ (t : Taken). EndsEarly AnyLines (answers start) (replies_and_totals start) t old new' f) (sym (taken_after most more (lines_of x) (lines_of y) h.lines count h.read h.short h.counted most_is))
+    (behind_lines AnyLines AnyLines (answers start) (replies_and_totals start) h.lines (taken more (lines_of y)) old new' f (always h.lines)
+    (after_text AnyLines (answers now) (replies_and_totals now) (λ l. answers start (h.lines ++ l)) (λ l. replies_and_totals start (h.lines ++ l)) (taken more (lines_of y)) (answers start h.lines) old new new' f some whole h.written e))
 
 -- a fault at the next line
 pub breaks_off : (most : ℕ) (input rest old new new' : Option Text) (start now : World) (count : ℕ) (f : ScriptFault) → SoFar input rest old new start now count → count < most
-    → IfSome rest (λ ys. (more : ℕ) → EndsEarly Always (answers now) (replies_and_totals now) (taken (suc more) (lines_of ys)) new new' f) → RestRan most input old new' start now (Err f)
+    → IfSome rest (λ ys. (more : ℕ) → EndsEarly AnyLines (answers now) (replies_and_totals now) (taken (suc more) (lines_of ys)) new new' f) → RestRan most input old new' start now (Err f)
 breaks_off most None rest old new new' start now count f h lt k = tt
 breaks_off most (Some x) None old new new' start now count f h lt k = absurd h.read
 breaks_off most (Some x) (Some y) old new new' start now count f h lt k = broken_after most (suc (most - count - 1)) x y old new new' start now count f h (omega (arith, lt)) (k (most - count - 1))
@@ -236,7 +236,7 @@ one_too_many most (Some x) None rest' old new start now h k = absurd h.read
 one_too_many most (Some x) (Some y) None old new start now h k = absurd k
 one_too_many most (Some x) (Some y) (Some z) old new start now h k =
     broken_after most 0 x y old new new start now most fault.TooManyLines h (omega arith)
-    (subst (λ (t : Taken). EndsEarly Always (answers now) (replies_and_totals now) t new new fault.TooManyLines) (sym (taken-too-many (lines_of y) k)) (refl, tt, Appends-nil new))
+    (subst (λ (t : Taken). EndsEarly AnyLines (answers now) (replies_and_totals now) t new new fault.TooManyLines) (sym (taken-too-many (lines_of y) k)) (refl, tt, Appends-nil new))
 
 -- no line is left
 pub all_answered : (most : ℕ) (input rest rest' old new new' : Option Text) (start now now' : World) (count : ℕ) → SoFar input rest old new start now count → count ≤ most → Between rest rest' (λ ys zs. lines_of ys ≡ [])
@@ -296,13 +296,13 @@ pub second_unopened : (most sites : ℕ) (second : Text) (a old new : Option Tex
 second_unopened most sites second None old new f h = tt
 second_unopened most sites second (Some x) old new f h =
     let t = taken most (lines_of x) in
-    out_broken Always (λ l. replies_at sites (second ∷ l)) (λ l. run_at sites (second ∷ l)) t old new f h.0
+    out_broken AnyLines (λ l. replies_at sites (second ∷ l)) (λ l. run_at sites (second ∷ l)) t old new f h.0
     (printed_longer t.end (λ l. replies_at sites (second ∷ l)) (λ l. run_at sites (second ∷ l)) t.lines _ old new refl (h.1 t.lines))
 
 pub second_broken : (most sites : ℕ) (second : Text) (a old mid new : Option Text) (w w' : World) (f : ScriptFault) → OpenRan sites second old mid (Ok w) → RestRan most a mid new w w' (Err f) → SecondRan most sites second a old new (Err f)
 second_broken most sites second None old mid new w w' f h k = tt
 second_broken most sites second (Some x) old mid new w w' f h k =
-    after_text Always (answers w) (replies_and_totals w) (λ l. replies_at sites (second ∷ l)) (λ l. run_at sites (second ∷ l)) (taken most (lines_of x)) h.0 old mid new f (λ l. (h.2 l).0) (λ l. (h.2 l).1) h.1 k
+    after_text AnyLines (answers w) (replies_and_totals w) (λ l. replies_at sites (second ∷ l)) (λ l. run_at sites (second ∷ l)) (taken most (lines_of x)) h.0 old mid new f (λ l. (h.2 l).0) (λ l. (h.2 l).1) h.1 k
 
 -- all of it, with the totals
 second_text : (sites : ℕ) (second : Text) (w w' : World) (text : Text) (lines : Lines) → OpensWorld sites second text w → w' ≡ world_behind w lines → (text ++ answers w lines) ++ total_lines w' ≡ run_at sites (second ∷ lines)
@@ -317,7 +317,7 @@ second_without_totals most sites second (Some x) old mid new new' w w' f h k out
     let some : Lines → Text = λ l. replies_at sites (second ∷ l) in
     let whole : Lines → Text = λ l. run_at sites (second ∷ l) in
     let text = AppendsFront-after old new new' (h.0 ++ answers w t.lines) (total_lines w') (Appends-trans old mid new h.0 (answers w t.lines) h.1 k.1) out in
-    out_broken Always some whole t old new' f e
+    out_broken AnyLines some whole t old new' f e
     (subst (λ (end : End). AppendsFront old new' (printed end some whole t.lines)) (sym k.0) (subst (AppendsFront old new') (second_text sites second w w' h.0 t.lines h.2 k.2) text))
 
 pub second_done : (most sites : ℕ) (second : Text) (a old mid new new' : Option Text) (w w' : World) → OpenRan sites second old mid (Ok w) → RestRan most a mid new w w' (Ok tt)
@@ -340,8 +340,8 @@ sites_second most sites second (Some x) (Some y) old new (Ok u) short p h =
     subst (λ (u : Taken). (u.end ≡ AtEnd) × Appends old new (run_at sites u.lines)) (sym t) h
 sites_second most sites second (Some x) (Some y) old new (Err f) short p h =
     let t = ap (taken (suc most)) p ∙ taken-line most second (lines_of y) short in
-    subst (λ (u : Taken). EndsEarly Always (replies_at sites) (run_at sites) u old new f) (sym t)
-    (behind_lines Always Always (replies_at sites) (run_at sites) (second ∷ []) (taken most (lines_of y)) old new f (always (second ∷ [])) h)
+    subst (λ (u : Taken). EndsEarly AnyLines (replies_at sites) (run_at sites) u old new f) (sym t)
+    (behind_lines AnyLines AnyLines (replies_at sites) (run_at sites) (second ∷ []) (taken most (lines_of y)) old new f (always (second ∷ [])) h)
 
 pub sites_alone : (most sites : ℕ) (a b old new : Option Text) (r : Result (Unit {0}) ScriptFault) → Between a b (λ xs ys. (lines_of xs ≡ []) × (lines_of ys ≡ []))
     → Writes old new r (run_at sites []) → ((f : ScriptFault) → r ≡ Err f → IsOutFault f) → SitesRan most sites a old new r
@@ -354,7 +354,7 @@ sites_alone most sites (Some x) (Some y) old new (Ok u) p out h =
     subst (λ (u : Taken). (u.end ≡ AtEnd) × Appends old new (run_at sites u.lines)) (sym t) (refl, out)
 sites_alone most sites (Some x) (Some y) old new (Err f) p out h =
     let t = ap (taken most) p.0 ∙ taken-nil most in
-    subst (λ (u : Taken). EndsEarly Always (replies_at sites) (run_at sites) u old new f) (sym t) (out_broken Always (replies_at sites) (run_at sites) (none_taken AtEnd) old new f (h f refl) out)
+    subst (λ (u : Taken). EndsEarly AnyLines (replies_at sites) (run_at sites) u old new f) (sym t) (out_broken AnyLines (replies_at sites) (run_at sites) (none_taken AtEnd) old new f (h f refl) out)
 
 -- ---- the whole script
 
@@ -376,7 +376,7 @@ script_done (Some x) (Some y) old new n h k =
       subst (Appends old new) (ap (run_at n) (taken-whole 999999 (lines_of y) k.0) ∙ sym (started_whole h.0 n (lines_of y) h.3) ∙ ap script_of_lines (sym h.1)) k.1,
     )
 
-well_behind : (first : Text) (whole : Lines) (lines : Lines) → StartsWell (first ∷ whole) → Always lines → MayGoOn (first ∷ lines)
+well_behind : (first : Text) (whole : Lines) (lines : Lines) → StartsWell (first ∷ whole) → AnyLines lines → MayGoOn (first ∷ lines)
 well_behind first whole lines h k = h
 
 pub script_broken : (a b old new : Option Text) (n : ℕ) (f : ScriptFault) → StartRan a b (Ok (Some n)) → SitesRan 999999 n b old new (Err f) → ScriptRan a old new (Err f)
@@ -387,8 +387,8 @@ script_broken (Some x) (Some y) old new n f h k =
     let well = subst StartsWell h.1 h.4 in
     let rest = taken 999999 (lines_of y) in
     subst (λ (u : Taken). EndsEarly MayGoOn replies script_of_lines u old new f) (sym t)
-    (behind_lines Always MayGoOn replies script_of_lines (h.0 ∷ []) rest old new f (λ l g. well_behind h.0 (lines_of y) l well g)
-    (after_text Always (replies_at n) (run_at n) (λ l. replies (h.0 ∷ l)) (λ l. script_of_lines (h.0 ∷ l)) rest [] old old new f (λ l. started_some h.0 n l h.3) (λ l. started_whole h.0 n l h.3) (Appends-nil old) k))
+    (behind_lines AnyLines MayGoOn replies script_of_lines (h.0 ∷ []) rest old new f (λ l g. well_behind h.0 (lines_of y) l well g)
+    (after_text AnyLines (replies_at n) (run_at n) (λ l. replies (h.0 ∷ l)) (λ l. script_of_lines (h.0 ∷ l)) rest [] old old new f (λ l. started_some h.0 n l h.3) (λ l. started_whole h.0 n l h.3) (Appends-nil old) k))
 
 -- no room for a buffer
 pub script_unbuffered : (a old : Option Text) (f : ScriptFault) → f ≡ fault.Memory → ScriptRan a old old (Err f)

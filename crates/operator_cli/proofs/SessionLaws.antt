@@ -24,7 +24,7 @@ use Rattle.operator_cli.specs.declared.status.Status.TheVariants.{Done, Failed}
 use Rattle.operator_cli.specs.declared.store_fault.StoreFault.{StoreFault}
 use Rattle.operator_cli.specs.declared.store_fault.StoreFault.TheVariants as fault
 use Rattle.operator_cli.specs.Exchanged.{HoldsOnly, IsBookOf}
-use Rattle.operator_cli.specs.Session.{IsToldAs, SessionRan, records, status_of}
+use Rattle.operator_cli.specs.Session.{IsStatusTold, SessionRan, records, status_of}
 use Rattle.operator_cli.specs.Told.{FaultTold, store_fault_line}
 
 -- a stop leaves records of the site of the book that was opened
@@ -33,7 +33,7 @@ pub site_at_first : {S : Type 0} (g : Ghosts S) (conn : Held S) (first book : Si
 site_at_first g conn first book is site meta has = subst (λ b. IsTrusted g b.keeper → IsOf g b.keeper meta) (sym is) (λ clean. site clean meta has)
 
 told_as : (came : Result Status StoreFault) (a b : Option (List ℕ)) (status : Status) → IfOk came (λ s. s ≡ Done) → FaultTold a b status → IfErr came (λ f. AppendsFront a b (store_fault_line f))
-    → IfOk came (λ s. status ≢ s → AppendsFront a b (store_fault_line fault.Write)) → MatchResult came (λ s. (status ≡ s) ⊎ (status ≡ Failed)) (λ f. status ≡ Failed) → IsToldAs came a b status
+    → IfOk came (λ s. status ≢ s → AppendsFront a b (store_fault_line fault.Write)) → MatchResult came (λ s. (status ≡ s) ⊎ (status ≡ Failed)) (λ f. status ≡ Failed) → IsStatusTold came a b status
 told_as (Ok s) a b status done told line flush (inl is) = inl (is, subst (FaultTold a b) (is ∙ done) told)
 told_as (Ok s) a b status done told line flush (inr failed) = inr (failed, flush (λ is. let bad : Failed ≡ Done = sym failed ∙ is ∙ done in cc))
 told_as (Err f) a b status done told line flush failed = (failed, line)
@@ -63,7 +63,7 @@ session_ran g conn last book behind input old mid new old_err new_err came told 
   opened = opened;
   came = came;
   talked = record { lines = talked.lines; answers = talked.answers; read = talked.read; unasked = talked.unasked; chain = talked.chain; written = wrote_kept came old mid new talked.answers talked.written kept };
-  told = subst (λ r. IsToldAs r old_err new_err status) is (told_as told old_err new_err status (subst (λ r. IfOk r (λ s. s ≡ Done)) (sym is) (ends_well came)) told_fault line flush ended);
+  told = subst (λ r. IsStatusTold r old_err new_err status) is (told_as told old_err new_err status (subst (λ r. IfOk r (λ s. s ≡ Done)) (sym is) (ends_well came)) told_fault line flush ended);
   back = sym last_is;
   holds = holds;
   stopped = λ closed.

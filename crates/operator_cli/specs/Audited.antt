@@ -13,8 +13,8 @@ use Rattle.operator_cli.specs.Printed.{Printed, Unprinted}
 use Rattle.operator_cli.specs.Script.{total_line}
 
 -- no more is given back of an event than was sold
-abbrev pub AreSums : List (List ℕ × Totals) → Type 0
-AreSums sums = (k : ℕ) (sum : List ℕ × Totals) → slice_get sums k ≡ Some sum → sum.1.refunded ≤ sum.1.sold
+abbrev pub AreWithinSales : List (List ℕ × Totals) → Type 0
+AreWithinSales sums = (k : ℕ) (sum : List ℕ × Totals) → slice_get sums k ≡ Some sum → sum.1.refunded ≤ sum.1.sold
 
 -- a line for each event with its sums
 abbrev pub sum_lines : List (List ℕ × Totals) → List ℕ

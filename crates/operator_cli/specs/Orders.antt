@@ -35,8 +35,8 @@ abbrev pub most_desks : ℕ
 most_desks = 16
 
 -- a value that is given once or more, up to so often, by its place
-abbrev pub operands : Text → ℕ → Rule
-operands id most = record (operand id) { range = Some (record { start_inclusive = 1; end_inclusive = most }) }
+abbrev pub repeated_operand : Text → ℕ → Rule
+repeated_operand id most = record (operand id) { range = Some (record { start_inclusive = 1; end_inclusive = most }) }
 
 -- a command that takes one more value
 abbrev pub taking : App → Text → App
@@ -70,10 +70,10 @@ abbrev pub import_app : App
 import_app = taking (new_app (codes "import")) (codes "FILE")
 
 abbrev pub audit_app : App
-audit_app = with_rule (new_app (codes "audit")) (operands (codes "FILE") most_sites)
+audit_app = with_rule (new_app (codes "audit")) (repeated_operand (codes "FILE") most_sites)
 
 abbrev pub serve_app : App
-serve_app = with_rule (taking (taking (taking (new_app (codes "serve")) (codes "PORT")) (codes "SESSIONS")) (codes "ROUNDS")) (operands (codes "FILE") most_desks)
+serve_app = with_rule (taking (taking (taking (new_app (codes "serve")) (codes "PORT")) (codes "SESSIONS")) (codes "ROUNDS")) (repeated_operand (codes "FILE") most_desks)
 
 -- a command that is not used alone
 abbrev pub needing : App → App
@@ -285,7 +285,7 @@ TellsMisfit misfit (NotUnderstood text) = string_bytes text ≡ misfit_line misf
 
 -- Words that are understood are refused only where they meet no order, want of memory aside, and
 -- the first value that does not fit is told.
-abbrev pub IsRefusal : List Text → WordsFault → Type 0
-IsRefusal words Memory = Unit {0}
-IsRefusal words (NotUnderstood text) = AreUnderstood words →
+abbrev pub IsWordsRefusal : List Text → WordsFault → Type 0
+IsWordsRefusal words Memory = Unit {0}
+IsWordsRefusal words (NotUnderstood text) = AreUnderstood words →
     (order_in (subcommand_of boxoffice words) ≡ None) × (option_map misfit_line (misfit_in (subcommand_of boxoffice words)) ≡ Some (string_bytes text))

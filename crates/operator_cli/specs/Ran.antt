@@ -26,8 +26,8 @@ abbrev pub MayGoOn : List (List ℕ) → Type 0
 MayGoOn [] = Unit {0}
 MayGoOn (first ∷ lines) = StartsWell (first ∷ lines)
 
-abbrev pub Always : List (List ℕ) → Type 0
-Always lines = Unit {0}
+abbrev pub AnyLines : List (List ℕ) → Type 0
+AnyLines lines = Unit {0}
 
 -- what these lines print: all of it only where the input ends behind them, and else their replies
 abbrev pub printed : End → (List (List ℕ) → List ℕ) → (List (List ℕ) → List ℕ) → List (List ℕ) → List ℕ
@@ -53,7 +53,7 @@ NextRan input rest old new before after (Ok true) =
     (line : List ℕ) × (length line ≤ longest_line) × Between input rest (λ xs ys. lines_of xs ≡ line ∷ lines_of ys)
     × Appends old new (script_reply_line (answer_to before (line_of line)).0) × (after ≡ (answer_to before (line_of line)).1)
 NextRan input rest old new before after (Ok false) = Keeps old new × (after ≡ before) × Between input rest (λ xs ys. (lines_of xs ≡ []) × (lines_of ys ≡ []))
-NextRan input rest old new before after (Err f) = IfSome input (λ xs. (more : ℕ) → EndsEarly Always (answers before) (replies_and_totals before) (taken (suc more) (lines_of xs)) old new f)
+NextRan input rest old new before after (Err f) = IfSome input (λ xs. (more : ℕ) → EndsEarly AnyLines (answers before) (replies_and_totals before) (taken (suc more) (lines_of xs)) old new f)
 
 -- all of these lines were answered, and the input ends behind them
 abbrev pub AllAnswered : World → World → Taken → Option (List ℕ) → Option (List ℕ) → Type 0
@@ -62,7 +62,7 @@ AllAnswered before after t old new = (t.end ≡ AtEnd) × Appends old new (answe
 -- all lines behind the second
 abbrev pub RestRan : ℕ → Option (List ℕ) → Option (List ℕ) → Option (List ℕ) → World → World → Result (Unit {0}) ScriptFault → Type 0
 RestRan most input old new before after (Ok u) = IfSome input (λ xs. AllAnswered before after (taken most (lines_of xs)) old new)
-RestRan most input old new before after (Err f) = IfSome input (λ xs. EndsEarly Always (answers before) (replies_and_totals before) (taken most (lines_of xs)) old new f)
+RestRan most input old new before after (Err f) = IfSome input (λ xs. EndsEarly AnyLines (answers before) (replies_and_totals before) (taken most (lines_of xs)) old new f)
 
 -- the world that the second line opens, and what that line is answered
 abbrev pub OpensWorld : ℕ → List ℕ → List ℕ → World → Type 0
@@ -76,12 +76,12 @@ OpenRan sites second old new (Err f) = IsOutFault f × ((more : List (List ℕ))
 -- the second line and those behind it, of which this many may be there
 abbrev pub SecondRan : ℕ → ℕ → List ℕ → Option (List ℕ) → Option (List ℕ) → Option (List ℕ) → Result (Unit {0}) ScriptFault → Type 0
 SecondRan most sites second input old new (Ok u) = IfSome input (λ xs. ((taken most (lines_of xs)).end ≡ AtEnd) × Appends old new (run_at sites (second ∷ (taken most (lines_of xs)).lines)))
-SecondRan most sites second input old new (Err f) = IfSome input (λ xs. EndsEarly Always (λ lines. replies_at sites (second ∷ lines)) (λ lines. run_at sites (second ∷ lines)) (taken most (lines_of xs)) old new f)
+SecondRan most sites second input old new (Err f) = IfSome input (λ xs. EndsEarly AnyLines (λ lines. replies_at sites (second ∷ lines)) (λ lines. run_at sites (second ∷ lines)) (taken most (lines_of xs)) old new f)
 
 -- the lines behind the first, of which this many may be there
 abbrev pub SitesRan : ℕ → ℕ → Option (List ℕ) → Option (List ℕ) → Option (List ℕ) → Result (Unit {0}) ScriptFault → Type 0
 SitesRan most sites input old new (Ok u) = IfSome input (λ xs. ((taken most (lines_of xs)).end ≡ AtEnd) × Appends old new (run_at sites (taken most (lines_of xs)).lines))
-SitesRan most sites input old new (Err f) = IfSome input (λ xs. EndsEarly Always (replies_at sites) (run_at sites) (taken most (lines_of xs)) old new f)
+SitesRan most sites input old new (Err f) = IfSome input (λ xs. EndsEarly AnyLines (replies_at sites) (run_at sites) (taken most (lines_of xs)) old new f)
 
 -- the first line
 abbrev pub StartRan : Option (List ℕ) → Option (List ℕ) → Result (Option ℕ) ScriptFault → Type 0

@@ -39,9 +39,9 @@ status_of (Ok ended) = Ok Done
 status_of (Err talk_fault) = Err (of_talk_fault talk_fault)
 
 -- The status, and what was told: a fault, also one of the last flush, is named.
-abbrev pub IsToldAs : Result Status StoreFault → Option (List ℕ) → Option (List ℕ) → Status → Type 0
-IsToldAs (Ok came) old_err new_err status = ((status ≡ came) × Keeps old_err new_err) ⊎ ((status ≡ Failed) × AppendsFront old_err new_err (store_fault_line fault.Write))
-IsToldAs (Err f) old_err new_err status = (status ≡ Failed) × AppendsFront old_err new_err (store_fault_line f)
+abbrev pub IsStatusTold : Result Status StoreFault → Option (List ℕ) → Option (List ℕ) → Status → Type 0
+IsStatusTold (Ok came) old_err new_err status = ((status ≡ came) × Keeps old_err new_err) ⊎ ((status ≡ Failed) × AppendsFront old_err new_err (store_fault_line fault.Write))
+IsStatusTold (Err f) old_err new_err status = (status ≡ Failed) × AppendsFront old_err new_err (store_fault_line f)
 
 -- what records show as a keeper
 abbrev pub records : {S : Type 0} → Ghosts S → Keeping (RecordsView S)
@@ -54,7 +54,7 @@ pub record SessionRan {S : Type 0} (g : Ghosts S) (conn : Held S) (input old_out
   pub opened : IsBookOf (state g conn).now.trees book
   pub came : Result Ended TalkFault
   pub talked : Talked (BookStep (records g)) input old_out new_out book behind came
-  pub told : IsToldAs (status_of came) old_err new_err status
+  pub told : IsStatusTold (status_of came) old_err new_err status
   pub back : behind.keeper.conn ≡ after
   pub holds : behind.closed ≡ false → HoldsOnly (state g after) behind.book.history
   pub stopped : behind.closed ≡ true → (number : ℕ) × (request : Request) × WasAnswered talked.lines talked.answers (Ask number request) (Refused ask.Store) × LeavesEither behind.book.history (entry_in behind.book number request) (MayLeaveIn (state g after))

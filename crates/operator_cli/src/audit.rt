@@ -9,7 +9,7 @@ ghost use Rattle.world_steps.specs.Audit.{AreNotOversold, IsWhole, books_of};
 ghost use Rattle.operator_cli.specs.Told.{FaultTold};
 ghost use Rattle.operator_cli.specs.Opened.{FailsFor};
 ghost use Rattle.operator_cli.specs.Printed.{Printed, Unprinted};
-ghost use Rattle.operator_cli.specs.Audited.{AreSums, EndsAudited, IsAuditText, IsPartsText, sum_lines};
+ghost use Rattle.operator_cli.specs.Audited.{AreWithinSales, EndsAudited, IsAuditText, IsPartsText, sum_lines};
 
 use crate::ending::{ended, write_line};
 use crate::status::Status;
@@ -27,7 +27,7 @@ use world_steps::{audit, is_whole};
 
 // A line for each event with its sums.
 fn write_sums<W: Write>(sums: &[(Event, Totals)], out: &mut W) -> Result<Status, StoreFault>
-    requires { AreSums sums.now }
+    requires { AreWithinSales sums.now }
     ensures out { IfOk result (Printed (λ status text. text ≡ sum_lines sums.now) (W.contents out.old) (W.contents out.new)) }
     ensures fault { IfErr result (λ fault. (fault ≡ WriteFailed) × AppendsFront (W.contents out.old) (W.contents out.new) (sum_lines sums.now)) }
     ensures status { IfOk result (λ status. status ≡ Done) }

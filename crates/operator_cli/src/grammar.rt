@@ -3,7 +3,7 @@
 ghost use Rattle.std.specs.Prelude.{◌≡◌, IfOk, false, codes};
 ghost use Rattle.clap.specs.Words.{app_of, new_app, rule_of};
 ghost use Rattle.clap.specs.declared.builder.command.Command.TheViews.{out-Command as fields_of};
-ghost use Rattle.operator_cli.specs.Orders.{operand, boxoffice, init_app, migrate_app, grow_app, ask_app, find_app, list_app, export_app, import_app, audit_app, serve_app, most_desks, operands};
+ghost use Rattle.operator_cli.specs.Orders.{operand, boxoffice, init_app, migrate_app, grow_app, ask_app, find_app, list_app, export_app, import_app, audit_app, serve_app, most_desks, repeated_operand};
 ghost use Rattle.rights_lattice.specs.Limits.{most_sites};
 
 use crate::orders::{MOST_DESKS, MOST_FILES};
@@ -32,7 +32,7 @@ fn file<'a>(alloc: Global) -> Arg<'a>
 }
 
 fn files<'a>(alloc: Global) -> Arg<'a>
-    ensures rule { rule_of result ≡ operands (codes "FILE") most_sites }
+    ensures rule { rule_of result ≡ repeated_operand (codes "FILE") most_sites }
     ensures local { result.global ≡ false }
 {
     file(alloc).num_args(1..=MOST_FILES)
@@ -40,7 +40,7 @@ fn files<'a>(alloc: Global) -> Arg<'a>
 
 // As many files as one `serve` runs sites.
 fn desks<'a>(alloc: Global) -> Arg<'a>
-    ensures rule { rule_of result ≡ operands (codes "FILE") most_desks }
+    ensures rule { rule_of result ≡ repeated_operand (codes "FILE") most_desks }
     ensures local { result.global ≡ false }
 {
     file(alloc).num_args(1..=MOST_DESKS)

@@ -6,7 +6,7 @@ ghost use Rattle.clap.specs.Words.{subcommand_of, subcommand_rows_of, kind_of, a
 ghost use Rattle.rights_lattice.specs.Cells.{greatest_value};
 ghost use Rattle.rights_lattice.specs.Limits.{greatest_site, most_sites};
 ghost use Rattle.book_core.specs.Limits.{greatest_limit};
-ghost use Rattle.operator_cli.specs.Orders.{boxoffice, greatest_port, most_sessions, AreUnderstood, order_in, said_by, number_in, init_in, migrate_in, grow_in, ask_in, find_in, list_in, export_in, import_in, files_in, audit_in, serve_in, named_order, values_of, first_misfit, misfit_in, misfit_line, TellsMisfit, IsRefusal};
+ghost use Rattle.operator_cli.specs.Orders.{boxoffice, greatest_port, most_sessions, AreUnderstood, order_in, said_by, number_in, init_in, migrate_in, grow_in, ask_in, find_in, list_in, export_in, import_in, files_in, audit_in, serve_in, named_order, values_of, first_misfit, misfit_in, misfit_line, TellsMisfit, IsWordsRefusal};
 
 use crate::grammar::boxoffice;
 use arrayvec::ArrayVec;
@@ -398,7 +398,7 @@ fn misfit_told(alloc: Global, misfit: Misfit) -> WordsFault
 pub fn read_words<'a>(alloc: Global, words: &'a [&'a str]) -> Result<Order<'a>, WordsFault>
     ensures understood { OnOk result (AreUnderstood (map (λ w. w.now) words.now)) }
     ensures order { IfOk result (λ order. order_in (subcommand_of boxoffice (map (λ w. w.now) words.now)) ≡ Some (said_by order)) }
-    ensures refusal { IfErr result (IsRefusal (map (λ w. w.now) words.now)) }
+    ensures refusal { IfErr result (IsWordsRefusal (map (λ w. w.now) words.now)) }
 {
     let Ok(command) = boxoffice(alloc) else {
         return Err(WordsFault::Memory);

@@ -9,7 +9,7 @@ use Rattle.link_queue.specs.End.{End, end_of}
 use Rattle.site_exchange.specs.declared.message.Message.{Message}
 use Rattle.site_exchange.specs.Exchange.{ack_for, receiver}
 use Rattle.session_server.specs.Exchanged.{IsSubsequence, Acknowledges, SentTo, SentMore, IsEndOf, Exchanged, Sent, Received, HasSent, HasReceived, outgoing, incoming}
-use Rattle.session_server.specs.Mesh.{IsNew, linkage_left, linkage_of}
+use Rattle.session_server.specs.Mesh.{IsNewPeer, linkage_left, linkage_of}
 use Rattle.session_server.specs.Settled.{IsLeftOfNew}
 use Rattle.session_server.specs.declared.peer.Peer.{Peer}
 use Rattle.session_server.specs.declared.peer.PeerEnd.{PeerEnd}
@@ -220,17 +220,17 @@ rows_named rounds peers ends [] (y ∷ ys) h = absurd h
 rows_named rounds peers ends (x ∷ xs) [] h = absurd h
 rows_named rounds peers ends (x ∷ xs) (y ∷ ys) h = λ i. same_names rounds (peers x) (ends y) h.0 i ∷ rows_named rounds peers ends xs ys h.1 i
 
-left_of_new : (rounds : ℕ) (ps : List Peer) (es : List PeerEnd) → All IsNew ps → AllZip (Exchanged rounds) ps es → All (IsLeftOfNew rounds) es
+left_of_new : (rounds : ℕ) (ps : List Peer) (es : List PeerEnd) → All IsNewPeer ps → AllZip (Exchanged rounds) ps es → All (IsLeftOfNew rounds) es
 left_of_new rounds [] [] n h = All-nil (IsLeftOfNew rounds)
 left_of_new rounds [] (e ∷ es) n h = absurd h
 left_of_new rounds (p ∷ ps) [] n h = absurd h
-left_of_new rounds (p ∷ ps) (e ∷ es) n h = All-cons (IsLeftOfNew rounds) e es (p, All-head IsNew p ps n, h.0) (left_of_new rounds ps es (All-tail IsNew p ps n) h.1)
+left_of_new rounds (p ∷ ps) (e ∷ es) n h = All-cons (IsLeftOfNew rounds) e es (p, All-head IsNewPeer p ps n, h.0) (left_of_new rounds ps es (All-tail IsNewPeer p ps n) h.1)
 
 -- and each was left by an exchange of new links
-pub rows_left : {A B : Type 0} (rounds : ℕ) (peers : A → List Peer) (ends : B → List PeerEnd) (xs : List A) (ys : List B) → All (λ x. All IsNew (peers x)) xs → AllZip (λ x y. AllZip (Exchanged rounds) (peers x) (ends y)) xs ys → All (λ row. All (IsLeftOfNew rounds) row) (map ends ys)
+pub rows_left : {A B : Type 0} (rounds : ℕ) (peers : A → List Peer) (ends : B → List PeerEnd) (xs : List A) (ys : List B) → All (λ x. All IsNewPeer (peers x)) xs → AllZip (λ x y. AllZip (Exchanged rounds) (peers x) (ends y)) xs ys → All (λ row. All (IsLeftOfNew rounds) row) (map ends ys)
 rows_left rounds peers ends [] [] n h = All-nil (λ row. All (IsLeftOfNew rounds) row)
 rows_left rounds peers ends [] (y ∷ ys) n h = absurd h
 rows_left rounds peers ends (x ∷ xs) [] n h = absurd h
 rows_left rounds peers ends (x ∷ xs) (y ∷ ys) n h =
-    All-cons (λ row. All (IsLeftOfNew rounds) row) (ends y) (map ends ys) (left_of_new rounds (peers x) (ends y) (All-head (λ x. All IsNew (peers x)) x xs n) h.0)
-    (rows_left rounds peers ends xs ys (All-tail (λ x. All IsNew (peers x)) x xs n) h.1)
+    All-cons (λ row. All (IsLeftOfNew rounds) row) (ends y) (map ends ys) (left_of_new rounds (peers x) (ends y) (All-head (λ x. All IsNewPeer (peers x)) x xs n) h.0)
+    (rows_left rounds peers ends xs ys (All-tail (λ x. All IsNewPeer (peers x)) x xs n) h.1)

@@ -6,7 +6,7 @@ use Rattle.std.proofs.lemmas.List.{length_push, length-map, map-append, same_fro
 use Rattle.std.proofs.lemmas.List.Elements.{All-cons, All-nil, All-head, All-tail, All-push, All-same}
 use Rattle.session_server.specs.declared.peer.Peer.{Peer}
 use Rattle.session_server.specs.declared.peer.PeerEnd.{PeerEnd}
-use Rattle.session_server.specs.Mesh.{AreInTurn, AreJoined, CameTo, GotPeer, IsMesh, IsNew, Linkage, each_with, linkage_left, linkage_of, others_of, rows_of}
+use Rattle.session_server.specs.Mesh.{AreInTurn, AreJoined, CameTo, GotPeer, IsMesh, IsNewPeer, Linkage, each_with, linkage_left, linkage_of, others_of, rows_of}
 use Rattle.session_server.specs.Settled.{EndsJoined, IsSettledWith}
 use Rattle.session_server.proofs.Rows.{All-pushed, each_map, each_more, each_push, each_same, length_each, length_rows, mapped_push}
 
@@ -50,12 +50,12 @@ came_then {R} items befores before afters afters' after own own' here c g e o =
     (subst (λ l. CameTo (map row befores ++ row before ∷ []) (map row afters ++ row after ∷ []) l) (sym (mapped_push linkage_of own' own here o)) more))
 
 -- through the links of those that got a peer nothing went
-pub new_then : {R : Type 0} (items : R → List Peer) (befores : List R) (before : R) (afters afters' : List R) (after : R) (here : Peer) → (All (λ r. All IsNew (items r)) befores → All (λ r. All IsNew (items r)) afters) → GotPeer (items before) (items after) here
-    → afters' ≡ afters ++ after ∷ [] → All (λ r. All IsNew (items r)) (befores ++ before ∷ []) → All (λ r. All IsNew (items r)) afters'
+pub new_then : {R : Type 0} (items : R → List Peer) (befores : List R) (before : R) (afters afters' : List R) (after : R) (here : Peer) → (All (λ r. All IsNewPeer (items r)) befores → All (λ r. All IsNewPeer (items r)) afters) → GotPeer (items before) (items after) here
+    → afters' ≡ afters ++ after ∷ [] → All (λ r. All IsNewPeer (items r)) (befores ++ before ∷ []) → All (λ r. All IsNewPeer (items r)) afters'
 new_then items befores before afters afters' after here so g e h =
-    let split = All-pushed (λ r. All IsNew (items r)) befores before h in
-    All-same (λ r. All IsNew (items r)) afters' (afters ++ after ∷ []) e
-    (All-push (λ r. All IsNew (items r)) afters after (so split.0) (All-same IsNew (items after) (items before ++ g.0 ∷ []) g.1 (All-push IsNew (items before) g.0 split.1 g.3)))
+    let split = All-pushed (λ r. All IsNewPeer (items r)) befores before h in
+    All-same (λ r. All IsNewPeer (items r)) afters' (afters ++ after ∷ []) e
+    (All-push (λ r. All IsNewPeer (items r)) afters after (so split.0) (All-same IsNewPeer (items after) (items before ++ g.0 ∷ []) g.1 (All-push IsNewPeer (items before) g.0 split.1 g.3)))
 
 pub mesh_with : (before after : List (List Linkage)) (own : List Linkage) → IsMesh before → CameTo before after own → IsMesh (after ++ own ∷ [])
 mesh_with before after own m c =

@@ -11,7 +11,7 @@ use Rattle.session_server.specs.declared.settling.Went.{Went}
 use Rattle.session_server.specs.declared.site.LinkEnd.{LinkEnd}
 use Rattle.session_server.specs.LinkNames.{both, first_links, link_names, link_name_of}
 use Rattle.session_server.specs.Mesh.{AreInTurn, AreJoined, CameTo, IsMesh, each_with, linkage_left, others_of, rows_of}
-use Rattle.session_server.specs.Settled.{AreAcknowledged, AreInOrder, AreSettled, AreLinksTold, EndsJoined, GotFirst, IsAcknowledged, IsCounted, IsLeftOfNew, IsSettledWith, both_went, ends_to, first_ends, link_end, link_ends, went}
+use Rattle.session_server.specs.Settled.{AreAcknowledged, WentInOrder, AreSettled, AreLinksTold, EndsJoined, GotFirst, IsAcknowledged, IsCounted, IsLeftOfNew, IsSettledWith, both_went, ends_to, first_ends, link_end, link_ends, went}
 use Rattle.session_server.proofs.Meshes.{Undone, images, left_before, undone}
 use Rattle.session_server.proofs.Rows.{All-pushed, all_before, all_each, each_push, full_rows, length_rows, mapped_push}
 
@@ -49,11 +49,11 @@ joined_last row front one other e h =
     subst (λ (x : PeerEnd). AreJoined (linkage_left x, linkage_left other)) same.1 h.3
 
 pub none_settled_with : (rows fronts : List (List PeerEnd)) (last : List PeerEnd) (told : List (Went × Went)) → rows ≡ [] → fronts ≡ [] → last ≡ [] → told ≡ [] → IsSettledWith rows last fronts told
-none_settled_with rows fronts last told r f l t = record { came = []; count = sym (ap length f); rows_are = r ∙ sym (ap (λ x. each_with x []) f); last_is = l; in_order = All-nil AreInOrder; told_are = t }
+none_settled_with rows fronts last told r f l t = record { came = []; count = sym (ap length f); rows_are = r ∙ sym (ap (λ x. each_with x []) f); last_is = l; in_order = All-nil WentInOrder; told_are = t }
 
 -- one more pair of ends
 pub settled_more : (rows rows' : List (List PeerEnd)) (row : List PeerEnd) (last last' : List PeerEnd) (other : PeerEnd) (fronts fronts' : List (List PeerEnd)) (front : List PeerEnd) (told told' : List (Went × Went)) (pair : Went × Went) (one : PeerEnd)
-    → rows ≡ rows' ++ row ∷ [] → last ≡ last' ++ other ∷ [] → fronts ≡ fronts' ++ front ∷ [] → told ≡ told' ++ pair ∷ [] → row ≡ front ++ one ∷ [] → pair ≡ both_went (one, other) → AreInOrder (one, other)
+    → rows ≡ rows' ++ row ∷ [] → last ≡ last' ++ other ∷ [] → fronts ≡ fronts' ++ front ∷ [] → told ≡ told' ++ pair ∷ [] → row ≡ front ++ one ∷ [] → pair ≡ both_went (one, other) → WentInOrder (one, other)
     → IsSettledWith rows' last' fronts' told' → IsSettledWith rows last fronts told
 settled_more rows rows' row last last' other fronts fronts' front told told' pair one er el ef et is went order s =
     let firsts = map (λ (p : PeerEnd × PeerEnd). p.0) s.came in
@@ -66,12 +66,12 @@ settled_more rows rows' row last last' other fronts fronts' front told told' pai
           ∙ sym (each_push fronts' firsts front one (length-map s.came (λ p. p.0) ∙ s.count))
           ∙ sym (λ i. each_with (ef i) (map-append (λ (p : PeerEnd × PeerEnd). p.0) s.came ((one, other) ∷ []) i));
       last_is = el ∙ ap (λ l. l ++ other ∷ []) s.last_is ∙ sym (map-append (λ (p : PeerEnd × PeerEnd). p.1) s.came ((one, other) ∷ []));
-      in_order = All-push AreInOrder s.came (one, other) s.in_order order;
+      in_order = All-push WentInOrder s.came (one, other) s.in_order order;
       told_are = et ∙ (λ i. s.told_are i ++ went i ∷ []) ∙ sym (map-append both_went s.came ((one, other) ∷ []));
     }
 
 pub none_settled : (ends : List (List PeerEnd)) (told : List (List Went)) → ends ≡ [] → told ≡ [] → AreSettled ends told
-none_settled ends told e t = record { came = []; in_turn = tt; ends_are = e; in_order = All-nil (λ pairs. All AreInOrder pairs); told_are = t }
+none_settled ends told e t = record { came = []; in_turn = tt; ends_are = e; in_order = All-nil (λ pairs. All WentInOrder pairs); told_are = t }
 
 pub settled_then : (ends rows : List (List PeerEnd)) (last : List PeerEnd) (fronts : List (List PeerEnd)) (told told' : List (List Went)) (pairs : List (Went × Went))
     → ends ≡ rows ++ last ∷ [] → IsSettledWith rows last fronts pairs → AreSettled fronts told' → told ≡ each_with told' (map (λ p. p.0) pairs) ++ map (λ p. p.1) pairs ∷ [] → AreSettled ends told
@@ -80,7 +80,7 @@ settled_then ends rows last fronts told told' pairs e s a t =
       came = s.came ∷ a.came;
       in_turn = (s.count ∙ ap length a.ends_are ∙ length_rows a.came, a.in_turn);
       ends_are = e ∙ (λ i. s.rows_are i ++ s.last_is i ∷ []) ∙ ap (λ l. each_with l (map (λ p. p.0) s.came) ++ map (λ p. p.1) s.came ∷ []) a.ends_are;
-      in_order = All-cons (λ pairs. All AreInOrder pairs) s.came a.came s.in_order a.in_order;
+      in_order = All-cons (λ pairs. All WentInOrder pairs) s.came a.came s.in_order a.in_order;
       told_are = t ∙ (λ i. each_with (a.told_are i) (map (λ (p : Went × Went). p.0) (s.told_are i)) ++ map (λ (p : Went × Went). p.1) (s.told_are i) ∷ []);
     }
 
@@ -217,25 +217,25 @@ went_bounded rounds one other a b there back =
     let came = shorter one.delta_rx.messages other.delta_tx.messages back.0 in
     (((omega (arith, b.acknowledged), deltas), a.sent), ((b.acks_refused, acks), omega (arith, a.acknowledged, came, b.sent)))
 
-pairs_bounded : (rounds : ℕ) (pairs : List (PeerEnd × PeerEnd)) → All (IsLeftOfNew rounds) (map (λ p. p.0) pairs) → All (IsLeftOfNew rounds) (map (λ p. p.1) pairs) → All AreInOrder pairs
+pairs_bounded : (rounds : ℕ) (pairs : List (PeerEnd × PeerEnd)) → All (IsLeftOfNew rounds) (map (λ p. p.0) pairs) → All (IsLeftOfNew rounds) (map (λ p. p.1) pairs) → All WentInOrder pairs
     → All (WentBounded rounds) (map (λ p. p.0) (map both_went pairs)) × All (WentBounded rounds) (map (λ p. p.1) (map both_went pairs))
 pairs_bounded rounds [] h k o = (All-nil (WentBounded rounds), All-nil (WentBounded rounds))
 pairs_bounded rounds (p ∷ pairs) h k o =
     let a = left_within rounds p.0 (All-head (IsLeftOfNew rounds) p.0 (map (λ p. p.0) pairs) h) in
     let b = left_within rounds p.1 (All-head (IsLeftOfNew rounds) p.1 (map (λ p. p.1) pairs) k) in
-    let order = All-head AreInOrder p pairs o in
-    let rest = pairs_bounded rounds pairs (All-tail (IsLeftOfNew rounds) p.0 (map (λ p. p.0) pairs) h) (All-tail (IsLeftOfNew rounds) p.1 (map (λ p. p.1) pairs) k) (All-tail AreInOrder p pairs o) in (
+    let order = All-head WentInOrder p pairs o in
+    let rest = pairs_bounded rounds pairs (All-tail (IsLeftOfNew rounds) p.0 (map (λ p. p.0) pairs) h) (All-tail (IsLeftOfNew rounds) p.1 (map (λ p. p.1) pairs) k) (All-tail WentInOrder p pairs o) in (
       All-cons (WentBounded rounds) (went p.0 p.1) (map (λ p. p.0) (map both_went pairs)) (went_bounded rounds p.0 p.1 a b order.0 order.1) rest.0,
       All-cons (WentBounded rounds) (went p.1 p.0) (map (λ p. p.1) (map both_went pairs)) (went_bounded rounds p.1 p.0 b a order.1 order.0) rest.1,
     )
 
-rows_bounded : (rounds : ℕ) (came : List (List (PeerEnd × PeerEnd))) → AreInTurn came → All (λ row. All (IsLeftOfNew rounds) row) (rows_of came) → All (λ pairs. All AreInOrder pairs) came → All (λ row. All (WentBounded rounds) row) (rows_of (map (map both_went) came))
+rows_bounded : (rounds : ℕ) (came : List (List (PeerEnd × PeerEnd))) → AreInTurn came → All (λ row. All (IsLeftOfNew rounds) row) (rows_of came) → All (λ pairs. All WentInOrder pairs) came → All (λ row. All (WentBounded rounds) row) (rows_of (map (map both_went) came))
 rows_bounded rounds [] t h o = All-nil (λ row. All (WentBounded rounds) row)
 rows_bounded rounds (c ∷ earlier) t h o =
     let split = All-pushed (λ row. All (IsLeftOfNew rounds) row) (each_with (rows_of earlier) (map (λ p. p.0) c)) (map (λ p. p.1) c) h in
     let each = all_before (IsLeftOfNew rounds) (rows_of earlier) (map (λ p. p.0) c) (length-map c (λ p. p.0) ∙ t.0 ∙ sym (length_rows earlier)) split.0 in
-    let bounded = pairs_bounded rounds c each.1 split.1 (All-head (λ pairs. All AreInOrder pairs) c earlier o) in
-    let before = rows_bounded rounds earlier t.1 each.0 (All-tail (λ pairs. All AreInOrder pairs) c earlier o) in
+    let bounded = pairs_bounded rounds c each.1 split.1 (All-head (λ pairs. All WentInOrder pairs) c earlier o) in
+    let before = rows_bounded rounds earlier t.1 each.0 (All-tail (λ pairs. All WentInOrder pairs) c earlier o) in
     All-push (λ row. All (WentBounded rounds) row) (each_with (rows_of (map (map both_went) earlier)) (map (λ p. p.0) (map both_went c))) (map (λ p. p.1) (map both_went c))
     (all_each (WentBounded rounds) (rows_of (map (map both_went) earlier)) (map (λ p. p.0) (map both_went c)) before bounded.0) bounded.1
 

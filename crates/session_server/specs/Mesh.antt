@@ -58,9 +58,9 @@ pub record CameTo (before after : List (List Linkage)) (own : List Linkage) : Ty
   pub own_is : own ≡ map (λ p. p.1) came
 
 -- nothing went through a peer's links
-abbrev pub IsNew : Peer → Type 0
-IsNew peer = (peer.delta_tx.messages ≡ []) × (peer.ack_tx.messages ≡ []) × (peer.delta_rx.messages ≡ []) × (peer.ack_rx.messages ≡ [])
+abbrev pub IsNewPeer : Peer → Type 0
+IsNewPeer peer = (peer.delta_tx.messages ≡ []) × (peer.ack_tx.messages ≡ []) × (peer.delta_rx.messages ≡ []) × (peer.ack_rx.messages ≡ [])
 
 -- a site got one more peer, which is joined with this one of the other site; nothing went between them
 abbrev pub GotPeer : List Peer → List Peer → Peer → Type 0
-GotPeer before after here = (there : Peer) × (after ≡ before ++ there ∷ []) × AreJoined (linkage_of there, linkage_of here) × IsNew there × IsNew here
+GotPeer before after here = (there : Peer) × (after ≡ before ++ there ∷ []) × AreJoined (linkage_of there, linkage_of here) × IsNewPeer there × IsNewPeer here

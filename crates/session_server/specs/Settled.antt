@@ -8,7 +8,7 @@ use Rattle.session_server.specs.declared.settling.Through.{Through}
 use Rattle.session_server.specs.declared.settling.Went.{Went}
 use Rattle.session_server.specs.declared.site.LinkEnd.{LinkEnd}
 use Rattle.session_server.specs.Exchanged.{Exchanged}
-use Rattle.session_server.specs.Mesh.{AreInTurn, AreJoined, IsNew, each_with, linkage_left, others_of, rows_of}
+use Rattle.session_server.specs.Mesh.{AreInTurn, AreJoined, IsNewPeer, each_with, linkage_left, others_of, rows_of}
 
 -- what was put and got is what the two ends tell, what was refused is told by the site that receives
 abbrev pub through : End → End → ℕ → Through
@@ -27,8 +27,8 @@ abbrev pub GotFirst : PeerEnd → PeerEnd → Type 0
 GotFirst one other = IsPrefix other.delta_rx.messages one.delta_tx.messages × IsPrefix other.ack_rx.messages one.ack_tx.messages
 
 -- the same there and back, by ends of the same links
-abbrev pub AreInOrder : PeerEnd × PeerEnd → Type 0
-AreInOrder p = GotFirst p.0 p.1 × GotFirst p.1 p.0 × AreJoined (linkage_left p.0, linkage_left p.1)
+abbrev pub WentInOrder : PeerEnd × PeerEnd → Type 0
+WentInOrder p = GotFirst p.0 p.1 × GotFirst p.1 p.0 × AreJoined (linkage_left p.0, linkage_left p.1)
 
 -- the last end of a row is of the links of this one
 abbrev pub EndsJoined : List PeerEnd → PeerEnd → Type 0
@@ -40,7 +40,7 @@ pub record IsSettledWith (rows : List (List PeerEnd)) (last : List PeerEnd) (fro
   pub count : length came ≡ length fronts
   pub rows_are : rows ≡ each_with fronts (map (λ p. p.0) came)
   pub last_is : last ≡ map (λ p. p.1) came
-  pub in_order : All AreInOrder came
+  pub in_order : All WentInOrder came
   pub told_are : told ≡ map both_went came
 
 -- For each site, and each other: what went there, as the ends that the two have for each other tell it. What came out of each link is a prefix of what was put into it.
@@ -48,7 +48,7 @@ pub record AreSettled (ends : List (List PeerEnd)) (told : List (List Went)) : T
   pub came : List (List (PeerEnd × PeerEnd))
   pub in_turn : AreInTurn came
   pub ends_are : ends ≡ rows_of came
-  pub in_order : All (λ pairs. All AreInOrder pairs) came
+  pub in_order : All (λ pairs. All WentInOrder pairs) came
   pub told_are : told ≡ rows_of (map (map both_went) came)
 
 abbrev pub link_end : ℕ → ℕ → Bool → Through → LinkEnd
@@ -86,7 +86,7 @@ pub record AreAcknowledged (sites : List ℕ) (links : List LinkEnd) : Type 0 wh
 
 -- an exchange for so many rounds left this end of links through which nothing had gone
 abbrev pub IsLeftOfNew : ℕ → PeerEnd → Type 0
-IsLeftOfNew rounds end = (peer : Peer) × IsNew peer × Exchanged rounds peer end
+IsLeftOfNew rounds end = (peer : Peer) × IsNewPeer peer × Exchanged rounds peer end
 
 -- The links between these sites, each told of as its two ends tell it, which the exchanges of two sites for so many rounds left, each for the other by its number. What came out of each is a prefix of what was put into it.
 pub record AreLinksTold (rounds : ℕ) (sites : List ℕ) (links : List LinkEnd) : Type 0 where
@@ -95,5 +95,5 @@ pub record AreLinksTold (rounds : ℕ) (sites : List ℕ) (links : List LinkEnd)
   pub in_turn : AreInTurn came
   pub left : All (λ row. All (IsLeftOfNew rounds) row) (rows_of came)
   pub named : map (map (λ e. e.to)) (rows_of came) ≡ others_of sites
-  pub in_order : All (λ pairs. All AreInOrder pairs) came
+  pub in_order : All (λ pairs. All WentInOrder pairs) came
   pub links_are : links ≡ link_ends sites (rows_of (map (map both_went) came))

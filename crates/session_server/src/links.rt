@@ -1,7 +1,7 @@
 //! The links between all sites of a process.
 
 ghost use Rattle.std.specs.Prelude.{◌≡◌, ◌++◌, ◌∷◌, [], ◌<◌, All, IfOk, map};
-ghost use Rattle.session_server.specs.Mesh.{AreJoined, CameTo, GotPeer, IsMesh, IsNew, each_with, linkage_of, others_of};
+ghost use Rattle.session_server.specs.Mesh.{AreJoined, CameTo, GotPeer, IsMesh, IsNewPeer, each_with, linkage_of, others_of};
 
 use crate::peer::Peer;
 use crate::site::Site;
@@ -27,7 +27,7 @@ fn pair(
 ) -> Result<(Peer, Peer), AllocError>
     requires { 0 < capacity }
     ensures joined { IfOk result (λ r. AreJoined (linkage_of r.0, linkage_of r.1)) }
-    ensures new { IfOk result (λ r. IsNew r.0 × IsNew r.1) }
+    ensures new { IfOk result (λ r. IsNewPeer r.0 × IsNewPeer r.1) }
     ensures named { IfOk result (λ r. (r.0.to ≡ other) × (r.1.to ≡ one)) }
 {
     let (there_delta_tx, there_delta_rx) = link(alloc, capacity)?;
@@ -61,7 +61,7 @@ pub(crate) fn link_all<K: Keeper + Drop, R: Read + Drop, W: Write + Drop>(
     requires { 0 < capacity }
     ensures sites { IfOk result (λ linked. map (λ l. l.site) linked.items ≡ sites.items) }
     ensures mesh { IfOk result (λ linked. IsMesh (map (λ l. map linkage_of l.peers.items) linked.items)) }
-    ensures new { IfOk result (λ linked. All (λ l. All IsNew l.peers.items) linked.items) }
+    ensures new { IfOk result (λ linked. All (λ l. All IsNewPeer l.peers.items) linked.items) }
     ensures named { IfOk result (λ linked. map (λ l. map (λ p. p.to) l.peers.items) linked.items ≡ others_of (map (λ l. l.site.book.book.office.me) linked.items)) }
 {
     let mut linked: Vec<LinkedSite<K, R, W>> = Vec::new(alloc);
@@ -80,11 +80,11 @@ fn with_site<K: Keeper + Drop, R: Read + Drop, W: Write + Drop>(
 ) -> Result<Vec<LinkedSite<K, R, W>>, AllocError>
     requires capacity { 0 < capacity }
     requires mesh { IsMesh (map (λ l. map linkage_of l.peers.items) earlier.items) }
-    requires new { All (λ l. All IsNew l.peers.items) earlier.items }
+    requires new { All (λ l. All IsNewPeer l.peers.items) earlier.items }
     requires named { map (λ l. map (λ p. p.to) l.peers.items) earlier.items ≡ others_of (map (λ l. l.site.book.book.office.me) earlier.items) }
     ensures sites { IfOk result (λ linked. map (λ l. l.site) linked.items ≡ map (λ l. l.site) earlier.items ++ site ∷ []) }
     ensures mesh { IfOk result (λ linked. IsMesh (map (λ l. map linkage_of l.peers.items) linked.items)) }
-    ensures new { IfOk result (λ linked. All (λ l. All IsNew l.peers.items) linked.items) }
+    ensures new { IfOk result (λ linked. All (λ l. All IsNewPeer l.peers.items) linked.items) }
     ensures named { IfOk result (λ linked. map (λ l. map (λ p. p.to) l.peers.items) linked.items ≡ others_of (map (λ l. l.site.book.book.office.me) linked.items)) }
 {
     let (mut linked, peers) = linked_with(alloc, capacity, site.book.book().me(), earlier)?;
@@ -103,7 +103,7 @@ fn linked_with<K: Keeper + Drop, R: Read + Drop, W: Write + Drop>(
     ensures sites { IfOk result (λ r. map (λ l. l.site) r.0.items ≡ map (λ l. l.site) earlier.items) }
     ensures came { IfOk result (λ r. CameTo (map (λ l. map linkage_of l.peers.items) earlier.items) (map (λ l. map linkage_of l.peers.items) r.0.items) (map linkage_of r.1.items)) }
     ensures named { IfOk result (λ r. (map (λ l. map (λ p. p.to) l.peers.items) r.0.items ≡ each_with (map (λ l. map (λ p. p.to) l.peers.items) earlier.items) (map (λ l. me) earlier.items)) × (map (λ p. p.to) r.1.items ≡ map (λ l. l.site.book.book.office.me) earlier.items)) }
-    ensures new { IfOk result (λ r. All IsNew r.1.items × (All (λ l. All IsNew l.peers.items) earlier.items → All (λ l. All IsNew l.peers.items) r.0.items)) }
+    ensures new { IfOk result (λ r. All IsNewPeer r.1.items × (All (λ l. All IsNewPeer l.peers.items) earlier.items → All (λ l. All IsNewPeer l.peers.items) r.0.items)) }
 {
     let mut linked = Vec::new(alloc);
     let mut peers = Vec::new(alloc);

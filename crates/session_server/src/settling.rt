@@ -4,7 +4,7 @@ ghost use Rattle.std.specs.Prelude.{◌≡◌, ◌∷◌, ◌++◌, ◌≤◌, [
 ghost use Rattle.std.specs.List.{AllZip};
 ghost use mathlib.Core.List.{IsPrefix};
 ghost use Rattle.session_server.specs.Mesh.{AreJoined, IsMesh, each_with, linkage_left};
-ghost use Rattle.session_server.specs.Settled.{AreInOrder, AreSettled, EndsJoined, IsSettledWith, both_went, through};
+ghost use Rattle.session_server.specs.Settled.{WentInOrder, AreSettled, EndsJoined, IsSettledWith, both_went, through};
 
 use crate::peer::PeerEnd;
 use link_queue::{RxEnd, Settled, TxEnd, settle};
@@ -73,7 +73,7 @@ fn settle_last(
 fn settle_pair(one: PeerEnd, other: PeerEnd) -> (Went, Went)
     requires { AreJoined (linkage_left one, linkage_left other) }
     ensures went { result ≡ both_went (one, other) }
-    ensures in_order { AreInOrder (one, other) }
+    ensures in_order { WentInOrder (one, other) }
 {
     let there = Went {
         deltas: settle_link(one.delta_tx, other.delta_rx, other.deltas_refused),

@@ -7,13 +7,13 @@ use Rattle.world_steps.specs.Audit.{AreNotOversold, IsFirstAhead, IsWhole, books
 use Rattle.operator_cli.specs.declared.told.Told.{Told}
 use Rattle.operator_cli.specs.declared.told.Told.TheVariants.{NotWhole, Ahead}
 use Rattle.operator_cli.specs.Told.{ended_by_audit, told_line, told_status}
-use Rattle.operator_cli.specs.Audited.{AreSums, IsAuditText}
+use Rattle.operator_cli.specs.Audited.{AreWithinSales, IsAuditText}
 use Rattle.operator_cli.proofs.BrokenOff.{unprinted_write}
 use Rattle.operator_cli.proofs.PrintLaws.{told_printed}
 use Rattle.operator_cli.proofs.audit.print_audit.Goals as goal
 
 -- sums of books that are not oversold
-sums : (books : List BookView) → AreNotOversold books → (events : List (List ℕ)) → AreSums (map (λ event. (event, totals_in books event)) events)
+sums : (books : List BookView) → AreNotOversold books → (events : List (List ℕ)) → AreWithinSales (map (λ event. (event, totals_in books event)) events)
 sums books fine [] k sum found = cc
 sums books fine (event ∷ events) zero sum found =
     let same : ◌≡◌ {A = List ℕ × Totals} (event, totals_in books event) sum = cc in
@@ -35,7 +35,7 @@ tells books audit.Memory told is none ahead = cc
 pub write_sums-requires : goal.write_sums-requires
 write_sums-requires g c =
     let books = books_of c.args.books.now in
-    subst AreSums (sym (c.as_slice.ensures.value ∙ c.in-Ok.ensures.lines)) (sums books c.in-Ok.ensures.not_oversold (events_in books))
+    subst AreWithinSales (sym (c.as_slice.ensures.value ∙ c.in-Ok.ensures.lines)) (sums books c.in-Ok.ensures.not_oversold (events_in books))
 
 pub returns-in_ok-ended_by_audit-in-Err-clause-out : goal.returns-in_ok-ended_by_audit-in-Err-clause-out
 returns-in_ok-ended_by_audit-in-Err-clause-out g c =

@@ -8,7 +8,7 @@ use Rattle.clap.specs.declared.error.kind.ErrorKind.TheVariants.{OutOfMemory}
 use Rattle.operator_cli.specs.declared.orders.WordsFault.{WordsFault}
 use Rattle.operator_cli.specs.declared.orders.WordsFault.TheVariants.{NotUnderstood, Memory}
 use Rattle.operator_cli.specs.declared.orders.Misfit.{Misfit}
-use Rattle.operator_cli.specs.Orders.{boxoffice, AreUnderstood, IsRefusal, TellsMisfit, misfit_in, misfit_line, order_in}
+use Rattle.operator_cli.specs.Orders.{boxoffice, AreUnderstood, IsWordsRefusal, TellsMisfit, misfit_in, misfit_line, order_in}
 use Rattle.operator_cli.proofs.orders.read_words.Goals as goal
 
 is_plain_and_free : is_simple_and_free boxoffice ≡ true
@@ -27,7 +27,7 @@ only_memory [] e (inr h) none = absurd h
 only_memory (k ∷ kinds) e h none = absurd cc
 
 -- words without a fault are refused only for want of memory
-refused_for_memory : (a : App) (words : List Text) (fault : WordsFault) (e : Error) → a ≡ boxoffice → FailsAs words e a → (kind_of e ≡ OutOfMemory → fault ≡ Memory) → IsRefusal words fault
+refused_for_memory : (a : App) (words : List Text) (fault : WordsFault) (e : Error) → a ≡ boxoffice → FailsAs words e a → (kind_of e ≡ OutOfMemory → fault ≡ Memory) → IsWordsRefusal words fault
 unfolding FailsAs
 refused_for_memory a words Memory e same fails memory = tt
 refused_for_memory a words (NotUnderstood text) e same fails memory = λ taken.
@@ -53,7 +53,7 @@ met a words m same meets = let has = subst (Meets words m) same meets in (has is
 
 -- words that meet no order are refused by the first value that does not fit
 refused_misfit : (words : List Text) (fault : WordsFault) (misfit : Misfit) (rows : Option (Text × List Row)) → rows ≡ subcommand_of boxoffice words → order_in rows ≡ None → misfit_in rows ≡ Some misfit
-    → TellsMisfit misfit fault → IsRefusal words fault
+    → TellsMisfit misfit fault → IsWordsRefusal words fault
 refused_misfit words Memory misfit rows same none found tells = tt
 refused_misfit words (NotUnderstood text) misfit rows same none found tells = λ _. (
   ap order_in (sym same) ∙ none,

@@ -4,7 +4,7 @@ use Rattle.std.proofs.lemmas.Iterator.Adapters.{YieldsList-from_vec}
 use Rattle.std.proofs.lemmas.Iterator.Consumers.{YieldsList-end}
 use Rattle.std.proofs.lemmas.List.{map-append, map-id}
 use Rattle.std.proofs.lemmas.List.Elements.{All-nil, All-push, All-same}
-use Rattle.session_server.specs.Mesh.{CameTo, IsNew, each_with, linkage_of}
+use Rattle.session_server.specs.Mesh.{CameTo, IsNewPeer, each_with, linkage_of}
 use Rattle.session_server.proofs.Meshes.{came_begun, came_then, named_more, new_then}
 use Rattle.session_server.proofs.Rows.{mapped_push}
 use Rattle.session_server.proofs.links.linked_with.Goals as goal
@@ -13,8 +13,8 @@ pub loop-one-init : goal.loop-one-init
 loop-one-init g c = record {
   sites = ap (map (λ one. one.site)) c.new-linked.ensures.items;
   came = came_begun (λ one. one.peers.items) c.new-linked.result.items c.new-peers.result.items c.new-linked.ensures.items c.new-peers.ensures.items;
-  new = All-same IsNew c.new-peers.result.items [] c.new-peers.ensures.items (All-nil IsNew);
-  kept = λ _. All-same (λ one. All IsNew one.peers.items) c.new-linked.result.items [] c.new-linked.ensures.items (All-nil (λ one. All IsNew one.peers.items));
+  new = All-same IsNewPeer c.new-peers.result.items [] c.new-peers.ensures.items (All-nil IsNewPeer);
+  kept = λ _. All-same (λ one. All IsNewPeer one.peers.items) c.new-linked.result.items [] c.new-linked.ensures.items (All-nil (λ one. All IsNewPeer one.peers.items));
   others_named = ap (map (λ one. map (λ p. p.to) one.peers.items)) c.new-linked.ensures.items;
   own_named = ap (map (λ p. p.to)) c.new-peers.ensures.items;
 }
@@ -30,7 +30,7 @@ loop-one-preserved g c =
           ∙ sym (map-append (λ one. one.site) c.loop-one.yielded (c.in-Some.one ∷ []));
       came = came_then (λ one. one.peers.items) c.loop-one.yielded c.in-Some.one c.loop-one.linked.items c.push.new.self.items c.in_ok-other.other c.loop-one.peers.items c.push-in-loop-one.new.self.items c.in_ok-other.here
           i.came c.in_ok-other.ensures.peers c.in_ok-push.ensures.items c.in_ok-push-2.ensures.items;
-      new = All-same IsNew c.push-in-loop-one.new.self.items (c.loop-one.peers.items ++ c.in_ok-other.here ∷ []) c.in_ok-push-2.ensures.items (All-push IsNew c.loop-one.peers.items c.in_ok-other.here i.new c.in_ok-other.ensures.peers.4);
+      new = All-same IsNewPeer c.push-in-loop-one.new.self.items (c.loop-one.peers.items ++ c.in_ok-other.here ∷ []) c.in_ok-push-2.ensures.items (All-push IsNewPeer c.loop-one.peers.items c.in_ok-other.here i.new c.in_ok-other.ensures.peers.4);
       kept = new_then (λ one. one.peers.items) c.loop-one.yielded c.in-Some.one c.loop-one.linked.items c.push.new.self.items c.in_ok-other.other c.in_ok-other.here i.kept c.in_ok-other.ensures.peers c.in_ok-push.ensures.items;
       others_named = named_more (λ one. map (λ p. p.to) one.peers.items) c.args.me c.loop-one.yielded c.in-Some.one c.loop-one.linked.items c.push.new.self.items c.in_ok-other.other i.others_named c.in_ok-other.ensures.named.0 c.in_ok-push.ensures.items;
       own_named =
@@ -58,7 +58,7 @@ returns-clause-new g c =
     let begins = c.into_iter-one-iterator.ensures.into_iter_gives in
     let road = YieldsList-from_vec {s = c.into_iter-one-iterator.result} c.args.earlier.items begins.0 (begins.1 ∙ c.args.earlier.ok.0) in
     let all : c.loop-one.yielded ≡ c.args.earlier.items = sym (map-id c.loop-one.yielded) ∙ (YieldsList-end road c.loop-one.yielded _ c.loop-one.yielded_by _ c.next.new.self c.in-None.is c.next.ensures.steps).0 in
-    (c.loop-one.invariant.new, subst (λ l. All (λ one. All IsNew one.peers.items) l → All (λ one. All IsNew one.peers.items) c.loop-one.linked.items) all c.loop-one.invariant.kept)
+    (c.loop-one.invariant.new, subst (λ l. All (λ one. All IsNewPeer one.peers.items) l → All (λ one. All IsNewPeer one.peers.items) c.loop-one.linked.items) all c.loop-one.invariant.kept)
 
 pub returns-clause-named : goal.returns-clause-named
 returns-clause-named g c =

@@ -1,7 +1,7 @@
 use Rattle.std.proofs.Common.{◌≡◌, ◌∙◌, ap, rules, map, subst, sym}
 use Rattle.std.specs.Prelude.{All}
 use Rattle.std.proofs.lemmas.List.Elements.{All-push, All-same}
-use Rattle.session_server.specs.Mesh.{IsMesh, IsNew, linkage_of}
+use Rattle.session_server.specs.Mesh.{IsMesh, IsNewPeer, linkage_of}
 use Rattle.session_server.proofs.Meshes.{mesh_with, named_then}
 use Rattle.session_server.proofs.Rows.{mapped_push}
 use Rattle.session_server.proofs.Sites.{map_after}
@@ -14,8 +14,8 @@ returns-clause-mesh g c =
 
 pub returns-clause-new : goal.returns-clause-new
 returns-clause-new g c =
-    All-same (λ one. All IsNew one.peers.items) c.push.new.self.items _ c.in_ok-push.ensures.items
-    (All-push (λ one. All IsNew one.peers.items) c.in_ok-linked.linked.items _ (c.in_ok-linked.ensures.new.1 c.requires.new) c.in_ok-linked.ensures.new.0)
+    All-same (λ one. All IsNewPeer one.peers.items) c.push.new.self.items _ c.in_ok-push.ensures.items
+    (All-push (λ one. All IsNewPeer one.peers.items) c.in_ok-linked.linked.items _ (c.in_ok-linked.ensures.new.1 c.requires.new) c.in_ok-linked.ensures.new.0)
 
 pub returns-clause-named : goal.returns-clause-named
 returns-clause-named g c =
