@@ -25,6 +25,8 @@ NORTH = ["announce 1 gala", "release 2 gala 100", "cede 3 gala 40 1"]
 
 # What all sites sold, once both have sold all that they had.
 LINE = "gala released 100 sold 100 refunded 0 outstanding 100\n"
+# The same behind two seats more, which a session by `nc` released and sold.
+LINE_BEHIND_NC = "gala released 102 sold 102 refunded 0 outstanding 102\n"
 
 
 def offices(folder):
@@ -126,22 +128,25 @@ def sell_at_once(folder, files):
 
 
 def netcat(folder, files):
-    """A session by `nc`, whose input is a pipe, beside one at the other site."""
+    """A session by `nc`, whose input is a pipe, beside one at the other site. Tells the audit's line behind it."""
     if shutil.which("nc") is None:
         print("serve at once: there is no nc here, so no session by it")
-        return
+        return LINE
     port = free_port()
     serving = started(folder, port, 2, 0, files)
     caller = Caller(port)
-    lines = b"left gala\nsell 5000 gala 1\nquit\n"
+    lines = b"left gala\nrelease 5000 gala 2\nsell 5001 gala 2\nsell 5002 gala 1\nquit\n"
     told = subprocess.run(["nc", "127.0.0.1", str(port)], input=lines, capture_output=True, timeout=SECONDS, check=False)
-    same("what nc was answered", told.stdout, b"left 0\nshort 0\n")
+    same("what nc was answered", told.stdout, b"left 0\ndone\ndone\nshort 0\n")
     same("what is left beside it", caller.ask("left gala"), "left 0")
     same("the caller beside nc is let go", caller.quit(), True)
-    same("the end of serving nc", ended(serving), (0, LINE, ""))
+    same("the end of serving nc", ended(serving), (0, LINE_BEHIND_NC, ""))
+    at_nc = {number: reply for file in files for number, reply in kept(folder, file).items() if number > 5000}
+    same("what is kept of nc's sales", at_nc, {5001: "done", 5002: "short 0"})
+    return LINE_BEHIND_NC
 
 
-def bad_sessions(folder, files):
+def bad_sessions(folder, files, line):
     """A session that ends by a fault changes neither the status nor the others, and its connection is ended."""
     port = free_port()
     serving = started(folder, port, 3, 0, files)
@@ -152,7 +157,7 @@ def bad_sessions(folder, files):
     gone.lines.close()
     same("another session beside them", other.ask("sell 6001 gala 1"), "short 0")
     same("it is let go", other.quit(), True)
-    same("the end of bad sessions", ended(serving), (0, LINE, ""))
+    same("the end of bad sessions", ended(serving), (0, line, ""))
 
 
 def forged(folder, files):
@@ -167,7 +172,7 @@ def forged(folder, files):
     same("what was entered stays", call(folder, ["find", files[0], "7000"])[1].split(" ", 1)[1], "done\n")
 
 
-def refusals(folder, files):
+def refusals(folder, files, line):
     north, south = files
     port = str(free_port())
     same("one of two", call(folder, ["serve", port, "1", "0", north]), (1, "not-whole\n", ""))
@@ -183,15 +188,15 @@ def refusals(folder, files):
     for words in no_words:
         same(f"serve {words}", call(folder, ["serve", *words, north, south])[:2], (2, ""))
     no_session = call(folder, ["serve", port, "0", "1", north, south])
-    same("no session", no_session, (0, LINE, ""))
+    same("no session", no_session, (0, line, ""))
 
 
 def all_at_two_sites(folder):
     files = offices(folder)
     sell_at_once(folder, files)
-    netcat(folder, files)
-    bad_sessions(folder, files)
-    refusals(folder, files)
+    line = netcat(folder, files)
+    bad_sessions(folder, files, line)
+    refusals(folder, files, line)
     forged(folder, files)
 
 

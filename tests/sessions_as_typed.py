@@ -1,11 +1,13 @@
 #!/usr/bin/env python3
 """Runs sessions of the built program as a person types: each line is sent once the reply to the line before has come.
+The script of the examples' first night is run too, as a whole.
 
 Usage: tests/sessions_as_typed.py [PROGRAM]     (PROGRAM: crates/boxoffice/out/boxoffice)
 
 Says what differs and ends with status 1 where anything does.
 """
 
+import os
 import select
 import subprocess
 import sys
@@ -13,6 +15,7 @@ import sys
 from trial import PROGRAM, call, same, try_each
 
 SECONDS = 30
+EXAMPLES = os.path.join(os.path.dirname(os.path.abspath(__file__)), "..", "examples")
 
 # Each line of an evening with its reply.
 TYPED = [
@@ -134,6 +137,13 @@ def killed_behind_a_reply(folder):
         same(f"find {number} behind a kill", run(folder, ["find", "site.db", number]), (0, kept + "\n", ""))
 
 
-TRIALS = [line_by_line, in_pieces, until_quit, alone, killed_behind_a_reply]
+# A newcomer's first script prints what stands beside it.
+def first_night(folder):
+    with open(os.path.join(EXAMPLES, "first-night.script")) as script:
+        with open(os.path.join(EXAMPLES, "first-night.expected")) as expected:
+            same("the first night", run(folder, ["world"], script.read()), (0, expected.read(), ""))
+
+
+TRIALS = [line_by_line, in_pieces, until_quit, alone, killed_behind_a_reply, first_night]
 
 sys.exit(try_each(TRIALS, "sessions answer as they are typed"))
