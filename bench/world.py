@@ -17,6 +17,10 @@ import tempfile
 import time
 
 
+# What a mark and a name of a delta take, in bytes.
+OWN = 48 + 33
+
+
 def one_site(events):
     """Sales of so many events at one site, a tenth of them given back."""
     def write(lines, out):
@@ -102,6 +106,31 @@ def best(words, path):
     return min(times), printed
 
 
+def memory(words, path):
+    """The most memory that a run takes, in bytes."""
+    with open(path, 'rb') as script, subprocess.Popen(words, stdin=script, stdout=subprocess.DEVNULL) as command:
+        _, status, used = os.wait4(command.pid, 0)
+        command.returncode = os.waitstatus_to_exitcode(status)
+    if command.returncode != 0:
+        sys.exit('a script was not run')
+    return used.ru_maxrss * 1024
+
+
+def taking(words, path, marks):
+    """What a site takes more, for each mark, than the run before it, where it joins a delta of so many marks, each of an event
+    with a name of its own."""
+    lines = ['sites 2\n']
+    for k in range(marks):
+        lines.append('1 announce %d e%06d\n1 release %d e%06d 1000\n' % (2 * k + 1, k, 2 * k + 2, k))
+    lines.append('send 1 0\n')
+    runs = []
+    for last in ([], ['deliver 0\n']):
+        with open(path, 'w') as out:
+            out.writelines(lines + last)
+        runs.append(memory(words, path))
+    return (runs[1] - runs[0]) / marks
+
+
 def main(words):
     if len(words) != 1:
         sys.exit(__doc__)
@@ -143,6 +172,9 @@ def main(words):
                 messages, marks = held(path)
                 more = ours - alone[name, size]
                 print('    %d messages of %.0f marks each: %.0f us a message beside the sales, %.3f us a mark' % (messages, marks / messages, more / messages * 1e6, more / marks * 1e6))
+        marks = 100000
+        more = taking([words[0], 'world'], path, marks)
+        print('joining a delta of %d marks and names: %.0f bytes of memory each, %.1f times its own' % (marks, more, more / OWN))
 
 
 main(sys.argv[1:])
