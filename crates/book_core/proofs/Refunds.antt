@@ -7,6 +7,7 @@ use Rattle.rights_lattice.specs.Cell.{same_event}
 use Rattle.rights_lattice.specs.Cells.{value_at}
 use Rattle.rights_lattice.specs.declared.cell.Cell.TheVariants.{Used, Back}
 use Rattle.rights_lattice.specs.State.{State}
+use Rattle.rights_lattice.proofs.RightsLaws.{cond_le}
 use Rattle.rights_lattice.proofs.SpotLaws.{same_event_self}
 use Rattle.request_ledger.specs.declared.request.Request.{Request}
 use Rattle.request_ledger.specs.declared.request.Request.TheVariants.{Announce, Release, Sell, Refund, Cede}
@@ -33,10 +34,6 @@ sale_part r event _ = 0
 
 abbrev sales : (ℕ → ℕ → ℕ) → List ℕ → List Entry → ℕ
 sales r event h = sum_by (sale_part r event) h
-
-cond_le : (b : Bool) (m n : ℕ) → m ≤ n → cond b m 0 ≤ cond b n 0
-cond_le true m n h = h
-cond_le false m n h = omega arith
 
 part_le : (r q : ℕ → ℕ → ℕ) (event : List ℕ) → ((m a : ℕ) → r m a ≤ q m a) → (entry : Entry) → sale_part r event entry ≤ sale_part q event entry
 part_le r q event le (Asked number (Sell of seats) reply delta) = cond_le (same_event event of && is_done reply) (r number seats) (q number seats) (le number seats)

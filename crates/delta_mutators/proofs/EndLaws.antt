@@ -17,7 +17,7 @@ use Rattle.rights_lattice.specs.State.{State, with_name, names_in_order}
 use Rattle.rights_lattice.proofs.CellLaws.{key_cmp_total, same_cells, greatest-append, value_at-raise}
 use Rattle.delta_mutators.specs.declared.delta.Item.{Item}
 use Rattle.delta_mutators.specs.declared.delta.Item.TheVariants as item
-use Rattle.rights_lattice.specs.Marks.{AreMarks, entries_of, are_rising_marks, cells_of, name_entries, are_rising_names, names_of}
+use Rattle.rights_lattice.specs.Marks.{AreMarks, keyed_marks, are_rising_marks, cells_of, keyed_names, are_rising_names, names_of}
 pub use Rattle.delta_mutators.specs.Lists.{AreLists}
 pub use Rattle.rights_lattice.proofs.MergeLaws.{AreMarks-end}
 use Rattle.rights_lattice.proofs.MergeLaws.{as_test, as_true}
@@ -127,34 +127,34 @@ all_map : {A B : Type 0} (p : B → Bool) (f : A → B) (xs : List A) → list_a
 all_map p f [] = refl
 all_map p f (x ∷ xs) = ap (λ b. p (f x) && b) (all_map p f xs)
 
-names_end : (ns : List (List ℕ)) (e : List ℕ) → name_entries (ns ++ e ∷ []) ≡ name_entries ns ++ (e, tt) ∷ []
+names_end : (ns : List (List ℕ)) (e : List ℕ) → keyed_names (ns ++ e ∷ []) ≡ keyed_names ns ++ (e, tt) ∷ []
 names_end ns e = map_end (λ (n : List ℕ). let u : Unit {0} = tt in (n, u)) ns e
 
-marks_end : (ms : List Valued) (m : Valued) → entries_of (ms ++ m ∷ []) ≡ entries_of ms ++ ((m.event, m.cell), m.value - 1) ∷ []
+marks_end : (ms : List Valued) (m : Valued) → keyed_marks (ms ++ m ∷ []) ≡ keyed_marks ms ++ ((m.event, m.cell), m.value - 1) ∷ []
 marks_end ms m = map_end (λ (x : Valued). ((x.event, x.cell), x.value - 1)) ms m
 
-names_below : (ns : List (List ℕ)) (e : List ℕ) → IsTrue (is_after_names ns e) → all_below (slice_cmp nat_cmp) nat_list_cmp_total (name_entries ns) e ≡ true
+names_below : (ns : List (List ℕ)) (e : List ℕ) → IsTrue (is_after_names ns e) → all_below (slice_cmp nat_cmp) nat_list_cmp_total (keyed_names ns) e ≡ true
 names_below ns e h = all_map (λ (x : List ℕ × Unit {0}). is_lt (slice_cmp nat_cmp x.0 e)) (λ (n : List ℕ). let u : Unit {0} = tt in (n, u)) ns ∙ h
 
-marks_below : (ms : List Valued) (m : Valued) → IsTrue (is_after_marks ms m) → all_below key_cmp key_cmp_total (entries_of ms) (m.event, m.cell) ≡ true
+marks_below : (ms : List Valued) (m : Valued) → IsTrue (is_after_marks ms m) → all_below key_cmp key_cmp_total (keyed_marks ms) (m.event, m.cell) ≡ true
 marks_below ms m h = all_map (λ (x : Key × ℕ). is_lt (key_cmp x.0 (m.event, m.cell))) (λ (x : Valued). ((x.event, x.cell), x.value - 1)) ms ∙ h
 
 pub rising_names-end : (ns : List (List ℕ)) (e : List ℕ) → IsTrue (are_rising_names ns) → IsTrue (is_after_names ns e) → IsTrue (are_rising_names (ns ++ e ∷ []))
 rising_names-end ns e h after =
-    ap (entry.is_sorted (slice_cmp nat_cmp)) (names_end ns e) ∙ is_sorted-end (slice_cmp nat_cmp) nat_list_cmp_total e tt (name_entries ns) ∙ and_from _ _ h (names_below ns e after)
+    ap (entry.is_sorted (slice_cmp nat_cmp)) (names_end ns e) ∙ is_sorted-end (slice_cmp nat_cmp) nat_list_cmp_total e tt (keyed_names ns) ∙ and_from _ _ h (names_below ns e after)
 
 pub rising_marks-end : (ms : List Valued) (m : Valued) → IsTrue (are_rising_marks ms) → IsTrue (is_after_marks ms m) → IsTrue (are_rising_marks (ms ++ m ∷ []))
 rising_marks-end ms m h after =
-    ap (entry.is_sorted key_cmp) (marks_end ms m) ∙ is_sorted-end key_cmp key_cmp_total (m.event, m.cell) (m.value - 1) (entries_of ms) ∙ and_from _ _ h (marks_below ms m after)
+    ap (entry.is_sorted key_cmp) (marks_end ms m) ∙ is_sorted-end key_cmp key_cmp_total (m.event, m.cell) (m.value - 1) (keyed_marks ms) ∙ and_from _ _ h (marks_below ms m after)
 
 pub names_of-end : (ns : List (List ℕ)) (e : List ℕ) → IsTrue (are_rising_names ns) → IsTrue (is_after_names ns e) → names_of (ns ++ e ∷ []) ≡ with_name (names_of ns) e
 unfolding with_name
 names_of-end ns e h after =
     finite.same_entries_map _ _
-    (finite.entries-from_sorted (slice_cmp nat_cmp) (name_entries (ns ++ e ∷ [])) (as_test _ (rising_names-end ns e h after))
+    (finite.entries-from_sorted (slice_cmp nat_cmp) (keyed_names (ns ++ e ∷ [])) (as_test _ (rising_names-end ns e h after))
     ∙ names_end ns e
-    ∙ sym (put-end (slice_cmp nat_cmp) nat_list_cmp_total e tt (name_entries ns) (names_below ns e after))
-    ∙ ap (entry.put (slice_cmp nat_cmp) e tt) (sym (finite.entries-from_sorted (slice_cmp nat_cmp) (name_entries ns) (as_test _ h)))
+    ∙ sym (put-end (slice_cmp nat_cmp) nat_list_cmp_total e tt (keyed_names ns) (names_below ns e after))
+    ∙ ap (entry.put (slice_cmp nat_cmp) e tt) (sym (finite.entries-from_sorted (slice_cmp nat_cmp) (keyed_names ns) (as_test _ h)))
     ∙ sym (finite.entries-insert nat_list_cmp_total (names_of ns) e tt))
 
 pub cells_of-end : (ms : List Valued) (m : Valued) → IsTrue (are_rising_marks ms) → AreMarks ms → IsTrue (is_after_marks ms m) → 1 ≤ m.value → cells_of (ms ++ m ∷ []) ≡ raise (cells_of ms) m
@@ -204,11 +204,11 @@ pushes_mark ns ms ms' S i m a view r is v new =
       marks = marks_of-cells_of (ms ++ m ∷ []) rise positive ∙ ap (λ (t : List Valued). t ++ m ∷ []) (sym marks);
     }
 
-names_again : (es : List (List ℕ × Unit {0})) → name_entries (map (λ (e : List ℕ × Unit {0}). e.0) es) ≡ es
+names_again : (es : List (List ℕ × Unit {0})) → keyed_names (map (λ (e : List ℕ × Unit {0}). e.0) es) ≡ es
 names_again [] = refl
 names_again (e ∷ es) = ap (λ (t : List (List ℕ × Unit {0})). e ∷ t) (names_again es)
 
-marks_again : (es : List (Key × ℕ)) → entries_of (map (λ (e : Key × ℕ). let m : Valued = record { event = e.0.0; cell = e.0.1; value = e.1 + 1 } in m) es) ≡ es
+marks_again : (es : List (Key × ℕ)) → keyed_marks (map (λ (e : Key × ℕ). let m : Valued = record { event = e.0.0; cell = e.0.1; value = e.1 + 1 } in m) es) ≡ es
 marks_again [] = refl
 marks_again (e ∷ es) = let v : e.1 + 1 - 1 ≡ e.1 = omega arith in λ i. ((e.0.0, e.0.1), v i) ∷ marks_again es i
 
@@ -238,10 +238,10 @@ pub name_after : (ns : List (List ℕ)) (e : List ℕ) (more : List (List ℕ)) 
 name_after ns e more h =
     let whole = sym (map-append (λ (n : List ℕ). let u : Unit {0} = tt in (n, u)) ns (e ∷ more)) in
     sym (all_map (λ (x : List ℕ × Unit {0}). is_lt (slice_cmp nat_cmp x.0 e)) (λ (n : List ℕ). let u : Unit {0} = tt in (n, u)) ns)
-    ∙ sorted-after (slice_cmp nat_cmp) nat_list_cmp_total e tt (name_entries ns) (name_entries more) (ap (entry.is_sorted (slice_cmp nat_cmp)) whole ∙ h)
+    ∙ sorted-after (slice_cmp nat_cmp) nat_list_cmp_total e tt (keyed_names ns) (keyed_names more) (ap (entry.is_sorted (slice_cmp nat_cmp)) whole ∙ h)
 
 pub mark_after : (ms : List Valued) (m : Valued) (more : List Valued) → IsTrue (are_rising_marks (ms ++ m ∷ more)) → IsTrue (is_after_marks ms m)
 mark_after ms m more h =
     let whole = sym (map-append (λ (x : Valued). ((x.event, x.cell), x.value - 1)) ms (m ∷ more)) in
     sym (all_map (λ (x : Key × ℕ). is_lt (key_cmp x.0 (m.event, m.cell))) (λ (x : Valued). ((x.event, x.cell), x.value - 1)) ms)
-    ∙ sorted-after key_cmp key_cmp_total (m.event, m.cell) (m.value - 1) (entries_of ms) (entries_of more) (ap (entry.is_sorted key_cmp) whole ∙ h)
+    ∙ sorted-after key_cmp key_cmp_total (m.event, m.cell) (m.value - 1) (keyed_marks ms) (keyed_marks more) (ap (entry.is_sorted key_cmp) whole ∙ h)

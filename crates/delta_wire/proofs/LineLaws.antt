@@ -1,9 +1,9 @@
 -- The two laws of one line: what is read is spelled so, and what is spelled so is read.
-use Rattle.std.proofs.Common.{◌≡◌, ℕ, true, false, cond, List, [], ◌∷◌, Option, Some, None, refl, sym, ap, subst, ◌∙◌, arith, inl, inr, codes, lit<}
+use Rattle.std.proofs.Common.{◌≡◌, ℕ, true, false, List, [], ◌∷◌, Option, Some, None, refl, sym, ap, subst, ◌∙◌, arith, codes, lit<}
 use Rattle.std.specs.Str.{bytes_eq}
 use Rattle.std.specs.Fmt.{decimal}
 use Rattle.std.specs.List.{slice_split, join_with_byte}
-use Rattle.std.proofs.lemmas.Bool.{cases_Bool, false_from_ne_true}
+use Rattle.std.proofs.lemmas.Bool.{false_from_ne_true}
 use Rattle.std.proofs.lemmas.Slice.Eq.{bytes_eq-Decides}
 use Rattle.std.proofs.lemmas.List.Splits.{join_with_byte-slice_split}
 use Rattle.rights_lattice.specs.declared.cell.Cell.{Cell}
@@ -24,17 +24,11 @@ use Rattle.delta_wire.specs.Grammar.{cell_words, item_words, item_line, header_w
 use Rattle.delta_wire.specs.Fields.{event_at, site_at, natural_at}
 use Rattle.delta_wire.specs.Reading.{kind_text, kind_of, kind_at, name_item, mark_item, gave_item, used_item, back_item, after_kind, item_of_words, item_of, purpose_text, purpose_of, purpose_at, upto_at, header_of_words, header_of}
 use Rattle.plain_words.proofs.NumberLaws.{number_at_found, number_at_again, decimal_lacks_space}
-use Rattle.plain_words.proofs.WordLaws.{lacks_space, split_join, bind_some, some_is, word_found, ended_found}
+use Rattle.plain_words.proofs.WordLaws.{lacks_space, split_join, bind_some, some_is, word_tested, word_found, ended_found}
 use Rattle.delta_wire.proofs.FieldLaws.{event_at_found, event_again, site_at_found, site_again, value_at_found, value_again}
 use Rattle.delta_wire.proofs.Names.{name_lacks_space}
 
 -- ---- first words
-
-word_step : {V : Type 0} (text : V → List ℕ) (w : List ℕ) (u v : V) (rest : Option V) → (rest ≡ Some v → w ≡ text v) → cond (bytes_eq w (text u)) (Some u) rest ≡ Some v → w ≡ text v
-word_step text w u v rest next e = elim (cases_Bool (bytes_eq w (text u))) [
-  | inl same ↦ let chosen : Some u ≡ Some v = rw same at e in (bytes_eq-Decides w (text u)).0 same ∙ ap text (some_is u v chosen)
-  | inr other ↦ let chosen : rest ≡ Some v = rw other at e in next chosen
-]
 
 kind_again : (v : ItemKind) → kind_of (kind_text v) ≡ Some v
 unfolding kind_of
@@ -45,7 +39,7 @@ kind_again kind.Back = refl
 
 kind_found : (w : List ℕ) (v : ItemKind) → kind_of w ≡ Some v → w ≡ kind_text v
 unfolding kind_of
-kind_found w v e = word_step kind_text w kind.Name v _ (word_step kind_text w kind.Gave v _ (word_step kind_text w kind.Used v _ (word_step kind_text w kind.Back v None (λ n. absurd cc)))) e
+kind_found w v e = word_tested kind_text w kind.Name v _ (word_tested kind_text w kind.Gave v _ (word_tested kind_text w kind.Used v _ (word_tested kind_text w kind.Back v None (λ n. absurd cc)))) e
 
 purpose_again : (v : Purpose) → purpose_of (purpose_text v) ≡ Some v
 unfolding purpose_of
@@ -54,7 +48,7 @@ purpose_again purpose.Ack = refl
 
 purpose_found : (w : List ℕ) (v : Purpose) → purpose_of w ≡ Some v → w ≡ purpose_text v
 unfolding purpose_of
-purpose_found w v e = word_step purpose_text w purpose.Delta v _ (word_step purpose_text w purpose.Ack v None (λ n. absurd cc)) e
+purpose_found w v e = word_tested purpose_text w purpose.Delta v _ (word_tested purpose_text w purpose.Ack v None (λ n. absurd cc)) e
 
 -- ---- a word, and the words after it
 

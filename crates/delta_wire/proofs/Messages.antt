@@ -22,7 +22,7 @@ use Rattle.delta_wire.specs.Reading.{purpose_text, header_of}
 use Rattle.plain_words.specs.Input.{is_line_break}
 use Rattle.delta_wire.specs.Wire.{Gives, is_over, items_from, delta_from_text, ack_from, with_delta, for_purpose, after_header, message_from, message_of}
 use Rattle.delta_wire.specs.TextLaws.{NoTextIsAPrefix, MessagesHaveTheirOwnTexts, DeltasHaveTheirOwnTexts}
-use Rattle.delta_wire.proofs.Pieces.{first_part}
+use Rattle.plain_words.proofs.LineLaws.{first_part}
 use Rattle.delta_wire.proofs.LineLaws.{header_found, header_again}
 use Rattle.delta_wire.proofs.Breaks.{Lacks, header_lacks, split_lines, text_of_lines}
 use Rattle.delta_wire.proofs.Texts.{over_is, spelled_delta, read_delta_lines, made_again, lines_lack, delta_again}

@@ -6,15 +6,9 @@ use Rattle.std.proofs.lemmas.List.{take_rest}
 use Rattle.std.proofs.lemmas.List.Splits.{length-slice_split}
 use Rattle.std.proofs.lemmas.List.Sums.{count_by-le-length}
 use Rattle.plain_words.specs.Input.{is_line_break}
+use Rattle.plain_words.proofs.LineLaws.{first_part}
 use Rattle.plain_words.proofs.WordLaws.{split_none, split_some}
 use Rattle.delta_wire.specs.Wire.{is_over}
-
-pub first_part : (p : ℕ → Bool) (xs : List ℕ) → (first : List ℕ) × (more : List (List ℕ)) × (slice_split p xs ≡ first ∷ more)
-first_part p [] = ([], [], refl)
-first_part p (x ∷ xs) = let w = first_part p xs in part (p x) x w.0 w.1 (slice_split p xs) w.2 where
-  part : (b : Bool) (x : ℕ) (first : List ℕ) (more : List (List ℕ)) (rest : List (List ℕ)) → rest ≡ first ∷ more → (f : List ℕ) × (m : List (List ℕ)) × (cond b ([] ∷ rest) (onto_first x rest) ≡ f ∷ m)
-  part true x first more rest e = ([], rest, refl)
-  part false x first more rest e = (x ∷ first, more, ap (onto_first x) e)
 
 single_is_not_over : (x : ℕ) (first : List ℕ) (more : List (List ℕ)) → is_over ((x ∷ first) ∷ more) ≡ false
 single_is_not_over x first [] = ne_eqb _ _ (λ e. omega arith)

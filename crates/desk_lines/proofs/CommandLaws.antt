@@ -10,7 +10,7 @@ use Rattle.request_ledger.specs.declared.verb.Verb.TheVariants as verb
 use Rattle.request_ledger.specs.Words.{verb_word, request_verb}
 use Rattle.plain_words.specs.Words.{first_word, ended, ◌>>=◌}
 use Rattle.plain_words.specs.Number.{number_of}
-use Rattle.plain_words.proofs.WordLaws.{lacks_space, some_is, bind_some, word_found, ended_found}
+use Rattle.plain_words.proofs.WordLaws.{lacks_space, some_is, bind_some, word_tested, word_found, ended_found}
 use Rattle.plain_words.proofs.NumberLaws.{number_at_found, number_at_again, decimal_lacks_space}
 use Rattle.delta_wire.specs.Fields.{site_at}
 use Rattle.delta_wire.proofs.FieldLaws.{site_at_found, site_again}
@@ -27,13 +27,6 @@ use Rattle.desk_lines.specs.Commands.{command_text, command_of, index_at, sites_
 use Rattle.desk_lines.proofs.RequestLaws.{request_from_found, request_from_again, LackSpaces, request_lacks}
 
 -- ---- commands
-
--- one test in a chain of tests of a word
-test_found : {V : Type 0} (text : V → List ℕ) (w : List ℕ) (u v : V) (rest : Option V) → (rest ≡ Some v → w ≡ text v) → cond (bytes_eq w (text u)) (Some u) rest ≡ Some v → w ≡ text v
-test_found text w u v rest next e = elim (cases_Bool (bytes_eq w (text u))) [
-  | inl same ↦ let chosen : Some u ≡ Some v = rw same at e in (bytes_eq-Decides w (text u)).0 same ∙ ap text (some_is u v chosen)
-  | inr other ↦ let chosen : rest ≡ Some v = rw other at e in next chosen
-]
 
 pub command_again : (c : Command) → command_of (command_text c) ≡ Some c
 unfolding command_of
@@ -55,7 +48,7 @@ command_is_no_number command.Stop = refl
 command_found : (w : List ℕ) (c : Command) → command_of w ≡ Some c → w ≡ command_text c
 unfolding command_of
 command_found w c e =
-    test_found command_text w command.Send c _ (test_found command_text w command.Deliver c _ (test_found command_text w command.Restart c _ (test_found command_text w command.Grow c _ (test_found command_text w command.Stop c None (λ n. absurd cc))))) e
+    word_tested command_text w command.Send c _ (word_tested command_text w command.Deliver c _ (word_tested command_text w command.Restart c _ (word_tested command_text w command.Grow c _ (word_tested command_text w command.Stop c None (λ n. absurd cc))))) e
 
 stored_again : (b : Bool) → stored_of (stored_text b) ≡ Some b
 unfolding stored_of
@@ -64,7 +57,7 @@ stored_again false = refl
 
 stored_found : (w : List ℕ) (b : Bool) → stored_of w ≡ Some b → w ≡ stored_text b
 unfolding stored_of
-stored_found w b e = test_found stored_text w true b _ (test_found stored_text w false b None (λ n. absurd cc)) e
+stored_found w b e = word_tested stored_text w true b _ (word_tested stored_text w false b None (λ n. absurd cc)) e
 
 stored_at_found : (words : List (List ℕ)) (x : Bool × List (List ℕ)) → stored_at words ≡ Some x → words ≡ stored_text x.0 ∷ x.1
 unfolding stored_at

@@ -1,26 +1,15 @@
 -- Lists of names as sets, and what the names are after more are made known.
 use Rattle.std.proofs.Common.{◌≡◌, ℕ, ◌+◌, ◌<◌, Bool, true, false, cond, ◌||◌, List, [], ◌∷◌, ◌++◌, length, take, get_or, refl, sym, ap, ◌∙◌}
 use Rattle.std.specs.List.{list_any}
-use Rattle.std.specs.Ordering.{nat_cmp, eq_by_cmp, is_eq}
-use Rattle.std.specs.declared.cmp.Ordering.{Ordering}
-use Rattle.std.specs.declared.cmp.Ordering.TheVariants.{Less, Equal, Greater}
+use Rattle.std.specs.Ordering.{nat_cmp, eq_by_cmp}
 use Rattle.std.specs.Cmp.Lexicographic.{slice_cmp, texts_ties}
 use Rattle.std.specs.FinMap as finite
-use Rattle.std.proofs.lemmas.Map.Lookups.{exact_bytes}
 use Rattle.std.proofs.lemmas.List.Folds.{list_any-append}
 use Rattle.std.proofs.lemmas.List.{take_more}
 use Rattle.rights_lattice.specs.Cell.{same_event}
 use Rattle.rights_lattice.specs.State.{Names, knows, names_in_order}
+use Rattle.rights_lattice.proofs.SpotLaws.{same_event_is}
 use Rattle.event_catalogue.specs.Catalogue.{with_new}
-
-is_Equal : (o : Ordering) → is_eq o ≡ true → o ≡ Equal
-is_Equal Less h = cc
-is_Equal Equal h = refl
-is_Equal Greater h = cc
-
--- the test of names tells equal ones only
-pub same_name : (q n : List ℕ) → same_event q n ≡ true → q ≡ n
-same_name q n h = exact_bytes q n (is_Equal _ (sym (texts_ties q n) ∙ h))
 
 pub or_comm : (a b : Bool) → (a || b) ≡ (b || a)
 or_comm true true = refl
@@ -41,7 +30,7 @@ pub or_swap : (a b c : Bool) → ((a || b) || c) ≡ (b || (a || c))
 or_swap a b c = ap (λ d. d || c) (or_comm a b) ∙ or_assoc b a c
 
 already_by : (b : Bool) (q n : List ℕ) (ns : List (List ℕ)) → same_event q n ≡ b → list_any (same_event n) ns ≡ true → list_any (same_event q) ns ≡ (b || list_any (same_event q) ns)
-already_by true q n ns t h = ap (λ (x : List ℕ). list_any (same_event x) ns) (same_name q n t) ∙ h
+already_by true q n ns t h = ap (λ (x : List ℕ). list_any (same_event x) ns) (same_event_is q n t) ∙ h
 already_by false q n ns t h = refl
 
 -- a name that is there is added by doing nothing

@@ -20,7 +20,7 @@ use Rattle.local_rights.specs.declared.effect.Effect.TheVariants.{Takes, Leaves}
 use Rattle.local_rights.specs.Effects.{effect_of, left_after}
 use Rattle.rights_lattice.specs.RightsView.{IsCellOf}
 use Rattle.local_rights.proofs.EffectLaws.{Moves, moves, raised, split_after, taken_is_left}
-use Rattle.local_rights.proofs.Within.{few_sites}
+use Rattle.local_rights.proofs.Within.{few_sites, or_zero}
 use Rattle.local_rights.proofs.Sums.{sum_below_same, sum_below-zero}
 
 -- equal cells of an event have equal sums
@@ -34,10 +34,6 @@ same_spent : (X Y : Cells) (e : List ℕ) (me : ℕ) → ((c : Cell) → value_a
 same_spent X Y e me h = omega (arith, h (Used me), sum_below_same max_sites (λ j. ceded_in X e me j) (λ j. ceded_in Y e me j) (λ j l. same_ceded X Y e me j (h (Gave me j))))
 
 -- nothing is gained and spent where every cell is 0
-none_ceded : (b : Bool) (v : ℕ) → v ≡ 0 → cond b 0 v ≡ 0
-none_ceded true v h = refl
-none_ceded false v h = h
-
 pub kept_new : (kept : List (List ℕ × ℕ)) (n m me : ℕ) (X : Cells) → kept ≡ [] → m ≡ n → X ≡ all_zero → me < n → n ≤ most_sites → AreKept kept m me X
 kept_new kept n m me X empty same all lt few =
     let at : (e : List ℕ) (c : Cell) → value_at X e c ≡ 0 = λ e c. ap (λ (Y : Cells). value_at Y e c) all ∙ value_at-all_zero e c in
@@ -47,8 +43,8 @@ kept_new kept n m me X empty same all lt few =
       are_values = λ e c. omega (arith, at e c);
       are_left = λ e.
           let left : left_in kept e ≡ 0 = ap (λ (l : List (List ℕ × ℕ)). left_in l e) empty in
-          let got : sum_below max_sites (λ j. ceded_in X e j me) ≡ 0 = sum_below_same max_sites (λ j. ceded_in X e j me) (λ _. 0) (λ j l. none_ceded (j == me) _ (at e (Gave j me))) ∙ sum_below-zero max_sites in
-          let gave : sum_below max_sites (λ j. ceded_in X e me j) ≡ 0 = sum_below_same max_sites (λ j. ceded_in X e me j) (λ _. 0) (λ j l. none_ceded (me == j) _ (at e (Gave me j))) ∙ sum_below-zero max_sites in
+          let got : sum_below max_sites (λ j. ceded_in X e j me) ≡ 0 = sum_below_same max_sites (λ j. ceded_in X e j me) (λ _. 0) (λ j l. or_zero (j == me) _ (at e (Gave j me))) ∙ sum_below-zero max_sites in
+          let gave : sum_below max_sites (λ j. ceded_in X e me j) ≡ 0 = sum_below_same max_sites (λ j. ceded_in X e me j) (λ _. 0) (λ j l. or_zero (me == j) _ (at e (Gave me j))) ∙ sum_below-zero max_sites in
           omega (arith, left, got, gave, at e (Gave me me), at e (Back me), at e (Used me));
       are_all = λ e c some. absurd (omega (arith, some, at e c));
     }

@@ -21,7 +21,7 @@ outside n X e c within past = elim (cases_lt 0 (value_at X e c)) [
   | inr l ↦ omega (arith, l)
 ]
 
-or_zero : (b : Bool) (v : ℕ) → v ≡ 0 → cond b 0 v ≡ 0
+pub or_zero : (b : Bool) (v : ℕ) → v ≡ 0 → cond b 0 v ≡ 0
 or_zero true v h = refl
 or_zero false v h = h
 

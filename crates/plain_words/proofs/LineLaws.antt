@@ -22,7 +22,7 @@ HasNoBreak-push [] b h e = (e, tt)
 HasNoBreak-push (x ∷ line) b h e = (h.0, HasNoBreak-push line b h.1 e)
 
 -- there is a first part
-first_part : (p : ℕ → Bool) (xs : List ℕ) → (first : List ℕ) × (more : List (List ℕ)) × (slice_split p xs ≡ first ∷ more)
+pub first_part : (p : ℕ → Bool) (xs : List ℕ) → (first : List ℕ) × (more : List (List ℕ)) × (slice_split p xs ≡ first ∷ more)
 first_part p [] = ([], [], refl)
 first_part p (x ∷ xs) = let w = first_part p xs in part (p x) x w.0 w.1 (slice_split p xs) w.2 where
   part : (b : Bool) (x : ℕ) (first : List ℕ) (more : List (List ℕ)) (rest : List (List ℕ)) → rest ≡ first ∷ more → (f : List ℕ) × (m : List (List ℕ)) × (cond b ([] ∷ rest) (onto_first x rest) ≡ f ∷ m)

@@ -1,7 +1,9 @@
 -- Cutting a line into words, joining them, and reading them from left to right.
-use Rattle.std.proofs.Common.{subst, ◌≡◌, ℕ, suc, ◌+◌, Bool, true, false, cond, not, List, [], ◌∷◌, take, drop, Option, Some, None, All, refl, sym, ap, ◌∙◌, arith}
+use Rattle.std.proofs.Common.{subst, inl, inr, ◌≡◌, ℕ, suc, ◌+◌, Bool, true, false, cond, not, List, [], ◌∷◌, take, drop, Option, Some, None, All, refl, sym, ap, ◌∙◌, arith}
 use Rattle.std.specs.List.{slice_split, onto_first, position_from, position, join_with_byte, list_all, AllByRecursion}
-use Rattle.std.proofs.lemmas.Bool.{and_parts, and_from, not-true, ne_eqb, not_from_false}
+use Rattle.std.specs.Str.{bytes_eq}
+use Rattle.std.proofs.lemmas.Bool.{cases_Bool, and_parts, and_from, not-true, ne_eqb, not_from_false}
+use Rattle.std.proofs.lemmas.Slice.Eq.{bytes_eq-Decides}
 use Rattle.std.proofs.lemmas.List.Splits.{slice_split_none, slice_split_at}
 use Rattle.std.proofs.lemmas.List.Elements.{All-from_recursion}
 use Rattle.std.proofs.lemmas.Iterator.Adapters.{position_from-zero}
@@ -92,6 +94,13 @@ first_word_cut rest now b k view e p = rw (← view, e, split_some is_space b.no
 
 pub some_is : {A : Type 0} (x y : A) → Some x ≡ Some y → x ≡ y
 some_is x y e = cc
+
+-- one test in a chain of tests of a word
+pub word_tested : {V : Type 0} (text : V → List ℕ) (w : List ℕ) (u v : V) (rest : Option V) → (rest ≡ Some v → w ≡ text v) → cond (bytes_eq w (text u)) (Some u) rest ≡ Some v → w ≡ text v
+word_tested text w u v rest next e = elim (cases_Bool (bytes_eq w (text u))) [
+  | inl same ↦ let chosen : Some u ≡ Some v = rw same at e in (bytes_eq-Decides w (text u)).0 same ∙ ap text (some_is u v chosen)
+  | inr other ↦ let chosen : rest ≡ Some v = rw other at e in next chosen
+]
 
 -- both readers answered
 pub bind_some : {A B : Type 0} (o : Option A) (f : A → Option B) (y : B) → (o >>= f) ≡ Some y → (x : A) × (o ≡ Some x) × (f x ≡ Some y)

@@ -26,7 +26,7 @@ impl<'a> Model for Words<'a> {
 }
 
 fn first_space(bytes: &[u8]) -> Option<usize>
-    ensures value { result ≡ position (λ b. b == 32) bytes.now }
+    ensures value { result ≡ position is_space bytes.now }
     ensures within { IfSome result (λ at. (at < length bytes.now) × (at + 1 < 2 ^ 64)) }
 {
     bytes.iter().position(|byte| *byte == b' ')

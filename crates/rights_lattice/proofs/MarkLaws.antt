@@ -10,13 +10,13 @@ use Rattle.rights_lattice.specs.Cells.{Key, key_cmp, Valued, value_at, all_zero,
 use Rattle.rights_lattice.specs.Cells as cells
 use Rattle.rights_lattice.specs.State.{knows, no_names, with_name, names_in_order, join_names}
 use Rattle.rights_lattice.specs.declared.cell.Cell.{Cell}
-use Rattle.rights_lattice.specs.Marks.{AreMarks, entries_of, are_rising_marks, cells_of, name_entries, are_rising_names, names_of}
+use Rattle.rights_lattice.specs.Marks.{AreMarks, keyed_marks, are_rising_marks, cells_of, keyed_names, are_rising_names, names_of}
 use Rattle.rights_lattice.specs.Merging.{IsMerged, IsMergedNames, has}
 use Rattle.rights_lattice.proofs.CellLaws.{same_cells, greatest-marks_of, value_at-join, value_at-raise, value_at-all_zero}
 use Rattle.rights_lattice.proofs.MergeLaws.{as_test}
 use Rattle.rights_lattice.proofs.StateLaws.{same_names, knows-no_names, knows-with_name, contains-union}
 
-back : (ms : List Valued) → AreMarks ms → map (λ (e : Key × ℕ). let m : Valued = record { event = e.0.0; cell = e.0.1; value = e.1 + 1 } in m) (entries_of ms) ≡ ms
+back : (ms : List Valued) → AreMarks ms → map (λ (e : Key × ℕ). let m : Valued = record { event = e.0.0; cell = e.0.1; value = e.1 + 1 } in m) (keyed_marks ms) ≡ ms
 back [] h = refl
 back (m ∷ ms) h =
     let v : m.value - 1 + 1 ≡ m.value = omega (arith, h.0) in
@@ -27,19 +27,19 @@ back (m ∷ ms) h =
 pub marks_of-cells_of : (ms : List Valued) → IsTrue (are_rising_marks ms) → AreMarks ms → marks_of (cells_of ms) ≡ ms
 unfolding marks_of
 marks_of-cells_of ms h k =
-    ap (λ (es : List (Key × ℕ)). map (λ (e : Key × ℕ). let m : Valued = record { event = e.0.0; cell = e.0.1; value = e.1 + 1 } in m) es) (finite.entries-from_sorted key_cmp (entries_of ms) (as_test _ h))
+    ap (λ (es : List (Key × ℕ)). map (λ (e : Key × ℕ). let m : Valued = record { event = e.0.0; cell = e.0.1; value = e.1 + 1 } in m) es) (finite.entries-from_sorted key_cmp (keyed_marks ms) (as_test _ h))
     ∙ back ms k
 
 pub value_at-cells_of : (ms : List Valued) → IsTrue (are_rising_marks ms) → AreMarks ms → (e : List ℕ) (c : Cell) → value_at (cells_of ms) e c ≡ greatest ms e c
 value_at-cells_of ms h k e c = sym (greatest-marks_of (cells_of ms) e c) ∙ ap (λ (l : List Valued). greatest l e c) (marks_of-cells_of ms h k)
 
-keys_back : (ns : List (List ℕ)) → map (λ (e : List ℕ × Unit {0}). e.0) (name_entries ns) ≡ ns
+keys_back : (ns : List (List ℕ)) → map (λ (e : List ℕ × Unit {0}). e.0) (keyed_names ns) ≡ ns
 keys_back [] = refl
 keys_back (n ∷ ns) = let rest = keys_back ns in λ i. n ∷ rest i
 
 pub names_in_order-names_of : (ns : List (List ℕ)) → IsTrue (are_rising_names ns) → names_in_order (names_of ns) ≡ ns
 names_in_order-names_of ns h =
-    ap (λ (es : List (List ℕ × Unit {0})). map (λ (e : List ℕ × Unit {0}). e.0) es) (finite.entries-from_sorted (slice_cmp nat_cmp) (name_entries ns) (as_test _ h))
+    ap (λ (es : List (List ℕ × Unit {0})). map (λ (e : List ℕ × Unit {0}). e.0) es) (finite.entries-from_sorted (slice_cmp nat_cmp) (keyed_names ns) (as_test _ h))
     ∙ keys_back ns
 
 pub knows-names_of : (ns : List (List ℕ)) → IsTrue (are_rising_names ns) → (n : List ℕ) → knows (names_of ns) n ≡ list_any (eq_by_cmp (slice_cmp nat_cmp) n) ns

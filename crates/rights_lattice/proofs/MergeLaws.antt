@@ -13,7 +13,7 @@ use Rattle.rights_lattice.specs.Cells.{Key, key_cmp, Valued, greatest, value_in,
 use Rattle.rights_lattice.specs.declared.cell.Cell.{Cell}
 use Rattle.rights_lattice.proofs.CellLaws.{less_not_equal, key_cmp_total, exact_keys, greatest-append}
 use Rattle.rights_lattice.proofs.RightsLaws.{greatest-take_more, member_value}
-use Rattle.rights_lattice.specs.Marks.{entries_of, are_rising_marks, AreMarks}
+use Rattle.rights_lattice.specs.Marks.{keyed_marks, are_rising_marks, AreMarks}
 use Rattle.rights_lattice.specs.Merging.{IsMerged}
 use Rattle.rights_lattice.proofs.RisingLaws.{first, second, less, BelowFirst, below_rest, rising_between, rising_tied}
 
@@ -76,21 +76,21 @@ not_Equal Equal h = cc
 not_Equal Greater h = refl
 
 -- a cell below a rising list has no mark in it
-pub none_below : (q : Key) (ms : List Valued) → T (entry.below_all key_cmp q (entries_of ms)) → greatest ms q.0 q.1 ≡ 0
+pub none_below : (q : Key) (ms : List Valued) → T (entry.below_all key_cmp q (keyed_marks ms)) → greatest ms q.0 q.1 ≡ 0
 none_below q [] h = refl
 none_below q (m ∷ ms) h =
     let here : T (is_lt (key_cmp q (m.event, m.cell))) = first _ _ h in
-    let rest : T (entry.below_all key_cmp q (entries_of ms)) = second (is_lt (key_cmp q (m.event, m.cell))) _ h in
+    let rest : T (entry.below_all key_cmp q (keyed_marks ms)) = second (is_lt (key_cmp q (m.event, m.cell))) _ h in
     let no : is_of m q.0 q.1 ≡ false = less_not_equal _ here in
     let none : value_in m q.0 q.1 ≡ 0 = ap (λ b. cond b m.value 0) no in
     omega (arith, none, none_below q ms rest)
 
-above_of : (q : Key) (ms rest : List Valued) (x : Valued) → T (entry.below_all key_cmp q (entries_of (ms ++ x ∷ rest))) → key_cmp q (x.event, x.cell) ≡ Less
+above_of : (q : Key) (ms rest : List Valued) (x : Valued) → T (entry.below_all key_cmp q (keyed_marks (ms ++ x ∷ rest))) → key_cmp q (x.event, x.cell) ≡ Less
 above_of q [] rest x h = less _ (first _ _ h)
 above_of q (m ∷ ms) rest x h = above_of q ms rest x (second _ _ h)
 
 -- nor has one in what comes before it
-pub none_before : (ms rest : List Valued) (x : Valued) → T (entry.is_sorted key_cmp (entries_of (ms ++ x ∷ rest))) → greatest ms x.event x.cell ≡ 0
+pub none_before : (ms rest : List Valued) (x : Valued) → T (entry.is_sorted key_cmp (keyed_marks (ms ++ x ∷ rest))) → greatest ms x.event x.cell ≡ 0
 none_before [] rest x h = refl
 none_before (m ∷ ms) rest x h =
     let lt : key_cmp (m.event, m.cell) (x.event, x.cell) ≡ Less = above_of (m.event, m.cell) ms rest x (first _ _ h) in
@@ -98,7 +98,7 @@ none_before (m ∷ ms) rest x h =
     let none : value_in m x.event x.cell ≡ 0 = ap (λ b. cond b m.value 0) no in
     omega (arith, none, none_before ms rest x (second _ _ h))
 
-pub rest_sorted : (out gs : List Valued) → T (entry.is_sorted key_cmp (entries_of (out ++ gs))) → T (entry.is_sorted key_cmp (entries_of gs))
+pub rest_sorted : (out gs : List Valued) → T (entry.is_sorted key_cmp (keyed_marks (out ++ gs))) → T (entry.is_sorted key_cmp (keyed_marks gs))
 rest_sorted [] gs h = h
 rest_sorted (m ∷ out) gs h = rest_sorted out gs (second _ _ h)
 
