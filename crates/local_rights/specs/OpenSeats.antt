@@ -3,7 +3,7 @@ use Rattle.std.specs.Prelude.{◌≡◌, ◌↔◌, ℕ, zero, suc, ◌+◌, ◌
 use Rattle.rights_lattice.specs.Cells.{Cells}
 use Rattle.rights_lattice.specs.RightsView.{IsWithin}
 use Rattle.rights_lattice.specs.Sums.{max_sites}
-use Rattle.local_rights.specs.declared.report.ViewTotals.{ViewTotals}
+use Rattle.local_rights.specs.declared.seat_totals.ViewTotals.{ViewTotals}
 use Rattle.local_rights.specs.Rights.{gained, spent, IsPosition, released_in, sold_in, refunded_in, paper_value}
 
 -- the test holds of 0 .. n - 1

@@ -8,10 +8,10 @@ pub mod counted;
 mod effect;
 pub mod laws;
 pub mod position;
-pub mod report;
 pub mod rights;
+pub mod seat_totals;
 
 pub use counted::Counted;
 pub use position::open_seats;
-pub use report::{Totals, ViewTotals};
 pub use rights::{left, paper_value, totals};
+pub use seat_totals::{Totals, ViewTotals};

@@ -4,7 +4,7 @@ ghost use Rattle.rights_lattice.specs.Cells.{greatest_value};
 ghost use Rattle.rights_lattice.specs.Limits.{site_numbers};
 ghost use Rattle.local_rights.specs.Rights.{HasRights, gained, spent, left_of, rights_of, released_in, sold_in, refunded_in, paper_value};
 
-use crate::report::Totals;
+use crate::seat_totals::Totals;
 use rights_lattice::{Cell, Event, Rights, SiteId};
 
 /// The seats that the site may still sell: what it released, got from other sites and took back,

@@ -5,7 +5,7 @@ use Rattle.std.specs.List.{join_with_byte}
 use Rattle.std.specs.Io.KnownBytes.{Appends, Keeps}
 use Rattle.std.proofs.KnownBytes.{Appends-trans, Appends-nil, Appends-kept, Keeps-refl}
 use Rattle.std.proofs.lemmas.Bool.{cases_lt}
-use Rattle.plain_words.specs.Input.{longest_line, lines_of, Between, BeginsTooLong, LineGives, End, AtEnd, AtLongLine, AtTooMany, Taken, taken, with_line, none_taken}
+use Rattle.plain_words.specs.Input.{longest_line, lines_of, Between, BeginsTooLong, LineGives, InputEnd, AtEnd, AtLongLine, AtTooMany, TakenLines, taken, with_line, none_taken}
 use Rattle.plain_words.specs.Writing.{AppendsFront, Writes}
 use Rattle.plain_words.specs.declared.lines.LineFault.{LineFault}
 use Rattle.plain_words.specs.declared.lines.LineFault.TheVariants as line_fault
@@ -45,7 +45,7 @@ line_broken goes some whole None b line f start none h = tt
 line_broken goes some whole (Some x) b line line_fault.Read start none h = λ more out. ([], (taken (suc more) (lines_of x)).lines, refl, start, subst (Appends out out) (sym none) (Appends-nil out))
 line_broken goes some whole (Some x) None line line_fault.LineTooLong start none h = absurd h.1
 line_broken goes some whole (Some x) (Some y) line line_fault.LineTooLong start none h = λ more out.
-    subst (λ (t : Taken). EndsEarly goes some whole t out out fault.LineTooLong) (sym (taken-long more (lines_of x) h.1)) (refl, start, subst (Appends out out) (sym none) (Appends-nil out))
+    subst (λ (t : TakenLines). EndsEarly goes some whole t out out fault.LineTooLong) (sym (taken-long more (lines_of x) h.1)) (refl, start, subst (Appends out out) (sym none) (Appends-nil out))
 
 pub next_unread : (w : World) (a b old : Option Text) (line : Text) (f : LineFault) → LineGives a b line (Err f)
     → IfSome a (λ xs. (more : ℕ) → EndsEarly AnyLines (answers w) (replies_and_totals w) (taken (suc more) (lines_of xs)) old old (of_line_fault f))
@@ -57,20 +57,20 @@ sites_unread most sites None b old line f h = tt
 sites_unread most sites (Some x) b old line f h = line_broken AnyLines (replies_at sites) (run_at sites) (Some x) b line f tt refl h most old
 
 -- writing or memory failed
-pub out_broken : (goes : Lines → Type 0) (some whole : Lines → Text) (t : Taken) (old new : Option Text) (f : ScriptFault) → IsOutFault f → AppendsFront old new (printed t.end some whole t.lines) → EndsEarly goes some whole t old new f
+pub out_broken : (goes : Lines → Type 0) (some whole : Lines → Text) (t : TakenLines) (old new : Option Text) (f : ScriptFault) → IsOutFault f → AppendsFront old new (printed t.end some whole t.lines) → EndsEarly goes some whole t old new f
 out_broken goes some whole t old new fault.Write h p = p
 out_broken goes some whole t old new fault.Memory h p = p
 out_broken goes some whole t old new fault.Read h p = absurd h
 out_broken goes some whole t old new fault.LineTooLong h p = absurd h
 out_broken goes some whole t old new fault.TooManyLines h p = absurd h
 
-printed_after : (end : End) (some whole some' whole' : Lines → Text) (text : Text) (lines : Lines) → ((l : Lines) → some' l ≡ text ++ some l) → ((l : Lines) → whole' l ≡ text ++ whole l) → printed end some' whole' lines ≡ text ++ printed end some whole lines
+printed_after : (end : InputEnd) (some whole some' whole' : Lines → Text) (text : Text) (lines : Lines) → ((l : Lines) → some' l ≡ text ++ some l) → ((l : Lines) → whole' l ≡ text ++ whole l) → printed end some' whole' lines ≡ text ++ printed end some whole lines
 printed_after AtEnd some whole some' whole' text lines s w = w lines
 printed_after AtLongLine some whole some' whole' text lines s w = s lines
 printed_after AtTooMany some whole some' whole' text lines s w = s lines
 
 -- a fault behind what went out before
-pub after_text : (goes : Lines → Type 0) (some whole some' whole' : Lines → Text) (t : Taken) (text : Text) (old mid new : Option Text) (f : ScriptFault)
+pub after_text : (goes : Lines → Type 0) (some whole some' whole' : Lines → Text) (t : TakenLines) (text : Text) (old mid new : Option Text) (f : ScriptFault)
     → ((l : Lines) → some' l ≡ text ++ some l) → ((l : Lines) → whole' l ≡ text ++ whole l) → Appends old mid text → EndsEarly goes some whole t mid new f → EndsEarly goes some' whole' t old new f
 after_text goes some whole some' whole' t text old mid new fault.Read s w p e = (e.0, e.1, e.2, e.3, subst (Appends old new) (sym (s e.0)) (Appends-trans old mid new text (some e.0) p e.4))
 after_text goes some whole some' whole' t text old mid new fault.LineTooLong s w p e = (e.0, e.1, subst (Appends old new) (sym (s t.lines)) (Appends-trans old mid new text (some t.lines) p e.2))
@@ -78,13 +78,13 @@ after_text goes some whole some' whole' t text old mid new fault.TooManyLines s 
 after_text goes some whole some' whole' t text old mid new fault.Write s w p e = subst (AppendsFront old new) (sym (printed_after t.end some whole some' whole' text t.lines s w)) (AppendsFront-after old mid new text _ p e)
 after_text goes some whole some' whole' t text old mid new fault.Memory s w p e = subst (AppendsFront old new) (sym (printed_after t.end some whole some' whole' text t.lines s w)) (AppendsFront-after old mid new text _ p e)
 
-printed_behind : (end : End) (some whole : Lines → Text) (front lines : Lines) → printed end (λ l. some (front ++ l)) (λ l. whole (front ++ l)) lines ≡ printed end some whole (front ++ lines)
+printed_behind : (end : InputEnd) (some whole : Lines → Text) (front lines : Lines) → printed end (λ l. some (front ++ l)) (λ l. whole (front ++ l)) lines ≡ printed end some whole (front ++ lines)
 printed_behind AtEnd some whole front lines = refl
 printed_behind AtLongLine some whole front lines = refl
 printed_behind AtTooMany some whole front lines = refl
 
 -- a fault behind lines that were read before
-pub behind_lines : (goes goes' : Lines → Type 0) (some whole : Lines → Text) (front : Lines) (t : Taken) (old new : Option Text) (f : ScriptFault) → ((l : Lines) → goes l → goes' (front ++ l))
+pub behind_lines : (goes goes' : Lines → Type 0) (some whole : Lines → Text) (front : Lines) (t : TakenLines) (old new : Option Text) (f : ScriptFault) → ((l : Lines) → goes l → goes' (front ++ l))
     → EndsEarly goes (λ l. some (front ++ l)) (λ l. whole (front ++ l)) t old new f → EndsEarly goes' some whole (put_before front t) old new f
 behind_lines goes goes' some whole front t old new fault.Read g e = (front ++ e.0, e.1, ap (λ (l : Lines). front ++ l) e.2 ∙ sym (append_assoc front e.0 e.1), g e.0 e.3, e.4)
 behind_lines goes goes' some whole front t old new fault.LineTooLong g e = (e.0, g t.lines e.1, e.2)
@@ -96,7 +96,7 @@ always : (front lines : Lines) → AnyLines lines → AnyLines (front ++ lines)
 always front lines h = tt
 
 -- a front of the replies is one of all that is printed
-printed_longer : (end : End) (some whole : Lines → Text) (lines : Lines) (rest : Text) (a b : Option Text) → whole lines ≡ some lines ++ rest → AppendsFront a b (some lines) → AppendsFront a b (printed end some whole lines)
+printed_longer : (end : InputEnd) (some whole : Lines → Text) (lines : Lines) (rest : Text) (a b : Option Text) → whole lines ≡ some lines ++ rest → AppendsFront a b (some lines) → AppendsFront a b (printed end some whole lines)
 printed_longer AtEnd some whole lines rest a b e p = subst (AppendsFront a b) (sym e) (AppendsFront-longer a b (some lines) rest p)
 printed_longer AtLongLine some whole lines rest a b e p = p
 printed_longer AtTooMany some whole lines rest a b e p = p
@@ -111,7 +111,7 @@ reply_broken (Some x) None old new w line f short p q h = absurd p
 reply_broken (Some x) (Some y) old new w line f short p q h = λ more.
     let t = taken more (lines_of y) in
     let front = AppendsFront-longer old new (script_reply_line (answer_to w (line_of line)).0) (answers (answer_to w (line_of line)).1 t.lines) q in
-    subst (λ (u : Taken). EndsEarly AnyLines (answers w) (replies_and_totals w) u old new f) (sym (ap (taken (suc more)) p ∙ taken-line more line (lines_of y) short))
+    subst (λ (u : TakenLines). EndsEarly AnyLines (answers w) (replies_and_totals w) u old new f) (sym (ap (taken (suc more)) p ∙ taken-line more line (lines_of y) short))
     (out_broken AnyLines (answers w) (replies_and_totals w) (with_line line t) old new f h (printed_longer t.end (answers w) (replies_and_totals w) (line ∷ t.lines) (total_lines (world_behind w (line ∷ t.lines))) old new refl front))
 
 -- ---- the first line
@@ -210,7 +210,7 @@ broken_after : (most more : ℕ) (x y : Text) (old new new' : Option Text) (star
 broken_after most more x y old new new' start now count f h most_is e =
     let some = answered start now h.lines h.made in
     let whole : (l : Lines) → replies_and_totals start (h.lines ++ l) ≡ answers start h.lines ++ replies_and_totals now l = λ l. replies_and_totals-append start h.lines l ∙ ap (λ (w : World). answers start h.lines ++ replies_and_totals w l) (sym h.made) in
-    subst (λ (t : Taken). EndsEarly AnyLines (answers start) (replies_and_totals start) t old new' f) (sym (taken_after most more (lines_of x) (lines_of y) h.lines count h.read h.short h.counted most_is))
+    subst (λ (t : TakenLines). EndsEarly AnyLines (answers start) (replies_and_totals start) t old new' f) (sym (taken_after most more (lines_of x) (lines_of y) h.lines count h.read h.short h.counted most_is))
     (behind_lines AnyLines AnyLines (answers start) (replies_and_totals start) h.lines (taken more (lines_of y)) old new' f (always h.lines)
     (after_text AnyLines (answers now) (replies_and_totals now) (λ l. answers start (h.lines ++ l)) (λ l. replies_and_totals start (h.lines ++ l)) (taken more (lines_of y)) (answers start h.lines) old new new' f some whole h.written e))
 
@@ -236,7 +236,7 @@ one_too_many most (Some x) None rest' old new start now h k = absurd h.read
 one_too_many most (Some x) (Some y) None old new start now h k = absurd k
 one_too_many most (Some x) (Some y) (Some z) old new start now h k =
     broken_after most 0 x y old new new start now most fault.TooManyLines h (omega arith)
-    (subst (λ (t : Taken). EndsEarly AnyLines (answers now) (replies_and_totals now) t new new fault.TooManyLines) (sym (taken-too-many (lines_of y) k)) (refl, tt, Appends-nil new))
+    (subst (λ (t : TakenLines). EndsEarly AnyLines (answers now) (replies_and_totals now) t new new fault.TooManyLines) (sym (taken-too-many (lines_of y) k)) (refl, tt, Appends-nil new))
 
 -- no line is left
 pub all_answered : (most : ℕ) (input rest rest' old new new' : Option Text) (start now now' : World) (count : ℕ) → SoFar input rest old new start now count → count ≤ most → Between rest rest' (λ ys zs. lines_of ys ≡ [])
@@ -248,7 +248,7 @@ all_answered most (Some x) (Some y) (Some z) old new new' start now now' count h
     let taken_is : taken most (lines_of x) ≡ put_before h.lines (none_taken AtEnd) =
     taken_after most (most - count) (lines_of x) (lines_of y) h.lines count h.read h.short h.counted (omega (arith, le)) ∙ ap (put_before h.lines) (ap (taken (most - count)) k ∙ taken-nil (most - count)) in
     let front : h.lines ≡ h.lines ++ [] = sym (append-nil h.lines) in
-    subst (λ (t : Taken). AllAnswered start now' t old new') (sym taken_is)
+    subst (λ (t : TakenLines). AllAnswered start now' t old new') (sym taken_is)
     (refl, subst (λ (l : Lines). Appends old new' (answers start l)) front (Appends-kept old new new' _ h.written kept), same ∙ h.made ∙ ap (world_behind start) front)
 
 pub first_empty : (a b : Option Text) → Between a b (λ xs ys. (lines_of xs ≡ []) × (lines_of ys ≡ [])) → Between a b (λ xs ys. lines_of xs ≡ [])
@@ -318,7 +318,7 @@ second_without_totals most sites second (Some x) old mid new new' w w' f h k out
     let whole : Lines → Text = λ l. run_at sites (second ∷ l) in
     let text = AppendsFront-after old new new' (h.0 ++ answers w t.lines) (total_lines w') (Appends-trans old mid new h.0 (answers w t.lines) h.1 k.1) out in
     out_broken AnyLines some whole t old new' f e
-    (subst (λ (end : End). AppendsFront old new' (printed end some whole t.lines)) (sym k.0) (subst (AppendsFront old new') (second_text sites second w w' h.0 t.lines h.2 k.2) text))
+    (subst (λ (end : InputEnd). AppendsFront old new' (printed end some whole t.lines)) (sym k.0) (subst (AppendsFront old new') (second_text sites second w w' h.0 t.lines h.2 k.2) text))
 
 pub second_done : (most sites : ℕ) (second : Text) (a old mid new new' : Option Text) (w w' : World) → OpenRan sites second old mid (Ok w) → RestRan most a mid new w w' (Ok tt)
     → Appends new new' (total_lines w') → SecondRan most sites second a old new' (Ok tt)
@@ -337,10 +337,10 @@ sites_second most sites second (Some x) None old new (Ok u) short p h = absurd p
 sites_second most sites second (Some x) None old new (Err f) short p h = absurd p
 sites_second most sites second (Some x) (Some y) old new (Ok u) short p h =
     let t = ap (taken (suc most)) p ∙ taken-line most second (lines_of y) short in
-    subst (λ (u : Taken). (u.end ≡ AtEnd) × Appends old new (run_at sites u.lines)) (sym t) h
+    subst (λ (u : TakenLines). (u.end ≡ AtEnd) × Appends old new (run_at sites u.lines)) (sym t) h
 sites_second most sites second (Some x) (Some y) old new (Err f) short p h =
     let t = ap (taken (suc most)) p ∙ taken-line most second (lines_of y) short in
-    subst (λ (u : Taken). EndsEarly AnyLines (replies_at sites) (run_at sites) u old new f) (sym t)
+    subst (λ (u : TakenLines). EndsEarly AnyLines (replies_at sites) (run_at sites) u old new f) (sym t)
     (behind_lines AnyLines AnyLines (replies_at sites) (run_at sites) (second ∷ []) (taken most (lines_of y)) old new f (always (second ∷ [])) h)
 
 pub sites_alone : (most sites : ℕ) (a b old new : Option Text) (r : Result (Unit {0}) ScriptFault) → Between a b (λ xs ys. (lines_of xs ≡ []) × (lines_of ys ≡ []))
@@ -351,10 +351,10 @@ sites_alone most sites (Some x) None old new (Ok u) p out h = absurd p
 sites_alone most sites (Some x) None old new (Err f) p out h = absurd p
 sites_alone most sites (Some x) (Some y) old new (Ok u) p out h =
     let t = ap (taken most) p.0 ∙ taken-nil most in
-    subst (λ (u : Taken). (u.end ≡ AtEnd) × Appends old new (run_at sites u.lines)) (sym t) (refl, out)
+    subst (λ (u : TakenLines). (u.end ≡ AtEnd) × Appends old new (run_at sites u.lines)) (sym t) (refl, out)
 sites_alone most sites (Some x) (Some y) old new (Err f) p out h =
     let t = ap (taken most) p.0 ∙ taken-nil most in
-    subst (λ (u : Taken). EndsEarly AnyLines (replies_at sites) (run_at sites) u old new f) (sym t) (out_broken AnyLines (replies_at sites) (run_at sites) (none_taken AtEnd) old new f (h f refl) out)
+    subst (λ (u : TakenLines). EndsEarly AnyLines (replies_at sites) (run_at sites) u old new f) (sym t) (out_broken AnyLines (replies_at sites) (run_at sites) (none_taken AtEnd) old new f (h f refl) out)
 
 -- ---- the whole script
 
@@ -371,7 +371,7 @@ script_done None b old new n h k = tt
 script_done (Some x) None old new n h k = absurd h
 script_done (Some x) (Some y) old new n h k =
     let t = ap (taken most_lines) h.1 ∙ taken-line 999999 h.0 (lines_of y) h.2 in (
-      ap (λ (u : Taken). u.end) t ∙ k.0,
+      ap (λ (u : TakenLines). u.end) t ∙ k.0,
       h.4,
       subst (Appends old new) (ap (run_at n) (taken-whole 999999 (lines_of y) k.0) ∙ sym (started_whole h.0 n (lines_of y) h.3) ∙ ap script_of_lines (sym h.1)) k.1,
     )
@@ -386,7 +386,7 @@ script_broken (Some x) (Some y) old new n f h k =
     let t = ap (taken most_lines) h.1 ∙ taken-line 999999 h.0 (lines_of y) h.2 in
     let well = subst StartsWell h.1 h.4 in
     let rest = taken 999999 (lines_of y) in
-    subst (λ (u : Taken). EndsEarly MayGoOn replies script_of_lines u old new f) (sym t)
+    subst (λ (u : TakenLines). EndsEarly MayGoOn replies script_of_lines u old new f) (sym t)
     (behind_lines AnyLines MayGoOn replies script_of_lines (h.0 ∷ []) rest old new f (λ l g. well_behind h.0 (lines_of y) l well g)
     (after_text AnyLines (replies_at n) (run_at n) (λ l. replies (h.0 ∷ l)) (λ l. script_of_lines (h.0 ∷ l)) rest [] old old new f (λ l. started_some h.0 n l h.3) (λ l. started_whole h.0 n l h.3) (Appends-nil old) k))
 
@@ -406,16 +406,16 @@ no_count : (first : Text) (lines : Lines) → (StartsWell (first ∷ lines) → 
 no_count first lines h None e = refl
 no_count first lines h (Some n) e = let f = named_takes (codes "sites") most_sites first n (lit< tt) e in absurd (h (n, f.0, f.1))
 
-printed_bad : (end : End) (first : Text) (lines : Lines) → sites_from_line first ≡ None → printed end replies script_of_lines (first ∷ lines) ≡ bad_line
+printed_bad : (end : InputEnd) (first : Text) (lines : Lines) → sites_from_line first ≡ None → printed end replies script_of_lines (first ∷ lines) ≡ bad_line
 printed_bad AtEnd first lines e = ap (λ (o : Option ℕ). run_started o lines) e
 printed_bad AtLongLine first lines e = ap (λ (o : Option ℕ). replies_started o lines) e
 printed_bad AtTooMany first lines e = ap (λ (o : Option ℕ). replies_started o lines) e
 
 bad_is_printed : (more : ℕ) (lines : Lines) → (StartsWell lines → ⊥) → (BeginsTooLong lines → ⊥) → printed (taken (suc more) lines).end replies script_of_lines (taken (suc more) lines).lines ≡ bad_line
-bad_is_printed more [] h short = ap (λ (t : Taken). printed t.end replies script_of_lines t.lines) (taken-nil (suc more))
+bad_is_printed more [] h short = ap (λ (t : TakenLines). printed t.end replies script_of_lines t.lines) (taken-nil (suc more))
 bad_is_printed more (first ∷ lines) h short =
     let le : length first ≤ longest_line = elim (cases_lt longest_line (length first)) [ inl q ↦ absurd (short q) | inr p ↦ p ] in
-    ap (λ (t : Taken). printed t.end replies script_of_lines t.lines) (taken-line more first lines le)
+    ap (λ (t : TakenLines). printed t.end replies script_of_lines t.lines) (taken-line more first lines le)
     ∙ printed_bad (taken more lines).end first (taken more lines).lines (no_count first lines h (sites_from_line first) refl)
 
 -- it was refused, and that did not go out
@@ -430,12 +430,12 @@ script_unflushed None old new new' started h k = tt
 script_unflushed (Some x) old new new' true h k =
     let t = taken most_lines (lines_of x) in
     let whole = subst (AppendsFront old new') (append-nil _) (AppendsFront-whole old new' (script_of_lines (lines_of x)) [] (Appends-kept old new new' _ h.2 k)) in
-    subst (λ (end : End). AppendsFront old new' (printed end replies script_of_lines t.lines)) (sym h.0)
+    subst (λ (end : InputEnd). AppendsFront old new' (printed end replies script_of_lines t.lines)) (sym h.0)
     (subst (λ (l : Lines). AppendsFront old new' (script_of_lines l)) (sym (taken-whole most_lines (lines_of x) h.0)) whole)
 script_unflushed (Some x) old new new' false h k =
     subst (AppendsFront old new') (append-nil _ ∙ sym (bad_is_printed 999999 (lines_of x) h.1.0 h.1.1)) (AppendsFront-whole old new' bad_line [] (Appends-kept old new new' _ h.0 k))
 
-ends_kept : (goes : Lines → Type 0) (some whole : Lines → Text) (t : Taken) (old new new' : Option Text) (f : ScriptFault) → EndsEarly goes some whole t old new f → Keeps new new' → EndsEarly goes some whole t old new' f
+ends_kept : (goes : Lines → Type 0) (some whole : Lines → Text) (t : TakenLines) (old new new' : Option Text) (f : ScriptFault) → EndsEarly goes some whole t old new f → Keeps new new' → EndsEarly goes some whole t old new' f
 ends_kept goes some whole t old new new' fault.Read e k = (e.0, e.1, e.2, e.3, Appends-kept old new new' _ e.4 k)
 ends_kept goes some whole t old new new' fault.LineTooLong e k = (e.0, e.1, Appends-kept old new new' _ e.2 k)
 ends_kept goes some whole t old new new' fault.TooManyLines e k = (e.0, e.1, Appends-kept old new new' _ e.2 k)

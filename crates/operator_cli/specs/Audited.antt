@@ -1,7 +1,7 @@
 -- What the audit of stopped books prints, status by status. (Our own.)
 use Rattle.std.specs.Prelude.{◌≡◌, ℕ, ◌≤◌, ◌⊎◌, List, Option, Some, slice_get}
 use Rattle.std.specs.List.{flat_map}
-use Rattle.local_rights.specs.declared.report.Totals.{Totals}
+use Rattle.local_rights.specs.declared.seat_totals.Totals.{Totals}
 use Rattle.book_core.specs.BookView.{BookView}
 use Rattle.world_steps.specs.Audit.{IsWhole, NoneIsAhead, IsFirstAhead, lines_in}
 use Rattle.operator_cli.specs.declared.told.Told.TheVariants.{NotWhole, Ahead}

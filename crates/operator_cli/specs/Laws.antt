@@ -2,7 +2,7 @@
 use Rattle.std.specs.Prelude.{◌≡◌, ℕ, ◌+◌, ◌≤◌, List, [], ◌∷◌, ◌++◌, replicate, Option, Some, None}
 use Rattle.world_steps.specs.World.{World, totals_of, reached}
 use Rattle.world_steps.specs.declared.step.Step.{Step}
-use Rattle.local_rights.specs.declared.report.Totals.{Totals}
+use Rattle.local_rights.specs.declared.seat_totals.Totals.{Totals}
 use Rattle.desk_lines.specs.declared.script_line.ScriptLine.{ScriptLine}
 use Rattle.desk_lines.specs.declared.script_line.ScriptLine.TheVariants.{Make, Left, Totals as ScriptTotals}
 use Rattle.desk_lines.specs.Grammar.{IsSites}

@@ -2,7 +2,7 @@
 use Rattle.std.specs.Prelude.{◌≡◌, ℕ, suc, ◌≤◌, List, [], ◌∷◌, ◌++◌, length, Bool, true, false, Option, Some, None, Result, Ok, Err, IfSome}
 use Rattle.std.specs.List.{join_with_byte}
 use Rattle.std.specs.Io.KnownBytes.{Appends, Keeps}
-use Rattle.plain_words.specs.Input.{longest_line, lines_of, Between, BeginsTooLong, BreaksOff, End, AtEnd, AtLongLine, AtTooMany, Taken, taken}
+use Rattle.plain_words.specs.Input.{longest_line, lines_of, Between, BeginsTooLong, BreaksOff, InputEnd, AtEnd, AtLongLine, AtTooMany, TakenLines, taken}
 use Rattle.plain_words.specs.Writing.{AppendsFront}
 use Rattle.world_steps.specs.World.{World}
 use Rattle.operator_cli.specs.declared.fault.ScriptFault.{ScriptFault}
@@ -30,13 +30,13 @@ abbrev pub AnyLines : List (List ℕ) → Type 0
 AnyLines lines = Unit {0}
 
 -- what these lines print: all of it only where the input ends behind them, and else their replies
-abbrev pub printed : End → (List (List ℕ) → List ℕ) → (List (List ℕ) → List ℕ) → List (List ℕ) → List ℕ
+abbrev pub printed : InputEnd → (List (List ℕ) → List ℕ) → (List (List ℕ) → List ℕ) → List (List ℕ) → List ℕ
 printed AtEnd replies whole lines = whole lines
 printed AtLongLine replies whole lines = replies lines
 printed AtTooMany replies whole lines = replies lines
 
 -- What is there after a fault, of the lines that are taken: where reading ended early the replies to the lines before, whole; where writing or memory failed, a front of what the lines print.
-abbrev pub EndsEarly : (List (List ℕ) → Type 0) → (List (List ℕ) → List ℕ) → (List (List ℕ) → List ℕ) → Taken → Option (List ℕ) → Option (List ℕ) → ScriptFault → Type 0
+abbrev pub EndsEarly : (List (List ℕ) → Type 0) → (List (List ℕ) → List ℕ) → (List (List ℕ) → List ℕ) → TakenLines → Option (List ℕ) → Option (List ℕ) → ScriptFault → Type 0
 EndsEarly goes replies whole t old new Read = (before : List (List ℕ)) × (after : List (List ℕ)) × (t.lines ≡ before ++ after) × goes before × Appends old new (replies before)
 EndsEarly goes replies whole t old new LineTooLong = (t.end ≡ AtLongLine) × goes t.lines × Appends old new (replies t.lines)
 EndsEarly goes replies whole t old new TooManyLines = (t.end ≡ AtTooMany) × goes t.lines × Appends old new (replies t.lines)
@@ -56,7 +56,7 @@ NextRan input rest old new before after (Ok false) = Keeps old new × (after ≡
 NextRan input rest old new before after (Err f) = IfSome input (λ xs. (more : ℕ) → EndsEarly AnyLines (answers before) (replies_and_totals before) (taken (suc more) (lines_of xs)) old new f)
 
 -- all of these lines were answered, and the input ends behind them
-abbrev pub AllAnswered : World → World → Taken → Option (List ℕ) → Option (List ℕ) → Type 0
+abbrev pub AllAnswered : World → World → TakenLines → Option (List ℕ) → Option (List ℕ) → Type 0
 AllAnswered before after t old new = (t.end ≡ AtEnd) × Appends old new (answers before t.lines) × (after ≡ world_behind before t.lines)
 
 -- all lines behind the second

@@ -5,7 +5,7 @@ use Rattle.std.specs.List.{flat_map}
 use Rattle.book_core.specs.Limits.{greatest_limit}
 use Rattle.plain_words.specs.Input.{lines_of}
 use Rattle.world_steps.specs.World.{World, opening, totals_of, events_of}
-use Rattle.local_rights.specs.declared.report.Totals.{Totals}
+use Rattle.local_rights.specs.declared.seat_totals.Totals.{Totals}
 use Rattle.desk_lines.specs.Reading.{line_of, sites_from_line, limit_from_line}
 use Rattle.desk_lines.specs.ScriptReplies.{script_reply_line}
 use Rattle.operator_cli.specs.Answering.{answer_to}

@@ -9,7 +9,7 @@ use Rattle.std.proofs.lemmas.List.Splits.{slice_split_none, slice_split_at}
 use Rattle.std.proofs.lemmas.List.Elements.{All-from_recursion}
 use Rattle.std.specs.Prelude.{is_some}
 use Rattle.plain_words.specs.declared.lines.ReadFault.{ReadFault}
-use Rattle.plain_words.specs.Input.{ByteGives, MoreGives, is_line_break, longest_line, without_empty_last, lines_of, Between, BeginsTooLong, GivesUp, taken, Taken, End, AtEnd, AtLongLine, AtTooMany, with_line, none_taken}
+use Rattle.plain_words.specs.Input.{ByteGives, MoreGives, is_line_break, longest_line, without_empty_last, lines_of, Between, BeginsTooLong, GivesUp, taken, TakenLines, InputEnd, AtEnd, AtLongLine, AtTooMany, with_line, none_taken}
 
 abbrev pub HasNoBreak : List ℕ → Type 0
 HasNoBreak line = AllByRecursion (λ b. is_line_break b ≡ false) line
@@ -138,7 +138,7 @@ abbrev pub AreShort : List (List ℕ) → Type 0
 AreShort lines = AllByRecursion (λ line. length line ≤ longest_line) lines
 
 -- these lines before those that are taken
-abbrev pub put_before : List (List ℕ) → Taken → Taken
+abbrev pub put_before : List (List ℕ) → TakenLines → TakenLines
 put_before lines t = record { lines = lines ++ t.lines; end = t.end }
 
 pub taken-nil : (most : ℕ) → taken most [] ≡ none_taken AtEnd
@@ -168,7 +168,7 @@ taken-behind count (line ∷ before) lines short =
     ∙ taken-line (length before + count) line (before ++ lines) short.0
     ∙ ap (with_line line) (taken-behind count before lines short.1)
 
-end_with : (e : End) (b : Bool) (line : List ℕ) (t : Taken) → e ≡ (cond b (with_line line t) (none_taken AtLongLine)).end → e ≡ AtEnd → (b ≡ true) × (t.end ≡ AtEnd)
+end_with : (e : InputEnd) (b : Bool) (line : List ℕ) (t : TakenLines) → e ≡ (cond b (with_line line t) (none_taken AtLongLine)).end → e ≡ AtEnd → (b ≡ true) × (t.end ≡ AtEnd)
 end_with e true line t is h = (refl, sym is ∙ h)
 end_with e false line t is h = let bad : AtLongLine ≡ AtEnd = sym is ∙ h in cc
 
@@ -179,4 +179,4 @@ taken-whole most [] h = refl
 taken-whole zero (line ∷ lines) h = cc
 taken-whole (suc most) (line ∷ lines) h =
     let w = end_with _ (leb (length line) longest_line) line (taken most lines) refl h in
-    ap (λ (t : Taken). t.lines) (cond-true (leb (length line) longest_line) _ _ w.0) ∙ ap (λ (t : List (List ℕ)). line ∷ t) (taken-whole most lines w.1)
+    ap (λ (t : TakenLines). t.lines) (cond-true (leb (length line) longest_line) _ _ w.0) ∙ ap (λ (t : List (List ℕ)). line ∷ t) (taken-whole most lines w.1)

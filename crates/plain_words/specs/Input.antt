@@ -35,25 +35,25 @@ BeginsTooLong [] = ⊥
 BeginsTooLong (line ∷ more) = longest_line < length line
 
 -- how the lines of an input end: behind the last, at one that is too long, or at one more than may be there
-pub data End : Type 0 where
-  AtEnd : End
-  AtLongLine : End
-  AtTooMany : End
+pub data InputEnd : Type 0 where
+  AtEnd : InputEnd
+  AtLongLine : InputEnd
+  AtTooMany : InputEnd
 
 -- the lines that are taken from an input, and how they end
-pub record Taken : Type 0 where
+pub record TakenLines : Type 0 where
   pub lines : List (List ℕ)
-  pub end : End
+  pub end : InputEnd
 
-abbrev pub none_taken : End → Taken
+abbrev pub none_taken : InputEnd → TakenLines
 none_taken end = record { lines = []; end = end }
 
 -- one line before these
-abbrev pub with_line : List ℕ → Taken → Taken
+abbrev pub with_line : List ℕ → TakenLines → TakenLines
 with_line line t = record { lines = line ∷ t.lines; end = t.end }
 
 -- the lines of an input that are taken one by one, of which this many may be there
-unfoldable pub taken : ℕ → List (List ℕ) → Taken
+unfoldable pub taken : ℕ → List (List ℕ) → TakenLines
 taken most [] = none_taken AtEnd
 taken zero (line ∷ lines) = none_taken AtTooMany
 taken (suc most) (line ∷ lines) = if nat_le (length line) longest_line then with_line line (taken most lines) else none_taken AtLongLine

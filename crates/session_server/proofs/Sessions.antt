@@ -5,7 +5,7 @@ use Rattle.std.specs.List.{flat_map}
 use Rattle.std.proofs.lemmas.List.{flat_map_more}
 use Rattle.std.specs.Io.KnownBytes.{Appends}
 use Rattle.std.proofs.KnownBytes.{Appends-trans, Appends-nil, Appends-kept}
-use Rattle.plain_words.specs.Input.{longest_line, lines_of, Between, BeginsTooLong, LineGives, End, AtEnd, AtLongLine, AtTooMany, Taken, taken, none_taken}
+use Rattle.plain_words.specs.Input.{longest_line, lines_of, Between, BeginsTooLong, LineGives, InputEnd, AtEnd, AtLongLine, AtTooMany, TakenLines, taken, none_taken}
 use Rattle.plain_words.specs.Writing.{AppendsFront}
 use Rattle.plain_words.proofs.LineLaws.{AreShort, put_before, taken-nil, taken-line, taken-long, taken-too-many, taken-behind}
 use Rattle.desk_lines.specs.declared.line.Line.{Line}
@@ -102,7 +102,7 @@ taken_after : (more : ℕ) (xs ys lines : Lines) → xs ≡ lines ++ ys → AreS
 taken_after more xs ys lines read short most = (λ i. taken (most i) (read i)) ∙ taken-behind more lines ys short
 
 -- the input ends so behind the lines that were read
-ends_behind : (a b c : Bytes) (lines : Lines) (more : ℕ) (e : End) (P : Lines → Type 0) → most_lines ≡ length lines + more → AreShort lines → ((rest : Lines) → P rest → taken more rest ≡ none_taken e)
+ends_behind : (a b c : Bytes) (lines : Lines) (more : ℕ) (e : InputEnd) (P : Lines → Type 0) → most_lines ≡ length lines + more → AreShort lines → ((rest : Lines) → P rest → taken more rest ≡ none_taken e)
     → Between a b (λ xs ys. lines_of xs ≡ lines ++ lines_of ys) → Between b c (λ xs ys. P (lines_of xs)) → IfSome a (λ xs. taken most_lines (lines_of xs) ≡ record { lines = lines; end = e })
 ends_behind None b c lines more e P most short so p q = tt
 ends_behind (Some x) None c lines more e P most short so p q = absurd p
@@ -110,7 +110,7 @@ ends_behind (Some x) (Some y) None lines more e P most short so p q = absurd q
 ends_behind (Some x) (Some y) (Some z) lines more e P most short so p q =
     taken_after more (lines_of x) (lines_of y) lines p short most
     ∙ ap (put_before lines) (so (lines_of y) q)
-    ∙ ap (λ (l : Lines). let t : Taken = record { lines = l; end = e } in t) (append-nil lines)
+    ∙ ap (λ (l : Lines). let t : TakenLines = record { lines = l; end = e } in t) (append-nil lines)
 
 -- lines that were read are the first that are taken
 front_of : (a b : Bytes) (lines : Lines) → length lines ≤ most_lines → AreShort lines → Between a b (λ xs ys. lines_of xs ≡ lines ++ lines_of ys)
@@ -118,7 +118,7 @@ front_of : (a b : Bytes) (lines : Lines) → length lines ≤ most_lines → Are
 front_of None b lines few short p = tt
 front_of (Some x) None lines few short p = absurd p
 front_of (Some x) (Some y) lines few short p =
-    ((taken (most_lines - length lines) (lines_of y)).lines, ap (λ (t : Taken). t.lines) (taken_after (most_lines - length lines) (lines_of x) (lines_of y) lines p short (omega (arith, few))))
+    ((taken (most_lines - length lines) (lines_of y)).lines, ap (λ (t : TakenLines). t.lines) (taken_after (most_lines - length lines) (lines_of x) (lines_of y) lines p short (omega (arith, few))))
 
 -- and `quit` behind them is one more
 quit_behind : (a b c : Bytes) (lines : Lines) (quit : List ℕ) → length lines + 1 ≤ most_lines → AreShort lines → session_line_of quit ≡ Some Quit → length quit ≤ longest_line
@@ -130,7 +130,7 @@ quit_behind (Some x) (Some y) None lines quit few short is fits p q = absurd q
 quit_behind (Some x) (Some y) (Some z) lines quit few short is fits p q =
     let more = most_lines - length lines - 1 in
     let all = taken_after (suc more) (lines_of x) (lines_of y) lines p short (omega (arith, few)) ∙ ap (put_before lines) (ap (taken (suc more)) q ∙ taken-line more quit (lines_of z) fits) in
-    (quit, (taken more (lines_of z)).lines, is, ap (λ (t : Taken). t.lines) all)
+    (quit, (taken more (lines_of z)).lines, is, ap (λ (t : TakenLines). t.lines) all)
 
 first_empty : (a b : Bytes) → Between a b (λ xs ys. (lines_of xs ≡ []) × (lines_of ys ≡ [])) → Between a b (λ xs ys. lines_of xs ≡ [])
 first_empty None b p = tt

@@ -2,7 +2,7 @@
 use Rattle.std.specs.Prelude.{◌≡◌, ◌≢◌, ℕ, List, [], ◌∷◌, ◌++◌, length, slice_get, ◌≤◌, Option, Some, None, Result, Ok, Err, IfSome}
 use Rattle.std.specs.List.{flat_map}
 use Rattle.std.specs.Io.KnownBytes.{Appends, Keeps}
-use Rattle.plain_words.specs.Input.{longest_line, lines_of, Between, BeginsTooLong, GivesUp, AtEnd, AtLongLine, AtTooMany, Taken, taken}
+use Rattle.plain_words.specs.Input.{longest_line, lines_of, Between, BeginsTooLong, GivesUp, AtEnd, AtLongLine, AtTooMany, TakenLines, taken}
 use Rattle.plain_words.specs.Writing.{AppendsFront}
 use Rattle.plain_words.specs.declared.lines.LineFault.{LineFault}
 use Rattle.plain_words.specs.declared.lines.LineFault.TheVariants as line_fault
@@ -76,7 +76,7 @@ NextTalked S input rest old new before after (Err fault.Write) = (r : Replied S 
 NextTalked S input rest old new before after (Err _) = ⊥
 
 -- Of the lines that are taken from the input these were answered, where a session ends so: all of them, behind which the input ends as the fault says; those before `quit`; or the first of them.
-abbrev pub EndsAt : Result Ended TalkFault → List (List ℕ) → Taken → Type 0
+abbrev pub EndsAt : Result Ended TalkFault → List (List ℕ) → TakenLines → Type 0
 EndsAt (Ok ended.EndOfInput) lines t = t ≡ record { lines = lines; end = AtEnd }
 EndsAt (Ok ended.Quit) lines t = (quit : List ℕ) × (more : List (List ℕ)) × (session_line_of quit ≡ Some Quit) × (t.lines ≡ lines ++ quit ∷ more)
 EndsAt (Err fault.LineTooLong) lines t = t ≡ record { lines = lines; end = AtLongLine }

@@ -5,7 +5,7 @@ use Rattle.rights_lattice.specs.declared.cell.Cell.TheVariants.{Gave, Used, Back
 use Rattle.rights_lattice.specs.Cells.{value_at, greatest_value}
 use Rattle.rights_lattice.specs.Limits.{site_numbers}
 use Rattle.rights_lattice.specs.Sums.{max_sites, sum_below}
-use Rattle.local_rights.specs.declared.report.Totals.{Totals}
+use Rattle.local_rights.specs.declared.seat_totals.Totals.{Totals}
 use Rattle.book_core.specs.declared.entry.Entry.{Entry}
 use Rattle.book_core.specs.History.{state_of}
 use Rattle.book_core.specs.Decision.{Kind, Releasing, Selling, Refunding, cell_of}

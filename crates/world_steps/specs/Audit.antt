@@ -2,7 +2,7 @@
 use Rattle.std.specs.Prelude.{◌≡◌, ℕ, ◌<◌, ◌≤◌, List, [], length, map, get_or, slice_get, Some}
 use Rattle.std.specs.Borrow.{Bor}
 use Rattle.rights_lattice.specs.Sums.{max_sites}
-use Rattle.local_rights.specs.declared.report.Totals.{Totals}
+use Rattle.local_rights.specs.declared.seat_totals.Totals.{Totals}
 use Rattle.book_core.specs.declared.entry.Entry.{Entry}
 use Rattle.book_core.specs.Decision.{sites_of}
 use Rattle.book_core.specs.Legal.{IsLegal}

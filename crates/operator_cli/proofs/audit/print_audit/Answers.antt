@@ -1,5 +1,5 @@
 use Rattle.std.proofs.Common.{◌≡◌, ◌≤◌, ℕ, zero, suc, List, [], ◌∷◌, map, inl, inr, Ok, Err, refl, sym, ap, ◌∙◌, subst}
-use Rattle.local_rights.specs.declared.report.Totals.{Totals}
+use Rattle.local_rights.specs.declared.seat_totals.Totals.{Totals}
 use Rattle.book_core.specs.BookView.{BookView}
 use Rattle.world_steps.specs.declared.auditing.AuditFault.{AuditFault}
 use Rattle.world_steps.specs.declared.auditing.AuditFault.TheVariants as audit

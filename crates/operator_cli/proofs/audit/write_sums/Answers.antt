@@ -1,6 +1,6 @@
 use Rattle.std.proofs.Common.{◌≡◌, ◌∙◌, Result, ℕ, List, subst}
 use Rattle.std.specs.Io.KnownBytes.{Appends}
-use Rattle.local_rights.specs.declared.report.Totals.{Totals}
+use Rattle.local_rights.specs.declared.seat_totals.Totals.{Totals}
 use Rattle.operator_cli.specs.Script.{total_line}
 use Rattle.plain_words.specs.Writing.{AppendsFront}
 use Rattle.std.specs.Prelude.{IfErr}
