@@ -3,6 +3,7 @@ pub mod FieldLaws
 pub mod Pieces
 pub mod Steps
 pub mod LineLaws
+pub mod Bytes
 pub mod Breaks
 pub mod Texts
 pub mod Messages

@@ -46,44 +46,42 @@ pub fn name_text(event: &Event) -> Text
     text
 }
 
+// Begins the line of a mark: its word, its event, and the site whose row it is of.
+fn row_text(word: &[u8], event: &Event, by: SiteId) -> Text
+    requires { length word.now ≤ 4 }
+    ensures text { result.items ≡ join_with_byte 32 (word.now ∷ event.now ∷ decimal by ∷ []) }
+    ensures len { array_vec_len result ≤ longest_name + 26 }
+    ensures name { IsEventName event.now }
+    ensures site { IsSite by }
+{
+    let mut text = Text::new();
+    put(&mut text, word);
+    put(&mut text, b" ");
+    put_event(&mut text, event);
+    put(&mut text, b" ");
+    put_site(&mut text, by);
+    text
+}
+
 fn cell_text(event: &Event, cell: &Cell, value: u64) -> Text
     ensures text { result.items ≡ join_with_byte 32 (cell_words event.now value cell.now) }
     ensures len { array_vec_len result ≤ longest_line }
     ensures name { IsEventName event.now }
     ensures cell { IsCell cell.now }
 {
-    let mut text = Text::new();
-    match cell {
+    let mut text = match cell {
         Cell::Gave { by, to } => {
-            put(&mut text, b"gave ");
-            put_event(&mut text, event);
-            put(&mut text, b" ");
-            put_site(&mut text, *by);
+            let mut text = row_text(b"gave", event, *by);
             put(&mut text, b" ");
             put_site(&mut text, *to);
-            put(&mut text, b" ");
-            put_number(&mut text, value);
             text
         }
-        Cell::Used { by } => {
-            put(&mut text, b"used ");
-            put_event(&mut text, event);
-            put(&mut text, b" ");
-            put_site(&mut text, *by);
-            put(&mut text, b" ");
-            put_number(&mut text, value);
-            text
-        }
-        Cell::Back { by } => {
-            put(&mut text, b"back ");
-            put_event(&mut text, event);
-            put(&mut text, b" ");
-            put_site(&mut text, *by);
-            put(&mut text, b" ");
-            put_number(&mut text, value);
-            text
-        }
-    }
+        Cell::Used { by } => row_text(b"used", event, *by),
+        Cell::Back { by } => row_text(b"back", event, *by),
+    };
+    put(&mut text, b" ");
+    put_number(&mut text, value);
+    text
 }
 
 /// The line of a mark.

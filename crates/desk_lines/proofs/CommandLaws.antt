@@ -19,8 +19,8 @@ use Rattle.world_steps.specs.declared.step.Input.TheVariants as input
 use Rattle.world_steps.specs.declared.step.Step.TheVariants as step
 use Rattle.desk_lines.specs.declared.script_line.ScriptLine.{ScriptLine}
 use Rattle.desk_lines.specs.declared.script_line.ScriptLine.TheVariants.{Make}
-use Rattle.desk_lines.specs.declared.commands.Command.{Command}
-use Rattle.desk_lines.specs.declared.commands.Command.TheVariants as command
+use Rattle.desk_lines.specs.declared.script_commands.Command.{Command}
+use Rattle.desk_lines.specs.declared.script_commands.Command.TheVariants as command
 use Rattle.desk_lines.specs.Grammar.{greatest_index, input_words, stored_text, script_words, IsIndex, IsInput, IsScriptLine, IsSites}
 use Rattle.desk_lines.specs.Requests.{request_from}
 use Rattle.desk_lines.specs.Commands.{command_text, command_of, index_at, sites_at, stored_of, stored_at, take_at, grow_input_at, request_input_of, input_at, send_at, deliver_at, restart_at, grow_at, stop_at, after_command, commanded}

@@ -18,8 +18,8 @@ use Rattle.desk_lines.specs.declared.script_line.ScriptLine.{ScriptLine}
 use Rattle.desk_lines.specs.declared.script_line.ScriptLine.TheVariants.{Make, Left, Totals}
 use Rattle.desk_lines.specs.declared.line.Line.{Line}
 use Rattle.desk_lines.specs.declared.line.Line.TheVariants as line
-use Rattle.desk_lines.specs.declared.commands.Command.{Command}
-use Rattle.desk_lines.specs.declared.commands.Command.TheVariants as command
+use Rattle.desk_lines.specs.declared.script_commands.Command.{Command}
+use Rattle.desk_lines.specs.declared.script_commands.Command.TheVariants as command
 use Rattle.desk_lines.specs.Grammar.{request_words, session_words, input_words, stored_text, script_words, script_text, IsSessionLine, IsScriptLine}
 use Rattle.desk_lines.specs.Commands.{command_text, send_at, deliver_at, restart_at, grow_at, after_command, commanded}
 use Rattle.desk_lines.specs.Reading.{asked_in, at_a_site, line_at_site, after_first, line_of_words, line_of, named_number}

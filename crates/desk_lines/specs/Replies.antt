@@ -35,18 +35,18 @@ take_fault_text take.NotForMe = codes "not-for-me"
 take_fault_text take.UnknownSite = codes "unknown-site"
 take_fault_text (take.StrayAck len) = codes "stray-ack " ++ decimal len
 take_fault_text (take.ForeignRow mark) = codes "foreign-row"
-take_fault_text take.Full = codes "history-full"
-take_fault_text take.Memory = codes "memory"
-take_fault_text take.Closed = codes "closed"
-take_fault_text take.Store = codes "store"
+take_fault_text take.Full = ask_fault_text ask.Full
+take_fault_text take.Memory = ask_fault_text ask.Memory
+take_fault_text take.Closed = ask_fault_text ask.Closed
+take_fault_text take.Store = ask_fault_text ask.Store
 
 -- why a site does not count more sites
 abbrev pub grow_fault_text : GrowFault → List ℕ
 grow_fault_text grow.NotMore = codes "not-more"
-grow_fault_text grow.Full = codes "history-full"
-grow_fault_text grow.Memory = codes "memory"
-grow_fault_text grow.Closed = codes "closed"
-grow_fault_text grow.Store = codes "store"
+grow_fault_text grow.Full = ask_fault_text ask.Full
+grow_fault_text grow.Memory = ask_fault_text ask.Memory
+grow_fault_text grow.Closed = ask_fault_text ask.Closed
+grow_fault_text grow.Store = ask_fault_text ask.Store
 
 -- the seats that are open by a view, or that it is one by which none are told
 abbrev pub open_text : Option ℕ → List ℕ

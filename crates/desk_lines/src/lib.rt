@@ -5,14 +5,14 @@
 #![tactic(auto)]
 
 mod answered;
-mod commands;
 pub mod laws;
 mod line;
-mod reading;
 mod request_lines;
 mod requests;
 mod script_answer;
+mod script_commands;
 mod script_line;
+mod script_lines;
 mod session_lines;
 mod texts;
 
@@ -21,9 +21,9 @@ pub const MOST_LINES: u32 = 1_000_000;
 
 pub use answered::{Answered, reply_line};
 pub use line::{BadLine, Line};
-pub use reading::{read_limit, read_sites, read_step};
 pub use request_lines::{request_line, request_text};
 pub use script_answer::{ScriptAnswer, write_answer};
 pub use script_line::ScriptLine;
+pub use script_lines::{read_limit, read_sites, read_step};
 pub use session_lines::read_line;
 pub use texts::{grow_fault_text, reply_text, take_fault_text};

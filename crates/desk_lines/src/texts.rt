@@ -40,6 +40,8 @@ pub(crate) fn ask_fault_text(fault: AskFault) -> Text
 }
 
 /// The text of why a message is not taken, without a line break.
+///
+/// No reply is `memory`, `closed` or `store`: a script and a command end by these, with status 3.
 pub fn take_fault_text(fault: TakeFault) -> Text
     ensures value { result.items ≡ take_fault_text fault }
     ensures len { array_vec_len result ≤ longest_line }
@@ -49,24 +51,26 @@ pub fn take_fault_text(fault: TakeFault) -> Text
         TakeFault::UnknownSite => word(b"unknown-site"),
         TakeFault::StrayAck { len } => numbered(b"stray-ack ", len as u64),
         TakeFault::ForeignRow { .. } => word(b"foreign-row"),
-        TakeFault::Full => word(b"history-full"),
-        TakeFault::Memory => word(b"memory"),
-        TakeFault::Closed => word(b"closed"),
-        TakeFault::Store => word(b"store"),
+        TakeFault::Full => ask_fault_text(AskFault::Full),
+        TakeFault::Memory => ask_fault_text(AskFault::Memory),
+        TakeFault::Closed => ask_fault_text(AskFault::Closed),
+        TakeFault::Store => ask_fault_text(AskFault::Store),
     }
 }
 
 /// The text of why a site does not count more sites, without a line break.
+///
+/// As of a message, no reply is `memory`, `closed` or `store`.
 pub fn grow_fault_text(fault: GrowFault) -> Text
     ensures value { result.items ≡ grow_fault_text fault }
     ensures len { array_vec_len result ≤ longest_line }
 {
     match fault {
         GrowFault::NotMore => word(b"not-more"),
-        GrowFault::Full => word(b"history-full"),
-        GrowFault::Memory => word(b"memory"),
-        GrowFault::Closed => word(b"closed"),
-        GrowFault::Store => word(b"store"),
+        GrowFault::Full => ask_fault_text(AskFault::Full),
+        GrowFault::Memory => ask_fault_text(AskFault::Memory),
+        GrowFault::Closed => ask_fault_text(AskFault::Closed),
+        GrowFault::Store => ask_fault_text(AskFault::Store),
     }
 }
 

@@ -1,9 +1,10 @@
 -- What ends a script early. (Our own.)
-use Rattle.std.specs.Prelude.{ℕ, List, [], ◌∷◌, ◌++◌, codes}
 use Rattle.plain_words.specs.declared.lines.LineFault.{LineFault}
 use Rattle.plain_words.specs.declared.lines.LineFault.TheVariants as line
 use Rattle.operator_cli.specs.declared.fault.ScriptFault.{ScriptFault}
 use Rattle.operator_cli.specs.declared.fault.ScriptFault.TheVariants.{Read, Write, LineTooLong, TooManyLines, Memory}
+use Rattle.operator_cli.specs.declared.store_fault.StoreFault.{StoreFault}
+use Rattle.operator_cli.specs.declared.store_fault.StoreFault.TheVariants as store
 
 abbrev pub of_line_fault : LineFault → ScriptFault
 of_line_fault line.Read = Read
@@ -17,9 +18,9 @@ IsOutFault Read = ⊥
 IsOutFault LineTooLong = ⊥
 IsOutFault TooManyLines = ⊥
 
-abbrev pub fault_line : ScriptFault → List ℕ
-fault_line Read = codes "read" ++ 10 ∷ []
-fault_line Write = codes "write" ++ 10 ∷ []
-fault_line LineTooLong = codes "line-too-long" ++ 10 ∷ []
-fault_line TooManyLines = codes "too-many-lines" ++ 10 ∷ []
-fault_line Memory = codes "memory" ++ 10 ∷ []
+abbrev pub of_script_fault : ScriptFault → StoreFault
+of_script_fault Read = store.Read
+of_script_fault Write = store.Write
+of_script_fault LineTooLong = store.LineTooLong
+of_script_fault TooManyLines = store.TooManyLines
+of_script_fault Memory = store.Memory

@@ -13,7 +13,8 @@ use Rattle.desk_lines.specs.Grammar.{most_lines, IsSites, sites_words}
 use Rattle.desk_lines.specs.Reading.{line_of, sites_from_line}
 use Rattle.desk_lines.specs.ScriptReplies.{script_reply_line}
 use Rattle.operator_cli.specs.Answering.{answer_to}
-use Rattle.operator_cli.specs.Faults.{IsOutFault, fault_line}
+use Rattle.operator_cli.specs.Faults.{IsOutFault, of_script_fault}
+use Rattle.operator_cli.specs.Told.{store_fault_line}
 use Rattle.operator_cli.specs.Script.{answers, world_behind, replies_and_totals, replies_at, run_at, replies, script_of_lines, bad_line, script}
 
 -- the first line gives the count of sites
@@ -99,7 +100,7 @@ ScriptRan input old new (Err f) = IfSome input (λ xs. EndsEarly MayGoOn replies
 abbrev pub ScriptTold : Option (List ℕ) → Option (List ℕ) → Result Bool ScriptFault → Status → Type 0
 ScriptTold old new (Ok true) told = (told ≡ status.Done) × Keeps old new
 ScriptTold old new (Ok false) told = (told ≡ status.Refused) × Keeps old new
-ScriptTold old new (Err f) told = (told ≡ status.Failed) × AppendsFront old new (fault_line f)
+ScriptTold old new (Err f) told = (told ≡ status.Failed) × AppendsFront old new (store_fault_line (of_script_fault f))
 
 -- a script that came to something, which is told
 abbrev pub WorldRan : Option (List ℕ) → Option (List ℕ) → Option (List ℕ) → Option (List ℕ) → Option (List ℕ) → Status → Type 0

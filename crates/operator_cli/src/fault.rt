@@ -1,7 +1,7 @@
 //! What ends a script early.
 
 ghost use Rattle.std.specs.Prelude.{◌≡◌};
-ghost use Rattle.operator_cli.specs.Faults.{fault_line, of_line_fault};
+ghost use Rattle.operator_cli.specs.Faults.{of_line_fault};
 ghost use Rattle.operator_cli.specs.declared.fault.ScriptFault.TheVariants.{Read, Write, Memory};
 
 use plain_words::{LineFault, ReadFault, WriteFault};
@@ -58,18 +58,5 @@ impl From<AllocError> for ScriptFault {
 
     fn from(_fault: AllocError) -> ScriptFault {
         ScriptFault::Memory
-    }
-}
-
-/// The line that names the cause on standard error.
-pub(crate) fn fault_line(fault: ScriptFault) -> &'static [u8]
-    ensures { result.now ≡ fault_line fault }
-{
-    match fault {
-        ScriptFault::Read => b"read\n",
-        ScriptFault::Write => b"write\n",
-        ScriptFault::LineTooLong => b"line-too-long\n",
-        ScriptFault::TooManyLines => b"too-many-lines\n",
-        ScriptFault::Memory => b"memory\n",
     }
 }

@@ -6,6 +6,7 @@ ghost use Rattle.std.specs.Fmt.{signed_decimal};
 ghost use Rattle.plain_words.specs.Input.{longest_line};
 ghost use Rattle.operator_cli.specs.Told.{store_fault_text, store_fault_line};
 
+use crate::fault::ScriptFault;
 use plain_words::{Text, numbered, put, put_number, word};
 use rights_lattice::SiteId;
 use session_server::{ExchangeFault, ListenFault, TalkFault};
@@ -57,6 +58,23 @@ impl From<AllocError> for StoreFault {
 
     fn from(_fault: AllocError) -> StoreFault {
         StoreFault::Memory
+    }
+}
+
+impl From<ScriptFault> for StoreFault {
+    ghost use Rattle.std.specs.Prelude.{◌≡◌};
+    ghost use Rattle.operator_cli.specs.Faults.{of_script_fault};
+
+    ghost from_gives = { λ script fault. fault ≡ of_script_fault script };
+
+    fn from(fault: ScriptFault) -> StoreFault {
+        match fault {
+            ScriptFault::Read => StoreFault::Read,
+            ScriptFault::Write => StoreFault::Write,
+            ScriptFault::LineTooLong => StoreFault::LineTooLong,
+            ScriptFault::TooManyLines => StoreFault::TooManyLines,
+            ScriptFault::Memory => StoreFault::Memory,
+        }
     }
 }
 

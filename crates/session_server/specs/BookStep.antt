@@ -8,14 +8,14 @@ use Rattle.book_core.specs.Decision.{own_left}
 use Rattle.book_core.specs.History.{state_of}
 use Rattle.request_ledger.specs.declared.request.Request.{Request}
 use Rattle.site_exchange.specs.Taking.{with_entry}
-use Rattle.sql_records.specs.Keeping.{LeavesOnly}
+use Rattle.sql_records.specs.Keeping.{LeavesEither, LeavesOnly}
 use Rattle.sql_records.specs.declared.meta.Meta.{Meta}
 use Rattle.site_desk.specs.declared.answer.Answer.{Answer}
 use Rattle.site_desk.specs.declared.fault.AskFault.{AskFault}
 use Rattle.site_desk.specs.declared.fault.AskFault.TheVariants as ask
 use Rattle.site_desk.specs.declared.fault.LookFault.{LookFault}
 use Rattle.site_desk.specs.declared.fault.LookFault.TheVariants as look
-use Rattle.site_desk.specs.Answers.{IsAnswer, IsAskFault, LeavesEither}
+use Rattle.site_desk.specs.Answers.{IsAnswer, IsAskFault}
 use Rattle.site_desk.specs.SiteView.{SiteView, site_of, decision_in, entry_in}
 use Rattle.desk_lines.specs.declared.line.Line.{Line}
 use Rattle.desk_lines.specs.declared.line.Line.TheVariants.{Ask, Left, Totals as TotalsOf, Quit}

@@ -111,8 +111,5 @@ all_sites n is = is
 pub said : (m : Valued) (event : List ℕ) (cell d : Cell) (value : ℕ) → d ≡ m.cell → value ≡ m.value → m.event ≡ event → cond (same_cell cell d) value 0 ≡ value_in m event cell
 said m event cell d value p q is = (λ i. cond (same_cell cell (p i)) (q i) 0) ∙ sym (here m event cell is)
 
-pub same_name : (event name : List ℕ) (b : Bool) → b ≡ same_event name event → b ≡ true → name ≡ event
-same_name event name b is t = same_event_is name event (sym is ∙ t)
-
 pub other_name : (event name : List ℕ) (b : Bool) → b ≡ same_event name event → b ≡ false → name ≢ event
 other_name event name b is f e = let t : same_event name event ≡ true = ap (λ n. same_event n event) e ∙ same_event_self event in cc

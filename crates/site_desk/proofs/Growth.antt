@@ -17,19 +17,19 @@ use Rattle.site_exchange.specs.Taking.{extended, site_after}
 use Rattle.site_desk.specs.declared.answer.Answer.{Answer}
 use Rattle.site_desk.specs.declared.fault.AskFault.{AskFault}
 use Rattle.site_desk.specs.Answers.{IsAnswer}
-use Rattle.site_desk.specs.Count.{is_asked, asked_since, Grows}
+use Rattle.site_desk.specs.Count.{is_asked, asked_since, HasOneMore}
 
 -- what an answer says of the history after it
 grows : (d : Decision) (office : Office) (old new : List Entry) (number : ℕ) (request : Request) (a : Answer)
-    → IsAnswer d (length old) a → new ≡ extended (entry_if d office old number request) old → Grows a.fresh a.place old new
-grows (Again place reply) office old new number request a is now = subst (λ (x : Answer). Grows x.fresh x.place old new) (sym is) now
-grows (Fresh reply) office old new number request a is now = subst (λ (x : Answer). Grows x.fresh x.place old new) (sym is) (_, now, refl, refl)
+    → IsAnswer d (length old) a → new ≡ extended (entry_if d office old number request) old → HasOneMore a.fresh a.place old new
+grows (Again place reply) office old new number request a is now = subst (λ (x : Answer). HasOneMore x.fresh x.place old new) (sym is) now
+grows (Fresh reply) office old new number request a is now = subst (λ (x : Answer). HasOneMore x.fresh x.place old new) (sym is) (_, now, refl, refl)
 grows (Reused place) office old new number request a is now = absurd is
 grows Full office old new number request a is now = absurd is
 
 pub grown : (result : Result Answer AskFault) (office : Office) (old new : List Entry) (number : ℕ) (request : Request)
     → IfOk result (IsAnswer (decision office old number request) (length old)) → OnOk result (new ≡ extended (entry_of_ask office old number request) old)
-    → IfOk result (λ a. Grows a.fresh a.place old new)
+    → IfOk result (λ a. HasOneMore a.fresh a.place old new)
 grown (Ok a) office old new number request is now = grows (decision office old number request) office old new number request a is now
 grown (Err fault) office old new number request is now = tt
 

@@ -15,7 +15,6 @@ use Rattle.site_exchange.specs.declared.message.TakeFault.{TakeFault}
 use Rattle.site_exchange.specs.declared.message.TakeFault.TheVariants as take_fault
 use Rattle.site_exchange.specs.Exchange as exchange
 use Rattle.site_exchange.specs.Exchange.{Verdict}
-use Rattle.sql_records.specs.Keeping.{LeavesWithOrWithout}
 use Rattle.site_desk.specs.declared.answer.Answer.{Answer}
 use Rattle.site_desk.specs.declared.answer.Seen.{Seen}
 use Rattle.site_desk.specs.declared.answer.Taken.{Taken}
@@ -65,11 +64,6 @@ IsGrowFault closed decision before after grow_fault.NotMore = (closed ≡ false)
 IsGrowFault closed decision before after grow_fault.Full = (closed ≡ false) × (decision ≡ grow.Full)
 IsGrowFault closed decision before after grow_fault.Memory = (closed ≡ false) × (decision ≡ grow.Grows)
 IsGrowFault closed decision before after grow_fault.Store = (closed ≡ false) × (decision ≡ grow.Grows) × (before ≡ 0) × (after ≡ 1)
-
--- there is an entry to add, and a stop leaves the list with it at the end or without it
-abbrev pub LeavesEither : List Entry → Option Entry → (Option (List Entry) → Type 0) → Type 0
-LeavesEither list None may_leave = ⊥
-LeavesEither list (Some entry) may_leave = LeavesWithOrWithout list entry may_leave
 
 -- the site is another one of those that the book counts so far
 abbrev pub is_peer : Office → List Entry → ℕ → Bool

@@ -2,9 +2,9 @@
 ghost use Rattle.std.specs.Prelude.{◌≡◌, ◌≢◌, false, true, length, IfOk, IfErr, OnOk, OnErr, Err};
 ghost use Rattle.book_core.specs.OwnRow.{HasOwnRights};
 ghost use Rattle.site_exchange.specs.Taking.{extended};
-ghost use Rattle.sql_records.specs.Keeping.{Keeps, LeavesOnly};
+ghost use Rattle.sql_records.specs.Keeping.{Keeps, LeavesEither, LeavesOnly};
 ghost use Rattle.sql_records.specs.declared.meta.Meta.{Meta as Numbers};
-ghost use Rattle.site_desk.specs.Answers.{IsAnswer, IsAskFault, LeavesEither};
+ghost use Rattle.site_desk.specs.Answers.{IsAnswer, IsAskFault};
 ghost use Rattle.site_desk.specs.SiteView.{decision_in, entry_in};
 
 use crate::answer::Answer;

@@ -4,9 +4,9 @@ ghost use Rattle.rights_lattice.specs.declared.cell.Cell.{Cell};
 ghost use Rattle.book_core.specs.declared.entry.Entry.TheVariants.{Grown};
 ghost use Rattle.book_core.specs.OwnRow.{HasOwnRights, cell_in};
 ghost use Rattle.site_exchange.specs.Taking.{extended};
-ghost use Rattle.sql_records.specs.Keeping.{Keeps};
+ghost use Rattle.sql_records.specs.Keeping.{Keeps, LeavesEither};
 ghost use Rattle.sql_records.specs.declared.meta.Meta.{Meta as Numbers};
-ghost use Rattle.site_desk.specs.Answers.{IsGrowFault, LeavesEither};
+ghost use Rattle.site_desk.specs.Answers.{IsGrowFault};
 ghost use Rattle.site_desk.specs.SiteView.{grow_decision_in, growth_in};
 
 use crate::storing::store;

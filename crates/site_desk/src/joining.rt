@@ -6,9 +6,9 @@ ghost use Rattle.book_core.specs.Joining.{entry_of_join, join_decision};
 ghost use Rattle.book_core.specs.OwnRow.{HasOwnRights, cell_in};
 ghost use Rattle.site_exchange.specs.Exchange.{Joins, verdict_of};
 ghost use Rattle.site_exchange.specs.Taking.{extended};
-ghost use Rattle.sql_records.specs.Keeping.{Keeps, LeavesOnly};
+ghost use Rattle.sql_records.specs.Keeping.{Keeps, LeavesEither, LeavesOnly};
 ghost use Rattle.sql_records.specs.declared.meta.Meta.{Meta as Numbers};
-ghost use Rattle.site_desk.specs.Answers.{IsTaken, IsTakeFault, LeavesEither};
+ghost use Rattle.site_desk.specs.Answers.{IsTaken, IsTakeFault};
 
 use crate::answer::Taken;
 use crate::storing::store;

@@ -1,5 +1,5 @@
 -- What a keeper holds, and what a stop may leave of it. (Our own.)
-use Rattle.std.specs.Prelude.{◌≡◌, ◌⊎◌, List, [], ◌∷◌, ◌++◌, Option, Some, IsSome}
+use Rattle.std.specs.Prelude.{◌≡◌, ◌⊎◌, List, [], ◌∷◌, ◌++◌, Option, Some, None, IsSome}
 use Rattle.book_core.specs.declared.entry.Entry.{Entry}
 
 -- What a stop leaves is the list that the next open reads, and none where an open would not read it.
@@ -17,6 +17,11 @@ pub record Keeps (list kept : List Entry) (may_leave : Option (List Entry) → T
 -- a stop leaves the list, with the entry at its end or without
 abbrev pub LeavesWithOrWithout : List Entry → Entry → (Option (List Entry) → Type 0) → Type 0
 LeavesWithOrWithout list entry may_leave = (left : Option (List Entry)) → may_leave left → (left ≡ Some list) ⊎ (left ≡ Some (list ++ entry ∷ []))
+
+-- there is an entry to add, and a stop leaves the list with it at the end or without it
+abbrev pub LeavesEither : List Entry → Option Entry → (Option (List Entry) → Type 0) → Type 0
+LeavesEither list None may_leave = ⊥
+LeavesEither list (Some entry) may_leave = LeavesWithOrWithout list entry may_leave
 
 -- whatever a stop leaves, an open reads it
 abbrev pub CanBeOpened : (Option (List Entry) → Type 0) → Type 0

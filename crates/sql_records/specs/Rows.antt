@@ -16,6 +16,7 @@ use Rattle.rights_lattice.specs.EventName.{name_of}
 use Rattle.request_ledger.specs.declared.request.Request.{Request}
 use Rattle.request_ledger.specs.declared.request.Request.TheVariants.{Announce, Release, Sell, Refund, Cede}
 use Rattle.request_ledger.specs.declared.reply.Reply.{Reply}
+use Rattle.request_ledger.specs.declared.reply.Reply.TheVariants.{TooMany}
 use Rattle.request_ledger.specs.declared.verb.Verb.{Verb}
 use Rattle.request_ledger.specs.declared.verb.Verb.TheVariants as verb
 use Rattle.request_ledger.specs.Ranges.{IsRequest}
@@ -327,7 +328,7 @@ AreWhole from (values ∷ rows) = IsEntryAt from values × AreWhole (from + 1) r
 
 -- what the first version does not have: a part of a sale that is asked back, the reply that it is too many, and a growth
 abbrev pub too_many : List ℕ
-too_many = codes "too-many"
+too_many = reply_word (TooMany 0)
 
 pub record HasPart (values : Row) : Type 0 where
   pub refund : verb_in (column values 3) ≡ Some verb.Refund

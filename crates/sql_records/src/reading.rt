@@ -304,7 +304,7 @@ fn is_too_many(value: ValueRef<'_>) -> bool
     ensures { IsTrue result ↔ (owned value.entry ≡ Text too_many) }
 {
     match value {
-        ValueRef::Text(text) => text == b"too-many".as_slice(),
+        ValueRef::Text(text) => text == Reply::TooMany { rest: 0 }.word(),
         _ => false,
     }
 }

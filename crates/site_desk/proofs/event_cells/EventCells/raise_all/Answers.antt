@@ -1,7 +1,8 @@
-use Rattle.std.proofs.Common.{◌≡◌, ◌≢◌, ap, arith}
+use Rattle.std.proofs.Common.{◌≡◌, ◌≢◌, sym, ◌∙◌, ap, arith}
 use Rattle.rights_lattice.specs.Cells.{Valued}
 use Rattle.rights_lattice.proofs.RightsLaws.{greatest-take_more}
-use Rattle.site_desk.proofs.EventTables.{said, elsewhere, same_name, other_name}
+use Rattle.rights_lattice.proofs.SpotLaws.{same_event_is}
+use Rattle.site_desk.proofs.EventTables.{said, elsewhere, other_name}
 use Rattle.site_desk.proofs.event_cells.EventCells.raise_all.Goals as goal
 use Rattle.site_desk.proofs.event_cells.EventCells.raise_all.Goals.{then-eq, else-eq}
 
@@ -13,7 +14,7 @@ loop-mark-preserved c = λ cell of.
     let more = greatest-take_more c.args.marks.now c.loop-mark.mark-index m event cell c.loop-mark-test.true c.mark-item.is in
     elim c.if-eq.branch [
       | then-eq w ↦
-          let is : m.event ≡ event = rw (← name) (same_name event c.mark.inside.event c.eq.result c.eq.ensures w.if-eq.true) in
+          let is : m.event ≡ event = rw (← name) (same_event_is c.mark.inside.event event (sym c.eq.ensures ∙ w.if-eq.true)) in
           rw w.self-is (omega (arith, w.raise.ensures cell of, said m event cell c.mark.inside.cell c.mark.inside.value (ap (λ (v : Valued). v.cell) c.mark.view_is) (ap (λ (v : Valued). v.value) c.mark.view_is) is, c.loop-mark.invariant cell of, more))
       | else-eq w ↦
           let apart : m.event ≢ event = rw (← name) (other_name event c.mark.inside.event c.eq.result c.eq.ensures w.if-eq.false) in

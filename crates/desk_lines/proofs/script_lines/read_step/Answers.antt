@@ -1,7 +1,7 @@
 use Rattle.std.proofs.Common.{ap, ◌∙◌, rules}
 use Rattle.desk_lines.specs.Reading.{line_of}
 use Rattle.desk_lines.proofs.ReadingLaws.{line_takes, line_reads}
-use Rattle.desk_lines.proofs.reading.read_step.Goals as goal
+use Rattle.desk_lines.proofs.script_lines.read_step.Goals as goal
 
 pub returns-in-Some-clause-found : goal.returns-in-Some-clause-found
 returns-in-Some-clause-found c = line_takes c.args.bytes.now c.in-Some.line (search rules)
