@@ -53,7 +53,7 @@ decimal_holds p is n h = digits_hold p is (decimal n) (own.to _ (digits_decimal 
 cell_holds : (p : ℕ → Bool) → IsOfLines p → (e : List ℕ) (c : Cell) (v : ℕ) → IsEventName e → IsCell c → IsValue v → Holds p (join_with_byte 32 (cell_words e v c))
 cell_holds p is e (Gave i j) v h k w =
     join_holds p is (codes "gave") (e ∷ decimal i ∷ decimal j ∷ decimal v ∷ []) (letters_hold p is (codes "gave") refl)
-      (name_holds p is e h, (decimal_holds p is i (omega (arith, k.0)), (decimal_holds p is j (omega (arith, k.1)), (decimal_holds p is v (omega (arith, w)), tt))))
+    (name_holds p is e h, (decimal_holds p is i (omega (arith, k.0)), (decimal_holds p is j (omega (arith, k.1)), (decimal_holds p is v (omega (arith, w)), tt))))
 cell_holds p is e (Used i) v h k w =
     join_holds p is (codes "used") (e ∷ decimal i ∷ decimal v ∷ []) (letters_hold p is (codes "used") refl) (name_holds p is e h, (decimal_holds p is i (omega (arith, k)), (decimal_holds p is v (omega (arith, w)), tt)))
 cell_holds p is e (Back i) v h k w =
@@ -72,4 +72,4 @@ pub header_holds : (p : ℕ → Bool) → IsOfLines p → (q : Purpose) (by to u
 unfolding header_line
 header_holds p is q by to upto h k u =
     join_holds p is (purpose_text q) (decimal by ∷ decimal to ∷ decimal upto ∷ []) (purpose_holds p is q)
-      (decimal_holds p is by (omega (arith, h)), (decimal_holds p is to (omega (arith, k)), (decimal_holds p is upto (omega (arith, u)), tt)))
+    (decimal_holds p is by (omega (arith, h)), (decimal_holds p is to (omega (arith, k)), (decimal_holds p is upto (omega (arith, u)), tt)))

@@ -11,8 +11,8 @@ ghost use Rattle.desk_lines.specs.declared.script_line.ScriptLine.{ScriptLine};
 ghost use Rattle.desk_lines.specs.Grammar.{script_text, IsScriptLine, sites_words, IsSites, limit_words};
 ghost use Rattle.desk_lines.specs.Reading.{line_at_site, line_of, named_number, sites_from_line, limit_from_line};
 
-use crate::script_commands::commanded;
 use crate::line::{BadLine, Line};
+use crate::script_commands::commanded;
 use crate::script_line::ScriptLine;
 use crate::session_lines::asked_in;
 use book_core::Limit;
