@@ -41,7 +41,8 @@ pub(crate) fn ask_fault_text(fault: AskFault) -> Text
 
 /// The text of why a message is not taken, without a line break.
 ///
-/// No reply is `memory`, `closed` or `store`: a script and a command end by these, with status 3.
+/// Of a message no reply is `memory`, `closed` or `store`: a script ends at the first, and a command tells it, and the other
+/// two as `store`, with status 3.
 pub fn take_fault_text(fault: TakeFault) -> Text
     ensures value { result.items ≡ take_fault_text fault }
     ensures len { array_vec_len result ≤ longest_line }

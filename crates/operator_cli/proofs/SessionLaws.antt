@@ -10,7 +10,7 @@ use Rattle.plain_words.specs.Writing.{AppendsFront}
 use Rattle.sql_records.specs.declared.meta.Meta.{Meta}
 use Rattle.sql_records.specs.Held.{RecordsView, IsOf, IsTrusted, LeavesSite, MayLeaveIn}
 use Rattle.sql_records.specs.Layout.{HasMeta}
-use Rattle.site_desk.specs.Answers.{LeavesEither}
+use Rattle.sql_records.specs.Keeping.{LeavesEither}
 use Rattle.site_desk.specs.SiteView.{SiteView, entry_in}
 use Rattle.desk_lines.specs.declared.answered.Answered.{Answered}
 use Rattle.session_server.specs.BookStep.{BookStep}

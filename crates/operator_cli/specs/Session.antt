@@ -9,7 +9,7 @@ use Rattle.sql_records.specs.declared.meta.Meta.{Meta}
 use Rattle.sql_records.specs.Held.{RecordsView, IsOf, IsTrusted, LeavesSite, MayLeave, MayLeaveIn, kept_in}
 use Rattle.sql_records.specs.Layout.{HasMeta}
 use Rattle.site_desk.specs.declared.fault.AskFault.TheVariants as ask
-use Rattle.site_desk.specs.Answers.{LeavesEither}
+use Rattle.sql_records.specs.Keeping.{LeavesEither}
 use Rattle.site_desk.specs.SiteView.{SiteView, entry_in}
 use Rattle.desk_lines.specs.declared.line.Line.TheVariants.{Ask}
 use Rattle.desk_lines.specs.declared.answered.Answered.TheVariants.{Refused}

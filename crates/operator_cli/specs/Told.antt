@@ -1,4 +1,4 @@
--- What the commands over records tell: an answer or a refusal, or the fault that ended them. (Our own.)
+-- What commands tell: an answer or a refusal, or the fault that ended them. (Our own.)
 use Rattle.std.specs.Prelude.{ℕ, List, [], ◌∷◌, ◌++◌, Option, Result, Ok, Err, codes}
 use Rattle.std.specs.Io.KnownBytes.{Keeps}
 use Rattle.std.specs.Fmt.{decimal, signed_decimal}

@@ -1,4 +1,4 @@
-//! The end of a command over records.
+//! The end of a command.
 
 ghost use Rattle.std.specs.Prelude.{◌≡◌, ◌≢◌, ◌⊎◌, IfOk, IfErr, IfSome, MatchResult, Some, false};
 ghost use Rattle.std.specs.Io.KnownBytes.{Keeps};

@@ -1,7 +1,6 @@
 //! What ends a script early.
 
 ghost use Rattle.std.specs.Prelude.{◌≡◌};
-ghost use Rattle.operator_cli.specs.Faults.{of_line_fault};
 ghost use Rattle.operator_cli.specs.declared.fault.ScriptFault.TheVariants.{Read, Write, Memory};
 
 use plain_words::{LineFault, ReadFault, WriteFault};

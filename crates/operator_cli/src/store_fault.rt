@@ -1,4 +1,4 @@
-//! What ends a command over records.
+//! What ends a command early.
 
 ghost use Rattle.std.specs.Prelude.{◌≡◌, ◌++◌, ◌≤◌, length};
 ghost use Rattle.arrayvec.specs.ArrayVec.{array_vec_len};
@@ -13,7 +13,7 @@ use session_server::{ExchangeFault, ListenFault, TalkFault};
 use site_desk::FinishFault;
 use std::alloc::AllocError;
 
-/// What ends a command over records early, and is told on standard error.
+/// What ends a command early, and is told on standard error.
 #[derive(Clone, Copy, Debug, PartialEq, Eq)]
 pub(crate) enum StoreFault {
     /// The file holds no records of a site.
@@ -30,9 +30,9 @@ pub(crate) enum StoreFault {
     Read,
     /// The output failed.
     Write,
-    /// A line of a session has more than 200 bytes.
+    /// A line of a session or a script has more than 200 bytes.
     LineTooLong,
-    /// A session has more than 1,000,000 lines.
+    /// A session or a script has more than 1,000,000 lines.
     TooManyLines,
     /// The port could not be taken.
     Bind,
