@@ -2,7 +2,7 @@
 use Rattle.std.proofs.Common.{◌≡◌, ℕ, ◌+◌, ◌≤◌, ◌<◌, Bool, true, false, cond, not, List, [], ◌∷◌, ◌++◌, Option, Some, None, refl, sym, ap, ◌∙◌, subst, arith, leb-false, length}
 use Rattle.std.specs.Prelude.{nat_le, ◌==◌, IsSomeAnd}
 use Rattle.rights_lattice.specs.declared.cell.Cell.TheVariants.{Used, Back}
-use Rattle.rights_lattice.specs.Cells.{Key, Cells, Valued, greatest_value, value_at, all_zero, raise, raise_all, marks_of, greatest, value_in, is_of}
+use Rattle.rights_lattice.specs.Cells.{Cells, Valued, greatest_value, value_at, all_zero, raise_all, marks_of, greatest}
 use Rattle.rights_lattice.specs.Cells as cells
 use Rattle.rights_lattice.specs.State.{State, bottom, knows, names_in_order}
 use Rattle.rights_lattice.specs.RightsView.{IsCellOf, IsWithin}

@@ -1,5 +1,5 @@
 -- The decision on a count of sites, from its tests, and the entry that growing adds.
-use Rattle.std.proofs.Common.{◌≡◌, ℕ, ◌≤◌, ◌<◌, Bool, true, false, cond, List, length, Some, None, refl, ap, ◌∙◌, subst, leb-true, leb-false, le-leb}
+use Rattle.std.proofs.Common.{◌≡◌, ℕ, ◌≤◌, ◌<◌, Bool, true, false, cond, List, length, Some, None, refl, ap, ◌∙◌, subst, leb-true, leb-false}
 use Rattle.std.specs.Prelude.{nat_le}
 use Rattle.std.proofs.lemmas.Bool.{lt-leb}
 use Rattle.rights_lattice.specs.Limits.{most_sites}

@@ -4,9 +4,10 @@ use Rattle.std.specs.List.{list_any, fold}
 use Rattle.std.proofs.lemmas.List.Sums.{fold_push}
 use Rattle.rights_lattice.specs.Cell.{same_event}
 use Rattle.rights_lattice.specs.State.{knows, names_in_order}
-use Rattle.rights_lattice.proofs.StateLaws.{contains-union, knows-no_names}
+use Rattle.rights_lattice.proofs.StateLaws.{contains-union, knows-no_names, any_in_order}
+use Rattle.rights_lattice.proofs.OrLaws.{or_assoc, or_false}
 use Rattle.event_catalogue.specs.Catalogue.{with_new}
-use Rattle.event_catalogue.proofs.NameLaws.{any_in_order, any-with_new, or_false, or_assoc}
+use Rattle.event_catalogue.proofs.NameLaws.{any-with_new}
 use Rattle.book_core.specs.declared.entry.Entry.{Entry}
 use Rattle.book_core.specs.History.{delta_of, state_of, names_known}
 

@@ -1,7 +1,7 @@
 -- The entry that asking adds is legal and of the own row; so is the entry that joining adds.
-use Rattle.std.proofs.Common.{sym, ◌≡◌, ◌≢◌, ℕ, ◌+◌, Bool, true, false, cond, not, ◌&&◌, List, Option, Some, None, refl, ap, ◌∙◌, subst, arith, length, leb-false}
+use Rattle.std.proofs.Common.{◌≡◌, ◌≢◌, ℕ, ◌+◌, Bool, true, false, cond, not, ◌&&◌, List, Option, Some, None, refl, ap, ◌∙◌, subst, arith, length, leb-false}
 use Rattle.std.specs.Prelude.{nat_le}
-use Rattle.std.proofs.lemmas.Bool.{and_parts, lt-leb}
+use Rattle.std.proofs.lemmas.Bool.{and_parts}
 use Rattle.rights_lattice.specs.declared.cell.Cell.{Cell}
 use Rattle.rights_lattice.specs.Cell.{owner_of, same_cell, same_event}
 use Rattle.rights_lattice.specs.Cells.{Cells, Valued, value_at, all_zero, marks_of}
@@ -16,12 +16,12 @@ use Rattle.request_ledger.specs.declared.reply.Kept.{Kept}
 use Rattle.request_ledger.specs.Requests.{is_done, same_request}
 use Rattle.book_core.specs.declared.plan.JoinFault.TheVariants as join_fault
 use Rattle.book_core.specs.declared.entry.Entry.{Entry}
-use Rattle.book_core.specs.declared.entry.Entry.TheVariants.{Asked, Joined}
+use Rattle.book_core.specs.declared.entry.Entry.TheVariants.{Asked}
 use Rattle.book_core.specs.History.{delta_of, state_of, kept, sale_of}
 use Rattle.book_core.specs.Decision.{Office, office_after, Change, cell_of, change_of, refund_of, marked, addition_of, delta_for, reply_to, decision_if, entry_if, entry_of_ask, Again, Reused, Full, Fresh}
-use Rattle.book_core.specs.Joining.{foreign, is_of_sites, Joins, NothingNew, Refuses, join_if, join_decision, joined_if, entry_of_join}
-use Rattle.book_core.specs.Legal.{IsNext, IsNextJoined, IsNextAsked}
-use Rattle.book_core.proofs.OrderTests.{sites_test, row_test, is_new, passes}
+use Rattle.book_core.specs.Joining.{foreign, is_of_sites, Joins, NothingNew, Refuses, join_if, join_decision}
+use Rattle.book_core.specs.Legal.{IsNext, IsNextJoined}
+use Rattle.book_core.proofs.OrderTests.{passes}
 use Rattle.book_core.proofs.Rows.{own_cell}
 
 marked_foreign : (me : ℕ) (X : Cells) (o : Option Change) (event : List ℕ) (cell : Cell) → owner_of cell ≢ me → value_at (marked me X o).cells event cell ≡ 0

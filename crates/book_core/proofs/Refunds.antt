@@ -19,6 +19,7 @@ use Rattle.request_ledger.specs.Requests.{is_done}
 use Rattle.book_core.specs.declared.entry.Entry.{Entry}
 use Rattle.book_core.specs.declared.entry.Entry.TheVariants.{Asked, Joined, Grown}
 use Rattle.request_ledger.specs.Ledger.{KeptByNumber, kept_under, sale_in, sale_if_kept, part_counted, given_back, rest_of, amount_back}
+use Rattle.request_ledger.proofs.SumLaws.{parts}
 use Rattle.book_core.specs.History.{state_of, asked, asked_from, kept, sale_of}
 use Rattle.book_core.proofs.Kept.{asked-push}
 use Rattle.book_core.specs.Decision.{Office, Releasing, Selling, Refunding, Ceding, refund_of, refund_reply}
@@ -92,9 +93,6 @@ sales_found r q event le sale seats amount of less place (Asked m request reply 
 -- what is given back of a sale along a history, and what is not
 abbrev given : List Entry → ℕ → ℕ → ℕ
 given h sale seats = given_back (asked h) sale seats
-
-abbrev parts : KeptByNumber → ℕ → ℕ → ℕ
-parts es sale seats = sum_by (part_counted sale seats) es
 
 abbrev kept_seats : List Entry → ℕ → ℕ → ℕ
 kept_seats h number seats = seats - given h number seats

@@ -1,7 +1,6 @@
 -- What the ledger tells as given back of a sale is the sum of the amounts of its refunds.
 use Rattle.std.proofs.Common.{◌≡◌, ℕ, ◌+◌, ◌-◌, ◌≤◌, min, ◌⊎◌, inl, inr, Bool, true, false, cond, List, [], ◌∷◌, ◌++◌, Option, Some, None, length, refl, sym, ap, ◌∙◌, subst, arith, eqb-true, append-nil, append_assoc}
 use Rattle.std.specs.Prelude.{◌==◌, unwrap_or}
-use Rattle.std.specs.List.{sum_by}
 use Rattle.std.proofs.lemmas.List.Sums.{sum_by_push}
 use Rattle.request_ledger.specs.declared.request.Request.{Request}
 use Rattle.request_ledger.specs.declared.request.Request.TheVariants.{Sell, Refund}
@@ -11,7 +10,7 @@ use Rattle.request_ledger.specs.declared.reply.SaleState.{SaleState}
 use Rattle.request_ledger.specs.Requests.{is_done}
 use Rattle.request_ledger.specs.GivenBack.{seats_under, seats_if_kept, seats_in}
 use Rattle.request_ledger.specs.Ledger.{KeptByNumber, part_asked, part_counted, given_back, rest_of, amount_back}
-use Rattle.request_ledger.proofs.SumLaws.{Fits, one_more, seats_or_new}
+use Rattle.request_ledger.proofs.SumLaws.{Fits, one_more, parts, seats_or_new}
 use Rattle.book_core.specs.declared.entry.Entry.{Entry}
 use Rattle.book_core.specs.declared.entry.Entry.TheVariants.{Asked, Joined, Grown}
 use Rattle.book_core.specs.Decision.{Office, refund_of, refund_reply, reply_to}
@@ -34,9 +33,6 @@ returned_from-push sale before (e ∷ h) entry =
 
 returned_push : (sale : ℕ) (h : List Entry) (entry : Entry) → returned sale (h ++ entry ∷ []) ≡ returned sale h + returned_by sale h entry
 returned_push sale h entry = returned_from-push sale [] h entry
-
-abbrev parts : KeptByNumber → ℕ → ℕ → ℕ
-parts es sale seats = sum_by (part_counted sale seats) es
 
 -- a request that gives nothing back of the sale
 record GivesNothing (h : List Entry) (sale n : ℕ) (k : Kept) : Type 0 where

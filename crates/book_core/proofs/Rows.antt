@@ -154,7 +154,7 @@ pub gained_le : (x y : Cells) (event : List ℕ) (i : ℕ) → ((cell : Cell) �
 gained_le x y event i more =
     omega (arith, more (Gave i i), more (Back i), sum_below_le max_sites (λ j. ceded_in x event j i) (λ j. ceded_in y event j i) (λ j l. ceded_le y x event j i (λ _. more (Gave j i))))
 
-miss : (b c : Bool) (a : ℕ) → c ≡ false → cond (b && c) a 0 ≡ 0
+pub miss : (b c : Bool) (a : ℕ) → c ≡ false → cond (b && c) a 0 ≡ 0
 miss true c a q = ap (λ t. cond t a 0) q
 miss false c a q = refl
 

@@ -1,12 +1,11 @@
 //! The book of a site.
-ghost use Rattle.std.specs.Prelude.{IsSome, IfSome, pos, vec_len, vec_capacity, nat_le, IsTrue, ◌↔◌, IsOk, IfOk, IfErr, OnOk, ◌++◌, ◌∷◌, ◌≡◌, ℕ, ◌<◌, ◌≤◌, [], ◌+◌, length, slice_get, Some, None};
+ghost use Rattle.std.specs.Prelude.{IsSome, IfSome, pos, vec_len, vec_capacity, nat_le, IsTrue, ◌↔◌, IsOk, OnOk, ◌++◌, ◌∷◌, ◌≡◌, ◌<◌, ◌≤◌, [], ◌+◌, length, slice_get};
 ghost use Rattle.std.specs.Option.{option_copied};
 ghost use Rattle.rights_lattice.specs.Cells.{value_at, raise_all, greatest_value};
 ghost use Rattle.rights_lattice.specs.State.{knows};
 ghost use Rattle.rights_lattice.specs.RightsView.{IsWithin};
 ghost use Rattle.local_rights.specs.OpenSeats.{view_in};
 ghost use Rattle.local_rights.specs.Rights.{HasRights, IsPosition, paper_value};
-ghost use Rattle.request_ledger.specs.Ledger.{kept_under, IsRefundable};
 ghost use Rattle.book_core.specs.History.{state_of, kept, sale_of, names_known, asked_from, sites_after};
 ghost use Rattle.book_core.specs.Decision.{own_left, sites_of};
 ghost use Rattle.book_core.specs.Legal.{IsLegal};
@@ -43,7 +42,7 @@ pub struct Book {
 }
 
 impl Model for Book {
-    ghost use Rattle.std.specs.Prelude.{ℕ, ◌-◌, vec_len, vec_capacity};
+    ghost use Rattle.std.specs.Prelude.{◌-◌, vec_len, vec_capacity};
     ghost use Rattle.book_core.specs.BookView.{BookView, IsInOrder};
     ghost use Rattle.book_core.specs.BookCode.{coded_book};
 

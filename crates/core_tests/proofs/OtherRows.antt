@@ -9,6 +9,7 @@ use Rattle.rights_lattice.specs.declared.cell.Cell.TheVariants.{Gave, Used}
 use Rattle.rights_lattice.proofs.CellLaws.{of_same, value_at-raise, value_at-all_zero}
 use Rattle.local_rights.specs.Rights.{ceded_in, HasRights}
 use Rattle.local_rights.proofs.Sums.{sum_below_same, sum_below-zero}
+use Rattle.local_rights.proofs.Within.{or_zero}
 
 -- the cells that the site owns are 0
 abbrev pub HasNoRow : Cells → ℕ → Type 0
@@ -25,15 +26,11 @@ pub no_row-raise : (X : Cells) (m : Valued) (i : ℕ) → HasNoRow X i → (owne
 no_row-raise X m i none other e c own =
     omega (arith, value_at-raise X m e c, none e c own, not_of m e c (is_of m e c) refl (λ same. other (sym same ∙ own)))
 
-ceded_none : (b : Bool) (v : ℕ) → v ≡ 0 → cond b 0 v ≡ 0
-ceded_none true v h = refl
-ceded_none false v h = h
-
 pub has_rights-no_row : (X : Cells) (e : List ℕ) (i : ℕ) → HasNoRow X i → HasRights X e i
 has_rights-no_row X e i none =
     omega (
       arith,
-      sum_below_same max_sites (λ j. ceded_in X e i j) (λ _. 0) (λ j l. ceded_none (nat_eq i j) _ (none e (Gave i j) refl)),
+      sum_below_same max_sites (λ j. ceded_in X e i j) (λ _. 0) (λ j l. or_zero (nat_eq i j) _ (none e (Gave i j) refl)),
       sum_below-zero max_sites,
       none e (Used i) refl,
     )

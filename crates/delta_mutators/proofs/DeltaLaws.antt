@@ -8,10 +8,10 @@ use Rattle.rights_lattice.specs.Merging.{IsMerged, IsMergedNames}
 use Rattle.rights_lattice.proofs.CellLaws.{same_cells, value_at-join, value_at-raise, value_at-all_zero}
 use Rattle.rights_lattice.proofs.StateLaws.{same_names, contains-union, knows-with_name, knows-no_names}
 use Rattle.rights_lattice.proofs.MarkLaws.{cells_of-none, cells_of-one, names_of-none, names_of-one, merged_cells, merged_names}
+use Rattle.rights_lattice.proofs.OrLaws.{or_false}
 use Rattle.delta_mutators.specs.declared.delta.Item.TheVariants.{Name, Cell}
 use Rattle.delta_mutators.specs.Lists.{AreLists}
 use Rattle.delta_mutators.specs.Items.{item_state}
-use Rattle.delta_mutators.specs.Rises.{pushed}
 use Rattle.delta_mutators.specs.ApplyLaw.{ApplyingIsJoining, AddingIsJoining}
 
 pub applying_is_joining : ApplyingIsJoining
@@ -22,10 +22,6 @@ join-all_zero X = same_cells _ _ (λ e c. omega (arith, value_at-join X all_zero
 
 join_names-no_names : (N : Names) → N ≡ join_names N no_names
 join_names-no_names N = same_names _ _ (λ n. sym (contains-union N no_names n ∙ ap (λ b. knows N n || b) (knows-no_names n) ∙ or_false (knows N n)))
-  where
-    or_false : (b : Bool) → (b || false) ≡ b
-    or_false true = refl
-    or_false false = refl
 
 with_name-join : (N : Names) (name : List ℕ) → with_name N name ≡ join_names N (with_name no_names name)
 with_name-join N name = same_names _ _ (λ n.

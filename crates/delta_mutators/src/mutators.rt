@@ -1,5 +1,5 @@
 //! The mark of one operation: the state of the mark alone is the least that has its effect.
-ghost use Rattle.std.specs.Prelude.{◌≡◌, ◌≢◌, ◌+◌, ◌<◌, ◌≤◌, ◌↔◌, IfOk, IsErr};
+ghost use Rattle.std.specs.Prelude.{◌≡◌, ◌≢◌, ◌+◌, ◌<◌, ◌↔◌, IfOk, IsErr};
 ghost use Rattle.rights_lattice.specs.declared.cell.Cell.TheVariants.{Gave, Used, Back};
 ghost use Rattle.rights_lattice.specs.Cells.{greatest_value, value_at};
 ghost use Rattle.delta_mutators.specs.declared.delta.Item.TheVariants.{Name};

@@ -1,9 +1,8 @@
 -- Lines of a text.
-use Rattle.std.proofs.Common.{◌≡◌, ℕ, ◌≤◌, Bool, true, false, not, List, [], ◌∷◌, ◌++◌, refl, sym, ap, subst, ◌∙◌, arith, append_assoc}
-use Rattle.std.specs.List.{slice_split, join_with_byte, AllByRecursion, list_all}
-use Rattle.std.proofs.lemmas.Bool.{and_parts, not-true, not_from_false, ne_eqb, false≢true}
+use Rattle.std.proofs.Common.{◌≡◌, ℕ, Bool, true, not, List, [], ◌∷◌, ◌++◌, refl, sym, ap, subst, ◌∙◌, arith, append_assoc}
+use Rattle.std.specs.List.{slice_split, join_with_byte, AllByRecursion}
+use Rattle.std.proofs.lemmas.Bool.{not_from_false, ne_eqb, false≢true}
 use Rattle.std.proofs.lemmas.List.Splits.{slice_split_at, join_with_byte-slice_split}
-use Rattle.std.proofs.lemmas.List.Elements.{All-from_recursion}
 use Rattle.rights_lattice.specs.EventName.{is_event_byte}
 use Rattle.rights_lattice.specs.Limits.{IsSite}
 use Rattle.delta_mutators.specs.declared.delta.Item.{Item}
@@ -11,38 +10,35 @@ use Rattle.delta_wire.specs.declared.header.Purpose.{Purpose}
 use Rattle.delta_wire.specs.Grammar.{item_line, header_line, lines_text, IsUpto, IsItem}
 use Rattle.delta_wire.specs.Reading.{purpose_text}
 use Rattle.plain_words.specs.Input.{is_line_break}
+use Rattle.plain_words.proofs.WordLaws.{lacks_all}
 use Rattle.delta_wire.proofs.Bytes.{Holds, IsOfLines, item_holds, header_holds}
 
-abbrev breaks_not : ℕ → Bool
-breaks_not b = not (is_line_break b)
+abbrev is_no_break : ℕ → Bool
+is_no_break b = not (is_line_break b)
 
 abbrev pub Lacks : List ℕ → Type 0
-Lacks w = Holds breaks_not w
+Lacks w = Holds is_no_break w
 
-name_byte_lacks : (b : ℕ) → is_event_byte b ≡ true → breaks_not b ≡ true
+name_byte_lacks : (b : ℕ) → is_event_byte b ≡ true → is_no_break b ≡ true
 name_byte_lacks b e = not_from_false _ (ne_eqb b 10 (λ s. let bad : is_event_byte 10 ≡ true = subst (λ (x : ℕ). is_event_byte x ≡ true) s e in false≢true bad))
 
-breaks_in_no_line : IsOfLines breaks_not
+breaks_in_no_line : IsOfLines is_no_break
 breaks_in_no_line = record { names = name_byte_lacks; digits = λ b low high. not_from_false _ (ne_eqb b 10 (λ s. omega (arith, low, s))); space = refl }
 
 pub item_lacks : (i : Item) → IsItem i → Lacks (item_line i)
-item_lacks = item_holds breaks_not breaks_in_no_line
+item_lacks = item_holds is_no_break breaks_in_no_line
 
 pub header_lacks : (p : Purpose) (by to upto : ℕ) → IsSite by → IsSite to → IsUpto upto → Lacks (header_line (purpose_text p) by to upto)
-header_lacks = header_holds breaks_not breaks_in_no_line
+header_lacks = header_holds is_no_break breaks_in_no_line
 
 -- ---- cutting and joining
-
-lacks_each : (w : List ℕ) → Lacks w → AllByRecursion (λ b. is_line_break b ≡ false) w
-lacks_each [] e = tt
-lacks_each (b ∷ w) e = let parts = and_parts (breaks_not b) (list_all breaks_not w) e in (not-true _ parts.0, lacks_each w parts.1)
 
 -- the pieces of whole lines, and of what follows them
 pub split_lines : (lines : List (List ℕ)) (rest : List ℕ) → AllByRecursion Lacks lines → slice_split is_line_break (lines_text lines ++ rest) ≡ lines ++ slice_split is_line_break rest
 split_lines [] rest h = refl
 split_lines (line ∷ lines) rest h =
     ap (slice_split is_line_break) (append_assoc (line ++ 10 ∷ []) (lines_text lines) rest ∙ append_assoc line (10 ∷ []) (lines_text lines ++ rest))
-    ∙ slice_split_at is_line_break line 10 (lines_text lines ++ rest) (All-from_recursion (λ b. is_line_break b ≡ false) line (lacks_each line h.0)) refl
+    ∙ slice_split_at is_line_break line 10 (lines_text lines ++ rest) (lacks_all is_line_break line h.0) refl
     ∙ ap (λ (t : List (List ℕ)). line ∷ t) (split_lines lines rest h.1)
 
 shape : (lines : List (List ℕ)) → (next : List ℕ) × (more : List (List ℕ)) × (lines ++ [] ∷ [] ≡ next ∷ more)

@@ -1,12 +1,12 @@
 -- Fronts of a text.
-use Rattle.std.proofs.Common.{◌≡◌, ℕ, ◌+◌, ◌<◌, List, [], ◌∷◌, ◌++◌, map, take, drop, length, get_or, Option, Result, Ok, Err, sym, ap, ◌∙◌, append_assoc, subst, refl, codes}
+use Rattle.std.proofs.Common.{◌≡◌, ℕ, ◌+◌, ◌<◌, List, [], ◌∷◌, ◌++◌, map, take, length, get_or, Option, Result, Ok, Err, sym, ap, ◌∙◌, append_assoc, subst, refl, codes}
 use Rattle.std.specs.Prelude.{OnOk}
 use Rattle.std.specs.List.{flat_map, AllByRecursion}
 use Rattle.site_exchange.specs.declared.message.Message.{Message}
 use Rattle.site_exchange.specs.declared.message.Message.TheVariants.{Delta, Ack}
 use Rattle.std.specs.Io.KnownBytes.{Appends}
 use Rattle.std.proofs.KnownBytes.{Appends-trans}
-use Rattle.std.proofs.lemmas.List.{flat_map_more, take_more, take-append-drop}
+use Rattle.std.proofs.lemmas.List.{take_more}
 use Rattle.std.proofs.lemmas.List.Concat.{flat_map-append}
 use Rattle.rights_lattice.specs.Cells.{Valued, marks_of}
 use Rattle.rights_lattice.specs.State.{State, names_in_order}
@@ -15,6 +15,7 @@ use Rattle.delta_mutators.specs.declared.delta.Item.TheVariants as item
 use Rattle.delta_wire.specs.Grammar.{item_line, header_line, lines_text, delta_lines, delta_text, message_text, IsItem, IsDelta}
 use Rattle.delta_wire.specs.Parts.{name_line, mark_line, names_text, marks_text}
 use Rattle.plain_words.specs.Writing.{AppendsFront, Writes}
+use Rattle.plain_words.proofs.TextLaws.{texts_break_off, texts_go_on}
 use Rattle.plain_words.proofs.WriteLaws.{AppendsFront-after, AppendsFront-longer}
 
 -- one text, and then another
@@ -22,25 +23,13 @@ pub Writes-after : {T E : Type 0} (a b c : Option (List ℕ)) (r : Result T E) (
 Writes-after a b c (Ok x) xs ys p q = Appends-trans a b c xs ys p q
 Writes-after a b c (Err e) xs ys p q = AppendsFront-after a b c xs ys p q
 
--- the texts of the first k items, and of one more
-pub texts_more : {X : Type 0} (f : X → List ℕ) (xs : List X) (k : ℕ) (x : X) → k < length xs → x ≡ get_or xs k x → flat_map f (take k xs) ++ f x ≡ flat_map f (take (k + 1) xs)
-texts_more f xs k x lt is =
-    flat_map_more f [] (take k xs) x ∙ ap (flat_map f) (ap (λ y. take k xs ++ y ∷ []) is ∙ sym (take_more xs k x lt))
-
-pub texts_front : {X : Type 0} (f : X → List ℕ) (xs : List X) (k : ℕ) → flat_map f xs ≡ flat_map f (take k xs) ++ flat_map f (drop k xs)
-texts_front f xs k = ap (flat_map f) (sym (take-append-drop k xs)) ∙ flat_map-append f (take k xs) (drop k xs)
-
 pub one_written : {X : Type 0} (f : X → List ℕ) (xs : List X) (k : ℕ) (x : X) (a b c : Option (List ℕ)) (line : List ℕ) → k < length xs → x ≡ get_or xs k x → line ≡ f x → Appends a b (flat_map f (take k xs)) → Appends b c line
     → Appends a c (flat_map f (take (k + 1) xs))
-one_written f xs k x a b c line lt is text before now =
-    subst (Appends a c) (ap (λ (t : List ℕ). flat_map f (take k xs) ++ t) text ∙ texts_more f xs k x lt is) (Appends-trans a b c (flat_map f (take k xs)) line before now)
+one_written f xs k x a b c line lt is text before now = texts_go_on a b c f xs k x lt is before (subst (Appends b c) text now)
 
 pub one_failed : {X : Type 0} (f : X → List ℕ) (xs : List X) (k : ℕ) (x : X) (a b c : Option (List ℕ)) (line : List ℕ) → k < length xs → x ≡ get_or xs k x → line ≡ f x → Appends a b (flat_map f (take k xs)) → AppendsFront b c line
     → AppendsFront a c (flat_map f xs)
-one_failed f xs k x a b c line lt is text before now =
-    subst (AppendsFront a c) (sym (texts_front f xs (k + 1)))
-    (AppendsFront-longer a c (flat_map f (take (k + 1) xs)) (flat_map f (drop (k + 1) xs))
-    (subst (AppendsFront a c) (ap (λ (t : List ℕ). flat_map f (take k xs) ++ t) text ∙ texts_more f xs k x lt is) (AppendsFront-after a b c (flat_map f (take k xs)) line before now)))
+one_failed f xs k x a b c line lt is text before now = texts_break_off a b c f xs k x lt is before (subst (AppendsFront b c) text now)
 
 all_end : {X : Type 0} (P : X → Type 0) (xs : List X) (x : X) → AllByRecursion P xs → P x → AllByRecursion P (xs ++ x ∷ [])
 all_end P [] x h p = (p, tt)

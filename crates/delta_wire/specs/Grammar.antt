@@ -1,5 +1,5 @@
 -- The text of a delta and of a message: a header line, item lines and the line `end`. Our own.
-use Rattle.std.specs.Prelude.{ℕ, ◌≤◌, List, [], ◌∷◌, ◌++◌, map, codes}
+use Rattle.std.specs.Prelude.{ℕ, List, [], ◌∷◌, ◌++◌, map, codes}
 use Rattle.std.specs.List.{join_with_byte, flat_map, AllByRecursion}
 use Rattle.std.specs.Fmt.{decimal}
 use Rattle.rights_lattice.specs.declared.cell.Cell.{Cell}

@@ -1,5 +1,5 @@
 //! Reading the header of a message.
-ghost use Rattle.std.specs.Prelude.{◌≡◌, ℕ};
+ghost use Rattle.std.specs.Prelude.{◌≡◌};
 ghost use Rattle.std.specs.Option.{option_map};
 ghost use Rattle.delta_wire.specs.Reading.{purpose_of, purpose_at, upto_at, header_of};
 

@@ -1,5 +1,5 @@
 //! Texts of one line, put together before they are written.
-ghost use Rattle.std.specs.Prelude.{◌≡◌, ◌+◌, ◌≤◌, ◌++◌, ◌∷◌, [], ℕ, length, decimal};
+ghost use Rattle.std.specs.Prelude.{◌≡◌, ◌+◌, ◌≤◌, ◌++◌, ◌∷◌, [], length, decimal};
 ghost use Rattle.std.specs.List.{join_with_byte};
 ghost use Rattle.arrayvec.specs.ArrayVec.{array_vec_len};
 ghost use Rattle.delta_mutators.specs.declared.delta.Item.TheVariants as item;
@@ -47,7 +47,7 @@ pub fn name_text(event: &Event) -> Text
 }
 
 // Begins the line of a mark: its word, its event, and the site whose row it is of.
-fn row_text(word: &[u8], event: &Event, by: SiteId) -> Text
+fn mark_front(word: &[u8], event: &Event, by: SiteId) -> Text
     requires { length word.now ≤ 4 }
     ensures text { result.items ≡ join_with_byte 32 (word.now ∷ event.now ∷ decimal by ∷ []) }
     ensures len { array_vec_len result ≤ longest_name + 26 }
@@ -71,13 +71,13 @@ fn cell_text(event: &Event, cell: &Cell, value: u64) -> Text
 {
     let mut text = match cell {
         Cell::Gave { by, to } => {
-            let mut text = row_text(b"gave", event, *by);
+            let mut text = mark_front(b"gave", event, *by);
             put(&mut text, b" ");
             put_site(&mut text, *to);
             text
         }
-        Cell::Used { by } => row_text(b"used", event, *by),
-        Cell::Back { by } => row_text(b"back", event, *by),
+        Cell::Used { by } => mark_front(b"used", event, *by),
+        Cell::Back { by } => mark_front(b"back", event, *by),
     };
     put(&mut text, b" ");
     put_number(&mut text, value);

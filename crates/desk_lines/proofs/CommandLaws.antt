@@ -17,8 +17,8 @@ use Rattle.delta_wire.proofs.FieldLaws.{site_at_found, site_again}
 use Rattle.world_steps.specs.declared.step.Input.{Input}
 use Rattle.world_steps.specs.declared.step.Input.TheVariants as input
 use Rattle.world_steps.specs.declared.step.Step.TheVariants as step
-use Rattle.desk_lines.specs.declared.script_line.ScriptLine.{ScriptLine}
-use Rattle.desk_lines.specs.declared.script_line.ScriptLine.TheVariants.{Make}
+use Rattle.desk_lines.specs.declared.script.ScriptLine.{ScriptLine}
+use Rattle.desk_lines.specs.declared.script.ScriptLine.TheVariants.{Make}
 use Rattle.desk_lines.specs.declared.script_commands.Command.{Command}
 use Rattle.desk_lines.specs.declared.script_commands.Command.TheVariants as command
 use Rattle.desk_lines.specs.Grammar.{greatest_index, input_words, stored_text, script_words, IsIndex, IsInput, IsScriptLine, IsSites}

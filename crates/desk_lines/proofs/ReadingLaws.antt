@@ -14,8 +14,8 @@ use Rattle.rights_lattice.specs.Limits.{greatest_site, IsSite}
 use Rattle.delta_wire.proofs.FieldLaws.{site_again, site_lacks_space}
 use Rattle.delta_wire.proofs.Names.{name_lacks_space}
 use Rattle.world_steps.specs.declared.step.Step.TheVariants as step
-use Rattle.desk_lines.specs.declared.script_line.ScriptLine.{ScriptLine}
-use Rattle.desk_lines.specs.declared.script_line.ScriptLine.TheVariants.{Make, Left, Totals}
+use Rattle.desk_lines.specs.declared.script.ScriptLine.{ScriptLine}
+use Rattle.desk_lines.specs.declared.script.ScriptLine.TheVariants.{Make, Left, Totals}
 use Rattle.desk_lines.specs.declared.line.Line.{Line}
 use Rattle.desk_lines.specs.declared.line.Line.TheVariants as line
 use Rattle.desk_lines.specs.declared.script_commands.Command.{Command}

@@ -15,8 +15,8 @@ use Rattle.world_steps.specs.declared.step.Step.{Step}
 use Rattle.world_steps.specs.declared.step.Step.TheVariants.{Ask, Send, Deliver, Restart, Grow, Stop}
 use Rattle.desk_lines.specs.declared.line.Line.{Line}
 use Rattle.desk_lines.specs.declared.line.Line.TheVariants as line
-use Rattle.desk_lines.specs.declared.script_line.ScriptLine.{ScriptLine}
-use Rattle.desk_lines.specs.declared.script_line.ScriptLine.TheVariants.{Make, Left, Totals}
+use Rattle.desk_lines.specs.declared.script.ScriptLine.{ScriptLine}
+use Rattle.desk_lines.specs.declared.script.ScriptLine.TheVariants.{Make, Left, Totals}
 
 -- the part of a sale, where one is given
 abbrev pub part_words : Option ℕ → List (List ℕ)

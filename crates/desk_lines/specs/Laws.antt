@@ -3,7 +3,7 @@ use Rattle.std.specs.Prelude.{◌≡◌, ℕ, List, Some}
 use Rattle.std.specs.List.{join_with_byte}
 use Rattle.book_core.specs.Limits.{IsLimit}
 use Rattle.desk_lines.specs.declared.line.Line.{Line}
-use Rattle.desk_lines.specs.declared.script_line.ScriptLine.{ScriptLine}
+use Rattle.desk_lines.specs.declared.script.ScriptLine.{ScriptLine}
 use Rattle.desk_lines.specs.Grammar.{session_text, script_text, sites_words, limit_words, IsSessionLine, IsScriptLine, IsSites}
 use Rattle.desk_lines.specs.Reading.{session_line_of, line_of, sites_from_line, limit_from_line}
 

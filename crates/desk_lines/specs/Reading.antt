@@ -10,8 +10,8 @@ use Rattle.delta_wire.specs.Fields.{event_at}
 use Rattle.world_steps.specs.declared.step.Step.TheVariants as step
 use Rattle.desk_lines.specs.declared.line.Line.{Line}
 use Rattle.desk_lines.specs.declared.line.Line.TheVariants.{Ask, Left, Totals, Quit}
-use Rattle.desk_lines.specs.declared.script_line.ScriptLine.{ScriptLine}
-use Rattle.desk_lines.specs.declared.script_line.ScriptLine.TheVariants as script
+use Rattle.desk_lines.specs.declared.script.ScriptLine.{ScriptLine}
+use Rattle.desk_lines.specs.declared.script.ScriptLine.TheVariants as script
 use Rattle.desk_lines.specs.Requests.{request_from}
 use Rattle.desk_lines.specs.Commands.{commanded}
 

@@ -5,7 +5,7 @@ ghost use Rattle.std.specs.Option.{option_map};
 ghost use Rattle.desk_lines.specs.Commands.{command_of, index_at, sites_at, stored_of, stored_at, take_at, grow_input_at, request_input_of, input_at, send_at, deliver_at, restart_at, grow_at, stop_at, after_command, commanded};
 
 use crate::requests::request_from;
-use crate::script_line::ScriptLine;
+use crate::script::ScriptLine;
 use delta_wire::site_at;
 use plain_words::{Words, number_at};
 use rights_lattice::{MOST_SITES, Sites};

@@ -7,13 +7,13 @@ ghost use Rattle.rights_lattice.specs.Limits.{greatest_site};
 ghost use Rattle.plain_words.specs.Words.{is_space};
 ghost use Rattle.plain_words.specs.Number.{number_of};
 ghost use Rattle.book_core.specs.Limits.{IsLimit};
-ghost use Rattle.desk_lines.specs.declared.script_line.ScriptLine.{ScriptLine};
+ghost use Rattle.desk_lines.specs.declared.script.ScriptLine.{ScriptLine};
 ghost use Rattle.desk_lines.specs.Grammar.{script_text, IsScriptLine, sites_words, IsSites, limit_words};
 ghost use Rattle.desk_lines.specs.Reading.{line_at_site, line_of, named_number, sites_from_line, limit_from_line};
 
 use crate::line::{BadLine, Line};
+use crate::script::ScriptLine;
 use crate::script_commands::commanded;
-use crate::script_line::ScriptLine;
 use crate::session_lines::asked_in;
 use book_core::Limit;
 use plain_words::{Words, number_at, read_number};

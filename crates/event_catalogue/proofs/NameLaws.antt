@@ -1,33 +1,12 @@
 -- Lists of names as sets, and what the names are after more are made known.
 use Rattle.std.proofs.Common.{◌≡◌, ℕ, ◌+◌, ◌<◌, Bool, true, false, cond, ◌||◌, List, [], ◌∷◌, ◌++◌, length, take, get_or, refl, sym, ap, ◌∙◌}
 use Rattle.std.specs.List.{list_any}
-use Rattle.std.specs.Ordering.{nat_cmp, eq_by_cmp}
-use Rattle.std.specs.Cmp.Lexicographic.{slice_cmp, texts_ties}
-use Rattle.std.specs.FinMap as finite
 use Rattle.std.proofs.lemmas.List.Folds.{list_any-append}
 use Rattle.std.proofs.lemmas.List.{take_more}
 use Rattle.rights_lattice.specs.Cell.{same_event}
-use Rattle.rights_lattice.specs.State.{Names, knows, names_in_order}
 use Rattle.rights_lattice.proofs.SpotLaws.{same_event_is}
+use Rattle.rights_lattice.proofs.OrLaws.{or_comm, or_false, or_swap}
 use Rattle.event_catalogue.specs.Catalogue.{with_new}
-
-pub or_comm : (a b : Bool) → (a || b) ≡ (b || a)
-or_comm true true = refl
-or_comm true false = refl
-or_comm false true = refl
-or_comm false false = refl
-
-pub or_false : (a : Bool) → (a || false) ≡ a
-or_false true = refl
-or_false false = refl
-
-pub or_assoc : (a b c : Bool) → ((a || b) || c) ≡ (a || (b || c))
-or_assoc true b c = refl
-or_assoc false b c = refl
-
--- the first two of three change places
-pub or_swap : (a b c : Bool) → ((a || b) || c) ≡ (b || (a || c))
-or_swap a b c = ap (λ d. d || c) (or_comm a b) ∙ or_assoc b a c
 
 already_by : (b : Bool) (q n : List ℕ) (ns : List (List ℕ)) → same_event q n ≡ b → list_any (same_event n) ns ≡ true → list_any (same_event q) ns ≡ (b || list_any (same_event q) ns)
 already_by true q n ns t h = ap (λ (x : List ℕ). list_any (same_event x) ns) (same_event_is q n t) ∙ h
@@ -73,11 +52,3 @@ with_new_more known names now i n h is so_far =
     ∙ sym (with_new-append known (take i names) (n ∷ []))
     ∙ ap (λ (x : List ℕ). with_new known (take i names ++ x ∷ [])) is
     ∙ ap (with_new known) (sym (take_more names i n h))
-
-any_by_order : (q : List ℕ) (ns : List (List ℕ)) → list_any (same_event q) ns ≡ list_any (eq_by_cmp (slice_cmp nat_cmp) q) ns
-any_by_order q [] = refl
-any_by_order q (n ∷ ns) = let rest = any_by_order q ns in let here = texts_ties q n in λ i. here i || rest i
-
--- the names of a set, in order, are its members
-pub any_in_order : (q : List ℕ) (N : Names) → list_any (same_event q) (names_in_order N) ≡ knows N q
-any_in_order q N = any_by_order q (names_in_order N) ∙ sym (finite.contains_key-keys N q)

@@ -1,5 +1,5 @@
 //! The seats that are open by a view.
-ghost use Rattle.std.specs.Prelude.{◌≡◌, ◌≤◌, ◌↔◌, ℕ, IsSome, IfSome, IsTrue, pos};
+ghost use Rattle.std.specs.Prelude.{◌≡◌, ◌↔◌, IsSome, IfSome, IsTrue, pos};
 ghost use Rattle.local_rights.specs.OpenSeats.{open_seats_in};
 ghost use Rattle.local_rights.specs.Rights.{HasRights, IsPosition, paper_value};
 

@@ -15,7 +15,7 @@ use Rattle.operator_cli.specs.declared.fault.ScriptFault.TheVariants as fault
 use Rattle.operator_cli.specs.Faults.{IsOutFault, of_line_fault}
 use Rattle.operator_cli.specs.Script.{answers, replies_at, replies_started, replies}
 use Rattle.operator_cli.specs.Ran.{ReadBrokeOff, OpenRan, StartRan}
-use Rattle.operator_cli.proofs.ScriptLaws.{SoFar, answered}
+use Rattle.operator_cli.proofs.ScriptLaws.{SoFar, answered, same_input}
 
 abbrev Lines : Type 0
 Lines = List (List ℕ)
@@ -96,10 +96,6 @@ pub broke_after : (more most : ℕ) (input rest rest' old new new' : Option Text
     → ReadBrokeOff more (answers now) rest rest' new new' → ReadBrokeOff most (answers start) input rest' old new'
 broke_after more most input rest rest' old new new' start now count h le k =
     broke_behind more most (answers now) (answers start) h.lines (answers start h.lines) input rest rest' old new new' (omega (arith, le, h.counted)) h.short (answered start now h.lines h.made) h.read h.written k
-
-same_input : (o : Option Text) → Between o o (λ xs ys. lines_of xs ≡ lines_of ys)
-same_input None = tt
-same_input (Some xs) = refl
 
 pub broke_second : (most sites : ℕ) (second : Text) (a b old mid new : Option Text) (w : World) → OpenRan sites second old mid (Ok w) → ReadBrokeOff most (answers w) a b mid new
     → ReadBrokeOff most (λ lines. replies_at sites (second ∷ lines)) a b old new

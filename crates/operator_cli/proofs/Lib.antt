@@ -13,4 +13,3 @@ pub mod Promised
 pub mod ScriptLaws
 pub mod SessionLaws
 pub mod Serves
-pub mod TotalLines

@@ -5,8 +5,8 @@ use Rattle.world_steps.specs.World.{World, opening, run, reached, totals_of, cou
 use Rattle.rights_lattice.specs.Sums.{max_sites}
 use Rattle.world_steps.proofs.Promised as promised
 use Rattle.world_steps.proofs.Reached.{few_reached, sound_reached}
-use Rattle.desk_lines.specs.declared.script_line.ScriptLine.{ScriptLine}
-use Rattle.desk_lines.specs.declared.script_line.ScriptLine.TheVariants.{Make, Left, Totals}
+use Rattle.desk_lines.specs.declared.script.ScriptLine.{ScriptLine}
+use Rattle.desk_lines.specs.declared.script.ScriptLine.TheVariants.{Make, Left, Totals}
 use Rattle.desk_lines.specs.Grammar.{IsSites}
 use Rattle.desk_lines.specs.Reading.{line_of, limit_from_line}
 use Rattle.operator_cli.specs.Answering.{answer_to}

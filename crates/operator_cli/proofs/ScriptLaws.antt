@@ -166,12 +166,12 @@ pub record SoFar (input rest old new : Option Text) (start now : World) (count :
   pub written : Appends old new (answers start lines)
   pub made : now ≡ world_behind start lines
 
+pub same_input : (o : Option Text) → Between o o (λ xs ys. lines_of xs ≡ lines_of ys)
+same_input None = tt
+same_input (Some xs) = refl
+
 pub begins : (input old : Option Text) (start : World) → SoFar input input old old start start 0
-begins input old start = record { lines = []; counted = refl; short = tt; read = unread input; written = Appends-nil old; made = refl }
-  where
-    unread : (o : Option Text) → Between o o (λ xs ys. lines_of xs ≡ lines_of ys)
-    unread None = tt
-    unread (Some xs) = refl
+begins input old start = record { lines = []; counted = refl; short = tt; read = same_input input; written = Appends-nil old; made = refl }
 
 AreShort-push : (lines : Lines) (line : Text) → AreShort lines → length line ≤ longest_line → AreShort (lines ++ line ∷ [])
 AreShort-push [] line h short = (short, tt)

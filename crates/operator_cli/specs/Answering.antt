@@ -11,8 +11,8 @@ use Rattle.world_steps.specs.declared.step.Outcome.{Outcome}
 use Rattle.world_steps.specs.declared.step.WorldFault.{WorldFault}
 use Rattle.world_steps.specs.declared.step.WorldFault.TheVariants as fault
 use Rattle.local_rights.specs.declared.seat_totals.ViewTotals.{ViewTotals}
-use Rattle.desk_lines.specs.declared.script_line.ScriptLine.{ScriptLine}
-use Rattle.desk_lines.specs.declared.script_line.ScriptLine.TheVariants.{Make, Left, Totals as ScriptTotals}
+use Rattle.desk_lines.specs.declared.script.ScriptLine.{ScriptLine}
+use Rattle.desk_lines.specs.declared.script.ScriptLine.TheVariants.{Make, Left, Totals as ScriptTotals}
 use Rattle.desk_lines.specs.declared.script_answer.ScriptAnswer.{ScriptAnswer}
 use Rattle.desk_lines.specs.declared.script_answer.ScriptAnswer.TheVariants.{Made, LeftIs, TotalsAre, NotKnown, NoSuchSite, NoSuchMessage, Unread}
 

@@ -3,8 +3,8 @@ use Rattle.std.specs.Prelude.{◌≡◌, ℕ, ◌+◌, ◌≤◌, List, [], ◌�
 use Rattle.world_steps.specs.World.{World, totals_of, reached}
 use Rattle.world_steps.specs.declared.step.Step.{Step}
 use Rattle.local_rights.specs.declared.seat_totals.Totals.{Totals}
-use Rattle.desk_lines.specs.declared.script_line.ScriptLine.{ScriptLine}
-use Rattle.desk_lines.specs.declared.script_line.ScriptLine.TheVariants.{Make, Left, Totals as ScriptTotals}
+use Rattle.desk_lines.specs.declared.script.ScriptLine.{ScriptLine}
+use Rattle.desk_lines.specs.declared.script.ScriptLine.TheVariants.{Make, Left, Totals as ScriptTotals}
 use Rattle.desk_lines.specs.Grammar.{IsSites}
 use Rattle.desk_lines.specs.Reading.{line_of}
 use Rattle.operator_cli.specs.Script.{world_behind, opened_world, replies_at, run_at, total_lines}

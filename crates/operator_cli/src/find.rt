@@ -1,6 +1,6 @@
 //! The command `find`: the reply that is kept under a number.
 
-ghost use Rattle.std.specs.Prelude.{◌≡◌, ◌≢◌, ◌⊎◌, IfOk, IfErr, OnOk, IfSome, List, Option, Some, None};
+ghost use Rattle.std.specs.Prelude.{◌≡◌, ◌≢◌, IfOk, IfErr, OnOk, IfSome, List, Option, Some, None};
 ghost use Rattle.operator_cli.specs.declared.status.Status.TheVariants.{Failed};
 ghost use Rattle.sqlite.specs.State.{HasCleanDisk};
 ghost use Rattle.sqlite.specs.Held.{state};

@@ -1,6 +1,6 @@
 //! The command `list`: the requests that name an event.
 
-ghost use Rattle.std.specs.Prelude.{◌≡◌, ◌≢◌, ◌⊎◌, IfOk, IfErr, OnOk, IfSome, List, Option, Some, None};
+ghost use Rattle.std.specs.Prelude.{◌≡◌, ◌≢◌, IfOk, IfErr, OnOk, IfSome, List, Option, Some, None};
 ghost use Rattle.operator_cli.specs.declared.status.Status.TheVariants.{Failed};
 ghost use Rattle.operator_cli.specs.declared.store_fault.StoreFault.TheVariants.{Write as WriteFailed};
 ghost use Rattle.sqlite.specs.State.{HasCleanDisk};

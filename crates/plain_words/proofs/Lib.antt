@@ -1,4 +1,5 @@
 pub mod NumberLaws
+pub mod TextLaws
 pub mod WordLaws
 pub mod LineLaws
 pub mod WriteLaws

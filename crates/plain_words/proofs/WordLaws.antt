@@ -60,16 +60,17 @@ split_some p xs k e =
 abbrev pub lacks_space : List ℕ → Bool
 lacks_space w = list_all (λ b. not (is_space b)) w
 
-lacks_each : (w : List ℕ) → lacks_space w ≡ true → AllByRecursion (λ b. is_space b ≡ false) w
-lacks_each [] e = tt
-lacks_each (b ∷ w) e = let parts = and_parts _ _ e in (not-true _ parts.0, lacks_each w parts.1)
+lacks_each : (p : ℕ → Bool) (w : List ℕ) → list_all (λ b. not (p b)) w ≡ true → AllByRecursion (λ b. p b ≡ false) w
+lacks_each p [] e = tt
+lacks_each p (b ∷ w) e = let parts = and_parts (not (p b)) (list_all (λ x. not (p x)) w) e in (not-true _ parts.0, lacks_each p w parts.1)
 
-lacks_all : (w : List ℕ) → lacks_space w ≡ true → All (λ b. is_space b ≡ false) w
-lacks_all w e = All-from_recursion (λ b. is_space b ≡ false) w (lacks_each w e)
+-- where no byte passes the test, it fails at each
+pub lacks_all : (p : ℕ → Bool) (w : List ℕ) → list_all (λ b. not (p b)) w ≡ true → All (λ b. p b ≡ false) w
+lacks_all p w e = All-from_recursion (λ b. p b ≡ false) w (lacks_each p w e)
 
 pub split_join : (w : List ℕ) (ws : List (List ℕ)) → lacks_space w ≡ true → AllByRecursion (λ v. lacks_space v ≡ true) ws → slice_split is_space (join_with_byte 32 (w ∷ ws)) ≡ w ∷ ws
-split_join w [] h hs = slice_split_none is_space w (lacks_all w h)
-split_join w (v ∷ ws) h hs = slice_split_at is_space w 32 (join_with_byte 32 (v ∷ ws)) (lacks_all w h) refl ∙ ap (λ (t : List (List ℕ)). w ∷ t) (split_join v ws hs.0 hs.1)
+split_join w [] h hs = slice_split_none is_space w (lacks_all is_space w h)
+split_join w (v ∷ ws) h hs = slice_split_at is_space w 32 (join_with_byte 32 (v ∷ ws)) (lacks_all is_space w h) refl ∙ ap (λ (t : List (List ℕ)). w ∷ t) (split_join v ws hs.0 hs.1)
 
 pub digits_lack_space : (w : List ℕ) → AllDigits 10 w → lacks_space w ≡ true
 digits_lack_space [] h = refl

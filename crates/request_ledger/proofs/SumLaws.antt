@@ -42,7 +42,7 @@ refund_sells_none (Sell event seats) r other h = cc
 refund_sells_none q r other h = refl
 
 -- what the parts add up to, without regard to the seats of the sale
-abbrev parts : KeptByNumber → ℕ → ℕ → ℕ
+abbrev pub parts : KeptByNumber → ℕ → ℕ → ℕ
 parts es sale seats = sum_by (part_counted sale seats) es
 
 parts_push : (es : KeptByNumber) (n : ℕ) (k : Kept) (sale seats : ℕ) → parts (es ++ (n, k) ∷ []) sale seats ≡ parts es sale seats + counted sale seats k.request k.reply

@@ -1,23 +1,20 @@
 -- The word of a verb is its own, and so is the word of a reply with its number.
-use Rattle.std.proofs.Common.{◌≡◌, ℕ, Bool, List, [], ◌∷◌, Option, Some, None, refl, ap, subst, ◌∙◌, inl, inr}
+use Rattle.std.proofs.Common.{◌≡◌, ℕ, List, [], ◌∷◌, Some, refl, ap, ◌∙◌, inl, inr}
 use Rattle.std.specs.Str.{bytes_eq}
-use Rattle.std.specs.List.{find, AllByRecursion}
+use Rattle.std.specs.List.{find}
 use Rattle.std.proofs.lemmas.Bool.{cases_Bool}
 use Rattle.std.proofs.lemmas.Slice.Eq.{bytes_eq-Decides}
 use Rattle.request_ledger.specs.declared.verb.Verb.{Verb}
 use Rattle.request_ledger.specs.declared.verb.Verb.TheVariants as verb
 use Rattle.request_ledger.specs.declared.reply.Reply.{Reply}
 use Rattle.request_ledger.specs.declared.reply.Reply.TheVariants.{Done, Known, Unknown, Short, CellFull, NoSale, Refunded, TooMany, ToSelf, NoSite}
-use Rattle.request_ledger.specs.Words.{verb_word, verb_of, verbs, reply_word, reply_number, reply_of, replies_with}
-
-some_is : {A : Type 0} (x y : A) → Some x ≡ Some y → x ≡ y
-some_is x y e = cc
+use Rattle.request_ledger.specs.Words.{verb_word, verb_of, verbs, reply_word, reply_number, reply_of}
 
 -- what is found has the word
 found_has_word : {A : Type 0} (word : A → List ℕ) (w : List ℕ) (xs : List A) (x : A) → find (λ y. bytes_eq w (word y)) xs ≡ Some x → w ≡ word x
 found_has_word word w [] x e = absurd cc
 found_has_word word w (y ∷ xs) x e = elim (cases_Bool (bytes_eq w (word y))) [
-  | inl same ↦ let chosen : Some y ≡ Some x = rw same at e in (bytes_eq-Decides w (word y)).0 same ∙ ap word (some_is y x chosen)
+  | inl same ↦ let chosen : Some y ≡ Some x = rw same at e in (bytes_eq-Decides w (word y)).0 same ∙ ap word (let is : y ≡ x = cc in is)
   | inr other ↦ let chosen : find (λ y. bytes_eq w (word y)) xs ≡ Some x = rw other at e in found_has_word word w xs x chosen
 ]
 

@@ -4,6 +4,7 @@ pub mod MarkLaws
 pub mod MergeLaws
 pub mod MissingLaws
 pub mod NameLaws
+pub mod OrLaws
 pub mod RightsLaws
 pub mod RisingLaws
 pub mod SpotLaws

@@ -1,5 +1,5 @@
 -- Rising lists are the states that they say, and merged lists are joined states.
-use Rattle.std.proofs.Common.{◌≡◌, ℕ, ◌+◌, ◌-◌, ◌≤◌, Bool, true, false, ◌||◌, List, [], ◌∷◌, ◌++◌, length, take, drop, map, refl, sym, ap, ◌∙◌, arith}
+use Rattle.std.proofs.Common.{◌≡◌, ℕ, ◌+◌, ◌-◌, ◌≤◌, ◌||◌, List, [], ◌∷◌, ◌++◌, length, take, drop, map, refl, sym, ap, ◌∙◌, arith}
 use Rattle.std.specs.Prelude.{IsTrue}
 use Rattle.std.specs.Ordering.{nat_cmp, eq_by_cmp}
 use Rattle.std.specs.List.{list_any}
@@ -54,10 +54,6 @@ cells_of-one m h = same_cells _ _ (λ e c. omega (arith, value_at-cells_of (m �
 
 pub names_of-none : names_of [] ≡ no_names
 names_of-none = same_names _ _ (λ n. knows-names_of [] refl n ∙ sym (knows-no_names n))
-
-or_false : (b : Bool) → (b || false) ≡ b
-or_false true = refl
-or_false false = refl
 
 pub names_of-one : (n : List ℕ) → names_of (n ∷ []) ≡ with_name no_names n
 names_of-one n = same_names _ _ (λ q. knows-names_of (n ∷ []) refl q

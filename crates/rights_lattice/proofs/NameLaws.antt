@@ -12,6 +12,7 @@ use Rattle.rights_lattice.specs.Marks.{are_rising_names}
 use Rattle.rights_lattice.specs.Merging.{IsMergedNames, has}
 use Rattle.rights_lattice.proofs.MergeLaws.{as_test, as_true}
 use Rattle.rights_lattice.proofs.RisingLaws.{BelowFirst, rising_between}
+use Rattle.rights_lattice.proofs.OrLaws.{or_assoc}
 
 abbrev pub name_entry : List ℕ → List ℕ × Unit {0}
 name_entry n = (n, tt)
@@ -37,13 +38,9 @@ other_rest ms gs out i x lt is below h g =
     ∙ as_true _ (rising_between (slice_cmp nat_cmp) nat_list_cmp_total name_entry out (drop (i + 1) ms) gs x
     (as_test _ (ap are_rising_names (ap (λ (l : List (List ℕ)). out ++ l) (sym (drop_here ms i x lt is))) ∙ h)) (as_test _ g) below)
 
-or_assoc : (a b c : Bool) → (a || (b || c)) ≡ ((a || b) || c)
-or_assoc true b c = refl
-or_assoc false b c = refl
-
 has-append : (name : List ℕ) (ms ns : List (List ℕ)) → has name (ms ++ ns) ≡ (has name ms || has name ns)
 has-append name [] ns = refl
-has-append name (m ∷ ms) ns = ap (λ b. eq_by_cmp (slice_cmp nat_cmp) name m || b) (has-append name ms ns) ∙ or_assoc (eq_by_cmp (slice_cmp nat_cmp) name m) (has name ms) (has name ns)
+has-append name (m ∷ ms) ns = ap (λ b. eq_by_cmp (slice_cmp nat_cmp) name m || b) (has-append name ms ns) ∙ sym (or_assoc (eq_by_cmp (slice_cmp nat_cmp) name m) (has name ms) (has name ns))
 
 has-take_more : (name : List ℕ) (ms : List (List ℕ)) (i : ℕ) (x : List ℕ) → i < length ms → x ≡ get_or ms i x → has name (take (i + 1) ms) ≡ (has name (take i ms) || has name (x ∷ []))
 has-take_more name ms i x lt is =
@@ -83,7 +80,7 @@ take_right xs ys out i j y lt is below h = record {
   left_rises = other_rest ys (drop i xs) out j y lt is below h.right_rises h.left_rises;
   right_rises = own_rest ys out j y lt is h.right_rises;
   known = λ name. has-append name out (y ∷ []) ∙ ap (λ b. b || has name (y ∷ [])) (h.known name)
-      ∙ sym (or_assoc (has name (take i xs)) (has name (take j ys)) (has name (y ∷ []))) ∙ ap (λ b. has name (take i xs) || b) (sym (has-take_more name ys j y lt is));
+      ∙ or_assoc (has name (take i xs)) (has name (take j ys)) (has name (y ∷ [])) ∙ ap (λ b. has name (take i xs) || b) (sym (has-take_more name ys j y lt is));
 }
 
 pub take_both : (xs ys out : List (List ℕ)) (i j : ℕ) (x y : List ℕ) → i < length xs → j < length ys → x ≡ get_or xs i x → y ≡ get_or ys j y → slice_cmp nat_cmp x y ≡ Equal → IsMergedNames xs ys out i j → IsMergedNames xs ys (out ++ x ∷ []) (i + 1) (j + 1)

@@ -17,7 +17,7 @@ greatest-take_more ms i m e c h is =
     ap (λ (l : List Valued). greatest l e c) (take_more ms i m h) ∙ greatest-append (take i ms) (get_or ms i m ∷ []) e c
     ∙ subst (λ (x : Valued). max (greatest (take i ms) e c) (max (value_in x e c) 0) ≡ max (greatest (take i ms) e c) (value_in m e c)) is (omega arith)
 
--- less under the same test is less
+-- what is no more stays no more under the same test
 pub cond_le : (b : Bool) (x y : ℕ) → x ≤ y → cond b x 0 ≤ cond b y 0
 cond_le true x y h = h
 cond_le false x y h = omega arith

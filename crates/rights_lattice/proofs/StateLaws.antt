@@ -2,30 +2,17 @@
 use Rattle.std.proofs.Common.{◌≡◌, ℕ, Bool, true, false, cond, ◌||◌, List, [], ◌∷◌, refl, sym, ap, ◌∙◌, arith}
 use Rattle.std.specs.Prelude.{max}
 use Rattle.std.specs.Ordering.{nat_cmp, eq_by_cmp}
-use Rattle.std.specs.Cmp.Lexicographic.{slice_cmp}
+use Rattle.std.specs.Cmp.Lexicographic.{slice_cmp, texts_ties}
 use Rattle.std.specs.FinMap as finite
 use Rattle.std.specs.List.{list_any}
 use Rattle.std.specs.Prelude.{is_some, Option, Some, None}
 use Rattle.std.proofs.lemmas.Cmp.{nat_list_cmp_total}
 use Rattle.std.proofs.lemmas.Map.Lookups.{exact_bytes}
+use Rattle.rights_lattice.specs.Cell.{same_event}
 use Rattle.rights_lattice.specs.State.{State, Names, bottom, join, knows, no_names, with_name, with_names, names_in_order, join_names, Spot, Name, At, at}
 use Rattle.rights_lattice.specs.JoinLaws.{JoinIsGreater, JoinIsUpperBound, JoinIsLeast, JoinIsCommutative, JoinIsAssociative, JoinIsIdempotent, OrderIsAntisymmetric}
 use Rattle.rights_lattice.proofs.CellLaws.{value_at-join, value_at-all_zero, same_cells}
-
-or_comm : (a b : Bool) → (a || b) ≡ (b || a)
-or_comm true true = refl
-or_comm true false = refl
-or_comm false true = refl
-or_comm false false = refl
-
-or_assoc' : (a b c : Bool) → (a || (b || c)) ≡ ((a || b) || c)
-or_assoc' true b c = refl
-or_assoc' false b c = refl
-
-or_swap : (a b c : Bool) → (a || (b || c)) ≡ (b || (a || c))
-or_swap true true c = refl
-or_swap true false c = refl
-or_swap false b c = refl
+use Rattle.rights_lattice.proofs.OrLaws.{or_assoc, or_comm}
 
 some_if : (b : Bool) (o : Option (Unit {0})) → is_some (cond b (Some tt) o) ≡ (b || is_some o)
 some_if true o = refl
@@ -44,8 +31,8 @@ knows-with_names N [] n = refl
 knows-with_names N (m ∷ ms) n =
     knows-with_names (with_name N m) ms n
     ∙ ap (λ b. list_any (eq_by_cmp (slice_cmp nat_cmp) n) ms || b) (knows-with_name N m n)
-    ∙ or_swap (list_any (eq_by_cmp (slice_cmp nat_cmp) n) ms) (eq_by_cmp (slice_cmp nat_cmp) n m) (knows N n)
-    ∙ or_assoc' (eq_by_cmp (slice_cmp nat_cmp) n m) (list_any (eq_by_cmp (slice_cmp nat_cmp) n) ms) (knows N n)
+    ∙ sym (or_assoc (list_any (eq_by_cmp (slice_cmp nat_cmp) n) ms) (eq_by_cmp (slice_cmp nat_cmp) n m) (knows N n))
+    ∙ ap (λ b. b || knows N n) (or_comm (list_any (eq_by_cmp (slice_cmp nat_cmp) n) ms) (eq_by_cmp (slice_cmp nat_cmp) n m))
 
 pub contains-union : (X Y : Names) (n : List ℕ) → knows (join_names X Y) n ≡ (knows X n || knows Y n)
 unfolding join_names
@@ -53,6 +40,14 @@ contains-union X Y n =
     knows-with_names X (names_in_order Y) n
     ∙ ap (λ b. b || knows X n) (sym (finite.contains_key-keys Y n))
     ∙ or_comm (knows Y n) (knows X n)
+
+any_by_order : (q : List ℕ) (ns : List (List ℕ)) → list_any (same_event q) ns ≡ list_any (eq_by_cmp (slice_cmp nat_cmp) q) ns
+any_by_order q [] = refl
+any_by_order q (n ∷ ns) = let rest = any_by_order q ns in let here = texts_ties q n in λ i. here i || rest i
+
+-- the names of a set, in order, are its members
+pub any_in_order : (q : List ℕ) (N : Names) → list_any (same_event q) (names_in_order N) ≡ knows N q
+any_in_order q N = any_by_order q (names_in_order N) ∙ sym (finite.contains_key-keys N q)
 
 same_unit : (o p : Option (Unit {0})) → is_some o ≡ is_some p → o ≡ p
 same_unit None None h = refl

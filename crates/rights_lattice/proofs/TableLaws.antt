@@ -130,7 +130,7 @@ valued-set n (e ∷ es) test w h low high = by_test (test e.0) (valued-set n es 
     by_test false rest = first_and n e (set_value test es w) (h 0 e (omega arith)) rest
 
 -- over more sites the same table is kept
-of_more : (n m : ℕ) (c : Cell) → n ≤ m → IsCellOf n c → IsCellOf m c
+pub of_more : (n m : ℕ) (c : Cell) → n ≤ m → IsCellOf n c → IsCellOf m c
 of_more n m (Gave by to) le of = (omega (arith, of.0, le), omega (arith, of.1, le))
 of_more n m (Used by) le of = omega (arith, of, le)
 of_more n m (Back by) le of = omega (arith, of, le)

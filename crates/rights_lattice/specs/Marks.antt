@@ -24,7 +24,7 @@ are_rising_marks ms = is_sorted key_cmp (keyed_marks ms)
 abbrev pub cells_of : List Valued → Cells
 cells_of ms = finite.from_sorted (keyed_marks ms)
 
--- the names as keys of nothing
+-- the names as keys, with nothing under each
 abbrev pub keyed_names : List (List ℕ) → List (List ℕ × Unit {0})
 keyed_names names = map (λ n. (n, tt)) names
 

@@ -8,11 +8,7 @@ use Rattle.session_server.specs.declared.peer.Peer.{Peer}
 use Rattle.session_server.specs.declared.peer.PeerEnd.{PeerEnd}
 use Rattle.session_server.specs.Mesh.{AreInTurn, AreJoined, CameTo, GotPeer, IsMesh, IsNewPeer, Linkage, each_with, linkage_left, linkage_of, others_of, rows_of}
 use Rattle.session_server.specs.Settled.{EndsJoined, IsSettledWith}
-use Rattle.session_server.proofs.Rows.{All-pushed, each_map, each_more, each_push, each_same, length_each, length_rows, mapped_push}
-
-pub images : {A B C : Type 0} (f : A → B) (g : B → C) (xs : List A) → map g (map f xs) ≡ map (λ x. g (f x)) xs
-images f g [] = refl
-images f g (x ∷ xs) = λ i. g (f x) ∷ images f g xs i
+use Rattle.session_server.proofs.Rows.{All-pushed, each_map, each_more, each_push, each_same, length_each, length_rows, mapped_push, map_after}
 
 pub nobody_came : CameTo [] [] []
 nobody_came = record { came = []; count = refl; joined = All-nil AreJoined; after_is = refl; own_is = refl }
@@ -159,6 +155,6 @@ named_then {R} names number befores afters all own me had same has mine is e =
     let numbers = map number befores in
     mapped_push names all afters own e
     ∙ (λ i. has i ++ mine i ∷ [])
-    ∙ (λ i. each_with (had i) (sym (images number (λ (n : ℕ). me) befores) i) ++ numbers ∷ [])
+    ∙ (λ i. each_with (had i) (sym (map_after number (λ (n : ℕ). me) befores) i) ++ numbers ∷ [])
     ∙ sym (others_push numbers me)
     ∙ ap others_of (sym (mapped_push number all afters own e ∙ (λ i. same i ++ is i ∷ [])))

@@ -14,6 +14,10 @@ mapped_at f [] k x d lt e = absurd (omega (arith, lt))
 mapped_at f (y ∷ xs) zero x d lt e = ap f e
 mapped_at f (y ∷ xs) (suc k) x d lt e = mapped_at f xs k x d (omega (arith, lt)) e
 
+pub map_after : {A B X : Type 0} (f : A → B) (g : B → X) (xs : List A) → map g (map f xs) ≡ map (λ x. g (f x)) xs
+map_after f g [] = refl
+map_after f g (x ∷ xs) = λ i. g (f x) ∷ map_after f g xs i
+
 pub each_push : {X : Type 0} (rows : List (List X)) (xs : List X) (row : List X) (x : X) → length xs ≡ length rows → each_with (rows ++ row ∷ []) (xs ++ x ∷ []) ≡ each_with rows xs ++ (row ++ x ∷ []) ∷ []
 each_push [] [] row x e = refl
 each_push [] (y ∷ ys) row x e = absurd (omega (arith, e))

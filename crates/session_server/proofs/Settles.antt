@@ -12,8 +12,8 @@ use Rattle.session_server.specs.declared.site.LinkEnd.{LinkEnd}
 use Rattle.session_server.specs.LinkNames.{both, first_links, link_names, link_name_of}
 use Rattle.session_server.specs.Mesh.{AreInTurn, AreJoined, CameTo, IsMesh, each_with, linkage_left, others_of, rows_of}
 use Rattle.session_server.specs.Settled.{AreAcknowledged, WentInOrder, AreSettled, AreLinksTold, EndsJoined, GotFirst, IsAcknowledged, IsCounted, IsLeftOfNew, IsSettledWith, both_went, ends_to, first_ends, link_end, link_ends, went}
-use Rattle.session_server.proofs.Meshes.{Undone, images, left_before, undone}
-use Rattle.session_server.proofs.Rows.{All-pushed, all_before, all_each, each_push, full_rows, length_rows, mapped_push}
+use Rattle.session_server.proofs.Meshes.{Undone, left_before, undone}
+use Rattle.session_server.proofs.Rows.{All-pushed, all_before, all_each, each_push, full_rows, length_rows, mapped_push, map_after}
 
 -- of a link no more was refused than was got, no more got than put, and no more put than there were rounds
 abbrev IsBounded : ℕ → LinkEnd → Type 0
@@ -35,9 +35,9 @@ last_undone items ends rest last e m =
 pub mesh_left : {R : Type 0} (items : R → List PeerEnd) (rest fronts : List R) (last : List PeerEnd) (told : List (Went × Went)) → Undone (map (λ r. map linkage_left (items r)) rest) (map linkage_left last)
     → IsSettledWith (map items rest) last (map items fronts) told → IsMesh (map (λ r. map linkage_left (items r)) fronts)
 mesh_left items rest fronts last told u s =
-    let came = subst (λ l. CameTo u.before l (map linkage_left last)) (sym (images items (map linkage_left) rest)) u.came in
+    let came = subst (λ l. CameTo u.before l (map linkage_left last)) (sym (map_after items (map linkage_left) rest)) u.came in
     let same = left_before u.before (map items rest) (map items fronts) (map linkage_left last) last told came s in
-    subst IsMesh (sym same ∙ images items (map linkage_left) fronts) u.mesh
+    subst IsMesh (sym same ∙ map_after items (map linkage_left) fronts) u.mesh
 
 -- a row has its last end
 pub has_last : (row : List PeerEnd) (other : PeerEnd) → EndsJoined row other → row ≡ [] → ⊥

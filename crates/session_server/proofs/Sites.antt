@@ -10,6 +10,7 @@ use Rattle.site_desk.specs.declared.finish.FinishFault.TheVariants.{SeatsOut, St
 use Rattle.site_desk.specs.declared.receipt.Receipt.{Receipt}
 use Rattle.site_desk.specs.Count.{asked_since}
 use Rattle.session_server.specs.Finished.{IsCompared, IsFinished}
+use Rattle.session_server.proofs.Rows.{map_after}
 
 -- the same without the count
 pub finished_by : (opening share : ℕ) (book : BookView) (receipts : List Receipt) (looks : List Seen) (result : Result (Unit {0}) FinishFault) → IsCompared opening share book receipts looks result → IsFinished book receipts looks result
@@ -43,10 +44,6 @@ each_second R Q [] [] so h = All-nil Q
 each_second R Q [] (y ∷ ys) so h = absurd h
 each_second R Q (x ∷ xs) [] so h = absurd h
 each_second R Q (x ∷ xs) (y ∷ ys) so h = All-cons Q y ys (so x y h.0) (each_second R Q xs ys so h.1)
-
-pub map_after : {A B X : Type 0} (f : A → B) (g : B → X) (xs : List A) → map g (map f xs) ≡ map (λ x. g (f x)) xs
-map_after f g [] = refl
-map_after f g (x ∷ xs) = λ i. g (f x) ∷ map_after f g xs i
 
 -- what stands behind three steps, one by one
 pub through : {A B C D : Type 0} (R : A → B → Type 0) (S : B → C → Type 0) (T : C → D → Type 0) (Q : A → D → Type 0) (xs : List A) (ys : List B) (zs : List C) (ws : List D)

@@ -1,6 +1,6 @@
 //! All sites of a process at once.
 
-ghost use Rattle.std.specs.Prelude.{◌≡◌, ◌≢◌, ◌<◌, ◌≤◌, [], All, IfErr, IfOk, IsSome, map, vec_len, vec_capacity};
+ghost use Rattle.std.specs.Prelude.{◌≡◌, ◌<◌, ◌≤◌, [], All, IfOk, IsSome, map, vec_len, vec_capacity};
 ghost use Rattle.std.specs.List.{AllZip, flat_map};
 ghost use Rattle.session_server.specs.Exchanged.{Exchanged};
 ghost use Rattle.session_server.specs.Finished.{IsLeftOf};

@@ -1,15 +1,11 @@
 -- What peers have acknowledged.
-use Rattle.std.proofs.Common.{◌≡◌, ℕ, ◌≤◌, zero, suc, max, List, [], ◌∷◌, Option, Some, None, length, get_or, set, replicate, refl, ap, arith, length-append}
+use Rattle.std.proofs.Common.{◌≡◌, ℕ, ◌≤◌, zero, suc, max, List, [], ◌∷◌, Option, Some, None, length, get_or, set, ap, arith, length-append}
 use Rattle.std.specs.Prelude.{Result, Ok, Err, OnOk, OnErr}
 use Rattle.rights_lattice.specs.Sums.{max_sites}
 use Rattle.book_core.specs.declared.entry.Entry.{Entry}
 use Rattle.site_exchange.specs.Exchange.{zeros}
 use Rattle.site_exchange.specs.Taking.{extended}
-
-none_at : (n peer : ℕ) → ◌≡◌ {A = ℕ} (get_or (replicate n 0) peer 0) 0
-none_at zero peer = refl
-none_at (suc n) zero = refl
-none_at (suc n) (suc peer) = none_at n peer
+use Rattle.site_desk.proofs.EventTables.{none_at}
 
 -- at first no peer has acknowledged anything
 pub none_acknowledged : (peer len : ℕ) → get_or zeros peer 0 ≤ len

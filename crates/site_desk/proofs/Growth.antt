@@ -17,21 +17,21 @@ use Rattle.site_exchange.specs.Taking.{extended, site_after}
 use Rattle.site_desk.specs.declared.answer.Answer.{Answer}
 use Rattle.site_desk.specs.declared.fault.AskFault.{AskFault}
 use Rattle.site_desk.specs.Answers.{IsAnswer}
-use Rattle.site_desk.specs.Count.{is_asked, asked_since, HasOneMore}
+use Rattle.site_desk.specs.Count.{is_asked, asked_since, HasOneMoreIf}
 
 -- what an answer says of the history after it
-grows : (d : Decision) (office : Office) (old new : List Entry) (number : ℕ) (request : Request) (a : Answer)
-    → IsAnswer d (length old) a → new ≡ extended (entry_if d office old number request) old → HasOneMore a.fresh a.place old new
-grows (Again place reply) office old new number request a is now = subst (λ (x : Answer). HasOneMore x.fresh x.place old new) (sym is) now
-grows (Fresh reply) office old new number request a is now = subst (λ (x : Answer). HasOneMore x.fresh x.place old new) (sym is) (_, now, refl, refl)
-grows (Reused place) office old new number request a is now = absurd is
-grows Full office old new number request a is now = absurd is
+one_more : (d : Decision) (office : Office) (old new : List Entry) (number : ℕ) (request : Request) (a : Answer)
+    → IsAnswer d (length old) a → new ≡ extended (entry_if d office old number request) old → HasOneMoreIf a.fresh a.place old new
+one_more (Again place reply) office old new number request a is now = subst (λ (x : Answer). HasOneMoreIf x.fresh x.place old new) (sym is) now
+one_more (Fresh reply) office old new number request a is now = subst (λ (x : Answer). HasOneMoreIf x.fresh x.place old new) (sym is) (_, now, refl, refl)
+one_more (Reused place) office old new number request a is now = absurd is
+one_more Full office old new number request a is now = absurd is
 
-pub grown : (result : Result Answer AskFault) (office : Office) (old new : List Entry) (number : ℕ) (request : Request)
+pub one_more_if_fresh : (result : Result Answer AskFault) (office : Office) (old new : List Entry) (number : ℕ) (request : Request)
     → IfOk result (IsAnswer (decision office old number request) (length old)) → OnOk result (new ≡ extended (entry_of_ask office old number request) old)
-    → IfOk result (λ a. HasOneMore a.fresh a.place old new)
-grown (Ok a) office old new number request is now = grows (decision office old number request) office old new number request a is now
-grown (Err fault) office old new number request is now = tt
+    → IfOk result (λ a. HasOneMoreIf a.fresh a.place old new)
+one_more_if_fresh (Ok a) office old new number request is now = one_more (decision office old number request) office old new number request a is now
+one_more_if_fresh (Err fault) office old new number request is now = tt
 
 pub asked_since_push : (opening : ℕ) (es : List Entry) (e : Entry) → opening ≤ length es → asked_since opening (es ++ e ∷ []) ≡ asked_since opening es + cond (is_asked e) 1 0
 asked_since_push opening es e within =

@@ -1,4 +1,5 @@
 pub mod Acknowledged
+pub mod Addressed
 pub mod EventTables
 pub mod Growth
 pub mod Sent

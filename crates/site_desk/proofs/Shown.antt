@@ -1,27 +1,26 @@
 -- What the first entries of a history say of one event, an entry at a time.
-use Rattle.std.proofs.Common.{All, ◌≡◌, ℕ, zero, suc, ◌+◌, ◌≤◌, ◌<◌, Bool, true, ◌||◌, List, [], ◌∷◌, ◌++◌, length, take, get_or, Some, None, slice_get, subst, refl, sym, ap, ◌∙◌, arith}
+use Rattle.std.proofs.Common.{All, ◌≡◌, ℕ, zero, suc, ◌+◌, ◌≤◌, ◌<◌, Bool, true, false, ◌||◌, List, [], ◌∷◌, ◌++◌, length, take, drop, take-append-drop, get_or, Some, None, slice_get, subst, sym, ap, ◌∙◌, arith}
 use Rattle.std.specs.Prelude.{max, IsTrue, ◌↔◌, ◌==◌}
 use Rattle.std.specs.List.{list_any}
-use Rattle.std.specs.Ordering.{nat_cmp, eq_by_cmp}
-use Rattle.std.specs.Cmp.Lexicographic.{slice_cmp, texts_ties}
-use Rattle.std.specs.FinMap as finite
 use Rattle.std.proofs.lemmas.List.{take_all, take_more}
 use Rattle.std.proofs.lemmas.List.Elements.{All-more}
+use Rattle.std.proofs.lemmas.Bool.{or_parts}
 use Rattle.std.proofs.lemmas.Bool.Decides.{nat_tests}
 use Rattle.rights_lattice.specs.declared.cell.Cell.{Cell}
 use Rattle.rights_lattice.specs.Cell.{same_event}
 use Rattle.rights_lattice.specs.Cells.{Valued, value_at, greatest, marks_of}
 use Rattle.rights_lattice.specs.RightsView.{IsCellOf}
-use Rattle.rights_lattice.specs.State.{State, Names, At, knows, names_in_order}
+use Rattle.rights_lattice.specs.State.{State, At, knows, names_in_order}
 use Rattle.rights_lattice.specs.Sums.{max_sites}
 use Rattle.rights_lattice.proofs.CellLaws.{greatest-marks_of}
-use Rattle.rights_lattice.proofs.StateLaws.{contains-union}
+use Rattle.rights_lattice.proofs.StateLaws.{any_in_order, contains-union}
 use Rattle.request_ledger.specs.declared.reply.Reply.{Reply}
 use Rattle.request_ledger.specs.declared.request.Request.{Request}
 use Rattle.book_core.specs.declared.entry.Entry.{Entry}
 use Rattle.book_core.specs.declared.entry.Entry.TheVariants.{Asked}
 use Rattle.book_core.specs.History.{delta_of, state_of}
-use Rattle.book_core.proofs.Histories.{state_of-push, at-push}
+use Rattle.book_core.proofs.Histories.{state_of-append, state_of-push, at-push}
+use Rattle.site_desk.specs.Count.{GoesOnFrom}
 use Rattle.site_desk.specs.EventCells.{value_in_table, Shows}
 use Rattle.site_desk.specs.declared.receipt.Receipt.{Receipt}
 use Rattle.site_desk.specs.Finish.{StandsIn}
@@ -67,12 +66,16 @@ knows_more h k entry event is =
     ∙ ap (λ (s : State). knows s.names event) (state_of-push (take k h) entry)
     ∙ contains-union (state_of (take k h)).names (delta_of entry).names event
 
-any_by_order : (name : List ℕ) (names : List (List ℕ)) → list_any (same_event name) names ≡ list_any (eq_by_cmp (slice_cmp nat_cmp) name) names
-any_by_order name [] = refl
-any_by_order name (n ∷ ns) = let rest = any_by_order name ns in let first = texts_ties name n in λ i. first i || rest i
-
-any_in_order : (name : List ℕ) (known : Names) → list_any (same_event name) (names_in_order known) ≡ knows known name
-any_in_order name known = any_by_order name (names_in_order known) ∙ sym (finite.contains_key-keys known name)
+-- what a history does not know, none knew that it goes on from
+pub known_before : (began h : List Entry) (event : List ℕ) → GoesOnFrom began h → knows (state_of h).names event ≡ false → knows (state_of began).names event ≡ false
+known_before began h event goes no =
+    let rest : List Entry = drop (length began) h in
+    let parts : h ≡ began ++ rest = sym (take-append-drop (length began) h) ∙ ap (λ (g : List Entry). g ++ rest) goes in
+    let all : knows (state_of h).names event ≡ (knows (state_of began).names event || knows (state_of rest).names event) =
+    ap (λ (g : List Entry). knows (state_of g).names event) parts
+    ∙ ap (λ (s : State). knows s.names event) (state_of-append began rest)
+    ∙ contains-union (state_of began).names (state_of rest).names event in
+    (or_parts (knows (state_of began).names event) (knows (state_of rest).names event) (sym all ∙ no)).0
 
 -- a look through the names of an entry's delta
 pub any_of : (found : Bool) (names : List (List ℕ)) (delta : State) (entry : Entry) (event : List ℕ) → found ≡ list_any (same_event event) names → names ≡ names_in_order delta.names → delta ≡ delta_of entry

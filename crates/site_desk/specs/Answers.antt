@@ -5,16 +5,18 @@ use Rattle.book_core.specs.declared.entry.Entry.{Entry}
 use Rattle.book_core.specs.Decision as decided
 use Rattle.book_core.specs.declared.plan.GrowFault.{GrowFault}
 use Rattle.book_core.specs.declared.plan.GrowFault.TheVariants as grow_fault
-use Rattle.book_core.specs.Decision.{Decision, Office, own_left, sites_of}
+use Rattle.book_core.specs.Decision.{Decision, Office, office_after, own_left, sites_of}
 use Rattle.book_core.specs.Growing as grow
 use Rattle.book_core.specs.Growing.{GrowDecision}
 use Rattle.book_core.specs.History.{state_of}
 use Rattle.book_core.specs.Plans.{IsFresh}
 use Rattle.site_exchange.specs.declared.message.Message.{Message}
+use Rattle.site_exchange.specs.declared.message.Message.TheVariants.{Delta, Ack}
+use Rattle.site_exchange.specs.declared.message.CheckFault.{CheckFault}
 use Rattle.site_exchange.specs.declared.message.TakeFault.{TakeFault}
 use Rattle.site_exchange.specs.declared.message.TakeFault.TheVariants as take_fault
 use Rattle.site_exchange.specs.Exchange as exchange
-use Rattle.site_exchange.specs.Exchange.{Verdict}
+use Rattle.site_exchange.specs.Exchange.{Verdict, addressed}
 use Rattle.site_desk.specs.declared.answer.Answer.{Answer}
 use Rattle.site_desk.specs.declared.answer.Seen.{Seen}
 use Rattle.site_desk.specs.declared.answer.Taken.{Taken}
@@ -64,6 +66,11 @@ IsGrowFault closed decision before after grow_fault.NotMore = (closed ≡ false)
 IsGrowFault closed decision before after grow_fault.Full = (closed ≡ false) × (decision ≡ grow.Full)
 IsGrowFault closed decision before after grow_fault.Memory = (closed ≡ false) × (decision ≡ grow.Grows)
 IsGrowFault closed decision before after grow_fault.Store = (closed ≡ false) × (decision ≡ grow.Grows) × (before ≡ 0) × (after ≡ 1)
+
+-- what is wrong with the sites that a message is from and to, if anything
+abbrev pub address_fault : Office → List Entry → Message → Option CheckFault
+address_fault office history (Delta by to upto delta) = addressed (office_after office history) by to
+address_fault office history (Ack by to upto) = addressed (office_after office history) by to
 
 -- the site is another one of those that the book counts so far
 abbrev pub is_peer : Office → List Entry → ℕ → Bool

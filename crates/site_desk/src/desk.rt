@@ -1,11 +1,14 @@
 //! A site's book that threads share.
-ghost use Rattle.std.specs.Prelude.{◌≡◌, ◌≢◌, ◌+◌, ◌<◌, ◌≤◌, All, true, false, length, IfOk, IfErr, IfSome, OnErr, if◌then◌else◌};
+ghost use Rattle.std.specs.Prelude.{◌≡◌, ◌≢◌, ◌+◌, ◌<◌, ◌≤◌, ◌⊎◌, All, Err, Some, true, false, length, IfOk, IfErr, IfSome, OnErr, if◌then◌else◌};
+ghost use Rattle.rights_lattice.specs.State.{knows};
+ghost use Rattle.book_core.specs.History.{state_of};
 ghost use Rattle.book_core.specs.Legal.{IsLegal};
 ghost use Rattle.book_core.specs.OwnRow.{HasOwnRights};
-ghost use Rattle.site_exchange.specs.Exchange.{ack_for, receiver};
+ghost use Rattle.site_exchange.specs.declared.message.CheckFault.TheVariants as check_fault;
+ghost use Rattle.site_exchange.specs.Exchange.{ack_for, receiver, unchecked};
 ghost use Rattle.sql_records.specs.Keeping.{LeavesOnly};
 ghost use Rattle.book_core.specs.Decision.{sites_of};
-ghost use Rattle.site_desk.specs.Answers.{ack_of};
+ghost use Rattle.site_desk.specs.Answers.{ack_of, is_peer, address_fault};
 ghost use Rattle.site_desk.specs.Count.{asked_since, GoesOnFrom};
 ghost use Rattle.site_desk.specs.Finish.{FindsFirst, StandsIn, WasSeen, handed_back};
 ghost use Rattle.site_desk.specs.Seats.{held, parts_of, shares_of};
@@ -77,10 +80,11 @@ impl<K: Keeper, L: Opens> Desk<K, L> {
     /// What the history shows of an event that it knows, once it has all that was newly entered for this seat (the
     /// session guarantee "read your writes", PDIS 1994). It waits for that, though the history always has it.
     ///
-    /// Errors are those of `SiteBook::look`.
+    /// Errors are those of `SiteBook::look`; an event that was known when the count began never is `Unknown`.
     pub fn look<R: Wait>(&self, rt: &R, seat: &Seat<L>, event: Event) -> Result<Seen, LookFault>
         ensures event { IfOk result (λ seen. seen.event ≡ event) }
         ensures at { IfOk result (λ seen. length L.began + seat.now.count ≤ seen.at) }
+        ensures unknown { result ≡ Err LookFault.Unknown → knows (state_of L.began).names event ≡ false }
     {
         for _ in rt.forever() {
             let locked = self.lock.lock(rt);
@@ -93,14 +97,22 @@ impl<K: Keeper, L: Opens> Desk<K, L> {
 
     /// Takes a peer's message as the book does, with its errors. The acknowledgement that is given is the one for the
     /// message, and none is given for an acknowledgement.
+    ///
+    /// A message to another site, from this one, or from none that the book counts is refused so, unless the book is
+    /// closed; and only such a message is refused as not for this site.
     #[tactic(auto, using(crate::proofs::Sent::ack_taken))]
     pub fn take<R: Wait>(&self, rt: &R, message: Message) -> Result<Taken, TakeFault>
-        ensures { IfOk result (λ taken. ack_of taken ≡ ack_for message) }
+        ensures ack { IfOk result (λ taken. ack_of taken ≡ ack_for message) }
+        ensures address { IfSome (address_fault L.office L.began message) (λ fault. (result ≡ Err (unchecked fault)) ⊎ (result ≡ Err TakeFault.Closed)) }
+        ensures not_for_me { result ≡ Err TakeFault.NotForMe → address_fault L.office L.began message ≡ Some check_fault.NotForMe }
     {
         self.lock.lock(rt).take(message)
     }
 
     /// The message that is due to a peer, as the book gives it, with its errors.
+    ///
+    /// `NoSite` is for a site that is not another one of those that the book counts; such a site gets it, unless the book
+    /// is closed.
     #[tactic(auto, using(crate::proofs::Sent::next_sent))]
     pub fn next<R: Wait>(
         &self,
@@ -108,7 +120,9 @@ impl<K: Keeper, L: Opens> Desk<K, L> {
         alloc: Global,
         to: SiteId,
     ) -> Result<Option<Message>, NextFault>
-        ensures { IfOk result (λ message. IfSome message (λ m. receiver m ≡ to)) }
+        ensures to { IfOk result (λ message. IfSome message (λ m. receiver m ≡ to)) }
+        ensures stranger { is_peer L.office L.began to ≡ false → (result ≡ Err NextFault.NoSite) ⊎ (result ≡ Err NextFault.Closed) }
+        ensures not_peer { result ≡ Err NextFault.NoSite → is_peer L.office L.began to ≡ false }
     {
         self.lock.lock(rt).next(alloc, to)
     }

@@ -1,14 +1,15 @@
 //! What lies under a desk's lock.
-ghost use Rattle.std.specs.Prelude.{◌≡◌, ◌≢◌, ◌↔◌, ◌⊎◌, All, Err, IsSome, ◌+◌, ◌<◌, ◌≤◌, true, false, length, IsTrue, IfOk, IfErr, OnErr, OnOk, if◌then◌else◌};
+ghost use Rattle.std.specs.Prelude.{◌≡◌, ◌≢◌, ◌↔◌, ◌⊎◌, All, Err, Some, IfSome, IsSome, ◌+◌, ◌<◌, ◌≤◌, true, false, length, IsTrue, IfOk, IfErr, OnErr, OnOk, if◌then◌else◌};
 ghost use Rattle.rights_lattice.specs.State.{knows};
 ghost use Rattle.book_core.specs.History.{state_of};
 ghost use Rattle.book_core.specs.Decision.{sites_of};
 ghost use Rattle.book_core.specs.Legal.{IsLegal};
 ghost use Rattle.book_core.specs.OwnRow.{HasOwnRights};
-ghost use Rattle.site_exchange.specs.Exchange.{ack_for, next};
+ghost use Rattle.site_exchange.specs.declared.message.CheckFault.TheVariants as check_fault;
+ghost use Rattle.site_exchange.specs.Exchange.{ack_for, next, unchecked};
 ghost use Rattle.site_exchange.specs.Taking.{MayTake, site_after, with_entry};
 ghost use Rattle.sql_records.specs.Keeping.{LeavesOnly};
-ghost use Rattle.site_desk.specs.Answers.{IsAnswer, IsAskFault, IsSeenAt, IsTakeFault, IsTaken, is_peer};
+ghost use Rattle.site_desk.specs.Answers.{IsAnswer, IsAskFault, IsSeenAt, IsTakeFault, IsTaken, is_peer, address_fault};
 ghost use Rattle.site_desk.specs.SiteView.{decision_in, entry_in, site_of, verdict_in};
 ghost use Rattle.site_desk.specs.Count.{asked_since, GoesOnFrom};
 ghost use Rattle.site_desk.specs.Finish.{FindsFirst, StandsIn, WasSeen, handed_back};
@@ -139,6 +140,7 @@ impl<K: Keeper, L: Opens> Locked<K, L> {
         ensures at { IfOk result (λ seen. seen.at ≡ length self.now.book.history) }
         ensures closed { (result ≡ Err LookFault.Closed) ↔ (self.now.closed ≡ true) }
         ensures unknown { (result ≡ Err LookFault.Unknown) ↔ ((self.now.closed ≡ false) × (knows (state_of self.now.book.history).names event ≡ false)) }
+        ensures unknown_before { result ≡ Err LookFault.Unknown → knows (state_of L.began).names event ≡ false }
     {
         self.book.look(event)
     }
@@ -153,6 +155,8 @@ impl<K: Keeper, L: Opens> Locked<K, L> {
         ensures unchanged { OnErr result (site_of self.new ≡ site_of self.old) }
         ensures untouched { IfErr result (λ fault. fault ≢ TakeFault.Store → self.new.keeper ≡ self.old.keeper) }
         ensures closes { (self.new.closed ≡ true) ↔ ((self.old.closed ≡ true) ⊎ (result ≡ Err TakeFault.Store)) }
+        ensures address { IfSome (address_fault L.office L.began message) (λ fault. (result ≡ Err (unchecked fault)) ⊎ (result ≡ Err TakeFault.Closed)) }
+        ensures not_for_me { result ≡ Err TakeFault.NotForMe → address_fault L.office L.began message ≡ Some check_fault.NotForMe }
     {
         self.book.take(message)
     }
@@ -164,6 +168,8 @@ impl<K: Keeper, L: Opens> Locked<K, L> {
         ensures no_site { (result ≡ Err NextFault.NoSite) ↔ ((self.old.closed ≡ false) × (is_peer self.old.book.office self.old.book.history to ≡ false)) }
         ensures memory { result ≡ Err NextFault.Memory → IsSome (next self.old.book.office.me (site_of self.old) to) }
         ensures same { self.new ≡ self.old }
+        ensures stranger { is_peer L.office L.began to ≡ false → (result ≡ Err NextFault.NoSite) ⊎ (result ≡ Err NextFault.Closed) }
+        ensures not_peer { result ≡ Err NextFault.NoSite → is_peer L.office L.began to ≡ false }
     {
         self.book.next(alloc, to)
     }

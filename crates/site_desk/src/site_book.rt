@@ -15,7 +15,7 @@ ghost use Rattle.sql_records.specs.Keeping.{Keeps, LeavesEither, LeavesOnly};
 ghost use Rattle.sql_records.specs.declared.meta.Meta.{Meta as Numbers};
 ghost use Rattle.sql_records.specs.Layout.{office_of};
 ghost use Rattle.site_desk.specs.Answers.{IsAnswer, IsAskFault, IsGrowFault, IsSeenAt, IsTakeFault, IsTaken, is_peer};
-ghost use Rattle.site_desk.specs.Count.{HasOneMore};
+ghost use Rattle.site_desk.specs.Count.{HasOneMoreIf};
 ghost use Rattle.site_desk.specs.SiteView.{decision_in, entry_in, grow_decision_in, growth_in, site_of, verdict_in};
 
 use crate::answer::{Answer, Seen, Taken};
@@ -141,7 +141,7 @@ impl<K: Keeper> SiteBook<K> {
         ensures sites { sites_of self.new.book.office self.new.book.history ≡ sites_of self.old.book.office self.old.book.history }
         ensures answer { IfOk result (IsAnswer (decision_in self.old.book number request.now) (length self.old.book.history)) }
         ensures entered { OnOk result (site_of self.new ≡ with_entry (entry_in self.old.book number request.now) (site_of self.old)) }
-        ensures grown { IfOk result (λ a. HasOneMore a.fresh a.place self.old.book.history self.new.book.history) }
+        ensures grown { IfOk result (λ a. HasOneMoreIf a.fresh a.place self.old.book.history self.new.book.history) }
 
         // When each error comes, and what it leaves.
         ensures closed { (result ≡ Err AskFault.Closed) ↔ (self.old.closed ≡ true) }

@@ -1,9 +1,8 @@
 -- A site's exchange, as the site goes on. For callers.
-use Rattle.std.proofs.Common.{◌≡◌, ℕ, List, [], Option, refl, sym, ◌∙◌, subst}
+use Rattle.std.proofs.Common.{◌≡◌, ℕ, List, Option, refl, sym, ◌∙◌, subst}
 use Rattle.std.specs.Prelude.{Result, Ok, Err, OnOk, OnErr}
 use Rattle.book_core.specs.declared.entry.Entry.{Entry}
 use Rattle.book_core.specs.Decision.{Office, sites_of}
-use Rattle.site_exchange.specs.Exchange.{zeros}
 use Rattle.site_exchange.specs.Taking.{extended}
 use Rattle.site_exchange.specs.Pendings.{ArePending, ExchangeView, IsExchangeOf, IsPendingIn}
 use Rattle.site_exchange.proofs.PendingLaws.{pending_extended}

@@ -34,11 +34,12 @@ use Rattle.sqlite.specs.declared.error.Error.{Error}
 use Rattle.sql_records.proofs.FaultLemmas.{Caused, IsRun, never_folded, query_cause, query_undone, query_wants}
 use Rattle.sqlite.specs.declared.error.Error.TheVariants.{SqliteFailure}
 use Rattle.sqlite.specs.declared.error.ErrorCode.TheVariants as code
+use Rattle.rights_lattice.specs.CellOrder.{then_Equal}
 use Rattle.sql_records.specs.Faults.{IsUndoneForMemory}
 use Rattle.sql_records.specs.Opening.{IsLeftOrUndone}
 use Rattle.sql_records.proofs.UndoneLemmas.{left_or_undone}
 use Rattle.sql_records.proofs.RowLemmas.{lower_id, by_place_total}
-use Rattle.sql_records.proofs.QueryLemmas.{unchanged_as, leaves_as, then_equal}
+use Rattle.sql_records.proofs.QueryLemmas.{unchanged_as, leaves_as}
 
 abbrev keyed : (Row → Row) → Row → Output
 keyed show r = (column r 0 ∷ [], show r)
@@ -112,7 +113,7 @@ find_answers db n rows whole a =
     let table = map shown (db 1) in
     let kept : a.kept ≡ map (keyed found_columns) (filter (has_number n) table) = a.distinct ∙ ap (map (output find_query)) a.grouped ∙ find_staged n (db 1) in
     let same : IsPermutation (map (keyed found_columns) (filter (has_number n) table)) a.ordered = subst (λ k. IsPermutation k a.ordered) kept a.same in
-    let is = in_places (output_cmp find_query) find_total found_columns (λ x y. then_equal (value_cmp (column x 0) (column y 0))) (has_number n) table a.ordered whole same a.sorted in
+    let is = in_places (output_cmp find_query) find_total found_columns (λ x y. then_Equal (value_cmp (column x 0) (column y 0))) (has_number n) table a.ordered whole same a.sorted in
     a.shown ∙ ap (map (λ (o : Output). o.1)) is ∙ shown_keyed found_columns (filter (has_number n) (in_order table))
 
 pub find_shows : (old new : State) (n : ℕ) (rows : List Row) → IsOurs old.now.schema → AreWhole 0 (rows_in old.now.trees) → Shown find_text (number_params n) old new rows → rows ≡ map found_columns (filter (has_number n) (rows_in old.now.trees))
@@ -171,7 +172,7 @@ list_answers db name rows whole a =
     let table = map shown (db 1) in
     let kept : a.kept ≡ map (keyed listed_columns) (filter (has_event name) table) = a.distinct ∙ ap (map (output list_query)) a.grouped ∙ list_staged name (db 1) in
     let same : IsPermutation (map (keyed listed_columns) (filter (has_event name) table)) a.ordered = subst (λ k. IsPermutation k a.ordered) kept a.same in
-    let is = in_places (output_cmp list_query) list_total listed_columns (λ x y. then_equal (value_cmp (column x 0) (column y 0))) (has_event name) table a.ordered whole same a.sorted in
+    let is = in_places (output_cmp list_query) list_total listed_columns (λ x y. then_Equal (value_cmp (column x 0) (column y 0))) (has_event name) table a.ordered whole same a.sorted in
     a.shown ∙ ap (map (λ (o : Output). o.1)) is ∙ shown_keyed listed_columns (filter (has_event name) (in_order table))
 
 pub list_shows : (old new : State) (name : List ℕ) (rows : List Row) → IsOurs old.now.schema → AreWhole 0 (rows_in old.now.trees) → Shown list_text (event_params name) old new rows → rows ≡ map listed_columns (filter (has_event name) (rows_in old.now.trees))

@@ -1,5 +1,5 @@
 -- What the three statements of a new store make.
-use Rattle.std.proofs.Common.{◌≡◌, ℕ, pos, List, [], ◌∷◌, map, false, None, Ok, refl, sym, ap, subst, ◌∙◌, arith}
+use Rattle.std.proofs.Common.{◌≡◌, ℕ, pos, List, [], ◌∷◌, map, false, None, Ok, refl, sym, ap, subst, ◌∙◌}
 use Rattle.sqlite.specs.declared.types.Value.TheVariants.{Null, Int, Text as Words}
 use Rattle.sqlite.specs.Order.{Row}
 use Rattle.sqlite.specs.Term.{Term, lit, col}
@@ -22,7 +22,7 @@ use Rattle.sqlite.proofs.Callers.{IsPlain, command_of, statement_of, runs_as, on
 use Rattle.sql_records.specs.declared.meta.Meta.{Meta}
 use Rattle.sql_records.specs.Texts.{meta_text, entries_text, meta_insert_text}
 use Rattle.sql_records.specs.Layout.{our_schema, no_schema, meta_at, entries_at, meta_of, our_kind, meta_shown, HasMeta}
-use Rattle.sql_records.proofs.InsertLemmas.{went, same_value, cast_null, cast_int}
+use Rattle.sql_records.proofs.InsertLemmas.{went, same_value, cast_null, cast_int, one_zero}
 
 -- with the table of the numbers alone
 abbrev pub half_schema : Schema
@@ -91,9 +91,6 @@ meta_insert_is = refl
 meta_insert_plain : IsPlain (understood our_schema meta_insert_text)
 unfolding understood everything
 meta_insert_plain = (refl, refl)
-
-one_zero : ◌≡◌ {A = ℕ} 1 0 → ⊥
-one_zero e = omega arith
 
 pub adds_meta : (meta : Meta) (old new : State) (count : ℕ) → old.now.schema ≡ our_schema → old.now.trees 0 ≡ [] → Executes meta_insert_text (meta_of meta) old new (Ok count)
     → (new.now.schema ≡ our_schema) × HasMeta meta new.now.trees × (new.now.trees 1 ≡ old.now.trees 1) × IsDatabase new.now

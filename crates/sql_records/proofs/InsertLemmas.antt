@@ -31,6 +31,9 @@ use Rattle.std.specs.List.{AllByRecursion, filter_map}
 use Rattle.sql_records.specs.Texts.{insert_text}
 use Rattle.sql_records.specs.Layout.{IsOurs, ours_and, meta_at, entries_at, RefersToNone}
 
+pub one_zero : ◌≡◌ {A = ℕ} 1 0 → ⊥
+one_zero e = omega arith
+
 abbrev terms : List Term
 terms = col 0 0 ∷ lit Null ∷ col 0 1 ∷ col 0 2 ∷ col 0 3 ∷ col 0 4 ∷ col 0 5 ∷ col 0 6 ∷ col 0 7 ∷ col 0 8 ∷ col 0 9 ∷ []
 

@@ -82,13 +82,13 @@ has_meta read db values meta alone is =
     let row_has : values ≡ meta_as read meta = row_is (db 0) values alone ∙ rw (is.key, is.kind, is.version, has.me_is, has.sites_are, has.limit_is) refl in
     (alone ∙ ap (λ (x : Row). x ∷ []) row_has, found.1)
 
-same_row : (rows : List Row) (x y : Row) → rows ≡ x ∷ [] → rows ≡ y ∷ [] → x ≡ y
+pub same_row : (rows : List Row) (x y : Row) → rows ≡ x ∷ [] → rows ≡ y ∷ [] → x ≡ y
 same_row rows x y p q = cc
 
 differs : (v : ℤ) (w : Value) → int_in w ≡ None → w ≡ Int v → ⊥
 differs v w none is = let e : ◌≡◌ {A = Option ℤ} (Some v) None = sym (ap int_in is) ∙ none in cc
 
-same_int : (v w : ℤ) (x : Value) → x ≡ Int v → x ≡ Int w → v ≡ w
+pub same_int : (v w : ℤ) (x : Value) → x ≡ Int v → x ≡ Int w → v ≡ w
 same_int v w x p q = cc
 
 never_both : (meta : Meta) (o : Option Meta) → o ≡ None → o ≡ Some meta → ⊥

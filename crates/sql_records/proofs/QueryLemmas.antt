@@ -1,6 +1,6 @@
 -- What the queries for all entries and for the numbers show.
 use Rattle.std.proofs.Common.{◌≡◌, inl, inr, ℕ, zero, suc, ◌+◌, ◌<◌, pos, negsuc, false, None, refl, ap, sym, subst, ◌∙◌, List, [], ◌∷◌, map, flat_map, length, get_or, codes, arith, IsPermutation, IsSorted, Ordering, Less, Equal, Greater, is_lt}
-use Rattle.std.specs.Ordering.{is_eq, ordering_then, ordering_reverse}
+use Rattle.std.specs.Ordering.{is_eq, ordering_reverse}
 use Rattle.std.specs.Cmp.{IsTotalOrder}
 use Rattle.std.specs.List.{AllByRecursion}
 use Rattle.std.proofs.lemmas.List.{length-map}
@@ -32,6 +32,7 @@ use Rattle.sql_records.specs.Held.{LeavesNoMore}
 use Rattle.sqlite.specs.declared.error.Error.{Error}
 use Rattle.sqlite.specs.declared.error.Error.TheVariants.{SqliteFailure}
 use Rattle.sqlite.specs.declared.error.ErrorCode.TheVariants as code
+use Rattle.rights_lattice.specs.CellOrder.{then_Equal}
 use Rattle.sql_records.specs.Faults.{IsUndoneForMemory}
 use Rattle.sql_records.proofs.FaultLemmas.{Caused, IsRun, never_folded, query_cause, query_undone, query_wants}
 use Rattle.sql_records.specs.Opening.{IsLeftOrUndone}
@@ -83,13 +84,8 @@ all_out : (rows : List Row) → AllByRecursion IsOut (map out rows)
 all_out [] = tt
 all_out (r ∷ rows) = (refl, all_out rows)
 
-pub then_equal : (o : Ordering) → ordering_then o Equal ≡ o
-then_equal Less = refl
-then_equal Equal = refl
-then_equal Greater = refl
-
 by_place_of : (a b : Output) → IsOut a → IsOut b → output_cmp query a b ≡ by_place a.1 b.1
-by_place_of a b p q = rw (p, q) (then_equal (by_place a.1 b.1))
+by_place_of a b p q = rw (p, q) (then_Equal (by_place a.1 b.1))
 
 out_at : (os : List Output) (i : ℕ) (d : Output) → AllByRecursion IsOut os → IsOut d → IsOut (get_or os i d)
 out_at [] i d all is = is

@@ -3,8 +3,6 @@ use Rattle.std.proofs.Common.{◌≡◌, inl, inr, ℕ, zero, suc, ◌+◌, ℤ,
 use Rattle.sqlite_catalog.specs.Listing.{IsSound}
 use Rattle.sqlite_catalog.proofs.ReadLemmas.{lists_once}
 use Rattle.sqlite.specs.Order.{Row, column}
-use Rattle.sqlite.specs.declared.types.Value.{Value}
-use Rattle.sqlite.specs.declared.types.Value.TheVariants.{Int}
 use Rattle.sqlite.specs.Tree.{Trees}
 use Rattle.sqlite.specs.State.{State}
 use Rattle.sql_records.specs.declared.meta.Meta.{Meta}
@@ -15,14 +13,9 @@ use Rattle.sql_records.specs.Layout.{IsOurs, HasMeta, HasOtherSchema}
 use Rattle.sql_records.specs.Rows.{shown, in_order, rows_below, rows_from_0, AreInOrder, AreWhole, IsEntryAt, IsDamagedAt}
 use Rattle.sql_records.specs.Held.{IsSiteIn, opened_in, rows_in}
 use Rattle.sql_records.specs.Opening.{IsOpenFault, IsOurFault, IsAfterStop}
+use Rattle.sql_records.proofs.MetaLemmas.{same_row, same_int}
 use Rattle.sql_records.proofs.RowLemmas.{whole_from}
 use Rattle.sql_records.proofs.QueryLemmas.{order_whole}
-
-same_int : (v w : ℤ) (x : Value) → x ≡ Int v → x ≡ Int w → v ≡ w
-same_int v w x p q = cc
-
-same_row : (rows : List Row) (x y : Row) → rows ≡ x ∷ [] → rows ≡ y ∷ [] → x ≡ y
-same_row rows x y p q = cc
 
 no_other : (meta : Meta) (version : ℤ) (db : Trees) → HasMeta meta db → HasOtherSchema Second version db → ⊥
 no_other meta version db has other =

@@ -1,5 +1,5 @@
 -- What the one UPDATE makes of the database.
-use Rattle.std.proofs.Common.{◌≡◌, ℕ, pos, negsuc, List, [], ◌∷◌, map, false, None, Option, Ok, refl, ap, subst, ◌∙◌, arith, IsPermutation}
+use Rattle.std.proofs.Common.{◌≡◌, ℕ, pos, negsuc, List, [], ◌∷◌, map, false, None, Option, Ok, refl, ap, subst, ◌∙◌, IsPermutation}
 use Rattle.sqlite.specs.declared.types.Value.TheVariants.{Null, Int, Text as Words}
 use Rattle.sqlite.specs.Order.{Row, column}
 use Rattle.sqlite.specs.Term.{lit, col}
@@ -29,7 +29,7 @@ use Rattle.sql_records.specs.declared.version.Version.{Version}
 use Rattle.sql_records.specs.declared.version.Version.TheVariants.{First, Second}
 use Rattle.sql_records.specs.Texts.{update_text}
 use Rattle.sql_records.specs.Layout.{IsOurs, ours_and, meta_at, entries_at, our_kind, version_number, meta_shown, meta_as, HasMetaAs}
-use Rattle.sql_records.proofs.InsertLemmas.{cast_null, cast_int, went, same_value, no_work}
+use Rattle.sql_records.proofs.InsertLemmas.{cast_null, cast_int, went, same_value, no_work, one_zero}
 
 abbrev query : Query
 query = record {
@@ -54,9 +54,6 @@ update_is more indexes views = refl
 pub update_plain : (more : List Table) (indexes : List Index) (views : List View) → IsPlain (understood (ours_and more indexes views) update_text)
 unfolding understood everything
 update_plain more indexes views = (refl, refl)
-
-one_zero : ◌≡◌ {A = ℕ} 1 0 → ⊥
-one_zero e = omega arith
 
 one_of : {X Y : Type 0} (f : X → Y) (xs : List X) (y : Y) → map f xs ≡ y ∷ [] → (x : X) × (xs ≡ x ∷ []) × (f x ≡ y)
 one_of f [] y e = absurd cc

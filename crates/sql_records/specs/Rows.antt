@@ -327,6 +327,7 @@ AreWhole from [] = Unit {0}
 AreWhole from (values ∷ rows) = IsEntryAt from values × AreWhole (from + 1) rows
 
 -- what the first version does not have: a part of a sale that is asked back, the reply that it is too many, and a growth
+-- (the word is this version's: the first had none for it)
 abbrev pub too_many : List ℕ
 too_many = reply_word (TooMany 0)
 

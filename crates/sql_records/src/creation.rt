@@ -3,7 +3,7 @@ ghost use Rattle.std.specs.Prelude.{◌≡◌, ◌≢◌, [], ◌<◌, ◌↔◌
 ghost use Rattle.sqlite.specs.State.{HasCleanDisk, Survives};
 ghost use Rattle.sqlite.specs.Held.{state};
 ghost use Rattle.sqlite.specs.Values.{bound};
-ghost use Rattle.sql_records.specs.Layout.{no_schema, has_our_table, meta_of, HasMeta};
+ghost use Rattle.sql_records.specs.Layout.{no_schema, has_our_table, meta_of};
 ghost use Rattle.sql_records.specs.Held.{IsNew, IsAtRest, LeavesAsBeforeOrNew, LeavesSite, MayLeaveIn};
 ghost use Rattle.sql_records.specs.Keeping.{LeavesOnly};
 ghost use Rattle.sql_records.specs.Making.{making, RunInTurn, FailInTurn, FailsToMake, IsRefusal, IsVacant, IsInitFault};

@@ -1,5 +1,5 @@
 //! One entry more in the table.
-ghost use Rattle.std.specs.Prelude.{◌≡◌, ◌<◌, ◌+◌, ◌^◌, ◌≤◌, OnOk, IfErr, Err, [], ◌∷◌, ◌++◌, length};
+ghost use Rattle.std.specs.Prelude.{◌≡◌, ◌<◌, ◌+◌, ◌^◌, OnOk, IfErr, Err, [], ◌∷◌, ◌++◌, length};
 ghost use Rattle.sqlite.specs.State.{HasCleanDisk, Executes};
 ghost use Rattle.sqlite.specs.Held.{state};
 ghost use Rattle.book_core.specs.History.{delta_of};

@@ -1,5 +1,5 @@
 //! Whether a database has the tables of the records.
-ghost use Rattle.std.specs.Prelude.{◌≡◌, ◌≤◌, ◌↔◌, length, [], ◌∷◌, true, None, Some, pos, IsTrue};
+ghost use Rattle.std.specs.Prelude.{◌≡◌, ◌≤◌, ◌↔◌, length, [], ◌∷◌, None, Some, pos, IsTrue};
 ghost use Rattle.sql_records.specs.Layout.{IsOurs, AreOursFirst, IsOursFirst, RefersToNone, is_our_name, has_our_table, plain, required, one_is_1, AreOneAnd1, sides_of, meta_at, entries_at, number_index, last_columns, IsBare};
 ghost use Rattle.std.specs.List.{AllByRecursion, list_any};
 ghost use Rattle.std.specs.Option.{option_copied};

@@ -1,5 +1,5 @@
 //! A keeper that keeps nothing.
-ghost use Rattle.std.specs.Prelude.{◌≡◌, []};
+ghost use Rattle.std.specs.Prelude.{[]};
 
 use book_core::Entry;
 use sql_records::{KeepFault, Keeper};

@@ -13,7 +13,7 @@ use Rattle.book_core.specs.Decision.{Office, Kind, Releasing, Selling, Refunding
 use Rattle.book_core.specs.Legal.{IsNext, IsLegal}
 use Rattle.book_core.specs.Operations.{Operation, operation_if, operation_of, operations_from, operations, operations_below, counted, total, ceded_by, ceded, AreDistinct, same_kind}
 use Rattle.book_core.proofs.Histories.{operations_push, legal_along}
-use Rattle.book_core.proofs.Rows.{Allowed, IsAllowed, accepted, asked_allowed, asked_total, share}
+use Rattle.book_core.proofs.Rows.{Allowed, IsAllowed, accepted, asked_allowed, asked_total, share, miss}
 
 -- ---- the site and the place of an operation
 
@@ -174,10 +174,6 @@ ceded_self office h legal j me event = legal_along office (λ g. total (Ceding j
     no_share x None may = refl
     no_share x (Some c) may = by_kind c.kind may
       where
-        miss : (b d : Bool) (a : ℕ) → d ≡ false → cond (b && d) a 0 ≡ 0
-        miss true d a q = ap (λ t. cond t a 0) q
-        miss false d a q = refl
-
         by_kind : (kind : Kind) → IsAllowed office.me x kind c.event c.amount → cond (same_event event c.event && same_kind (Ceding j) kind) c.amount 0 ≡ 0
         by_kind Releasing here = miss (same_event event c.event) false c.amount refl
         by_kind Selling here = miss (same_event event c.event) false c.amount refl

@@ -10,7 +10,7 @@ use Rattle.book_core.specs.declared.plan.GrowFault.{GrowFault}
 use Rattle.book_core.specs.declared.plan.GrowFault.TheVariants as grow_fault
 use Rattle.book_core.specs.Decision.{Office}
 use Rattle.book_core.specs.Growing as growing
-use Rattle.book_core.specs.Growing.{GrowDecision, grow_decision, grown_if, entry_of_grow}
+use Rattle.book_core.specs.Growing.{GrowDecision, grow_decision, grown_if}
 use Rattle.book_core.specs.Plans.{IsGrowFault, IsGrowPlan}
 use Rattle.site_exchange.specs.declared.message.Message.{Message}
 use Rattle.site_exchange.specs.Exchange.{SitePart}

@@ -16,7 +16,7 @@ use Rattle.rights_lattice.specs.Cell.{same_event}
 use Rattle.rights_lattice.specs.State.{Names, knows, no_names, with_name, with_names, join_names, names_in_order}
 use Rattle.rights_lattice.proofs.StateLaws.{same_names, knows-with_names, contains-union}
 use Rattle.rights_lattice.proofs.MarkLaws.{names_of-none, names_in_order-names_of}
-use Rattle.event_catalogue.proofs.NameLaws.{or_comm}
+use Rattle.rights_lattice.proofs.OrLaws.{or_comm}
 use Rattle.book_core.specs.declared.entry.Entry.{Entry}
 use Rattle.book_core.specs.History.{state_of, names_known}
 use Rattle.book_core.proofs.NameLaws.{known_names}

@@ -7,6 +7,7 @@ use Rattle.std.proofs.Math.Seq.{take-length}
 use Rattle.rights_lattice.specs.State.{State, At, join, AtOrBelow}
 use Rattle.rights_lattice.specs.Sums.{max_sites}
 use Rattle.rights_lattice.proofs.StateLaws.{at-join, same_states}
+use Rattle.local_rights.proofs.PositionLaws.{sold_within}
 use Rattle.book_core.specs.declared.entry.Entry.{Entry}
 use Rattle.book_core.specs.History.{state_of}
 use Rattle.book_core.specs.Decision.{Selling, Refunding}
@@ -19,7 +20,7 @@ use Rattle.world_steps.specs.declared.step.Outcome.{Outcome}
 use Rattle.world_steps.specs.declared.step.WorldFault.{WorldFault}
 use Rattle.world_steps.specs.World.{IsReached, World, count, after, run, history_at, state_at}
 use Rattle.world_steps.specs.Promises.{NeverOversold, RefundsWithinSales, NoSeatIsLost, OperationsAreDistinct, ViewsBelowOwners, DeltasBelowOwners, RowsAreVersions, JoinsAreCausal, AcknowledgedIsHeld, AcksAreTrue, AgreeOnceAcknowledged, ViewsArePositions, ViewsNotOversold, CountedAreThere, ReceiversAreThere, HoldsPromises, own_state}
-use Rattle.world_steps.proofs.Positions.{sound_position, position_balance}
+use Rattle.world_steps.proofs.Positions.{sound_position}
 use Rattle.world_steps.proofs.Balance.{office_numbered, not_oversold}
 use Rattle.world_steps.proofs.FlatList.{distinct_below}
 use Rattle.world_steps.proofs.Seats.{seats_add_up}
@@ -94,7 +95,7 @@ pub views_are_positions : (w : World) → Sound w → ViewsArePositions w
 views_are_positions w sound i event = sound_position w sound i event
 
 pub views_not_oversold : (w : World) → Sound w → ViewsNotOversold w
-views_not_oversold w sound i event = position_balance (own_state w i).cells event (views_are_positions w sound i event)
+views_not_oversold w sound i event = sold_within (own_state w i).cells event (views_are_positions w sound i event)
 
 pub counted_are_there : (w : World) → Sound w → CountedAreThere w
 counted_are_there w sound = sound.few

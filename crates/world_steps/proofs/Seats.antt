@@ -9,6 +9,7 @@ use Rattle.rights_lattice.specs.State.{At}
 use Rattle.rights_lattice.specs.RightsView.{IsCellOf}
 use Rattle.rights_lattice.specs.Sums.{max_sites, sum_below}
 use Rattle.rights_lattice.proofs.CellLaws.{value_at-all_zero, greatest-marks_of}
+use Rattle.rights_lattice.proofs.TableLaws.{of_more}
 use Rattle.local_rights.specs.Rights as rights
 use Rattle.local_rights.specs.Rights.{gained, spent}
 use Rattle.local_rights.proofs.Sums.{sum_below-add, sum_below_same, sum_below_swap, sum_below_more}
@@ -32,11 +33,6 @@ record IsOfSites (office : Office) (h : List Entry) : Type 0 where
   me : office.me < sites_of office h
   cells : (event : List ℕ) (cell : Cell) → 1 ≤ value_at (state_of h).cells event cell → IsCellOf (sites_of office h) cell
 
-cell_of_more : (n m : ℕ) (cell : Cell) → n ≤ m → IsCellOf n cell → IsCellOf m cell
-cell_of_more n m (Gave by to) le of = (omega (arith, le, of.0), omega (arith, le, of.1))
-cell_of_more n m (Used by) le of = omega (arith, le, of)
-cell_of_more n m (Back by) le of = omega (arith, le, of)
-
 legal_of_sites : (office : Office) (h : List Entry) → office.me < office.sites → IsLegal office h → IsOfSites office h
 legal_of_sites office h me legal =
     legal_along office (IsOfSites office) (record { me = me; cells = λ event cell some. absurd (omega (arith, some, value_at-all_zero event cell)) }) more h legal
@@ -46,7 +42,7 @@ legal_of_sites office h me legal =
         let le : sites_of office g ≤ sites_of office (g ++ entry ∷ []) = omega (arith, next_sites office g entry next, sites_of-push office g entry) in
         record {
           me = omega (arith, before.me, le);
-          cells = λ event cell some. cell_of_more (sites_of office g) (sites_of office (g ++ entry ∷ [])) cell le (of_before g entry before next event cell some);
+          cells = λ event cell some. of_more (sites_of office g) (sites_of office (g ++ entry ∷ [])) cell le (of_before g entry before next event cell some);
         }
       where
         of_before : (g : List Entry) (entry : Entry) → IsOfSites office g → IsNext office g entry

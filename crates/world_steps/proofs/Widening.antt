@@ -20,7 +20,7 @@ use Rattle.site_exchange.specs.Taking.{extended}
 use Rattle.world_steps.specs.declared.step.Input.{Input}
 use Rattle.world_steps.specs.declared.step.Input.TheVariants as input
 use Rattle.world_steps.specs.World.{World, count, no_site, site_numbered, history_at, office_at, count_at, widened, widened_by, entered, entry_if_sent, entry_if_stored, entry_of_input, IsGrowth}
-use Rattle.world_steps.proofs.Worlds.{Grows, IsAcked, Sound, HasVersion, MayFollow, GoesOn, acked_grows, version_grows, sound_grows, goes_on, sound_site}
+use Rattle.world_steps.proofs.Worlds.{WorldExtends, IsAcked, Sound, HasVersion, MayFollow, GoesOn, acked_extends, version_extends, sound_extends, goes_on, sound_site}
 
 -- ---- more sites
 
@@ -52,8 +52,8 @@ count_added w sites limit i sound m l =
     get_or-append_right w.counts (replicate (sites - count w) sites) (count w) i 0 sound.counts m
     ∙ get_or-replicate (sites - count w) (i - count w) sites 0 (omega (arith, m, l, count_widened w sites limit))
 
-pub widened_grows : (w : World) (sites limit : ℕ) → Grows w (widened sites limit w)
-widened_grows w sites limit = record {
+pub widened_extends : (w : World) (sites limit : ℕ) → WorldExtends w (widened sites limit w)
+widened_extends w sites limit = record {
   count = omega (arith, count_widened w sites limit);
   histories = λ i. ([], ap (λ (s : SitePart). s.history) (site_widened w sites limit i) ∙ sym (append-nil (history_at w i)));
 }
@@ -63,10 +63,10 @@ sound_widened w sites limit sound =
     record {
       legal = legal_at;
       versions = λ i a k. subst (λ (s : SitePart). HasVersion v k (state_of (take a s.history))) (sym (site_widened w sites limit i))
-          (version_grows w v k (state_of (take a (history_at w i))) grown (sound.versions i a k));
-      sent = λ k message found. sound_grows w v message grown (sound.sent k message found);
+          (version_extends w v k (state_of (take a (history_at w i))) grown (sound.versions i a k));
+      sent = λ k message found. sound_extends w v message grown (sound.sent k message found);
       acked = λ i j. subst (λ (s : SitePart). IsAcked v i j (get_or s.acked j 0)) (sym (site_widened w sites limit i))
-          (acked_grows w v i j (get_or (site_numbered w i).acked j 0) grown (sound.acked i j));
+          (acked_extends w v i j (get_or (site_numbered w i).acked j 0) grown (sound.acked i j));
       limits = omega (arith, sound.limits, length-append w.limits (replicate lacking limit), length-replicate lacking limit, more);
       counts = omega (arith, sound.counts, length-append w.counts (replicate lacking sites), length-replicate lacking sites, more);
       own = own_at;
@@ -82,8 +82,8 @@ sound_widened w sites limit sound =
     more : count (widened sites limit w) ≡ count w + (sites - count w)
     more = count_widened w sites limit
 
-    grown : Grows w (widened sites limit w)
-    grown = widened_grows w sites limit
+    grown : WorldExtends w (widened sites limit w)
+    grown = widened_extends w sites limit
 
     none : (i : ℕ) → count w ≤ i → history_at (widened sites limit w) i ≡ []
     none i m = ap (λ (s : SitePart). s.history) (site_widened w sites limit i ∙ get_or_past w.sites i no_site m)
@@ -146,7 +146,7 @@ more_by w i (Some (Grown sites)) = omega (arith, count_widened w sites (get_or w
 -- the world with the sites that an entry of site i adds
 record IsWider (w v : World) (i : ℕ) : Type 0 where
   sound : Sound v
-  grows : Grows w v
+  grows : WorldExtends w v
   site : site_numbered v i ≡ site_numbered w i
   office : office_at v i ≡ office_at w i
 
@@ -161,7 +161,7 @@ wider w i (Some (Grown sites)) sound l =
     let limit : ℕ = get_or w.limits i 0 in
     record {
       sound = sound_widened w sites limit sound;
-      grows = widened_grows w sites limit;
+      grows = widened_extends w sites limit;
       site = site_widened w sites limit i;
       office = office_widened w sites limit i sound l;
     }
@@ -172,7 +172,7 @@ may_widened w v i None wide may = tt
 may_widened w v i (Some entry) wide may = (
   subst (λ (o : Office). IsNext o (history_at v i) entry) (sym wide.office) (subst (λ (s : SitePart). IsNext (office_at w i) s.history entry) (sym wide.site) may.0),
   λ k ne. subst (λ (s : SitePart). HasVersion v k (state_of (s.history ++ entry ∷ []))) (sym wide.site)
-      (version_grows w v k (state_of (history_at w i ++ entry ∷ [])) wide.grows (may.1 k ne)),
+      (version_extends w v k (state_of (history_at w i ++ entry ∷ [])) wide.grows (may.1 k ne)),
 )
 
 -- an entry that may follow keeps what holds, with the sites that it adds
@@ -185,7 +185,7 @@ sound_entered w i o site sound l may is acked =
     sound_site v i site wide.sound (omega (arith, l, wide.grows.count))
     (subst (GoesOn v i) history_is (goes_on v i o wide.sound (may_widened w v i o wide may)))
     (omega (arith, fewer w i o sound, ap (λ (f : Office). sites_of f site.history) wide.office, ap (sites_of (office_at w i)) is))
-    (λ j. acked_grows w v i j (get_or site.acked j 0) wide.grows (acked j))
+    (λ j. acked_extends w v i j (get_or site.acked j 0) wide.grows (acked j))
 
 -- no more sites than there can be are added
 pub few_entered : (w : World) (i : ℕ) (o : Option Entry) (site : SitePart) → MayFollow w i o → count w ≤ max_sites → count (entered o i site w) ≤ max_sites

@@ -1,5 +1,5 @@
 //! All sites of one world, and all messages that they ever sent.
-ghost use Rattle.std.specs.Prelude.{IfOk, IfErr, IfSome, OnOk, OnErr, IsSome, option_copied, ◌↔◌, ◌≡◌, ◌+◌, ◌<◌, ◌≤◌, List, length, map, take, Ok, Err, IsTrue, IsSomeAnd, slice_get, vec_len, vec_capacity};
+ghost use Rattle.std.specs.Prelude.{IfOk, IfErr, IfSome, OnOk, OnErr, IsSome, option_copied, ◌↔◌, ◌≡◌, ◌<◌, ◌≤◌, List, map, take, Ok, Err, IsTrue, IsSomeAnd, slice_get, vec_len, vec_capacity};
 ghost use Rattle.book_core.specs.Operations.{outstanding, released, sold, refunded};
 ghost use Rattle.site_exchange.specs.Exchange.{receiver};
 ghost use Rattle.site_exchange.specs.Taking.{ack_due};

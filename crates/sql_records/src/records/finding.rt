@@ -1,5 +1,5 @@
 //! Looking up requests, by one query each.
-ghost use Rattle.std.specs.Prelude.{◌≡◌, ◌≢◌, ◌<◌, ◌≤◌, ◌^◌, ◌⊎◌, ℕ, List, Option, map, filter, slice_get, pos, [], ◌∷◌, Some, None, IfOk, IfErr, OnOk, OnErr};
+ghost use Rattle.std.specs.Prelude.{◌≡◌, ◌≢◌, ◌<◌, ◌⊎◌, ℕ, Option, map, filter, slice_get, pos, [], ◌∷◌, Some, None, IfOk, IfErr, OnOk, OnErr};
 ghost use Rattle.std.specs.Option.{option_map};
 ghost use Rattle.sql_records.specs.declared.lookup.Listed.{Listed};
 ghost use Rattle.sqlite.specs.State.{HasCleanDisk, IsUnchanged};

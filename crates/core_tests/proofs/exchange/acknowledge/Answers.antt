@@ -1,5 +1,5 @@
 use Rattle.std.proofs.Common.{◌≡◌, true, rules}
-use Rattle.std.specs.Prelude.{Result, Ok, Err, OnOk, OnErr, is_ok}
+use Rattle.std.specs.Prelude.{Result, Ok, Err, OnOk, is_ok}
 use Rattle.core_tests.proofs.exchange.acknowledge.Goals as goal
 
 of_ok : {A E : Type 0} (r : Result A E) (P : Type 0) → is_ok r ≡ true → OnOk r P → P

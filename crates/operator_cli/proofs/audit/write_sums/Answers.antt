@@ -9,7 +9,7 @@ use Rattle.operator_cli.specs.declared.store_fault.StoreFault.{StoreFault}
 use Rattle.operator_cli.specs.declared.store_fault.StoreFault.TheVariants.{Write as WriteFailed}
 use Rattle.operator_cli.specs.Audited.{sum_lines}
 use Rattle.operator_cli.proofs.ScriptLaws.{at_err}
-use Rattle.operator_cli.proofs.TotalLines.{texts_break_off, texts_go_on}
+use Rattle.plain_words.proofs.TextLaws.{texts_break_off, texts_go_on}
 use Rattle.operator_cli.proofs.audit.write_sums.Goals as goal
 
 line : List ℕ × Totals → List ℕ

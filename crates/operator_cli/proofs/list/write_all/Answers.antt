@@ -11,7 +11,7 @@ use Rattle.operator_cli.specs.Printed.{AreListed, Unsaid, row_line}
 use Rattle.operator_cli.proofs.EndLaws.{for_write, told_lives}
 use Rattle.operator_cli.proofs.PrintLaws.{told_printed, told_unsaid, no_rows}
 use Rattle.operator_cli.proofs.ScriptLaws.{at_err}
-use Rattle.operator_cli.proofs.TotalLines.{texts_break_off, texts_go_on}
+use Rattle.plain_words.proofs.TextLaws.{texts_break_off, texts_go_on}
 use Rattle.operator_cli.proofs.list.write_all.Goals as goal
 
 pub returns-then-is_empty-clause-out : goal.returns-then-is_empty-clause-out

@@ -5,7 +5,7 @@ use Rattle.world_steps.specs.World.{totals_of, events_of}
 use Rattle.plain_words.specs.Writing.{AppendsFront}
 use Rattle.plain_words.proofs.WriteLaws.{Writes-err}
 use Rattle.operator_cli.specs.Script.{total_line}
-use Rattle.operator_cli.proofs.TotalLines.{texts_break_off, texts_go_on}
+use Rattle.plain_words.proofs.TextLaws.{texts_break_off, texts_go_on}
 use Rattle.operator_cli.proofs.totals.write_totals.Goals as goal
 
 pub returns-in_err-write_bytes-clause-lines : goal.returns-in_err-write_bytes-clause-lines

@@ -1,4 +1,4 @@
-use Rattle.std.proofs.Common.{◌≡◌, ◌<◌, List, ℕ, length, ap, arith, ◌∙◌}
+use Rattle.std.proofs.Common.{◌<◌, List, ℕ, length, ap, arith, ◌∙◌}
 use Rattle.std.specs.List.{list_any}
 use Rattle.std.proofs.lemmas.List.{take_all}
 use Rattle.event_catalogue.specs.Catalogue.{with_new}

@@ -3,14 +3,14 @@ use Rattle.site_exchange.proofs.Counts.{count_asked}
 use Rattle.site_exchange.proofs.ExchangeLaws.{exchange_entered}
 use Rattle.site_desk.specs.SiteView.{entry_in}
 use Rattle.site_desk.proofs.Acknowledged.{no_shorter}
-use Rattle.site_desk.proofs.Growth.{grown}
+use Rattle.site_desk.proofs.Growth.{one_more_if_fresh}
 use Rattle.site_desk.proofs.site_book.SiteBook.ask.Goals as goal
 
 pub returns-clause-grown : goal.returns-clause-grown
 returns-clause-grown g c =
     let s = c.self.inside in
     let answer = c.answer-answer in
-    rw (← c.self.view_is) (grown answer.result s.book.office s.book.history answer.new.book.history c.args.number c.args.request.now answer.ensures.answer answer.ensures.entered)
+    rw (← c.self.view_is) (one_more_if_fresh answer.result s.book.office s.book.history answer.new.book.history c.args.number c.args.request.now answer.ensures.answer answer.ensures.entered)
 
 pub invariant_of-self : goal.invariant_of-self
 invariant_of-self g c = record {

@@ -1,4 +1,4 @@
--- The lines of totals, one event after another.
+-- The texts of several things, one after another.
 use Rattle.std.proofs.Common.{◌≡◌, ℕ, ◌+◌, ◌<◌, List, [], ◌∷◌, ◌++◌, take, drop, length, get_or, sym, ap, ◌∙◌, subst, Option}
 use Rattle.std.specs.List.{flat_map}
 use Rattle.std.specs.Io.KnownBytes.{Appends}
@@ -8,7 +8,7 @@ use Rattle.std.proofs.lemmas.List.Concat.{flat_map-append}
 use Rattle.plain_words.specs.Writing.{AppendsFront}
 use Rattle.plain_words.proofs.WriteLaws.{AppendsFront-after, AppendsFront-longer}
 
--- the texts of the first k items, and of one more
+-- the text of the first k items, and of one more
 texts_more : {A : Type 0} (f : A → List ℕ) (items : List A) (k : ℕ) (item : A) → k < length items → item ≡ get_or items k item → flat_map f (take k items) ++ f item ≡ flat_map f (take (k + 1) items)
 texts_more f items k item within e =
     flat_map_more f [] (take k items) item ∙ ap (flat_map f) (ap (λ x. take k items ++ x ∷ []) e ∙ sym (take_more items k item within))
