@@ -7,6 +7,7 @@ use Rattle.std.proofs.lemmas.Bool.Decides.{eqb_tells}
 use Rattle.std.proofs.Math.Dec.{eqb}
 use Rattle.std.proofs.lemmas.Bool.{eq-eqb, ne_eqb}
 use Rattle.std.proofs.lemmas.List.{map-append, append-nil}
+use Rattle.session_server.proofs.Sites.{zip_map}
 use Rattle.operator_cli.specs.Dealt.{AreDealt, dealt}
 
 numbered_last : {X : Type 0} (i : ℕ) (xs : List X) (x : X) → enumerate_from i (xs ++ x ∷ []) ≡ enumerate_from i xs ++ (i + length xs, x) ∷ []
@@ -107,9 +108,3 @@ same_count told hand sites ends same = sym (length-map ends told) ∙ (ap length
 
 pub pairs_of : {A B D : Type 0} (f : A → B) (xs ys : List A) (bs : List B) (ds : List D) (Q : B → D → Type 0) → map f xs ≡ map f ys → map f ys ≡ bs → AllZip (λ a d. Q (f a) d) xs ds → AllZip Q bs ds
 pairs_of f xs ys bs ds Q same first h = subst (λ l. AllZip Q l ds) (same ∙ first) (zip_map f Q xs ds h)
-  where
-    zip_map : {A B D : Type 0} (f : A → B) (Q : B → D → Type 0) (xs : List A) (ds : List D) → AllZip (λ a d. Q (f a) d) xs ds → AllZip Q (map f xs) ds
-    zip_map f Q [] [] h = tt
-    zip_map f Q [] (d ∷ ds) h = absurd h
-    zip_map f Q (x ∷ xs) [] h = absurd h
-    zip_map f Q (x ∷ xs) (d ∷ ds) h = (h.0, zip_map f Q xs ds h.1)

@@ -60,11 +60,6 @@ pub for_write : (r : Result Status StoreFault) (P : StoreFault → Type 0) → I
 for_write (Ok status) P e h = tt
 for_write (Err f) P e h = subst P (sym e) h
 
--- whatever came
-pub always : (r : Result Status StoreFault) (P : Type 0) → P → OnOk r P
-always (Ok status) P h = h
-always (Err f) P h = tt
-
 -- where it came well
 pub on_ok_map : (r : Result Status StoreFault) (P Q : Type 0) → (P → Q) → OnOk r P → OnOk r Q
 on_ok_map (Ok status) P Q to h = to h

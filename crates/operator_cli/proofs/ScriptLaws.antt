@@ -24,6 +24,7 @@ use Rattle.operator_cli.specs.Faults.{IsOutFault, of_line_fault}
 use Rattle.operator_cli.specs.Script.{answers, world_behind, replies_and_totals, opened_by, replies_at, run_at, replies_started, run_started, replies, total_lines, bad_line, script, script_of_lines}
 use Rattle.operator_cli.specs.Ran.{StartsWell, MayGoOn, AnyLines, printed, EndsEarly, NextRan, AllAnswered, RestRan, OpensWorld, OpenRan, SecondRan, SitesRan, StartRan, ScriptRan}
 use Rattle.desk_lines.proofs.ReadingLaws.{named_takes}
+use Rattle.session_server.proofs.Sessions.{read-push, short-push}
 
 -- the exit of a `?`
 pub at_err : {T E : Type 0} (r : Result T E) (C : Result T E → Type 0) (Q : E → Type 0) → IsErrAnd r Q → ((e : E) → Q e → C (Err e)) → C r
@@ -173,17 +174,6 @@ same_input (Some xs) = refl
 pub begins : (input old : Option Text) (start : World) → SoFar input input old old start start 0
 begins input old start = record { lines = []; counted = refl; short = tt; read = same_input input; written = Appends-nil old; made = refl }
 
-AreShort-push : (lines : Lines) (line : Text) → AreShort lines → length line ≤ longest_line → AreShort (lines ++ line ∷ [])
-AreShort-push [] line h short = (short, tt)
-AreShort-push (l ∷ lines) line h short = (h.0, AreShort-push lines line h.1 short)
-
-read_more : (a b c : Option Text) (lines : Lines) (line : Text) → Between a b (λ xs ys. lines_of xs ≡ lines ++ lines_of ys) → Between b c (λ xs ys. lines_of xs ≡ line ∷ lines_of ys)
-    → Between a c (λ xs ys. lines_of xs ≡ (lines ++ line ∷ []) ++ lines_of ys)
-read_more None b c lines line p q = tt
-read_more (Some x) None c lines line p q = absurd p
-read_more (Some x) (Some y) None lines line p q = absurd q
-read_more (Some x) (Some y) (Some z) lines line p q = p ∙ ap (λ (t : Lines). lines ++ t) q ∙ sym (append_assoc lines (line ∷ []) (lines_of z))
-
 pub goes_on : (input rest rest' old new new' : Option Text) (start mid now : World) (count : ℕ) → SoFar input rest old new start mid count → NextRan rest rest' new new' mid now (Ok true)
     → SoFar input rest' old new' start now (count + 1)
 goes_on input rest rest' old new new' start mid now count h k =
@@ -193,8 +183,8 @@ goes_on input rest rest' old new new' start mid now count h k =
     record {
       lines = h.lines ++ k.0 ∷ [];
       counted = omega (arith, length-append h.lines (k.0 ∷ []), h.counted);
-      short = AreShort-push h.lines k.0 h.short k.1;
-      read = read_more input rest rest' h.lines k.0 h.read k.2;
+      short = short-push h.lines k.0 h.short k.1;
+      read = read-push input rest rest' h.lines k.0 h.read k.2;
       written = subst (Appends old new') (sym text) (Appends-trans old new new' (answers start h.lines) (reply mid) h.written k.3);
       made = k.4 ∙ ap (λ (w : World). (answer_to w (line_of k.0)).1) h.made ∙ sym (world_behind-append start h.lines (k.0 ∷ []));
     }
@@ -250,11 +240,6 @@ all_answered most (Some x) (Some y) (Some z) old new new' start now now' count h
     let front : h.lines ≡ h.lines ++ [] = sym (append-nil h.lines) in
     subst (λ (t : TakenLines). AllAnswered start now' t old new') (sym taken_is)
     (refl, subst (λ (l : Lines). Appends old new' (answers start l)) front (Appends-kept old new new' _ h.written kept), same ∙ h.made ∙ ap (world_behind start) front)
-
-pub first_empty : (a b : Option Text) → Between a b (λ xs ys. (lines_of xs ≡ []) × (lines_of ys ≡ [])) → Between a b (λ xs ys. lines_of xs ≡ [])
-first_empty None b p = tt
-first_empty (Some x) None p = absurd p
-first_empty (Some x) (Some y) p = p.0
 
 -- ---- the second line
 

@@ -70,11 +70,11 @@ chain_keeps S P step a (line ∷ lines) (x ∷ answers) b h p = chain_keeps S P 
 chain_keeps S P step a [] (x ∷ answers) b h p = absurd h
 chain_keeps S P step a (line ∷ lines) [] b h p = absurd h
 
-short-push : (lines : Lines) (line : List ℕ) → AreShort lines → length line ≤ longest_line → AreShort (lines ++ line ∷ [])
+pub short-push : (lines : Lines) (line : List ℕ) → AreShort lines → length line ≤ longest_line → AreShort (lines ++ line ∷ [])
 short-push [] line h k = (k, tt)
 short-push (l ∷ ls) line h k = (h.0, short-push ls line h.1 k)
 
-read-push : (a b c : Bytes) (lines : Lines) (line : List ℕ) → Between a b (λ xs ys. lines_of xs ≡ lines ++ lines_of ys) → Between b c (λ xs ys. lines_of xs ≡ line ∷ lines_of ys)
+pub read-push : (a b c : Bytes) (lines : Lines) (line : List ℕ) → Between a b (λ xs ys. lines_of xs ≡ lines ++ lines_of ys) → Between b c (λ xs ys. lines_of xs ≡ line ∷ lines_of ys)
     → Between a c (λ xs ys. lines_of xs ≡ (lines ++ line ∷ []) ++ lines_of ys)
 read-push None b c lines line p q = tt
 read-push (Some x) None c lines line p q = absurd p
@@ -132,7 +132,7 @@ quit_behind (Some x) (Some y) (Some z) lines quit few short is fits p q =
     let all = taken_after (suc more) (lines_of x) (lines_of y) lines p short (omega (arith, few)) ∙ ap (put_before lines) (ap (taken (suc more)) q ∙ taken-line more quit (lines_of z) fits) in
     (quit, (taken more (lines_of z)).lines, is, ap (λ (t : TakenLines). t.lines) all)
 
-first_empty : (a b : Bytes) → Between a b (λ xs ys. (lines_of xs ≡ []) × (lines_of ys ≡ [])) → Between a b (λ xs ys. lines_of xs ≡ [])
+pub first_empty : (a b : Bytes) → Between a b (λ xs ys. (lines_of xs ≡ []) × (lines_of ys ≡ [])) → Between a b (λ xs ys. lines_of xs ≡ [])
 first_empty None b p = tt
 first_empty (Some x) None p = absurd p
 first_empty (Some x) (Some y) p = p.0

@@ -65,7 +65,7 @@ same_through R S T xs ys zs ws vs had f g so r s t is =
     ∙ sym (map_after had f xs)
     ∙ ap (map f) is
 
-zip_map : {A V D : Type 0} (f : A → V) (Q : V → D → Type 0) (xs : List A) (ws : List D) → AllZip (λ a d. Q (f a) d) xs ws → AllZip Q (map f xs) ws
+pub zip_map : {A V D : Type 0} (f : A → V) (Q : V → D → Type 0) (xs : List A) (ws : List D) → AllZip (λ a d. Q (f a) d) xs ws → AllZip Q (map f xs) ws
 zip_map f Q [] [] h = tt
 zip_map f Q [] (w ∷ ws) h = absurd h
 zip_map f Q (x ∷ xs) [] h = absurd h

@@ -1,8 +1,8 @@
 -- Where the cells are in a table, and a number of a table raised.
-use Rattle.std.proofs.Common.{◌≡◌, ◌≢◌, ℕ, zero, suc, ◌+◌, ◌-◌, ◌*◌, ◌/◌, ◌%◌, ◌≤◌, ◌<◌, ltb, Bool, true, false, cond, List, length, set, get_or, replicate, refl, sym, ap, ◌∙◌, arith}
+use Rattle.std.proofs.Common.{◌≡◌, ◌≢◌, ℕ, zero, suc, ◌+◌, ◌-◌, ◌*◌, ◌/◌, ◌%◌, ◌<◌, ltb, Bool, true, false, cond, List, length, set, get_or, replicate, refl, sym, ap, ◌∙◌, arith}
 use Rattle.std.specs.Prelude.{max, ◌&&◌}
 use Rattle.std.proofs.lemmas.Nat.{div-mul-add, mod-mul-add, mul-add-lt}
-use Rattle.std.proofs.lemmas.Bool.Decides.{nat_tests}
+use Rattle.std.proofs.lemmas.Bool.{cond-false, cond-true, le-ltb, lt-ltb}
 use Rattle.std.proofs.lemmas.List.{get_or-set_same, get_or-set_other}
 use Rattle.rights_lattice.specs.declared.cell.Cell.{Cell}
 use Rattle.rights_lattice.specs.declared.cell.Cell.TheVariants.{Gave, Used, Back}
@@ -35,29 +35,15 @@ offset_lt n (Gave i j) w = omega (arith, gave_lt n i j w.0 w.1)
 offset_lt n (Used i) w = omega (arith, w)
 offset_lt n (Back i) w = omega (arith, w)
 
-cond_first : (b : Bool) (x y : Cell) → b ≡ true → cond b x y ≡ x
-cond_first true x y h = refl
-cond_first false x y h = cc
-
-cond_second : (b : Bool) (x y : Cell) → b ≡ false → cond b x y ≡ y
-cond_second true x y h = cc
-cond_second false x y h = refl
-
-is_below : (a b : ℕ) → a < b → ltb a b ≡ true
-is_below a b h = grind (arith, nat_tests)
-
-is_not_below : (a b : ℕ) → b ≤ a → ltb a b ≡ false
-is_not_below a b h = grind (arith, nat_tests)
-
 cell_at-offset_of : (n : ℕ) (c : Cell) → IsCellOf n c → cell_at n (offset_of n c) ≡ c
 cell_at-offset_of n (Gave i j) w =
-    cond_first _ _ _ (is_below (i * n + j) (n * n) (gave_lt n i j w.0 w.1)) ∙ (λ k. Gave (div-mul-add i n j w.1 k) (mod-mul-add i n j w.1 k))
+    cond-true _ _ _ (lt-ltb (i * n + j) (n * n) (gave_lt n i j w.0 w.1)) ∙ (λ k. Gave (div-mul-add i n j w.1 k) (mod-mul-add i n j w.1 k))
 cell_at-offset_of n (Used i) w =
     let same : n * n + i - n * n ≡ i = omega arith in
-    cond_second _ _ _ (is_not_below (n * n + i) (n * n) (omega arith)) ∙ cond_first _ _ _ (is_below (n * n + i) (n * n + n) (omega (arith, w))) ∙ ap Used same
+    cond-false _ _ _ (le-ltb (n * n + i) (n * n) (omega arith)) ∙ cond-true _ _ _ (lt-ltb (n * n + i) (n * n + n) (omega (arith, w))) ∙ ap Used same
 cell_at-offset_of n (Back i) w =
     let same : n * n + n + i - n * n - n ≡ i = omega arith in
-    cond_second _ _ _ (is_not_below (n * n + n + i) (n * n) (omega arith)) ∙ cond_second _ _ _ (is_not_below (n * n + n + i) (n * n + n) (omega arith)) ∙ ap Back same
+    cond-false _ _ _ (le-ltb (n * n + n + i) (n * n) (omega arith)) ∙ cond-false _ _ _ (le-ltb (n * n + n + i) (n * n + n) (omega arith)) ∙ ap Back same
 
 pub few_numbers : width_of max_sites ≡ 4224
 unfolding max_sites

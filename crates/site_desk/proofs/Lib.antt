@@ -1,6 +1,6 @@
 pub mod Acknowledged
-pub mod Addressed
 pub mod EventTables
 pub mod Growth
+pub mod Moments
 pub mod Sent
 pub mod Shown

@@ -1,11 +1,11 @@
 -- What the first entries of a history say of one event, an entry at a time.
-use Rattle.std.proofs.Common.{All, ◌≡◌, ℕ, zero, suc, ◌+◌, ◌≤◌, ◌<◌, Bool, true, false, ◌||◌, List, [], ◌∷◌, ◌++◌, length, take, drop, take-append-drop, get_or, Some, None, slice_get, subst, sym, ap, ◌∙◌, arith}
+use Rattle.std.proofs.Common.{All, ◌≡◌, ℕ, zero, suc, ◌+◌, ◌≤◌, ◌<◌, Bool, true, ◌||◌, List, [], ◌∷◌, ◌++◌, length, take, get_or, Some, None, slice_get, subst, sym, ap, ◌∙◌, arith}
 use Rattle.std.specs.Prelude.{max, IsTrue, ◌↔◌, ◌==◌}
 use Rattle.std.specs.List.{list_any}
 use Rattle.std.proofs.lemmas.List.{take_all, take_more}
 use Rattle.std.proofs.lemmas.List.Elements.{All-more}
-use Rattle.std.proofs.lemmas.Bool.{or_parts}
 use Rattle.std.proofs.lemmas.Bool.Decides.{nat_tests}
+use Rattle.std.proofs.lemmas.Option.{get_or_from_slice_get, slice_get_within}
 use Rattle.rights_lattice.specs.declared.cell.Cell.{Cell}
 use Rattle.rights_lattice.specs.Cell.{same_event}
 use Rattle.rights_lattice.specs.Cells.{Valued, value_at, greatest, marks_of}
@@ -19,17 +19,10 @@ use Rattle.request_ledger.specs.declared.request.Request.{Request}
 use Rattle.book_core.specs.declared.entry.Entry.{Entry}
 use Rattle.book_core.specs.declared.entry.Entry.TheVariants.{Asked}
 use Rattle.book_core.specs.History.{delta_of, state_of}
-use Rattle.book_core.proofs.Histories.{state_of-append, state_of-push, at-push}
-use Rattle.site_desk.specs.Count.{GoesOnFrom}
+use Rattle.book_core.proofs.Histories.{state_of-push, at-push}
 use Rattle.site_desk.specs.EventCells.{value_in_table, Shows}
 use Rattle.site_desk.specs.declared.receipt.Receipt.{Receipt}
 use Rattle.site_desk.specs.Finish.{StandsIn}
-
-got : {X : Type 0} (xs : List X) (k : ℕ) (x : X) → slice_get xs k ≡ Some x → (k < length xs) × (get_or xs k x ≡ x)
-got [] zero x is = cc
-got [] (suc k) x is = cc
-got (y ∷ ys) zero x is = (omega arith, cc)
-got (y ∷ ys) (suc k) x is = let more = got ys k x is in (omega (arith, more.0), more.1)
 
 -- a place of a list is not empty
 pub not_none : {X : Type 0} (xs : List X) (k : ℕ) → k < length xs → slice_get xs k ≡ None → ⊥
@@ -46,7 +39,7 @@ pub all_of : {X : Type 0} (P : X → Type 0) (xs : List X) (n : ℕ) → length 
 all_of P xs n le holds = subst (All P) (take_all n xs le) holds
 
 take_next : {X : Type 0} (xs : List X) (k : ℕ) (x : X) → slice_get xs k ≡ Some x → take (k + 1) xs ≡ take k xs ++ x ∷ []
-take_next xs k x is = let at = got xs k x is in take_more xs k x at.0 ∙ ap (λ y. take k xs ++ y ∷ []) at.1
+take_next xs k x is = take_more xs k x (slice_get_within xs k x is) ∙ ap (λ y. take k xs ++ y ∷ []) (get_or_from_slice_get xs k x x is)
 
 -- one entry more raises the cells to its marks
 pub shows_more : (h : List Entry) (k : ℕ) (entry : Entry) (marks : List Valued) (old new event : List ℕ) → slice_get h k ≡ Some entry → marks ≡ marks_of (delta_of entry).cells
@@ -65,17 +58,6 @@ knows_more h k entry event is =
     ap (λ (g : List Entry). knows (state_of g).names event) (take_next h k entry is)
     ∙ ap (λ (s : State). knows s.names event) (state_of-push (take k h) entry)
     ∙ contains-union (state_of (take k h)).names (delta_of entry).names event
-
--- what a history does not know, none knew that it goes on from
-pub known_before : (began h : List Entry) (event : List ℕ) → GoesOnFrom began h → knows (state_of h).names event ≡ false → knows (state_of began).names event ≡ false
-known_before began h event goes no =
-    let rest : List Entry = drop (length began) h in
-    let parts : h ≡ began ++ rest = sym (take-append-drop (length began) h) ∙ ap (λ (g : List Entry). g ++ rest) goes in
-    let all : knows (state_of h).names event ≡ (knows (state_of began).names event || knows (state_of rest).names event) =
-    ap (λ (g : List Entry). knows (state_of g).names event) parts
-    ∙ ap (λ (s : State). knows s.names event) (state_of-append began rest)
-    ∙ contains-union (state_of began).names (state_of rest).names event in
-    (or_parts (knows (state_of began).names event) (knows (state_of rest).names event) (sym all ∙ no)).0
 
 -- a look through the names of an entry's delta
 pub any_of : (found : Bool) (names : List (List ℕ)) (delta : State) (entry : Entry) (event : List ℕ) → found ≡ list_any (same_event event) names → names ≡ names_in_order delta.names → delta ≡ delta_of entry

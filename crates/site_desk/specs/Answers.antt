@@ -1,28 +1,30 @@
 -- What a site's book answers over its keeper, and why it does not. (Our own.)
-use Rattle.std.specs.Prelude.{◌≡◌, ℕ, Bool, true, false, not, ◌&&◌, ◌==◌, nat_lt, List, take, Option, Some, None}
+use Rattle.std.specs.Prelude.{◌≡◌, ℕ, Bool, true, false, not, ◌&&◌, ◌==◌, nat_lt, List, take, Option, Some, None, IsSome}
 use Rattle.local_rights.specs.OpenSeats.{view_in}
 use Rattle.book_core.specs.declared.entry.Entry.{Entry}
 use Rattle.book_core.specs.Decision as decided
 use Rattle.book_core.specs.declared.plan.GrowFault.{GrowFault}
 use Rattle.book_core.specs.declared.plan.GrowFault.TheVariants as grow_fault
-use Rattle.book_core.specs.Decision.{Decision, Office, office_after, own_left, sites_of}
+use Rattle.book_core.specs.Decision.{Decision, Office, own_left, sites_of}
 use Rattle.book_core.specs.Growing as grow
 use Rattle.book_core.specs.Growing.{GrowDecision}
 use Rattle.book_core.specs.History.{state_of}
 use Rattle.book_core.specs.Plans.{IsFresh}
 use Rattle.site_exchange.specs.declared.message.Message.{Message}
-use Rattle.site_exchange.specs.declared.message.Message.TheVariants.{Delta, Ack}
-use Rattle.site_exchange.specs.declared.message.CheckFault.{CheckFault}
 use Rattle.site_exchange.specs.declared.message.TakeFault.{TakeFault}
 use Rattle.site_exchange.specs.declared.message.TakeFault.TheVariants as take_fault
 use Rattle.site_exchange.specs.Exchange as exchange
-use Rattle.site_exchange.specs.Exchange.{Verdict, addressed}
+use Rattle.site_exchange.specs.Exchange.{Verdict}
 use Rattle.site_desk.specs.declared.answer.Answer.{Answer}
 use Rattle.site_desk.specs.declared.answer.Seen.{Seen}
 use Rattle.site_desk.specs.declared.answer.Taken.{Taken}
 use Rattle.site_desk.specs.declared.answer.Taken.TheVariants as taken
 use Rattle.site_desk.specs.declared.fault.AskFault.{AskFault}
 use Rattle.site_desk.specs.declared.fault.AskFault.TheVariants as ask_fault
+use Rattle.site_desk.specs.declared.fault.LookFault.{LookFault}
+use Rattle.site_desk.specs.declared.fault.LookFault.TheVariants as look_fault
+use Rattle.site_desk.specs.declared.fault.NextFault.{NextFault}
+use Rattle.site_desk.specs.declared.fault.NextFault.TheVariants as next_fault
 
 -- the answer to a request is the decision: a kept reply where it stands, or a new one at the end
 abbrev pub IsAnswer : Decision → ℕ → Answer → Type 0
@@ -67,10 +69,16 @@ IsGrowFault closed decision before after grow_fault.Full = (closed ≡ false) ×
 IsGrowFault closed decision before after grow_fault.Memory = (closed ≡ false) × (decision ≡ grow.Grows)
 IsGrowFault closed decision before after grow_fault.Store = (closed ≡ false) × (decision ≡ grow.Grows) × (before ≡ 0) × (after ≡ 1)
 
--- what is wrong with the sites that a message is from and to, if anything
-abbrev pub address_fault : Office → List Entry → Message → Option CheckFault
-address_fault office history (Delta by to upto delta) = addressed (office_after office history) by to
-address_fault office history (Ack by to upto) = addressed (office_after office history) by to
+-- why a look shows nothing, of a book that is closed or not and an event that is known or not
+abbrev pub IsLookFault : Bool → Bool → LookFault → Type 0
+IsLookFault closed known look_fault.Closed = closed ≡ true
+IsLookFault closed known look_fault.Unknown = (closed ≡ false) × (known ≡ false)
+
+-- why no message is given to a site that is a peer or not, where this one is due
+abbrev pub IsNextFault : Bool → Bool → Option Message → NextFault → Type 0
+IsNextFault closed peer due next_fault.Closed = closed ≡ true
+IsNextFault closed peer due next_fault.NoSite = (closed ≡ false) × (peer ≡ false)
+IsNextFault closed peer due next_fault.Memory = (closed ≡ false) × (peer ≡ true) × IsSome due
 
 -- the site is another one of those that the book counts so far
 abbrev pub is_peer : Office → List Entry → ℕ → Bool

@@ -1,17 +1,18 @@
 //! A site's book that threads share.
-ghost use Rattle.std.specs.Prelude.{◌≡◌, ◌≢◌, ◌+◌, ◌<◌, ◌≤◌, ◌⊎◌, All, Err, Some, true, false, length, IfOk, IfErr, IfSome, OnErr, if◌then◌else◌};
+ghost use Rattle.std.specs.Prelude.{◌≡◌, ◌≢◌, ◌+◌, ◌<◌, ◌≤◌, ℕ, All, true, false, length, IfOk, IfErr, IfSome, OnErr, if◌then◌else◌};
 ghost use Rattle.rights_lattice.specs.State.{knows};
 ghost use Rattle.book_core.specs.History.{state_of};
 ghost use Rattle.book_core.specs.Legal.{IsLegal};
 ghost use Rattle.book_core.specs.OwnRow.{HasOwnRights};
-ghost use Rattle.site_exchange.specs.declared.message.CheckFault.TheVariants as check_fault;
-ghost use Rattle.site_exchange.specs.Exchange.{ack_for, receiver, unchecked};
+ghost use Rattle.site_exchange.specs.Exchange.{ack_for, next, receiver};
+ghost use Rattle.site_exchange.specs.Taking.{MayTake};
 ghost use Rattle.sql_records.specs.Keeping.{LeavesOnly};
 ghost use Rattle.book_core.specs.Decision.{sites_of};
-ghost use Rattle.site_desk.specs.Answers.{ack_of, is_peer, address_fault};
-ghost use Rattle.site_desk.specs.Count.{asked_since, GoesOnFrom};
+ghost use Rattle.site_desk.specs.Answers.{IsAnswer, IsAskFault, IsLookFault, IsNextFault, IsSeenAt, IsTakeFault, IsTaken, ack_of, is_peer};
+ghost use Rattle.site_desk.specs.Count.{asked_since, AtOnce, GoesOnFrom};
 ghost use Rattle.site_desk.specs.Finish.{FindsFirst, StandsIn, WasSeen, handed_back};
 ghost use Rattle.site_desk.specs.Seats.{held, parts_of, shares_of};
+ghost use Rattle.site_desk.specs.SiteView.{SiteView, decision_in, site_of, verdict_in};
 
 use crate::answer::{Answer, Seen, Taken};
 use crate::fault::{AskFault, LookFault, NextFault};
@@ -56,7 +57,8 @@ impl<K: Keeper, L: Opens> Desk<K, L> {
     /// Answers a request as the book does, and gives the receipt for the answer. The seat's share is raised by one
     /// exactly where the answer is fresh. The gate is passed under the lock.
     ///
-    /// Errors are those of `SiteBook::ask`; they leave the seat as it was.
+    /// Errors are those of `SiteBook::ask`; they leave the seat as it was. The answer or the error is that of the book as
+    /// it was at one moment (`answered`): a legal history of this site that goes on from the one that the desk began with.
     pub fn ask<R: Wait, G: Gate>(
         &self,
         rt: &R,
@@ -70,6 +72,7 @@ impl<K: Keeper, L: Opens> Desk<K, L> {
         ensures share { IfOk result (λ r. seat.new ≡ held seat.old.parts (if r.0.fresh then seat.old.count + 1 else seat.old.count)) }
         ensures kept { OnErr result (seat.new ≡ seat.old) }
         ensures place { IfOk result (λ r. r.0.fresh ≡ true → length L.began + seat.old.count ≤ r.0.place) }
+        ensures answered { AtOnce L.office L.began (λ (s : SiteView K). IfOk result (λ r. (s.closed ≡ false) × IsAnswer (decision_in s.book number request.now) (length s.book.history) r.0) × IfErr result (λ fault. (after : ℕ) × IsAskFault s.closed (decision_in s.book number request.now) (K.failed s.keeper) after fault)) }
     {
         let mut locked = self.lock.lock(rt);
         let site = locked.site();
@@ -80,11 +83,11 @@ impl<K: Keeper, L: Opens> Desk<K, L> {
     /// What the history shows of an event that it knows, once it has all that was newly entered for this seat (the
     /// session guarantee "read your writes", PDIS 1994). It waits for that, though the history always has it.
     ///
-    /// Errors are those of `SiteBook::look`; an event that was known when the count began never is `Unknown`.
+    /// Errors are those of `SiteBook::look`. What is seen, or the error, is that of the book at one moment (`seen`).
     pub fn look<R: Wait>(&self, rt: &R, seat: &Seat<L>, event: Event) -> Result<Seen, LookFault>
         ensures event { IfOk result (λ seen. seen.event ≡ event) }
         ensures at { IfOk result (λ seen. length L.began + seat.now.count ≤ seen.at) }
-        ensures unknown { result ≡ Err LookFault.Unknown → knows (state_of L.began).names event ≡ false }
+        ensures seen { AtOnce L.office L.began (λ (s : SiteView K). IfOk result (λ seen. (s.closed ≡ false) × (knows (state_of s.book.history).names event ≡ true) × ((seen.at ≡ length s.book.history) × IsSeenAt s.book.office s.book.history event seen)) × IfErr result (IsLookFault s.closed (knows (state_of s.book.history).names event))) }
     {
         for _ in rt.forever() {
             let locked = self.lock.lock(rt);
@@ -95,24 +98,17 @@ impl<K: Keeper, L: Opens> Desk<K, L> {
         unreachable!()
     }
 
-    /// Takes a peer's message as the book does, with its errors. The acknowledgement that is given is the one for the
-    /// message, and none is given for an acknowledgement.
-    ///
-    /// A message to another site, from this one, or from none that the book counts is refused so, unless the book is
-    /// closed; and only such a message is refused as not for this site.
+    /// Takes a peer's message as the book does at one moment, with its errors (`taken`). The acknowledgement that is given
+    /// is the one for the message, and none is given for an acknowledgement.
     #[tactic(auto, using(crate::proofs::Sent::ack_taken))]
     pub fn take<R: Wait>(&self, rt: &R, message: Message) -> Result<Taken, TakeFault>
         ensures ack { IfOk result (λ taken. ack_of taken ≡ ack_for message) }
-        ensures address { IfSome (address_fault L.office L.began message) (λ fault. (result ≡ Err (unchecked fault)) ⊎ (result ≡ Err TakeFault.Closed)) }
-        ensures not_for_me { result ≡ Err TakeFault.NotForMe → address_fault L.office L.began message ≡ Some check_fault.NotForMe }
+        ensures taken { AtOnce L.office L.began (λ (s : SiteView K). IfOk result (λ taken. (s.closed ≡ false) × IsTaken (verdict_in s.book message) (ack_for message) taken) × IfErr result (λ fault. (after : ℕ) × IsTakeFault s.closed (verdict_in s.book message) (MayTake (verdict_in s.book message) (site_of s) message) (K.failed s.keeper) after fault)) }
     {
         self.lock.lock(rt).take(message)
     }
 
-    /// The message that is due to a peer, as the book gives it, with its errors.
-    ///
-    /// `NoSite` is for a site that is not another one of those that the book counts; such a site gets it, unless the book
-    /// is closed.
+    /// The message that is due to a peer, as the book gives it at one moment, with its errors (`due`).
     #[tactic(auto, using(crate::proofs::Sent::next_sent))]
     pub fn next<R: Wait>(
         &self,
@@ -121,8 +117,7 @@ impl<K: Keeper, L: Opens> Desk<K, L> {
         to: SiteId,
     ) -> Result<Option<Message>, NextFault>
         ensures to { IfOk result (λ message. IfSome message (λ m. receiver m ≡ to)) }
-        ensures stranger { is_peer L.office L.began to ≡ false → (result ≡ Err NextFault.NoSite) ⊎ (result ≡ Err NextFault.Closed) }
-        ensures not_peer { result ≡ Err NextFault.NoSite → is_peer L.office L.began to ≡ false }
+        ensures due { AtOnce L.office L.began (λ (s : SiteView K). IfOk result (λ message. (s.closed ≡ false) × (is_peer s.book.office s.book.history to ≡ true) × (message ≡ next s.book.office.me (site_of s) to)) × IfErr result (IsNextFault s.closed (is_peer s.book.office s.book.history to) (next s.book.office.me (site_of s) to))) }
     {
         self.lock.lock(rt).next(alloc, to)
     }

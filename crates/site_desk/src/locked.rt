@@ -1,17 +1,16 @@
 //! What lies under a desk's lock.
-ghost use Rattle.std.specs.Prelude.{◌≡◌, ◌≢◌, ◌↔◌, ◌⊎◌, All, Err, Some, IfSome, IsSome, ◌+◌, ◌<◌, ◌≤◌, true, false, length, IsTrue, IfOk, IfErr, OnErr, OnOk, if◌then◌else◌};
+ghost use Rattle.std.specs.Prelude.{◌≡◌, ◌≢◌, ◌↔◌, ◌⊎◌, All, Err, IsSome, ◌+◌, ◌<◌, ◌≤◌, true, false, length, IsTrue, IfOk, IfErr, OnErr, OnOk, if◌then◌else◌};
 ghost use Rattle.rights_lattice.specs.State.{knows};
 ghost use Rattle.book_core.specs.History.{state_of};
 ghost use Rattle.book_core.specs.Decision.{sites_of};
 ghost use Rattle.book_core.specs.Legal.{IsLegal};
 ghost use Rattle.book_core.specs.OwnRow.{HasOwnRights};
-ghost use Rattle.site_exchange.specs.declared.message.CheckFault.TheVariants as check_fault;
-ghost use Rattle.site_exchange.specs.Exchange.{ack_for, next, unchecked};
+ghost use Rattle.site_exchange.specs.Exchange.{ack_for, next};
 ghost use Rattle.site_exchange.specs.Taking.{MayTake, site_after, with_entry};
 ghost use Rattle.sql_records.specs.Keeping.{LeavesOnly};
-ghost use Rattle.site_desk.specs.Answers.{IsAnswer, IsAskFault, IsSeenAt, IsTakeFault, IsTaken, is_peer, address_fault};
+ghost use Rattle.site_desk.specs.Answers.{IsAnswer, IsAskFault, IsSeenAt, IsTakeFault, IsTaken, is_peer};
 ghost use Rattle.site_desk.specs.SiteView.{decision_in, entry_in, site_of, verdict_in};
-ghost use Rattle.site_desk.specs.Count.{asked_since, GoesOnFrom};
+ghost use Rattle.site_desk.specs.Count.{asked_since, GoesOnFrom, IsLater};
 ghost use Rattle.site_desk.specs.Finish.{FindsFirst, StandsIn, WasSeen, handed_back};
 ghost use Rattle.site_desk.specs.Seats.{held, parts_of, shares_of};
 
@@ -87,6 +86,7 @@ impl<K: Keeper, L: Opens> Locked<K, L> {
         number: RequestNumber,
         request: &Request,
     ) -> Result<(Answer, Receipt), AskFault>
+        ensures later { IsLater L.office L.began self.old.book }
         ensures office { self.new.book.office ≡ self.old.book.office }
         ensures answer { IfOk result (λ r. IsAnswer (decision_in self.old.book number request.now) (length self.old.book.history) r.0) }
         ensures entered { OnOk result (site_of self.new ≡ with_entry (entry_in self.old.book number request.now) (site_of self.old)) }
@@ -100,6 +100,8 @@ impl<K: Keeper, L: Opens> Locked<K, L> {
         ensures kept { OnErr result (seat.new ≡ seat.old) }
         ensures place { IfOk result (λ r. r.0.fresh ≡ true → length L.began + seat.old.count ≤ r.0.place) }
     {
+        // What the book says of its history.
+        let _book = self.book.book();
         self.tally.audit(&mut seat.share);
         let answer = self.book.ask(alloc, number, request)?;
         // What the book says of its length, which the total is not above.
@@ -136,17 +138,20 @@ impl<K: Keeper, L: Opens> Locked<K, L> {
 
     /// What the history shows of an event that it knows.
     pub fn look(&self, event: Event) -> Result<Seen, LookFault>
+        ensures later { IsLater L.office L.began self.now.book }
         ensures seen { IfOk result (IsSeenAt self.now.book.office self.now.book.history event) }
         ensures at { IfOk result (λ seen. seen.at ≡ length self.now.book.history) }
         ensures closed { (result ≡ Err LookFault.Closed) ↔ (self.now.closed ≡ true) }
         ensures unknown { (result ≡ Err LookFault.Unknown) ↔ ((self.now.closed ≡ false) × (knows (state_of self.now.book.history).names event ≡ false)) }
-        ensures unknown_before { result ≡ Err LookFault.Unknown → knows (state_of L.began).names event ≡ false }
     {
+        // What the book says of its history.
+        let _book = self.book.book();
         self.book.look(event)
     }
 
     /// Takes a peer's message.
     pub fn take(&mut self, message: Message) -> Result<Taken, TakeFault>
+        ensures later { IsLater L.office L.began self.old.book }
         ensures office { self.new.book.office ≡ self.old.book.office }
         ensures taken { IfOk result (IsTaken (verdict_in self.old.book message) (ack_for message)) }
         ensures changed { OnOk result (site_of self.new ≡ site_after (verdict_in self.old.book message) message (site_of self.old)) }
@@ -155,22 +160,23 @@ impl<K: Keeper, L: Opens> Locked<K, L> {
         ensures unchanged { OnErr result (site_of self.new ≡ site_of self.old) }
         ensures untouched { IfErr result (λ fault. fault ≢ TakeFault.Store → self.new.keeper ≡ self.old.keeper) }
         ensures closes { (self.new.closed ≡ true) ↔ ((self.old.closed ≡ true) ⊎ (result ≡ Err TakeFault.Store)) }
-        ensures address { IfSome (address_fault L.office L.began message) (λ fault. (result ≡ Err (unchecked fault)) ⊎ (result ≡ Err TakeFault.Closed)) }
-        ensures not_for_me { result ≡ Err TakeFault.NotForMe → address_fault L.office L.began message ≡ Some check_fault.NotForMe }
     {
+        // What the book says of its history.
+        let _book = self.book.book();
         self.book.take(message)
     }
 
     /// The message that is due to a peer.
     pub fn next(&mut self, alloc: Global, to: SiteId) -> Result<Option<Message>, NextFault>
+        ensures later { IsLater L.office L.began self.old.book }
         ensures message { IfOk result (λ message. message ≡ next self.old.book.office.me (site_of self.old) to) }
         ensures closed { (result ≡ Err NextFault.Closed) ↔ (self.old.closed ≡ true) }
         ensures no_site { (result ≡ Err NextFault.NoSite) ↔ ((self.old.closed ≡ false) × (is_peer self.old.book.office self.old.book.history to ≡ false)) }
         ensures memory { result ≡ Err NextFault.Memory → IsSome (next self.old.book.office.me (site_of self.old) to) }
         ensures same { self.new ≡ self.old }
-        ensures stranger { is_peer L.office L.began to ≡ false → (result ≡ Err NextFault.NoSite) ⊎ (result ≡ Err NextFault.Closed) }
-        ensures not_peer { result ≡ Err NextFault.NoSite → is_peer L.office L.began to ≡ false }
     {
+        // What the book says of its history.
+        let _book = self.book.book();
         self.book.next(alloc, to)
     }
 

@@ -7,6 +7,7 @@ use Rattle.book_core.specs.Decision.{Office}
 use Rattle.site_exchange.specs.Exchange.{SitePart}
 use Rattle.sql_records.specs.Held.{RecordsView, IsTrusted}
 use Rattle.sql_records.specs.Layout.{HasMeta, office_of}
+use Rattle.sql_records.proofs.OpeningLemmas.{on_ok}
 use Rattle.site_desk.specs.SiteView.{SiteView, site_of}
 use Rattle.operator_cli.specs.Exchanged.{IsDueText, IsDueTold, stored_site}
 use Rattle.operator_cli.specs.declared.status.Status.{Status}
@@ -14,7 +15,7 @@ use Rattle.operator_cli.specs.declared.store_fault.StoreFault.TheVariants as fau
 use Rattle.operator_cli.specs.Printed.{Printed}
 use Rattle.operator_cli.specs.Printed.{IsMessageText, IsSentText, Unsaid}
 use Rattle.operator_cli.specs.Opened.{IsExportEnd, IsIllegal, IsRefused}
-use Rattle.operator_cli.proofs.EndLaws.{always, fails_as, if_back, on_ok_map, weaker}
+use Rattle.operator_cli.proofs.EndLaws.{fails_as, if_back, on_ok_map, weaker}
 use Rattle.operator_cli.proofs.ExchangeLaws.{due_is_message, export_end}
 use Rattle.operator_cli.proofs.OpenedLaws.{book_back, opened_cause, opened_illegal, opened_ours, refused_cause, refused_illegal, refused_lost, refused_ours, refused_silent}
 use Rattle.operator_cli.proofs.PrintLaws.{came_said, came_unsaid, ends_printed, fails_unsaid, if_some_is, unsaid_as}
@@ -98,7 +99,7 @@ returns-in-Ok-clause-cause g c =
     λ status text is meta has. subst₂ (λ (o : Office) (s : SitePart). IsDueText o s c.args.to status text) (of.office meta has) site is in
     let ended = weaker _ (IsExportEnd c.args.to (state g.S.Store opened) (state g.S.Store opened)) came
     (λ f e meta has. export_end c.args.to book meta (state g.S.Store opened).now.trees f of.unclosed (of.office meta (subst (HasMeta meta) now has)) (site ∙ ap stored_site (sym now)) e) c.write_next-came.ensures.fault in
-    opened_cause g.S.Store c.args.conn opened book back (IsExportEnd c.args.to) says opened before after (g.E.Write.contents c.args.err.now) (g.E.Write.contents c.close_book.new.err) came c.close_book.result.0 clean (c.in-Ok.ensures.unchanged clean) c.in-Ok.ensures.limit ended (always came _ (λ meta has. tt))
+    opened_cause g.S.Store c.args.conn opened book back (IsExportEnd c.args.to) says opened before after (g.E.Write.contents c.args.err.now) (g.E.Write.contents c.close_book.new.err) came c.close_book.result.0 clean (c.in-Ok.ensures.unchanged clean) c.in-Ok.ensures.limit ended (on_ok came _ (λ meta has. tt))
     (weaker _ _ came (unsaid_as due says before after same_told) (came_unsaid due before between after came c.close_book.ensures.kept c.write_next-came.ensures.unsaid))
     (on_ok_map came _ _ (unsaid_as due says before after same_told fault.Write) (came_said due before between after came c.close_book.ensures.kept c.write_next-came.ensures.due c.write_next-came.ensures.ends))
     c.write_next-came.ensures.ends c.close_book.ensures.line c.close_book.ensures.flush)

@@ -6,11 +6,12 @@ use Rattle.sql_records.specs.Keeping.{LeavesOnly}
 use Rattle.operator_cli.specs.declared.status.Status.{Status}
 use Rattle.operator_cli.specs.declared.status.Status.TheVariants.{Done, Refused}
 use Rattle.sql_records.specs.Layout.{has_our_table}
+use Rattle.sql_records.proofs.OpeningLemmas.{on_ok}
 use Rattle.operator_cli.specs.Told.{told_line, told_status}
 use Rattle.operator_cli.specs.Printed.{IsMadeText, told_of_making}
 use Rattle.operator_cli.specs.Opened.{IsMakeEnd}
 use Rattle.operator_cli.proofs.MakeLaws.{unsaid_made}
-use Rattle.operator_cli.proofs.EndLaws.{for_write, told_lives, always}
+use Rattle.operator_cli.proofs.EndLaws.{for_write, told_lives}
 use Rattle.operator_cli.proofs.PrintLaws.{told_printed, told_ends, told_unsaid, unsaid_yet}
 use Rattle.operator_cli.proofs.init.write_made.Goals as goal
 
@@ -49,7 +50,7 @@ returns-in-Ok-clause-fault g c clean =
 pub returns-in-Ok-clause-unsaid : goal.returns-in-Ok-clause-unsaid
 returns-in-Ok-clause-unsaid g c clean =
     let numbers : Meta = record { me = c.args.me; sites = c.args.sites; limit = c.args.limit } in
-    always c.tell.result _ (unsaid_made g.S.Store c.args.conn.now c.make.new.conn numbers c.in-Ok.told c.in-Ok.ensures.told (c.in-Ok.ensures.made clean) c.in-Ok.ensures.kept)
+    on_ok c.tell.result _ (unsaid_made g.S.Store c.args.conn.now c.make.new.conn numbers c.in-Ok.told c.in-Ok.ensures.told (c.in-Ok.ensures.made clean) c.in-Ok.ensures.kept)
 
 pub returns-in-Ok-clause-ends : goal.returns-in-Ok-clause-ends
 returns-in-Ok-clause-ends g c = told_lives c.tell.result c.in-Ok.told c.tell.ensures.status

@@ -1,9 +1,10 @@
 use Rattle.std.proofs.Common.{◌≡◌, ◌≤◌, ◌<◌, ℕ, rules, arith, subst, refl}
 use Rattle.std.proofs.KnownBytes.{Keeps-refl}
+use Rattle.session_server.proofs.Sessions.{first_empty}
 use Rattle.operator_cli.specs.Ran.{RestRan}
 use Rattle.operator_cli.specs.Script.{answers}
 use Rattle.operator_cli.proofs.BreakLaws.{broke_after, broke_at_limit, err_is}
-use Rattle.operator_cli.proofs.ScriptLaws.{SoFar, at_err, begins, goes_on, breaks_off, unknown_more, one_too_many, all_answered, first_empty}
+use Rattle.operator_cli.proofs.ScriptLaws.{SoFar, at_err, begins, goes_on, breaks_off, unknown_more, one_too_many, all_answered}
 use Rattle.operator_cli.proofs.world.reply_all.Goals as goal
 
 pub lines-init : goal.lines-init

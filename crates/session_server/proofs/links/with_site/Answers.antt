@@ -3,8 +3,7 @@ use Rattle.std.specs.Prelude.{All}
 use Rattle.std.proofs.lemmas.List.Elements.{All-push, All-same}
 use Rattle.session_server.specs.Mesh.{IsMesh, IsNewPeer, linkage_of}
 use Rattle.session_server.proofs.Meshes.{mesh_with, named_then}
-use Rattle.session_server.proofs.Rows.{mapped_push}
-use Rattle.session_server.proofs.Rows.{map_after}
+use Rattle.session_server.proofs.Rows.{map_after, mapped_push}
 use Rattle.session_server.proofs.links.with_site.Goals as goal
 
 pub returns-clause-mesh : goal.returns-clause-mesh

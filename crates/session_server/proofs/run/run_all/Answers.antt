@@ -9,10 +9,10 @@ use Rattle.session_server.specs.Finished.{IsLeftOf}
 use Rattle.session_server.specs.Mesh.{IsMesh, linkage_left, linkage_of, others_of}
 use Rattle.session_server.specs.Settled.{AreLinksTold}
 use Rattle.session_server.proofs.Exchanges.{exchanged_as, rows_left, rows_linked, rows_named}
+use Rattle.session_server.proofs.Rows.{map_after}
 use Rattle.session_server.proofs.Settles.{all_acknowledged, all_counted, all_named, all_within}
 use Rattle.session_server.proofs.Sites.{if_ok_then, pairs_through, renamed, same_through, through, with_first}
 use Rattle.session_server.proofs.run.run_all.Goals as goal
-use Rattle.session_server.proofs.Rows.{map_after}
 
 pub work_all-requires-clause-keeps : goal.work_all-requires-clause-keeps
 work_all-requires-clause-keeps g c κs within = λ k d lt left post.
