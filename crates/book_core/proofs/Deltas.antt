@@ -29,10 +29,10 @@ has_lists_of D S names marks P test s = (
   (λ same. test.1 (subst (λ (X : State). HasLists X names marks) (sym same) s)),
 )
 
-no_names_listed : names_in_order no_names ≡ []
+pub no_names_listed : names_in_order no_names ≡ []
 no_names_listed = ap names_in_order (sym names_of-none) ∙ names_in_order-names_of [] refl
 
-no_marks_listed : marks_of all_zero ≡ []
+pub no_marks_listed : marks_of all_zero ≡ []
 no_marks_listed = ap marks_of (sym cells_of-none) ∙ marks_of-cells_of [] refl tt
 
 pub lists_of_nothing : HasLists bottom [] []

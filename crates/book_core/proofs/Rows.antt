@@ -13,6 +13,7 @@ use Rattle.rights_lattice.proofs.CellLaws.{value_at-raise, value_at-all_zero}
 use Rattle.rights_lattice.proofs.SpotLaws.{same_event_is, same_cell_is, value_in-tests}
 use Rattle.delta_mutators.specs.Marks.{mark_plus}
 use Rattle.local_rights.specs.Rights.{ceded_in, gained, spent, left_of}
+use Rattle.local_rights.proofs.KeptLaws.{part_le}
 use Rattle.local_rights.proofs.Sums.{sum_below_le, sum_below-zero, sum_raised}
 use Rattle.request_ledger.specs.declared.request.Request.{Request}
 use Rattle.request_ledger.specs.declared.request.Request.TheVariants.{Announce, Release, Sell, Refund, Cede}
@@ -157,10 +158,6 @@ gained_le x y event i more =
 pub miss : (b c : Bool) (a : ℕ) → c ≡ false → cond (b && c) a 0 ≡ 0
 miss true c a q = ap (λ t. cond t a 0) q
 miss false c a q = refl
-
-part_le : (b : Bool) (a : ℕ) → cond b a 0 ≤ a
-part_le true a = omega arith
-part_le false a = omega arith
 
 -- y is x after an allowed change
 abbrev pub After : ℕ → Cells → Option Change → Cells → Type 0

@@ -10,7 +10,7 @@ use Rattle.rights_lattice.proofs.StateLaws.{same_names, contains-union, knows-wi
 use Rattle.rights_lattice.proofs.MarkLaws.{cells_of-none, cells_of-one, names_of-none, names_of-one, merged_cells, merged_names}
 use Rattle.rights_lattice.proofs.OrLaws.{or_false}
 use Rattle.delta_mutators.specs.declared.delta.Item.TheVariants.{Name, Cell}
-use Rattle.delta_mutators.specs.Lists.{AreLists}
+use Rattle.delta_mutators.specs.Lists.{AreLists, state_from}
 use Rattle.delta_mutators.specs.Items.{item_state}
 use Rattle.delta_mutators.specs.ApplyLaw.{ApplyingIsJoining, AddingIsJoining}
 
@@ -38,9 +38,6 @@ with_name-join N name = same_names _ _ (λ n.
 pub adding_is_joining : AddingIsJoining
 adding_is_joining S (Name name) = λ i. record { cells = join-all_zero S.cells i; names = with_name-join S.names name i }
 adding_is_joining S (Cell mark) = λ i. record { cells = applying_is_joining S.cells mark i; names = join_names-no_names S.names i }
-
-abbrev pub state_from : List (List ℕ) → List Valued → State
-state_from ns ms = record { cells = cells_of ms; names = names_of ns }
 
 pub empty_state : (ns : List (List ℕ)) (ms : List Valued) → ns ≡ [] → ms ≡ [] → state_from ns ms ≡ bottom
 empty_state ns ms p q = λ i. record { cells = (ap cells_of q ∙ cells_of-none) i; names = (ap names_of p ∙ names_of-none) i }

@@ -9,20 +9,21 @@ use Rattle.std.specs.declared.cmp.Ordering.{Ordering}
 use Rattle.std.specs.declared.cmp.Ordering.TheVariants.{Less, Equal, Greater}
 use Rattle.std.specs.FinMap as finite
 use Rattle.std.specs.FinMap.Entries as entry
+use Rattle.std.proofs.Math.Bool.{and_assoc, and-false, and-true}
 use Rattle.std.proofs.lemmas.Bool.{cases_Bool, and_parts, and_from}
 use Rattle.std.proofs.lemmas.Cmp.{nat_list_cmp_total}
-use Rattle.std.proofs.lemmas.List.{append-nil, map-append}
+use Rattle.std.proofs.lemmas.List.{append-nil, map-append, map_push}
 use Rattle.rights_lattice.specs.Cells.{Key, key_cmp, Valued, raise, marks_of}
 use Rattle.rights_lattice.specs.State.{State, with_name, names_in_order}
 use Rattle.rights_lattice.proofs.CellLaws.{key_cmp_total, same_cells, greatest-append, value_at-raise}
 use Rattle.delta_mutators.specs.declared.delta.Item.{Item}
 use Rattle.delta_mutators.specs.declared.delta.Item.TheVariants as item
 use Rattle.rights_lattice.specs.Marks.{AreMarks, keyed_marks, are_rising_marks, cells_of, keyed_names, are_rising_names, names_of}
+use Rattle.delta_mutators.specs.Lists.{state_from}
 pub use Rattle.delta_mutators.specs.Lists.{AreLists}
 pub use Rattle.rights_lattice.proofs.MergeLaws.{AreMarks-end}
 use Rattle.rights_lattice.proofs.MergeLaws.{as_test, as_true}
 use Rattle.delta_mutators.specs.Rises.{is_after_names, is_after_marks, follows, rises, pushed, names_in, marks_in}
-use Rattle.delta_mutators.proofs.DeltaLaws.{state_from}
 use Rattle.rights_lattice.proofs.MarkLaws.{marks_of-cells_of, value_at-cells_of, names_in_order-names_of}
 
 less : (o : Ordering) → is_lt o ≡ true → o ≡ Less
@@ -30,24 +31,12 @@ less Less e = refl
 less Equal e = absurd cc
 less Greater e = absurd cc
 
-and_assoc : (a b c : Bool) → ((a && b) && c) ≡ (a && (b && c))
-and_assoc true b c = refl
-and_assoc false b c = refl
-
 -- (a && b) && (c && d) as (a && c) && (b && d)
 and_swap : (a b c d : Bool) → ((a && b) && (c && d)) ≡ ((a && c) && (b && d))
 and_swap true true c d = refl
 and_swap true false true d = refl
 and_swap true false false d = refl
 and_swap false b c d = refl
-
-and_false : (a : Bool) → (a && false) ≡ false
-and_false true = refl
-and_false false = refl
-
-and_true : (a : Bool) → (a && true) ≡ a
-and_true true = refl
-and_true false = refl
 
 reversed : {K : Type 0} (R : K → K → Ordering) → IsTotalOrder R → (x k : K) → is_lt (R x k) ≡ true → R k x ≡ Greater
 reversed R o x k h = o.antisymm k x ∙ ap ordering_reverse (less _ h)
@@ -61,7 +50,7 @@ module _ {K X : Type 0} (R : K → K → Ordering) (o : IsTotalOrder R) where
   all_below es k = list_all (λ e. is_lt (R e.0 k)) es
 
   below_all-end : (x k : K) (v : X) (es : List (K × X)) → entry.below_all R x (es ++ (k, v) ∷ []) ≡ (entry.below_all R x es && is_lt (R x k))
-  below_all-end x k v [] = and_true _
+  below_all-end x k v [] = and-true _
   below_all-end x k v (e ∷ es) = ap (λ b. is_lt (R x e.0) && b) (below_all-end x k v es) ∙ sym (and_assoc (is_lt (R x e.0)) (entry.below_all R x es) (is_lt (R x k)))
 
   pub is_sorted-end : (k : K) (v : X) (es : List (K × X)) → entry.is_sorted R (es ++ (k, v) ∷ []) ≡ (entry.is_sorted R es && all_below es k)
@@ -95,14 +84,14 @@ module _ {K X : Type 0} (R : K → K → Ordering) (o : IsTotalOrder R) where
       → last ≡ (is_lt (R (f x).0 k) && list_all (λ a. is_lt (R (f a).0 k)) (y ∷ ys))
   last_step f x y ys k last lt e = elim (cases_Bool (list_all (λ a. is_lt (R (f a).0 k)) (y ∷ ys))) [
     | inl all ↦ let x_below = lt_trans R o (f x).0 (f y).0 k lt (and_parts _ _ all).0 in e ∙ all ∙ sym (and_from _ _ x_below all)
-    | inr other ↦ e ∙ other ∙ sym (ap (λ b. is_lt (R (f x).0 k) && b) other ∙ and_false _)
+    | inr other ↦ e ∙ other ∙ sym (ap (λ b. is_lt (R (f x).0 k) && b) other ∙ and-false _)
   ]
 
   -- all of a rising list are below a key where its last is
   pub all-last : {A : Type 0} (f : A → K × X) (xs : List A) (i : ℕ) (d : A) (k : K) → i + 1 ≡ length xs → entry.is_sorted R (map f xs) ≡ true
       → is_lt (R (f (get_or xs i d)).0 k) ≡ list_all (λ a. is_lt (R (f a).0 k)) xs
   all-last f [] i d k e h = absurd (omega (arith, e))
-  all-last f (x ∷ []) zero d k e h = sym (and_true _)
+  all-last f (x ∷ []) zero d k e h = sym (and-true _)
   all-last f (x ∷ []) (suc i) d k e h = absurd (omega (arith, e))
   all-last f (x ∷ y ∷ ys) zero d k e h = absurd (omega (arith, e))
   all-last f (x ∷ y ∷ ys) (suc i) d k e h =
@@ -119,19 +108,15 @@ marks_last ms last m lt is h =
     ap (λ (x : Valued). is_lt (key_cmp (x.event, x.cell) (m.event, m.cell))) is
     ∙ all-last key_cmp key_cmp_total (λ (x : Valued). ((x.event, x.cell), x.value - 1)) ms (length ms - 1) last (m.event, m.cell) (omega (arith, lt)) h
 
-map_end : {A B : Type 0} (f : A → B) (xs : List A) (y : A) → map f (xs ++ y ∷ []) ≡ map f xs ++ f y ∷ []
-map_end f [] y = refl
-map_end f (x ∷ xs) y = ap (λ t. f x ∷ t) (map_end f xs y)
-
 all_map : {A B : Type 0} (p : B → Bool) (f : A → B) (xs : List A) → list_all p (map f xs) ≡ list_all (λ x. p (f x)) xs
 all_map p f [] = refl
 all_map p f (x ∷ xs) = ap (λ b. p (f x) && b) (all_map p f xs)
 
 names_end : (ns : List (List ℕ)) (e : List ℕ) → keyed_names (ns ++ e ∷ []) ≡ keyed_names ns ++ (e, tt) ∷ []
-names_end ns e = map_end (λ (n : List ℕ). let u : Unit {0} = tt in (n, u)) ns e
+names_end ns e = map_push (λ (n : List ℕ). let u : Unit {0} = tt in (n, u)) ns e
 
 marks_end : (ms : List Valued) (m : Valued) → keyed_marks (ms ++ m ∷ []) ≡ keyed_marks ms ++ ((m.event, m.cell), m.value - 1) ∷ []
-marks_end ms m = map_end (λ (x : Valued). ((x.event, x.cell), x.value - 1)) ms m
+marks_end ms m = map_push (λ (x : Valued). ((x.event, x.cell), x.value - 1)) ms m
 
 names_below : (ns : List (List ℕ)) (e : List ℕ) → IsTrue (is_after_names ns e) → all_below (slice_cmp nat_cmp) nat_list_cmp_total (keyed_names ns) e ≡ true
 names_below ns e h = all_map (λ (x : List ℕ × Unit {0}). is_lt (slice_cmp nat_cmp x.0 e)) (λ (n : List ℕ). let u : Unit {0} = tt in (n, u)) ns ∙ h

@@ -1,11 +1,12 @@
 -- The two laws of one line: what is read is spelled so, and what is spelled so is read.
-use Rattle.std.proofs.Common.{◌≡◌, ℕ, true, false, List, [], ◌∷◌, Option, Some, None, refl, sym, ap, subst, ◌∙◌, arith, codes, lit<}
+use Rattle.std.proofs.Common.{◌≡◌, ℕ, true, false, List, [], ◌∷◌, Some, None, refl, sym, ap, subst, ◌∙◌, arith, codes, lit<}
 use Rattle.std.specs.Str.{bytes_eq}
 use Rattle.std.specs.Fmt.{decimal}
 use Rattle.std.specs.List.{slice_split, join_with_byte}
 use Rattle.std.proofs.lemmas.Bool.{false_from_ne_true}
 use Rattle.std.proofs.lemmas.Slice.Eq.{bytes_eq-Decides}
 use Rattle.std.proofs.lemmas.List.Splits.{join_with_byte-slice_split}
+use Rattle.std.proofs.lemmas.Option.{none-some, same_Some}
 use Rattle.rights_lattice.specs.declared.cell.Cell.{Cell}
 use Rattle.rights_lattice.specs.declared.cell.Cell.TheVariants.{Gave, Used, Back}
 use Rattle.delta_mutators.specs.declared.delta.Item.{Item}
@@ -24,7 +25,7 @@ use Rattle.delta_wire.specs.Grammar.{cell_words, item_words, item_line, header_w
 use Rattle.delta_wire.specs.Fields.{event_at, site_at, natural_at}
 use Rattle.delta_wire.specs.Reading.{kind_text, kind_of, kind_at, name_item, mark_item, gave_item, used_item, back_item, after_kind, item_of_words, item_of, purpose_text, purpose_of, purpose_at, upto_at, header_of_words, header_of}
 use Rattle.plain_words.proofs.NumberLaws.{number_at_found, number_at_again, decimal_lacks_space}
-use Rattle.plain_words.proofs.WordLaws.{lacks_space, split_join, bind_some, some_is, word_tested, word_found, ended_found}
+use Rattle.plain_words.proofs.WordLaws.{lacks_space, split_join, bind_some, word_tested, word_found, ended_found}
 use Rattle.delta_wire.proofs.FieldLaws.{event_at_found, event_again, site_at_found, site_again, value_at_found, value_again}
 use Rattle.delta_wire.proofs.Names.{name_lacks_space}
 
@@ -57,14 +58,14 @@ unfolding kind_at
 kind_at_found words x e =
     let a = bind_some (first_word words) (λ w. kind_of w.0 >>= λ v. Some (v, w.1)) x e in
     let b = bind_some (kind_of a.0.0) (λ v. Some (v, a.0.1)) x a.2 in
-    word_found words a.0 a.1 ∙ ap (λ (w : List ℕ). w ∷ a.0.1) (kind_found a.0.0 b.0 b.1) ∙ ap (λ (p : ItemKind × List (List ℕ)). kind_text p.0 ∷ p.1) (some_is (b.0, a.0.1) x b.2)
+    word_found words a.0 a.1 ∙ ap (λ (w : List ℕ). w ∷ a.0.1) (kind_found a.0.0 b.0 b.1) ∙ ap (λ (p : ItemKind × List (List ℕ)). kind_text p.0 ∷ p.1) (same_Some (b.0, a.0.1) x b.2)
 
 purpose_at_found : (words : List (List ℕ)) (x : Purpose × List (List ℕ)) → purpose_at words ≡ Some x → words ≡ purpose_text x.0 ∷ x.1
 unfolding purpose_at
 purpose_at_found words x e =
     let a = bind_some (first_word words) (λ w. purpose_of w.0 >>= λ v. Some (v, w.1)) x e in
     let b = bind_some (purpose_of a.0.0) (λ v. Some (v, a.0.1)) x a.2 in
-    word_found words a.0 a.1 ∙ ap (λ (w : List ℕ). w ∷ a.0.1) (purpose_found a.0.0 b.0 b.1) ∙ ap (λ (p : Purpose × List (List ℕ)). purpose_text p.0 ∷ p.1) (some_is (b.0, a.0.1) x b.2)
+    word_found words a.0 a.1 ∙ ap (λ (w : List ℕ). w ∷ a.0.1) (purpose_found a.0.0 b.0 b.1) ∙ ap (λ (p : Purpose × List (List ℕ)). purpose_text p.0 ∷ p.1) (same_Some (b.0, a.0.1) x b.2)
 
 upto_at_found : (words : List (List ℕ)) (x : ℕ × List (List ℕ)) → upto_at words ≡ Some x → (words ≡ decimal x.0 ∷ x.1) × IsUpto x.0
 upto_at_found words x e = let f = number_at_found 1 greatest_limit words x (lit< tt) e in (f.0, (f.1, f.2))
@@ -234,9 +235,5 @@ end_is_no_item : item_of (codes "end") ≡ None
 unfolding item_of_words kind_at kind_of
 end_is_no_item = refl
 
-none_or : (i : Item) (o : Option Item) → o ≡ None → o ≡ Some i → ⊥
-none_or i None e f = cc
-none_or i (Some j) e f = cc
-
 pub item_is_not_end : (i : Item) → IsItem i → bytes_eq (item_line i) (codes "end") ≡ false
-item_is_not_end i h = false_from_ne_true _ (λ t. none_or i (item_of (codes "end")) end_is_no_item (ap item_of (sym ((bytes_eq-Decides (item_line i) (codes "end")).0 t)) ∙ item_again i h))
+item_is_not_end i h = false_from_ne_true _ (λ t. none-some i (sym end_is_no_item ∙ ap item_of (sym ((bytes_eq-Decides (item_line i) (codes "end")).0 t)) ∙ item_again i h))

@@ -25,7 +25,7 @@ use Rattle.delta_wire.specs.TextLaws.{NoTextIsAPrefix, MessagesHaveTheirOwnTexts
 use Rattle.plain_words.proofs.LineLaws.{first_part}
 use Rattle.delta_wire.proofs.LineLaws.{header_found, header_again}
 use Rattle.delta_wire.proofs.Breaks.{Lacks, header_lacks, split_lines, text_of_lines}
-use Rattle.delta_wire.proofs.Texts.{over_is, spelled_delta, read_delta_lines, made_again, lines_lack, delta_again}
+use Rattle.delta_wire.proofs.Texts.{over_is, ok_is, cond_ok, spelled_delta, read_delta_lines, made_again, lines_lack, delta_again}
 
 abbrev Read : Type 0
 Read = Result Message WireFault
@@ -33,13 +33,6 @@ Read = Result Message WireFault
 -- what was read is spelled so, line by line
 abbrev Spelled : List (List ℕ) → Message → Type 0
 Spelled pieces m = IsMessage m × (pieces ≡ message_lines m ++ [] ∷ [])
-
-ok_is : (x y : Message) → ◌≡◌ {A = Read} (Ok x) (Ok y) → x ≡ y
-ok_is x y e = cc
-
-cond_ok : (b : Bool) (x y : Message) (f : WireFault) → ◌≡◌ {A = Read} (cond b (Ok x) (Err f)) (Ok y) → (b ≡ true) × (x ≡ y)
-cond_ok true x y f e = (refl, ok_is x y e)
-cond_ok false x y f e = absurd cc
 
 ack_found : (k m : Message) (pieces : List (List ℕ)) → ack_from k pieces ≡ Ok m → (k ≡ m) × (pieces ≡ codes "end" ∷ [] ∷ [])
 ack_found k m [] e = absurd cc
@@ -162,8 +155,5 @@ no_text_is_a_prefix m k rest f g e =
 pub messages_have_their_own_texts : MessagesHaveTheirOwnTexts
 messages_have_their_own_texts m k f g e = ok_is m k (sym (message_again m f) ∙ ap message_of e ∙ message_again k g)
 
-delta_ok_is : (x y : State) → ◌≡◌ {A = Result State WireFault} (Ok x) (Ok y) → x ≡ y
-delta_ok_is x y e = cc
-
 pub deltas_have_their_own_texts : DeltasHaveTheirOwnTexts
-deltas_have_their_own_texts S T f g e = delta_ok_is S T (sym (delta_again S f) ∙ ap delta_from_text e ∙ delta_again T g)
+deltas_have_their_own_texts S T f g e = ok_is S T (sym (delta_again S f) ∙ ap delta_from_text e ∙ delta_again T g)

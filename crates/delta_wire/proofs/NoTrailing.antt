@@ -10,7 +10,8 @@ use Rattle.delta_wire.specs.declared.items_end.Ending.TheVariants.{AtEndOfBytes}
 use Rattle.delta_wire.specs.declared.fault.WireFault.{WireFault}
 use Rattle.delta_wire.specs.declared.fault.WireFault.TheVariants.{Truncated, BadLine, OutOfOrder, Trailing, Memory}
 use Rattle.delta_wire.specs.Reading.{item_of}
-use Rattle.delta_wire.specs.Wire.{Gives, is_over, state_from, with_item, items_from, delta_from_text}
+use Rattle.delta_mutators.specs.Lists.{state_from}
+use Rattle.delta_wire.specs.Wire.{Gives, is_over, with_item, items_from, delta_from_text}
 
 abbrev Trails : Result State WireFault → Type 0
 Trails r = r ≡ Err Trailing

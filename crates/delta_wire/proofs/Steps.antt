@@ -1,12 +1,12 @@
 -- One line of items read.
-use Rattle.std.proofs.Common.{◌≡◌, ℕ, ◌+◌, Bool, subst, true, false, cond, List, [], ◌∷◌, ◌++◌, Option, Some, None, Result, Ok, Err, refl, sym, ap, ◌∙◌, inl, inr, ◌⊎◌}
+use Rattle.std.proofs.Common.{◌≡◌, ℕ, ◌+◌, Bool, subst, true, false, cond, List, [], ◌∷◌, ◌++◌, Option, Some, None, Result, Ok, Err, sym, ap, ◌∙◌, inl, inr, ◌⊎◌}
 use Rattle.std.proofs.lemmas.Bool.{cond-true, cond-false}
-use Rattle.rights_lattice.specs.Cells.{marks_of, all_zero}
-use Rattle.rights_lattice.specs.State.{State, bottom, names_in_order, no_names}
+use Rattle.rights_lattice.specs.Cells.{marks_of}
+use Rattle.rights_lattice.specs.State.{State, bottom, names_in_order}
 use Rattle.delta_mutators.specs.declared.delta.Item.{Item}
 use Rattle.delta_mutators.specs.Rises.{names_in, marks_in}
-use Rattle.rights_lattice.proofs.MarkLaws.{names_of-none, cells_of-none, names_in_order-names_of, marks_of-cells_of}
 use Rattle.delta_mutators.proofs.EndLaws.{state_again}
+use Rattle.book_core.proofs.Deltas.{no_marks_listed, no_names_listed}
 use Rattle.delta_wire.specs.declared.items_end.Ending.{Ending}
 use Rattle.delta_wire.specs.declared.fault.WireFault.{WireFault}
 use Rattle.delta_wire.specs.declared.fault.WireFault.TheVariants.{Truncated, BadLine, OutOfOrder, Trailing, Memory}
@@ -18,28 +18,22 @@ use Rattle.delta_wire.specs.Wire.{Gives, is_over, ends, at_last, with_item, item
 abbrev pub Read : Type 0
 Read = Result State WireFault
 
-pub names_none : names_in_order no_names ≡ []
-names_none = ap names_in_order (sym names_of-none) ∙ names_in_order-names_of [] refl
-
-pub marks_none : marks_of all_zero ≡ []
-marks_none = ap marks_of (sym cells_of-none) ∙ marks_of-cells_of [] refl tt
-
 -- what is read from a delta on
 abbrev pub reads : Ending → ℕ → State → List (List ℕ) → Read
 reads e n S pieces = items_from e n (names_in_order S.names) (marks_of S.cells) pieces
 
 pub starts : (e : Ending) (n : ℕ) (S : State) (pieces : List (List ℕ)) → S ≡ bottom → reads e n S pieces ≡ items_from e n [] [] pieces
 starts e n S pieces is =
-    ap (λ (T : State). reads e n T pieces) is ∙ (λ i. items_from e n (names_none i) (marks_none i) pieces)
+    ap (λ (T : State). reads e n T pieces) is ∙ (λ i. items_from e n (no_names_listed i) (no_marks_listed i) pieces)
 
 -- a line was taken off
-pub record TakenOff (now rest : List (List ℕ)) (line : List ℕ) : Type 0 where
+pub record IsTakenOff (now rest : List (List ℕ)) (line : List ℕ) : Type 0 where
   pub next : List ℕ
   pub more : List (List ℕ)
   pub after : rest ≡ next ∷ more
   pub before : now ≡ line ∷ next ∷ more
 
-pub taken_off : (now rest : List (List ℕ)) (line : List ℕ) → (next : List ℕ) × (more : List (List ℕ)) × (rest ≡ next ∷ more) × (now ≡ line ∷ next ∷ more) → TakenOff now rest line
+pub taken_off : (now rest : List (List ℕ)) (line : List ℕ) → (next : List ℕ) × (more : List (List ℕ)) × (rest ≡ next ∷ more) × (now ≡ line ∷ next ∷ more) → IsTakenOff now rest line
 taken_off now rest line w = record { next = w.0; more = w.1; after = w.2; before = w.3 }
 
 pub gives_same : {Y : Type 0} (r t : Result Y WireFault) → t ≡ r → Gives r t
@@ -68,26 +62,26 @@ at_item : (e : Ending) (n : ℕ) (S : State) (now : List (List ℕ)) (line next 
 unfolding items_from
 at_item e n S now line next more is t = ap (reads e n S) is ∙ cond-false (ends e line) _ _ t
 
-pub ends_well : (e : Ending) (n : ℕ) (S : State) (now rest : List (List ℕ)) (line : List ℕ) (total : Read) → reads e n S now ≡ total → TakenOff now rest line → ends e line ≡ true → is_over rest ≡ true → total ≡ Ok S
+pub ends_well : (e : Ending) (n : ℕ) (S : State) (now rest : List (List ℕ)) (line : List ℕ) (total : Read) → reads e n S now ≡ total → IsTakenOff now rest line → ends e line ≡ true → is_over rest ≡ true → total ≡ Ok S
 ends_well e n S now rest line total h t is over =
     sym h ∙ at_end e n S now line t.next t.more t.before is ∙ cond-true (is_over (t.next ∷ t.more)) (Ok S) (Err Trailing) (ap is_over (sym t.after) ∙ over)
 
-pub trails : (e : Ending) (n : ℕ) (S : State) (now rest : List (List ℕ)) (line : List ℕ) (total : Read) → reads e n S now ≡ total → TakenOff now rest line → ends e line ≡ true → is_over rest ≡ false → total ≡ Err Trailing
+pub trails : (e : Ending) (n : ℕ) (S : State) (now rest : List (List ℕ)) (line : List ℕ) (total : Read) → reads e n S now ≡ total → IsTakenOff now rest line → ends e line ≡ true → is_over rest ≡ false → total ≡ Err Trailing
 trails e n S now rest line total h t is over =
     sym h ∙ at_end e n S now line t.next t.more t.before is ∙ cond-false (is_over (t.next ∷ t.more)) (Ok S) (Err Trailing) (ap is_over (sym t.after) ∙ over)
 
-pub is_bad : (e : Ending) (n : ℕ) (S : State) (now rest : List (List ℕ)) (line : List ℕ) (total : Read) → reads e n S now ≡ total → TakenOff now rest line → ends e line ≡ false → item_of line ≡ None → total ≡ Err (BadLine n)
+pub is_bad : (e : Ending) (n : ℕ) (S : State) (now rest : List (List ℕ)) (line : List ℕ) (total : Read) → reads e n S now ≡ total → IsTakenOff now rest line → ends e line ≡ false → item_of line ≡ None → total ≡ Err (BadLine n)
 is_bad e n S now rest line total h t is none =
     sym h ∙ at_item e n S now line t.next t.more t.before is
     ∙ ap (λ (o : Option Item). with_item n (names_in_order S.names) (marks_of S.cells) o (λ ns ms. items_from e (n + 1) ns ms (t.next ∷ t.more))) none
 
-pub is_low : (e : Ending) (n : ℕ) (S : State) (now rest : List (List ℕ)) (line : List ℕ) (i : Item) (total : Read) → reads e n S now ≡ total → TakenOff now rest line → ends e line ≡ false → item_of line ≡ Some i → comes_next (names_in_order S.names) (marks_of S.cells) i ≡ false → total ≡ Err (OutOfOrder n)
+pub is_low : (e : Ending) (n : ℕ) (S : State) (now rest : List (List ℕ)) (line : List ℕ) (i : Item) (total : Read) → reads e n S now ≡ total → IsTakenOff now rest line → ends e line ≡ false → item_of line ≡ Some i → comes_next (names_in_order S.names) (marks_of S.cells) i ≡ false → total ≡ Err (OutOfOrder n)
 is_low e n S now rest line i total h t is some low =
     sym h ∙ at_item e n S now line t.next t.more t.before is
     ∙ ap (λ (o : Option Item). with_item n (names_in_order S.names) (marks_of S.cells) o (λ ns ms. items_from e (n + 1) ns ms (t.next ∷ t.more))) some
     ∙ cond-false (comes_next (names_in_order S.names) (marks_of S.cells) i) _ _ low
 
-pub goes_on : (e : Ending) (n : ℕ) (S S' : State) (now rest : List (List ℕ)) (line : List ℕ) (i : Item) (total : Read) → reads e n S now ≡ total → TakenOff now rest line → ends e line ≡ false → item_of line ≡ Some i → comes_next (names_in_order S.names) (marks_of S.cells) i ≡ true
+pub goes_on : (e : Ending) (n : ℕ) (S S' : State) (now rest : List (List ℕ)) (line : List ℕ) (i : Item) (total : Read) → reads e n S now ≡ total → IsTakenOff now rest line → ends e line ≡ false → item_of line ≡ Some i → comes_next (names_in_order S.names) (marks_of S.cells) i ≡ true
     → names_in_order S'.names ≡ names_in_order S.names ++ names_in i → marks_of S'.cells ≡ marks_of S.cells ++ marks_in i → reads e (n + 1) S' rest ≡ total
 goes_on e n S S' now rest line i total h t is some up names marks =
     (λ k. items_from e (n + 1) (names k) (marks k) (t.after k))
@@ -98,14 +92,14 @@ goes_on e n S S' now rest line i total h t is some up names marks =
 -- ---- where memory is wanted
 
 -- what was read so far: nothing yet, or from the first line on
-abbrev pub EmptyOrBegun : List (List ℕ) → List (List ℕ) → Type 0
-EmptyOrBegun first now = (now ≡ first) ⊎ BeginsWithItem first
+abbrev pub IsEmptyOrBegun : List (List ℕ) → List (List ℕ) → Type 0
+IsEmptyOrBegun first now = (now ≡ first) ⊎ BeginsWithItem first
 
-item_is_there : (now rest : List (List ℕ)) (line : List ℕ) (i : Item) → TakenOff now rest line → item_of line ≡ Some i → BeginsWithItem now
+item_is_there : (now rest : List (List ℕ)) (line : List ℕ) (i : Item) → IsTakenOff now rest line → item_of line ≡ Some i → BeginsWithItem now
 item_is_there now rest line i t is = subst BeginsWithItem (sym t.before) (i, is)
 
 -- an item was read, so the first line spells one
-pub begins_with_item : (first now rest : List (List ℕ)) (line : List ℕ) (i : Item) → EmptyOrBegun first now → TakenOff now rest line → item_of line ≡ Some i → BeginsWithItem first
+pub begins_with_item : (first now rest : List (List ℕ)) (line : List ℕ) (i : Item) → IsEmptyOrBegun first now → IsTakenOff now rest line → item_of line ≡ Some i → BeginsWithItem first
 begins_with_item first now rest line i (inl same) t is = subst BeginsWithItem same (item_is_there now rest line i t is)
 begins_with_item first now rest line i (inr h) t is = h
 

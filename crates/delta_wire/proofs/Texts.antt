@@ -21,7 +21,8 @@ use Rattle.delta_wire.specs.Grammar.{item_line, items_of, lines_text, delta_line
 use Rattle.delta_wire.specs.Items.{comes_next, all_names, all_marks, Extends}
 use Rattle.delta_wire.specs.Reading.{item_of}
 use Rattle.plain_words.specs.Input.{is_line_break}
-use Rattle.delta_wire.specs.Wire.{Gives, is_over, state_from, ends, at_last, with_item, items_from, delta_from_text}
+use Rattle.delta_mutators.specs.Lists.{state_from}
+use Rattle.delta_wire.specs.Wire.{Gives, is_over, ends, at_last, with_item, items_from, delta_from_text}
 use Rattle.delta_wire.proofs.LineLaws.{item_found, item_again, item_is_not_end}
 use Rattle.delta_wire.proofs.Breaks.{Lacks, item_lacks, split_lines, text_of_lines}
 
@@ -42,10 +43,10 @@ over_is [] e = absurd cc
 over_is (x ∷ []) e = ap (λ (l : List ℕ). l ∷ []) (nil_from_length x (eqb-true _ _ e))
 over_is (x ∷ y ∷ more) e = absurd cc
 
-ok_is : (x y : State) → ◌≡◌ {A = Read} (Ok x) (Ok y) → x ≡ y
+pub ok_is : {A : Type 0} (x y : A) → ◌≡◌ {A = Result A WireFault} (Ok x) (Ok y) → x ≡ y
 ok_is x y e = cc
 
-cond_ok : (b : Bool) (x y : State) (f : WireFault) → ◌≡◌ {A = Read} (cond b (Ok x) (Err f)) (Ok y) → (b ≡ true) × (x ≡ y)
+pub cond_ok : {A : Type 0} (b : Bool) (x y : A) (f : WireFault) → ◌≡◌ {A = Result A WireFault} (cond b (Ok x) (Err f)) (Ok y) → (b ≡ true) × (x ≡ y)
 cond_ok true x y f e = (refl, ok_is x y e)
 cond_ok false x y f e = absurd cc
 

@@ -6,7 +6,7 @@ use Rattle.plain_words.specs.Input.{is_line_break}
 use Rattle.rights_lattice.specs.Cells.{Valued}
 use Rattle.rights_lattice.specs.State.{State}
 use Rattle.delta_mutators.specs.declared.delta.Item.{Item}
-use Rattle.rights_lattice.specs.Marks.{cells_of, names_of}
+use Rattle.delta_mutators.specs.Lists.{state_from}
 use Rattle.delta_mutators.specs.Rises.{names_in, marks_in}
 use Rattle.site_exchange.specs.declared.message.Message.{Message}
 use Rattle.site_exchange.specs.declared.message.Message.TheVariants.{Delta, Ack}
@@ -37,10 +37,6 @@ abbrev pub is_over : List (List ℕ) → Bool
 is_over [] = false
 is_over (x ∷ []) = length x == 0
 is_over (x ∷ y ∷ more) = false
-
--- the delta of these names and marks
-abbrev pub state_from : List (List ℕ) → List Valued → State
-state_from names marks = record { cells = cells_of marks; names = names_of names }
 
 -- whether this line ends the text
 abbrev pub ends : Ending → List ℕ → Bool

@@ -7,7 +7,7 @@ ghost use Rattle.site_exchange.specs.declared.message.Message.{Message};
 ghost use Rattle.delta_wire.specs.Grammar.{IsDelta, delta_text, IsMessage, message_text};
 ghost use Rattle.std.specs.List.{slice_split};
 ghost use Rattle.plain_words.specs.Input.{is_line_break};
-ghost use Rattle.delta_wire.specs.Wire.{items_from, delta_from_text, message_of, Gives, ends, at_last, ack_from, for_purpose, is_over, BeginsWithItem, HasItem, BeginsWithDelta};
+ghost use Rattle.delta_wire.specs.Wire.{items_from, delta_from_text, message_of, Gives, ends, at_last, ack_from, for_purpose, BeginsWithItem, HasItem, BeginsWithDelta};
 ghost use Rattle.delta_wire.specs.Items.{comes_next};
 ghost use Rattle.delta_wire.specs.declared.fault.WireFault.TheVariants.{Trailing, Memory};
 

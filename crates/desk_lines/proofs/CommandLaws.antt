@@ -4,13 +4,14 @@ use Rattle.std.specs.Str.{bytes_eq}
 use Rattle.std.specs.Fmt.{decimal}
 use Rattle.std.proofs.lemmas.Bool.{cases_Bool}
 use Rattle.std.proofs.lemmas.Slice.Eq.{bytes_eq-Decides}
+use Rattle.std.proofs.lemmas.Option.{same_Some}
 use Rattle.rights_lattice.specs.Limits.{greatest_site, most_sites, IsSite}
 use Rattle.request_ledger.specs.declared.verb.Verb.{Verb}
 use Rattle.request_ledger.specs.declared.verb.Verb.TheVariants as verb
 use Rattle.request_ledger.specs.Words.{verb_word, request_verb}
 use Rattle.plain_words.specs.Words.{first_word, ended, ◌>>=◌}
 use Rattle.plain_words.specs.Number.{number_of}
-use Rattle.plain_words.proofs.WordLaws.{lacks_space, some_is, bind_some, word_tested, word_found, ended_found}
+use Rattle.plain_words.proofs.WordLaws.{lacks_space, bind_some, word_tested, word_found, ended_found}
 use Rattle.plain_words.proofs.NumberLaws.{number_at_found, number_at_again, decimal_lacks_space}
 use Rattle.delta_wire.specs.Fields.{site_at}
 use Rattle.delta_wire.proofs.FieldLaws.{site_at_found, site_again}
@@ -64,7 +65,7 @@ unfolding stored_at
 stored_at_found words x e =
     let a = bind_some (first_word words) (λ w. stored_of w.0 >>= λ b. Some (b, w.1)) x e in
     let b = bind_some (stored_of a.0.0) (λ b. Some (b, a.0.1)) x a.2 in
-    word_found words a.0 a.1 ∙ ap (λ (w : List ℕ). w ∷ a.0.1) (stored_found a.0.0 b.0 b.1) ∙ ap (λ (p : Bool × List (List ℕ)). stored_text p.0 ∷ p.1) (some_is (b.0, a.0.1) x b.2)
+    word_found words a.0 a.1 ∙ ap (λ (w : List ℕ). w ∷ a.0.1) (stored_found a.0.0 b.0 b.1) ∙ ap (λ (p : Bool × List (List ℕ)). stored_text p.0 ∷ p.1) (same_Some (b.0, a.0.1) x b.2)
 
 -- the words are those of the input
 abbrev SpellsInput : List (List ℕ) → Input → Type 0
@@ -91,7 +92,7 @@ unfolding request_input_of
 request_input_found word words x e =
     let a = bind_some (request_from word words) (λ n. Some (input.Request n.0 n.1)) x e in
     let p = request_from_found word words a.0 a.1 in
-    subst (SpellsInput (word ∷ words)) (some_is (input.Request a.0.0 a.0.1) x a.2) (p.0, (p.1, p.2))
+    subst (SpellsInput (word ∷ words)) (same_Some (input.Request a.0.0 a.0.1) x a.2) (p.0, (p.1, p.2))
 
 input_found : (words : List (List ℕ)) (x : Input) → input_at words ≡ Some x → SpellsInput words x
 unfolding input_at
@@ -170,7 +171,7 @@ stop_found words l e =
     let p = site_at_found words a.0 a.1 in
     let q = stored_at_found a.0.1 b.0 b.1 in
     let r = input_found b.0.1 d.0 d.1 in
-    subst (SpellsWhole (codes "stop" ∷ words)) (some_is (Make (step.Stop a.0.0 d.0 b.0.0)) l d.2)
+    subst (SpellsWhole (codes "stop" ∷ words)) (same_Some (Make (step.Stop a.0.0 d.0 b.0.0)) l d.2)
     (ap (λ (t : List (List ℕ)). codes "stop" ∷ t) (p.0 ∙ ap (λ (t : List (List ℕ)). decimal a.0.0 ∷ t) (q ∙ ap (λ (t : List (List ℕ)). stored_text b.0.0 ∷ t) r.0)), (p.1, r.1))
 
 after_command_found : (c : Command) (words : List (List ℕ)) (l : ScriptLine) → after_command c words ≡ Some l → SpellsWhole (command_text c ∷ words) l

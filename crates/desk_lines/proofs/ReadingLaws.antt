@@ -6,9 +6,10 @@ use Rattle.std.specs.Fmt.{decimal}
 use Rattle.std.specs.List.{slice_split, join_with_byte}
 use Rattle.std.proofs.lemmas.Slice.Eq.{bytes_eq-Decides}
 use Rattle.std.proofs.lemmas.List.Splits.{join_with_byte-slice_split}
+use Rattle.std.proofs.lemmas.Option.{same_Some}
 use Rattle.plain_words.specs.Words.{first_word, is_space, ended, ◌>>=◌}
 use Rattle.plain_words.specs.Number.{number_of, number_at}
-use Rattle.plain_words.proofs.WordLaws.{lacks_space, split_join, some_is, bind_some, word_found, ended_found}
+use Rattle.plain_words.proofs.WordLaws.{lacks_space, split_join, bind_some, word_found, ended_found}
 use Rattle.plain_words.proofs.NumberLaws.{number_found, number_again, number_at_found, number_at_again, decimal_lacks_space}
 use Rattle.rights_lattice.specs.Limits.{greatest_site, IsSite}
 use Rattle.delta_wire.proofs.FieldLaws.{site_again, site_lacks_space}
@@ -31,9 +32,9 @@ use Rattle.desk_lines.proofs.CommandLaws.{SpellsWhole, command_again, command_is
 
 -- what a session line asks, asked of a site
 asked_at_found : (i : ℕ) (l : Line) (s : ScriptLine) → IsSite i → at_a_site i l ≡ Some s → IsSessionLine l → SpellsWhole (decimal i ∷ session_words l) s
-asked_at_found i (line.Ask n q) s site e fits = subst (SpellsWhole (decimal i ∷ request_words n q)) (some_is (Make (step.Ask i n q)) s e) (refl, (site, fits.0, fits.1))
-asked_at_found i (line.Left v) s site e fits = subst (SpellsWhole (decimal i ∷ codes "left" ∷ v ∷ [])) (some_is (Left i v) s e) (refl, (site, fits))
-asked_at_found i (line.Totals v) s site e fits = subst (SpellsWhole (decimal i ∷ codes "totals" ∷ v ∷ [])) (some_is (Totals i v) s e) (refl, (site, fits))
+asked_at_found i (line.Ask n q) s site e fits = subst (SpellsWhole (decimal i ∷ request_words n q)) (same_Some (Make (step.Ask i n q)) s e) (refl, (site, fits.0, fits.1))
+asked_at_found i (line.Left v) s site e fits = subst (SpellsWhole (decimal i ∷ codes "left" ∷ v ∷ [])) (same_Some (Left i v) s e) (refl, (site, fits))
+asked_at_found i (line.Totals v) s site e fits = subst (SpellsWhole (decimal i ∷ codes "totals" ∷ v ∷ [])) (same_Some (Totals i v) s e) (refl, (site, fits))
 asked_at_found i line.Quit s site e fits = absurd cc
 
 at_site_found : (i : ℕ) (words : List (List ℕ)) (s : ScriptLine) → IsSite i → line_at_site i words ≡ Some s → SpellsWhole (decimal i ∷ words) s

@@ -2,6 +2,7 @@
 use Rattle.std.proofs.Common.{◌≡◌, ℕ, true, List, [], ◌∷◌, Option, Some, None, refl, ap, subst, ◌∙◌, codes}
 use Rattle.std.specs.Fmt.{decimal}
 use Rattle.std.specs.List.{AllByRecursion}
+use Rattle.std.proofs.lemmas.Option.{same_Some}
 use Rattle.rights_lattice.specs.EventName.{IsEventName}
 use Rattle.request_ledger.specs.declared.request.Request.{Request}
 use Rattle.request_ledger.specs.declared.request.Request.TheVariants.{Announce, Release, Sell, Refund, Cede}
@@ -10,7 +11,7 @@ use Rattle.request_ledger.specs.declared.verb.Verb.TheVariants as verb
 use Rattle.request_ledger.specs.Words.{verb_word, verb_of, request_verb}
 use Rattle.request_ledger.proofs.WordLaws.{verb_found, verb_again}
 use Rattle.plain_words.specs.Words.{ended, ◌>>=◌}
-use Rattle.plain_words.proofs.WordLaws.{lacks_space, some_is, bind_some, ended_found}
+use Rattle.plain_words.proofs.WordLaws.{lacks_space, bind_some, ended_found}
 use Rattle.delta_wire.specs.Fields.{event_at, site_at, natural_at}
 use Rattle.rights_lattice.specs.Cells.{IsValue}
 use Rattle.delta_wire.proofs.FieldLaws.{event_at_found, event_again, site_at_found, site_again, site_lacks_space, value_at_found, value_again, value_lacks_space}
@@ -28,7 +29,7 @@ sized_at_found words x e =
     let b = bind_some (natural_at a.0.1) (λ n. Some ((a.0.0, n.0), n.1)) x a.2 in
     let p = event_at_found words a.0 a.1 in
     let q = value_at_found a.0.1 b.0 b.1 in
-    subst (λ (y : (List ℕ × ℕ) × List (List ℕ)). (words ≡ y.0.0 ∷ decimal y.0.1 ∷ y.1) × IsEventName y.0.0 × IsValue y.0.1) (some_is ((a.0.0, b.0.0), b.0.1) x b.2)
+    subst (λ (y : (List ℕ × ℕ) × List (List ℕ)). (words ≡ y.0.0 ∷ decimal y.0.1 ∷ y.1) × IsEventName y.0.0 × IsValue y.0.1) (same_Some ((a.0.0, b.0.0), b.0.1) x b.2)
     (p.0 ∙ ap (λ (t : List (List ℕ)). a.0.0 ∷ t) q.0, p.1, q.1)
 
 -- ---- requests
@@ -78,7 +79,7 @@ last_amount_found words part e =
 
 part_found : (words : List (List ℕ)) (part : Option ℕ) → part_at words ≡ Some part → SpellsPart words part
 unfolding part_at
-part_found [] part e = subst (SpellsPart []) (some_is None part e) (refl, tt)
+part_found [] part e = subst (SpellsPart []) (same_Some None part e) (refl, tt)
 part_found (w ∷ ws) part e = last_amount_found (w ∷ ws) part e
 
 refund_found : (words : List (List ℕ)) (q : Request) → refund_at words ≡ Some q → Spells verb.Refund words q
@@ -88,7 +89,7 @@ refund_found words q e =
     let b = bind_some (part_at a.0.1) (λ part. Some (Refund a.0.0 part)) q a.2 in
     let p = value_at_found words a.0 a.1 in
     let r = part_found a.0.1 b.0 b.1 in
-    subst (Spells verb.Refund words) (some_is (Refund a.0.0 b.0) q b.2)
+    subst (Spells verb.Refund words) (same_Some (Refund a.0.0 b.0) q b.2)
     (λ n. ap (λ (t : List (List ℕ)). codes "refund" ∷ decimal n ∷ t) (p.0 ∙ ap (λ (t : List (List ℕ)). decimal a.0.0 ∷ t) r.0), (p.1, r.1))
 
 cede_found : (words : List (List ℕ)) (q : Request) → cede_at words ≡ Some q → Spells verb.Cede words q
@@ -116,7 +117,7 @@ numbered_found v words x e =
     let b = bind_some (request_at v a.0.1) (λ q. Some (a.0.0, q)) x a.2 in
     let p = value_at_found words a.0 a.1 in
     let r = request_found v a.0.1 b.0 b.1 in
-    subst (λ (y : ℕ × Request). (verb_word v ∷ words ≡ request_words y.0 y.1) × IsValue y.0 × IsRequest y.1) (some_is (a.0.0, b.0) x b.2)
+    subst (λ (y : ℕ × Request). (verb_word v ∷ words ≡ request_words y.0 y.1) × IsValue y.0 × IsRequest y.1) (same_Some (a.0.0, b.0) x b.2)
     (ap (λ (t : List (List ℕ)). verb_word v ∷ t) p.0 ∙ r.0 a.0.0, p.1, r.1)
 
 -- a request that begins with a word

@@ -6,6 +6,7 @@ use Rattle.std.specs.List.{slice_split, join_with_byte}
 use Rattle.std.proofs.lemmas.Bool.{cases_Bool}
 use Rattle.std.proofs.lemmas.Slice.Eq.{bytes_eq-Decides}
 use Rattle.std.proofs.lemmas.List.Splits.{join_with_byte-slice_split}
+use Rattle.std.proofs.lemmas.Option.{same_Some}
 use Rattle.rights_lattice.specs.EventName.{IsEventName}
 use Rattle.request_ledger.specs.declared.request.Request.{Request}
 use Rattle.request_ledger.specs.declared.request.Request.TheVariants.{Announce, Release, Sell, Refund, Cede}
@@ -13,7 +14,7 @@ use Rattle.request_ledger.specs.declared.verb.Verb.{Verb}
 use Rattle.request_ledger.specs.declared.verb.Verb.TheVariants as verb
 use Rattle.request_ledger.specs.Words.{verb_word, request_verb}
 use Rattle.plain_words.specs.Words.{first_word, is_space, ended}
-use Rattle.plain_words.proofs.WordLaws.{lacks_space, split_join, some_is, bind_some, word_found, ended_found}
+use Rattle.plain_words.proofs.WordLaws.{lacks_space, split_join, bind_some, word_found, ended_found}
 use Rattle.delta_wire.specs.Fields.{event_at}
 use Rattle.rights_lattice.specs.Cells.{IsValue}
 use Rattle.delta_wire.proofs.FieldLaws.{event_at_found, event_again}
@@ -35,7 +36,7 @@ unfolding ask_line_in
 ask_found word words l e =
     let a = bind_some (request_from word words) (λ n. Some (Ask n.0 n.1)) l e in
     let p = request_from_found word words a.0 a.1 in
-    subst (SpellsSession (word ∷ words)) (some_is (Ask a.0.0 a.0.1) l a.2) (p.0, (p.1, p.2))
+    subst (SpellsSession (word ∷ words)) (same_Some (Ask a.0.0 a.0.1) l a.2) (p.0, (p.1, p.2))
 
 left_found : (words : List (List ℕ)) (l : Line) → left_line_in words ≡ Some l → SpellsSession (codes "left" ∷ words) l
 unfolding left_line_in
@@ -78,7 +79,7 @@ pub session_takes : (bytes : List ℕ) (l : Line) → session_line_of bytes ≡ 
 unfolding session_text
 session_takes bytes l e = elim (cases_Bool (bytes_eq bytes (codes "quit"))) [
   | inl same ↦ let chosen : Some Quit ≡ Some l = rw same at e in
-      subst (λ (m : Line). IsSessionLine m × (bytes ≡ join_with_byte 32 (session_words m))) (some_is Quit l chosen) (tt, (bytes_eq-Decides bytes (codes "quit")).0 same)
+      subst (λ (m : Line). IsSessionLine m × (bytes ≡ join_with_byte 32 (session_words m))) (same_Some Quit l chosen) (tt, (bytes_eq-Decides bytes (codes "quit")).0 same)
   | inr other ↦ let chosen : asked_in (slice_split is_space bytes) ≡ Some l = rw other at e in
       let f = asked_found (slice_split is_space bytes) l chosen in
       (f.1, sym (join_with_byte-slice_split 32 bytes) ∙ ap (join_with_byte 32) f.0)

@@ -73,15 +73,16 @@ elsewhere X m e c apart =
     by_test true t = let clash : true ≡ false = sym (ap (λ (x : List ℕ). same_event x e) (sym (same_event_is e m.event t)) ∙ same_event_self e) ∙ apart in cc
     by_test false f = value_in-tests m e c ∙ ap (λ b. cond (b && same_cell c m.cell) m.value 0) f
 
+-- what a test lets through is no more
+pub part_le : (b : Bool) (a : ℕ) → cond b a 0 ≤ a
+part_le true a = omega arith
+part_le false a = omega arith
+
 -- a raise leaves no cell above the greatest value
 raised_value : (X : Cells) (m : Valued) (e : List ℕ) (c : Cell) → m.value ≤ greatest_value → value_at X e c ≤ greatest_value → value_at (raise X m) e c ≤ greatest_value
 raised_value X m e c most old =
-    let said : value_in m e c ≤ m.value = by_test (is_of m e c) in
+    let said : value_in m e c ≤ m.value = part_le (is_of m e c) m.value in
     omega (arith, value_at-raise X m e c, said, most, old)
-  where
-    by_test : (b : Bool) → cond b m.value 0 ≤ m.value
-    by_test true = omega arith
-    by_test false = omega arith
 
 pub kept_raise : (kept now : List (List ℕ × ℕ)) (n k me left : ℕ) (X Y : Cells) (m : Valued) → AreKept kept n me X → k ≡ n → Y ≡ raise X m → m.value ≤ greatest_value → left + spent Y m.event me ≡ gained Y m.event me
     → ((e : List ℕ) → lookup (same_event e) now ≡ cond (same_event m.event e) (Some left) (lookup (same_event e) kept)) → AreKept now k me Y

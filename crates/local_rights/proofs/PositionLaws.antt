@@ -1,7 +1,7 @@
 -- Positions, by the test and by their meaning, and the seats that are open by one.
-use Rattle.std.proofs.Common.{◌≡◌, inl, inr, ℕ, zero, suc, ◌+◌, ◌-◌, ◌<◌, ◌≤◌, ◌&&◌, Bool, true, false, cond, List, Option, Some, None, refl, sym, ap, ◌∙◌, subst, arith, add-one}
+use Rattle.std.proofs.Common.{◌≡◌, inl, inr, ℕ, zero, suc, ◌+◌, ◌-◌, ◌<◌, ◌≤◌, Bool, true, false, cond, List, Option, Some, None, refl, sym, ap, ◌∙◌, subst, arith, add-one}
 use Rattle.std.specs.Prelude.{◌↔◌, nat_le, pos, IsSome, IfSome}
-use Rattle.std.proofs.lemmas.Bool.{cases_eq, and_parts}
+use Rattle.std.proofs.lemmas.Bool.{cases_eq, and_parts, and_from}
 use Rattle.std.proofs.lemmas.Bool.Decides.{nat_tests}
 use Rattle.rights_lattice.specs.declared.cell.Cell.TheVariants.{Gave, Used, Back}
 use Rattle.rights_lattice.specs.Cells.{Cells, value_at}
@@ -23,13 +23,9 @@ each_of_all (suc n) test all i l =
       | inr ne ↦ each_of_all n test parts.0 i (omega arith)
     ]
 
-both : (a b : Bool) → a ≡ true → b ≡ true → (a && b) ≡ true
-both true b h k = k
-both false b h k = cc
-
 all_of_each : (n : ℕ) (test : ℕ → Bool) → ((i : ℕ) → i < n → test i ≡ true) → all_below n test ≡ true
 all_of_each zero test each = refl
-all_of_each (suc n) test each = both (all_below n test) (test n) (all_of_each n test (λ i l. each i (omega arith))) (each n (omega arith))
+all_of_each (suc n) test each = and_from (all_below n test) (test n) (all_of_each n test (λ i l. each i (omega arith))) (each n (omega arith))
 
 -- one number of which the test does not hold
 pub not_all : (n : ℕ) (test : ℕ → Bool) (i : ℕ) → i < n → test i ≡ false → all_below n test ≡ false
@@ -41,7 +37,7 @@ not_all n test i l fails = by_all (all_below n test) refl
 
 -- one number more
 pub all_more : (n : ℕ) (test : ℕ → Bool) → all_below n test ≡ true → test n ≡ true → all_below (n + 1) test ≡ true
-all_more n test all here = rw add-one (both (all_below n test) (test n) all here)
+all_more n test all here = rw add-one (and_from (all_below n test) (test n) all here)
 
 tested : (a b : ℕ) → nat_le a b ≡ true → a ≤ b
 tested a b h = grind (arith, nat_tests)

@@ -1,5 +1,5 @@
 -- Cards that are dealt one by one.
-use Rattle.std.proofs.Common.{◌≡◌, ◌≢◌, ℕ, zero, suc, ◌+◌, ◌<◌, ◌%◌, Bool, true, false, List, [], ◌∷◌, ◌++◌, length, get_or, set, map, if◌then◌else◌, ◌⊎◌, inl, inr, refl, sym, ap, ◌∙◌, subst, rules}
+use Rattle.std.proofs.Common.{◌≡◌, ◌≢◌, ℕ, zero, suc, ◌+◌, ◌<◌, ◌%◌, Bool, true, false, List, [], ◌∷◌, ◌++◌, length, get_or, set, map, if◌then◌else◌, ◌⊎◌, inl, inr, refl, sym, ap, ◌∙◌, subst, rules, zero-add}
 use Rattle.std.specs.List.{AllZip, filter, enumerate_from}
 use Rattle.std.proofs.lemmas.List.{get_or-map, get_or-set_same, get_or-set_other, length-map, length-set, map-set}
 use Rattle.std.proofs.lemmas.List.Elements.{filter-append}
@@ -21,14 +21,11 @@ one_in p x is = cc
 one_out : {X : Type 0} (p : X → Bool) (x : X) → p x ≡ false → filter p (x ∷ []) ≡ []
 one_out p x is = cc
 
-zero-plus : (n : ℕ) → 0 + n ≡ n
-zero-plus n = search rules
-
 -- what is dealt of one card more
 dealt_last : {X : Type 0} (n k : ℕ) (xs : List X) (x : X) → dealt n k (xs ++ x ∷ []) ≡ dealt n k xs ++ map (λ c. c.1) (filter (λ (c : ℕ × X). eqb (c.0 % n) k) ((length xs, x) ∷ []))
 dealt_last {X} n k xs x =
     let mine : ℕ × X → Bool = λ (c : ℕ × X). eqb (c.0 % n) k in
-    ap (λ l. map (λ (c : ℕ × X). c.1) (filter mine l)) (numbered_last 0 xs x ∙ ap (λ j. enumerate_from 0 xs ++ (j, x) ∷ []) (zero-plus (length xs)))
+    ap (λ l. map (λ (c : ℕ × X). c.1) (filter mine l)) (numbered_last 0 xs x ∙ ap (λ j. enumerate_from 0 xs ++ (j, x) ∷ []) (zero-add (length xs)))
     ∙ (ap (map (λ (c : ℕ × X). c.1)) (filter-append mine (enumerate_from 0 xs) ((length xs, x) ∷ [])) ∙ map-append (λ (c : ℕ × X). c.1) (filter mine (enumerate_from 0 xs)) (filter mine ((length xs, x) ∷ [])))
 
 -- a card more comes to its hand

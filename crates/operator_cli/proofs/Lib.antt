@@ -1,4 +1,3 @@
-pub mod Adding
 pub mod BreakLaws
 pub mod BrokenOff
 pub mod Dealing

@@ -9,7 +9,7 @@ use Rattle.plain_words.specs.Input.{longest_line, lines_of, Between, BeginsTooLo
 use Rattle.plain_words.specs.Writing.{AppendsFront, Writes}
 use Rattle.plain_words.specs.declared.lines.LineFault.{LineFault}
 use Rattle.plain_words.specs.declared.lines.LineFault.TheVariants as line_fault
-use Rattle.plain_words.proofs.LineLaws.{AreShort, put_before, taken-nil, taken-line, taken-long, taken-too-many, taken-behind, taken-whole}
+use Rattle.plain_words.proofs.LineLaws.{AreShort, short-push, read-push, put_before, taken-nil, taken-line, taken-long, taken-too-many, taken-behind, taken-whole}
 use Rattle.plain_words.proofs.WriteLaws.{AppendsFront-after, AppendsFront-longer, AppendsFront-whole, AppendsFront-nothing, AppendsFront-kept}
 use Rattle.world_steps.specs.World.{World, opening}
 use Rattle.operator_cli.specs.declared.fault.ScriptFault.{ScriptFault}
@@ -24,7 +24,6 @@ use Rattle.operator_cli.specs.Faults.{IsOutFault, of_line_fault}
 use Rattle.operator_cli.specs.Script.{answers, world_behind, replies_and_totals, opened_by, replies_at, run_at, replies_started, run_started, replies, total_lines, bad_line, script, script_of_lines}
 use Rattle.operator_cli.specs.Ran.{StartsWell, MayGoOn, AnyLines, printed, EndsEarly, NextRan, AllAnswered, RestRan, OpensWorld, OpenRan, SecondRan, SitesRan, StartRan, ScriptRan}
 use Rattle.desk_lines.proofs.ReadingLaws.{named_takes}
-use Rattle.session_server.proofs.Sessions.{read-push, short-push}
 
 -- the exit of a `?`
 pub at_err : {T E : Type 0} (r : Result T E) (C : Result T E → Type 0) (Q : E → Type 0) → IsErrAnd r Q → ((e : E) → Q e → C (Err e)) → C r

@@ -1,5 +1,5 @@
 -- The first line of an input.
-use Rattle.std.proofs.Common.{Ok, inl, inr, ◌≢◌, ◌≡◌, ℕ, zero, suc, ◌+◌, ◌<◌, ◌≤◌, leb, zero-add, Bool, true, false, eqb, cond, List, [], ◌∷◌, ◌++◌, length, Option, Some, None, refl, sym, ap, subst, ◌∙◌, arith, length-append, All}
+use Rattle.std.proofs.Common.{Ok, inl, inr, ◌≢◌, ◌≡◌, ℕ, zero, suc, ◌+◌, ◌<◌, ◌≤◌, leb, zero-add, Bool, true, false, eqb, cond, List, [], ◌∷◌, ◌++◌, length, Option, Some, None, refl, sym, ap, subst, ◌∙◌, arith, append_assoc, length-append, All}
 use Rattle.std.specs.List.{slice_split, onto_first, AllByRecursion}
 use Rattle.std.specs.Io.KnownBytes.{Consumes, IsAtEnd}
 use Rattle.std.proofs.KnownBytes.{Consumes-trans}
@@ -136,6 +136,17 @@ tells_more a b (Some byte) h = ((byte, h), some_more a b byte h)
 
 abbrev pub AreShort : List (List ℕ) → Type 0
 AreShort lines = AllByRecursion (λ line. length line ≤ longest_line) lines
+
+pub short-push : (lines : List (List ℕ)) (line : List ℕ) → AreShort lines → length line ≤ longest_line → AreShort (lines ++ line ∷ [])
+short-push [] line h k = (k, tt)
+short-push (l ∷ ls) line h k = (h.0, short-push ls line h.1 k)
+
+pub read-push : (a b c : Option (List ℕ)) (lines : List (List ℕ)) (line : List ℕ) → Between a b (λ xs ys. lines_of xs ≡ lines ++ lines_of ys) → Between b c (λ xs ys. lines_of xs ≡ line ∷ lines_of ys)
+    → Between a c (λ xs ys. lines_of xs ≡ (lines ++ line ∷ []) ++ lines_of ys)
+read-push None b c lines line p q = tt
+read-push (Some x) None c lines line p q = absurd p
+read-push (Some x) (Some y) None lines line p q = absurd q
+read-push (Some x) (Some y) (Some z) lines line p q = p ∙ ap (λ (t : List (List ℕ)). lines ++ t) q ∙ sym (append_assoc lines (line ∷ []) (lines_of z))
 
 -- these lines before those that are taken
 abbrev pub put_before : List (List ℕ) → TakenLines → TakenLines

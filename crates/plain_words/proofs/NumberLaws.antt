@@ -1,7 +1,7 @@
 -- Words that are numbers, and words that are not.
 use Rattle.std.proofs.Common.{◌≡◌, ℕ, ◌^◌, ◌<◌, ◌≤◌, Bool, true, false, cond, ◌&&◌, ◌||◌, not, leb, eqb, List, length, get_or, take, ◌∷◌, Some, None, refl, sym, ap, ◌∙◌, arith, inl, inr}
 use Rattle.std.proofs.lemmas.Bool.{cond-true, cond-false, and_left, and_right, eq-eqb, ne_eqb, not-true, or_left, or_right, cases_eq, not_from_false, and_from, and_parts, or_cases, false_from_ne_true, leb-true, ltb-true, eqb-true, lt-leb, le-leb, lt-ltb, true≢false}
-use Rattle.std.proofs.lemmas.Option.{cond_some}
+use Rattle.std.proofs.lemmas.Option.{cond_some, same_Some}
 use Rattle.std.proofs.lemmas.Str.Parse.{IsNumeralModel, numerals_by_value, tells_all_ascii_digits, digit_at, digits_value-take-le}
 use Rattle.std.proofs.lemmas.Fmt.{digits_decimal, digits_value-decimal, decimal-digits_value, first_decimal, decimal_nonempty, decimal_digit}
 use Rattle.std.specs.Int.{IsInRange}
@@ -10,7 +10,7 @@ use Rattle.std.specs.Str.{all_ascii_digits}
 use Rattle.std.specs.Str.Parse.{digits_value, AllDigits}
 use Rattle.plain_words.specs.Number.{number_of, number_at, starts_plainly, is_numeral}
 use Rattle.plain_words.specs.Words.{first_word, ◌>>=◌}
-use Rattle.plain_words.proofs.WordLaws.{bind_some, some_is, word_found, lacks_space, digits_lack_space}
+use Rattle.plain_words.proofs.WordLaws.{bind_some, word_found, lacks_space, digits_lack_space}
 
 pub own : IsNumeralModel (λ ds. all_ascii_digits ds ≡ true) (digits_value 10)
 own = numerals_by_value _ tells_all_ascii_digits
@@ -89,7 +89,7 @@ number_at_found low high words x bound e =
     let a = bind_some (first_word words) (λ w. number_of low high w.0 >>= λ n. Some (n, w.1)) x e in
     let b = bind_some (number_of low high a.0.0) (λ n. Some (n, a.0.1)) x a.2 in
     let f = number_found low high a.0.0 b.0 bound b.1 in
-    let same : (b.0, a.0.1) ≡ x = some_is (b.0, a.0.1) x b.2 in
+    let same : (b.0, a.0.1) ≡ x = same_Some (b.0, a.0.1) x b.2 in
     let n_is : b.0 ≡ x.0 = ap (λ (p : ℕ × List (List ℕ)). p.0) same in
     (word_found words a.0 a.1 ∙ ap (λ (w : List ℕ). w ∷ a.0.1) f.0 ∙ ap (λ (p : ℕ × List (List ℕ)). decimal p.0 ∷ p.1) same, omega (arith, f.1, n_is), omega (arith, f.2, n_is))
 

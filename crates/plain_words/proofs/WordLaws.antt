@@ -10,7 +10,7 @@ use Rattle.std.proofs.lemmas.Iterator.Adapters.{position_from-zero}
 use Rattle.std.proofs.lemmas.Str.Parse.{digit_from_value}
 use Rattle.std.specs.Str.Parse.{AllDigits}
 use Rattle.plain_words.specs.Words.{is_space, is_nil, words_of, first_word, ended, ◌>>=◌}
-use Rattle.std.proofs.lemmas.Option.{cond_some}
+use Rattle.std.proofs.lemmas.Option.{cond_some, same_Some}
 use Rattle.std.specs.Borrow.{Bor}
 
 is_nil-onto_first : (x : ℕ) (parts : List (List ℕ)) → is_nil (onto_first x parts) ≡ false
@@ -93,13 +93,10 @@ first_word_cut rest now b k view e p = rw (← view, e, split_some is_space b.no
 
 -- ---- one reader after another
 
-pub some_is : {A : Type 0} (x y : A) → Some x ≡ Some y → x ≡ y
-some_is x y e = cc
-
 -- one test in a chain of tests of a word
 pub word_tested : {V : Type 0} (text : V → List ℕ) (w : List ℕ) (u v : V) (rest : Option V) → (rest ≡ Some v → w ≡ text v) → cond (bytes_eq w (text u)) (Some u) rest ≡ Some v → w ≡ text v
 word_tested text w u v rest next e = elim (cases_Bool (bytes_eq w (text u))) [
-  | inl same ↦ let chosen : Some u ≡ Some v = rw same at e in (bytes_eq-Decides w (text u)).0 same ∙ ap text (some_is u v chosen)
+  | inl same ↦ let chosen : Some u ≡ Some v = rw same at e in (bytes_eq-Decides w (text u)).0 same ∙ ap text (same_Some u v chosen)
   | inr other ↦ let chosen : rest ≡ Some v = rw other at e in next chosen
 ]
 
@@ -110,7 +107,7 @@ bind_some (Some x) f y e = (x, refl, e)
 
 pub word_found : (words : List (List ℕ)) (x : List ℕ × List (List ℕ)) → first_word words ≡ Some x → words ≡ x.0 ∷ x.1
 word_found [] x e = absurd cc
-word_found (w ∷ ws) x e = ap (λ (p : List ℕ × List (List ℕ)). p.0 ∷ p.1) (some_is (w, ws) x e)
+word_found (w ∷ ws) x e = ap (λ (p : List ℕ × List (List ℕ)). p.0 ∷ p.1) (same_Some (w, ws) x e)
 
 pub nil_is : (words : List (List ℕ)) → is_nil words ≡ true → words ≡ []
 nil_is [] e = refl

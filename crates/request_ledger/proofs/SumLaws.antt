@@ -21,14 +21,14 @@ counted sale seats q r = cond (is_done r) (part_asked sale seats q) 0
 abbrev none : ℕ
 none = 0
 
-none_both : (b : Bool) → cond b none none ≡ none
-none_both true = refl
-none_both false = refl
+pub cond_both : {A : Type 0} (b : Bool) (x : A) → cond b x x ≡ x
+cond_both true x = refl
+cond_both false x = refl
 
 no_refund : (q : Request) (r : Reply) (sale seats : ℕ) → refund_with q r ≡ None → counted sale seats q r ≡ none
 no_refund (Refund other part) Done sale seats h = cc
 no_refund (Refund other part) r sale seats h = refl
-no_refund q r sale seats h = none_both (is_done r)
+no_refund q r sale seats h = cond_both (is_done r) none
 
 is_refund : (q : Request) (r : Reply) (refund : DoneRefund) (sale seats : ℕ) → refund_with q r ≡ Some refund → counted sale seats q r ≡ cond (nat_eq refund.sale sale) (unwrap_or refund.part seats) 0
 is_refund (Refund s p) Done refund sale seats h =
@@ -130,11 +130,11 @@ sums_raised es sums raised n k refund seats are is of fits at =
       no_sum = λ q h. at q ∙ one_raised (nat_eq refund.sale q) after 0 (sum_under sums q) 0
           (λ t. let e : Some seats ≡ None = sym (here q t) ∙ sym (same q) ∙ h in cc)
           (λ f. are.no_sum q (sym (same q) ∙ h))
-          ∙ none_both (nat_eq refund.sale q);
+          ∙ cond_both (nat_eq refund.sale q) none;
       of_sales_only = λ q s h. given q s ∙ one_raised (nat_eq refund.sale q) (min s (parts es q s + unwrap_or refund.part s)) 0 (given_back es q s) 0
           (λ t. let e : Some seats ≡ None = sym (here q t) ∙ sym (same q) ∙ h in cc)
           (λ f. are.of_sales_only q s (sym (same q) ∙ h))
-          ∙ none_both (nat_eq refund.sale q);
+          ∙ cond_both (nat_eq refund.sale q) none;
     }
 
 pub sums_with_none : (es : KeptByNumber) (sums : List (ℕ × ℕ)) (q : Request) (r : Reply) → AreSums es sums → refund_with q r ≡ None → AreSumsWith es q r sums

@@ -1,12 +1,12 @@
 -- The steps of a merge of rising lists of marks.
-use Rattle.std.proofs.Common.{◌≡◌, ℕ, zero, suc, ◌+◌, ◌-◌, ◌≤◌, ◌<◌, Bool, true, false, cond, T, List, [], ◌∷◌, ◌++◌, length, take, drop, get_or, refl, sym, ap, ◌∙◌, subst, arith, length-append}
+use Rattle.std.proofs.Common.{◌≡◌, ℕ, zero, suc, ◌+◌, ◌-◌, ◌≤◌, ◌<◌, Bool, true, false, cond, T, List, [], ◌∷◌, ◌++◌, length, take, drop, get_or, refl, sym, ap, ◌∙◌, subst, arith, append_assoc}
 use Rattle.std.specs.Prelude.{max, IsTrue, ◌==◌}
 use Rattle.std.specs.Ordering.{is_lt, is_eq, eq_by_cmp, ordering_reverse}
 use Rattle.std.specs.declared.cmp.Ordering.{Ordering}
 use Rattle.std.specs.declared.cmp.Ordering.TheVariants.{Less, Equal, Greater}
 use Rattle.std.specs.FinMap.Entries as entry
 use Rattle.std.proofs.Math.Seq.{drop-cons}
-use Rattle.std.proofs.lemmas.List.{take-append-drop}
+use Rattle.std.proofs.lemmas.List.{length_push, take-append-drop}
 use Rattle.std.proofs.lemmas.Bool.Decides.{nat_tests}
 use Rattle.std.proofs.lemmas.List.Sums.{count_by_more_yes, count_by_more_no}
 use Rattle.rights_lattice.specs.Cells.{Key, key_cmp, Valued, greatest, value_in, is_of}
@@ -27,11 +27,12 @@ as_true false h = absurd h
 abbrev pub entry_of : Valued → Key × ℕ
 entry_of m = ((m.event, m.cell), m.value - 1)
 
-append_one : (out : List Valued) (x : Valued) (rest : List Valued) → (out ++ x ∷ []) ++ rest ≡ out ++ x ∷ rest
-append_one [] x rest = refl
-append_one (y ∷ out) x rest = ap (λ (l : List Valued). y ∷ l) (append_one out x rest)
+-- one more behind a list, and then the rest
+pub append_one : {A : Type 0} (out : List A) (x : A) (rest : List A) → (out ++ x ∷ []) ++ rest ≡ out ++ x ∷ rest
+append_one out x rest = append_assoc out (x ∷ []) rest
 
-pub drop_here : (ms : List Valued) (i : ℕ) (x : Valued) → i < length ms → x ≡ get_or ms i x → drop i ms ≡ x ∷ drop (i + 1) ms
+-- what is left from a place on begins with what stands there
+pub drop_here : {A : Type 0} (ms : List A) (i : ℕ) (x : A) → i < length ms → x ≡ get_or ms i x → drop i ms ≡ x ∷ drop (i + 1) ms
 drop_here ms i x lt is =
     let next : suc i ≡ i + 1 = omega arith in
     drop-cons ms i x lt ∙ (λ k. sym is k ∷ drop (next k) ms)
@@ -122,9 +123,6 @@ not_zero (suc n) h = grind (arith, nat_tests)
 pub start : (xs ys : List Valued) → IsTrue (are_rising_marks xs) → IsTrue (are_rising_marks ys) → IsMerged xs ys [] 0 0
 start xs ys g h = record { left_within = omega arith; right_within = omega arith; left_rises = g; right_rises = h; positive = tt; greater = λ e c. refl; size = refl }
 
-longer : (out : List Valued) (x : Valued) → length (out ++ x ∷ []) ≡ length out + 1
-longer out x = length-append out (x ∷ [])
-
 pub take_left : (xs ys out : List Valued) (i j : ℕ) (x : Valued) → AreMarks xs → i < length xs → x ≡ get_or xs i x → IsBelowFirst x (drop j ys) → IsMerged xs ys out i j → IsMerged xs ys (out ++ x ∷ []) (i + 1) j
 take_left xs ys out i j x marks lt is below h = record {
   left_within = omega arith;
@@ -133,7 +131,7 @@ take_left xs ys out i j x marks lt is below h = record {
   right_rises = other_rest xs (drop j ys) out i x lt is below h.left_rises h.right_rises;
   positive = AreMarks-end out x h.positive (positive_at xs i x lt is marks);
   greater = λ e c. omega (arith, greatest-append out (x ∷ []) e c, h.greater e c, greatest-take_more xs i x e c lt is);
-  size = omega (arith, longer out x, h.size);
+  size = omega (arith, length_push out x, h.size);
 }
 
 pub take_right : (xs ys out : List Valued) (i j : ℕ) (y : Valued) → AreMarks ys → j < length ys → y ≡ get_or ys j y → IsBelowFirst y (drop i xs) → IsMerged xs ys out i j → IsMerged xs ys (out ++ y ∷ []) i (j + 1)
@@ -146,7 +144,7 @@ take_right xs ys out i j y marks lt is below h =
       right_rises = own_rest ys out j y lt is h.right_rises;
       positive = AreMarks-end out y h.positive (positive_at ys j y lt is marks);
       greater = λ e c. omega (arith, greatest-append out (y ∷ []) e c, h.greater e c, greatest-take_more ys j y e c lt is);
-      size = omega (arith, longer out y, h.size, count_by_more_yes (λ (m : Valued). greatest xs m.event m.cell == 0) ys j y lt (subst (λ (m : Valued). (greatest xs m.event m.cell == 0) ≡ true) is (is_zero _ none)));
+      size = omega (arith, length_push out y, h.size, count_by_more_yes (λ (m : Valued). greatest xs m.event m.cell == 0) ys j y lt (subst (λ (m : Valued). (greatest xs m.event m.cell == 0) ≡ true) is (is_zero _ none)));
     }
 
 same_key : (x m : Valued) (e : List ℕ) (c : Cell) → m.event ≡ x.event → m.cell ≡ x.cell → value_in x e c ≡ cond (is_of m e c) x.value 0
@@ -176,7 +174,7 @@ take_both xs ys out i j x y m left_marks right_marks i_lt j_lt x_is y_is tie p q
       right_rises = tied_rest ys out j y m j_lt y_is r s h.right_rises;
       positive = AreMarks-end out m h.positive (omega (arith, some, v));
       greater = λ e c. omega (arith, greatest-append out (m ∷ []) e c, h.greater e c, greatest-take_more xs i x e c i_lt x_is, greatest-take_more ys j y e c j_lt y_is, value_in-max x y m e c p q r s v);
-      size = omega (arith, longer out m, h.size, count_by_more_no (λ (m : Valued). greatest xs m.event m.cell == 0) ys j y j_lt (subst (λ (m : Valued). (greatest xs m.event m.cell == 0) ≡ false) y_is (not_zero _ (omega (arith, some, found_y)))));
+      size = omega (arith, length_push out m, h.size, count_by_more_no (λ (m : Valued). greatest xs m.event m.cell == 0) ys j y j_lt (subst (λ (m : Valued). (greatest xs m.event m.cell == 0) ≡ false) y_is (not_zero _ (omega (arith, some, found_y)))));
     }
 
 -- what comes first in the rest of the other list

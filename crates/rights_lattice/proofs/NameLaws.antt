@@ -4,13 +4,12 @@ use Rattle.std.specs.Prelude.{IsTrue}
 use Rattle.std.specs.Ordering.{nat_cmp, eq_by_cmp, ordering_reverse}
 use Rattle.std.specs.Cmp.Lexicographic.{slice_cmp}
 use Rattle.std.specs.declared.cmp.Ordering.TheVariants.{Less, Equal, Greater}
-use Rattle.std.proofs.Math.Seq.{drop-cons}
 use Rattle.std.proofs.lemmas.List.{take_more}
 use Rattle.std.proofs.lemmas.Cmp.{nat_list_cmp_total}
 use Rattle.std.proofs.lemmas.Map.Lookups.{exact_bytes}
 use Rattle.rights_lattice.specs.Marks.{are_rising_names}
 use Rattle.rights_lattice.specs.Merging.{IsMergedNames, has}
-use Rattle.rights_lattice.proofs.MergeLaws.{as_test, as_true}
+use Rattle.rights_lattice.proofs.MergeLaws.{append_one, as_test, as_true, drop_here}
 use Rattle.rights_lattice.proofs.RisingLaws.{BelowFirst, rising_between}
 use Rattle.rights_lattice.proofs.OrLaws.{or_assoc}
 
@@ -19,15 +18,6 @@ name_entry n = (n, tt)
 
 abbrev pub IsFirst : List ℕ → List (List ℕ) → Type 0
 IsFirst = BelowFirst (slice_cmp nat_cmp) nat_list_cmp_total name_entry
-
-append_one : (out : List (List ℕ)) (x : List ℕ) (rest : List (List ℕ)) → (out ++ x ∷ []) ++ rest ≡ out ++ x ∷ rest
-append_one [] x rest = refl
-append_one (y ∷ out) x rest = ap (λ (l : List (List ℕ)). y ∷ l) (append_one out x rest)
-
-drop_here : (ms : List (List ℕ)) (i : ℕ) (x : List ℕ) → i < length ms → x ≡ get_or ms i x → drop i ms ≡ x ∷ drop (i + 1) ms
-drop_here ms i x lt is =
-    let next : suc i ≡ i + 1 = omega arith in
-    drop-cons ms i x lt ∙ (λ k. sym is k ∷ drop (next k) ms)
 
 own_rest : (ms out : List (List ℕ)) (i : ℕ) (x : List ℕ) → i < length ms → x ≡ get_or ms i x → IsTrue (are_rising_names (out ++ drop i ms)) → IsTrue (are_rising_names ((out ++ x ∷ []) ++ drop (i + 1) ms))
 own_rest ms out i x lt is h = ap are_rising_names (append_one out x (drop (i + 1) ms) ∙ ap (λ (l : List (List ℕ)). out ++ l) (sym (drop_here ms i x lt is))) ∙ h

@@ -5,7 +5,7 @@ use Rattle.std.specs.List.{list_all, list_any}
 use Rattle.std.specs.Ordering.{nat_cmp, eq_by_cmp}
 use Rattle.std.specs.Cmp.Lexicographic.{slice_cmp}
 use Rattle.std.specs.FinMap as finite
-use Rattle.std.proofs.lemmas.Bool.{and_parts, and_from}
+use Rattle.std.proofs.lemmas.Bool.{and_parts, and_from, or_right}
 use Rattle.std.proofs.lemmas.Map.Lookups.{exact_bytes}
 use Rattle.rights_lattice.specs.Cell.{same_cell, same_event}
 use Rattle.rights_lattice.specs.Cells.{Key, Cells, Valued, value_at, marks_of, greatest, value_in, is_of}
@@ -125,11 +125,7 @@ names_within N [] h = refl
 names_within N (m ∷ ns) h =
     and_from (knows N m) (list_all (λ name. knows N name) ns)
     (h m (ap (λ b. b || list_any (eq_by_cmp (slice_cmp nat_cmp) m) ns) ((eq_by_cmp_equiv nat_list_cmp_total).refl m)))
-    (names_within N ns (λ n t. h n (later (eq_by_cmp (slice_cmp nat_cmp) n m) _ t)))
-  where
-    later : (a b : Bool) → b ≡ true → (a || b) ≡ true
-    later true b t = refl
-    later false b t = t
+    (names_within N ns (λ n t. h n (or_right (eq_by_cmp (slice_cmp nat_cmp) n m) _ t)))
 
 le_one : (a b : Bool) → cond a 1 0 ≤ cond b 1 0 → a ≡ true → b ≡ true
 le_one true true h t = refl

@@ -41,7 +41,8 @@ contains-union X Y n =
     ∙ ap (λ b. b || knows X n) (sym (finite.contains_key-keys Y n))
     ∙ or_comm (knows Y n) (knows X n)
 
-any_by_order : (q : List ℕ) (ns : List (List ℕ)) → list_any (same_event q) ns ≡ list_any (eq_by_cmp (slice_cmp nat_cmp) q) ns
+-- equal names, by the test or by the order
+pub any_by_order : (q : List ℕ) (ns : List (List ℕ)) → list_any (same_event q) ns ≡ list_any (eq_by_cmp (slice_cmp nat_cmp) q) ns
 any_by_order q [] = refl
 any_by_order q (n ∷ ns) = let rest = any_by_order q ns in let here = texts_ties q n in λ i. here i || rest i
 

@@ -1,5 +1,5 @@
 -- A session, line by line.
-use Rattle.std.proofs.Common.{◌≡◌, ◌≢◌, ℕ, suc, ◌+◌, ◌-◌, ◌<◌, ◌≤◌, Bool, true, List, [], ◌∷◌, ◌++◌, length, Option, Some, None, Result, Ok, Err, refl, sym, ap, subst, ◌∙◌, arith, append_assoc, append-nil, length-append}
+use Rattle.std.proofs.Common.{◌≡◌, ◌≢◌, ℕ, suc, ◌+◌, ◌-◌, ◌<◌, ◌≤◌, Bool, true, List, [], ◌∷◌, ◌++◌, length, Option, Some, None, Result, Ok, Err, refl, sym, ap, subst, ◌∙◌, arith, append-nil, length-append}
 use Rattle.std.specs.Prelude.{IfSome, IsErrAnd}
 use Rattle.std.specs.List.{flat_map}
 use Rattle.std.proofs.lemmas.List.{flat_map_more}
@@ -7,7 +7,7 @@ use Rattle.std.specs.Io.KnownBytes.{Appends}
 use Rattle.std.proofs.KnownBytes.{Appends-trans, Appends-nil, Appends-kept}
 use Rattle.plain_words.specs.Input.{longest_line, lines_of, Between, BeginsTooLong, LineGives, InputEnd, AtEnd, AtLongLine, AtTooMany, TakenLines, taken, none_taken}
 use Rattle.plain_words.specs.Writing.{AppendsFront}
-use Rattle.plain_words.proofs.LineLaws.{AreShort, put_before, taken-nil, taken-line, taken-long, taken-too-many, taken-behind}
+use Rattle.plain_words.proofs.LineLaws.{AreShort, short-push, read-push, put_before, taken-nil, taken-line, taken-long, taken-too-many, taken-behind}
 use Rattle.desk_lines.specs.declared.line.Line.{Line}
 use Rattle.desk_lines.specs.declared.line.Line.TheVariants.{Quit}
 use Rattle.desk_lines.specs.declared.answered.Answered.{Answered}
@@ -69,17 +69,6 @@ chain_keeps S P step a [] [] b h p = subst P (sym h) p
 chain_keeps S P step a (line ∷ lines) (x ∷ answers) b h p = chain_keeps S P step h.0 lines answers b h.2 (step a (session_line_of line) x h.0 h.1 p)
 chain_keeps S P step a [] (x ∷ answers) b h p = absurd h
 chain_keeps S P step a (line ∷ lines) [] b h p = absurd h
-
-pub short-push : (lines : Lines) (line : List ℕ) → AreShort lines → length line ≤ longest_line → AreShort (lines ++ line ∷ [])
-short-push [] line h k = (k, tt)
-short-push (l ∷ ls) line h k = (h.0, short-push ls line h.1 k)
-
-pub read-push : (a b c : Bytes) (lines : Lines) (line : List ℕ) → Between a b (λ xs ys. lines_of xs ≡ lines ++ lines_of ys) → Between b c (λ xs ys. lines_of xs ≡ line ∷ lines_of ys)
-    → Between a c (λ xs ys. lines_of xs ≡ (lines ++ line ∷ []) ++ lines_of ys)
-read-push None b c lines line p q = tt
-read-push (Some x) None c lines line p q = absurd p
-read-push (Some x) (Some y) None lines line p q = absurd q
-read-push (Some x) (Some y) (Some z) lines line p q = p ∙ ap (λ (t : Lines). lines ++ t) q ∙ sym (append_assoc lines (line ∷ []) (lines_of z))
 
 replies-push : (answers : List Answered) (answered : Answered) → flat_map reply_line answers ++ reply_line answered ≡ flat_map reply_line (answers ++ answered ∷ [])
 replies-push answers answered = flat_map_more reply_line [] answers answered

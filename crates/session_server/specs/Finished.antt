@@ -1,13 +1,13 @@
 -- What a site leaves: its book, and what was found of it beside what its sessions were given. (Our own.)
 use Rattle.std.specs.Prelude.{◌≡◌, ◌≢◌, ◌≤◌, ℕ, nat_le, List, All, count_by, length, Result, Ok, Err}
 use Rattle.book_core.specs.BookView.{BookView}
-use Rattle.book_core.specs.Decision.{sites_of}
 use Rattle.site_desk.specs.declared.answer.Seen.{Seen}
 use Rattle.site_desk.specs.declared.finish.FinishFault.{FinishFault}
 use Rattle.site_desk.specs.declared.finish.FinishFault.TheVariants.{SeatsOut, Stranger, StrangerSeen}
 use Rattle.site_desk.specs.declared.receipt.Receipt.{Receipt}
-use Rattle.site_desk.specs.Count.{asked_since, GoesOnFrom}
+use Rattle.site_desk.specs.Count.{asked_since}
 use Rattle.site_desk.specs.Finish.{FindsFirst, FirstNot, StandsIn, WasSeen}
+use Rattle.site_desk.specs.Moments.{IsLater}
 
 -- Where the count began at this length and the seats handed in have this share: it is all that was newly entered since,
 -- and all receipts and looks are of the book's history; or the first that is not so.
@@ -33,7 +33,5 @@ given_since opening receipts = count_by (λ r. nat_le opening r.place) receipts
 pub record IsLeftOf (began left : BookView) (AllServed : Type 0) (receipts : List Receipt) (looks : List Seen) (result : Result (Unit {0}) FinishFault) : Type 0 where
   pub finished : IsFinished left receipts looks result
   pub whole : AllServed → result ≢ Err SeatsOut
-  pub office : left.office ≡ began.office
-  pub sites : sites_of left.office left.history ≡ sites_of began.office began.history
-  pub goes_on : GoesOnFrom began.history left.history
+  pub later : IsLater began.office began.history left
   pub entered : result ≢ Err SeatsOut → asked_since (length began.history) left.history ≤ given_since (length began.history) receipts

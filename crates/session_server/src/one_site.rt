@@ -1,10 +1,9 @@
 //! One site, in the thread that it was given.
 
-ghost use Rattle.book_core.specs.Decision.{sites_of};
 ghost use Rattle.std.specs.Prelude.{◌≡◌, ◌≢◌, ◌<◌, ◌≤◌, ◌+◌, All, IfErr, IfOk, IsSome, map, vec_len, length};
 ghost use Rattle.std.specs.List.{AllZip, flat_map};
 ghost use Rattle.site_desk.specs.declared.finish.FinishFault.TheVariants.{SeatsOut};
-ghost use Rattle.site_desk.specs.Count.{GoesOnFrom};
+ghost use Rattle.site_desk.specs.Moments.{IsLater};
 ghost use Rattle.site_desk.specs.Seats.{parts_of, shares_of};
 ghost use Rattle.session_server.specs.Exchanged.{Exchanged};
 ghost use Rattle.session_server.specs.Finished.{IsCompared, IsLeftOf, given_since};
@@ -109,9 +108,7 @@ fn finished<K: Keeper + Drop, R: Read + Drop, W: Write + Drop, L: Opens>(
 ) -> Result<(SiteBook<K>, Result<(), FinishFault>), AllocError>
     ensures compared { IfOk result (λ r. IsCompared (length L.began) (shares_of seats.items + seat.count) r.0.book (flat_map (λ e. e.receipts.items) sessions.now.items) (flat_map (λ e. e.seen.items) sessions.now.items) r.1) }
     ensures whole { parts_of seats.items + seat.parts ≡ L.parts → IfOk result (λ r. IfErr r.1 (λ fault. fault ≢ SeatsOut)) }
-    ensures office { IfOk result (λ r. r.0.book.office ≡ L.office) }
-    ensures sites { IfOk result (λ r. sites_of r.0.book.office r.0.book.history ≡ sites_of L.office L.began) }
-    ensures goes_on { IfOk result (λ r. GoesOnFrom L.began r.0.book.history) }
+    ensures later { IfOk result (λ r. IsLater L.office L.began r.0.book) }
 {
     let (receipts, seen) = told(alloc, sessions)?;
     seats.push(seat)?;
@@ -126,9 +123,7 @@ fn compared<K: Keeper + Drop, L: Opens>(
 ) -> (SiteBook<K>, Result<(), FinishFault>)
     ensures compared { IsCompared (length L.began) (shares_of seats.items) result.0.book receipts.now looks.now result.1 }
     ensures whole { parts_of seats.items ≡ L.parts → IfErr result.1 (λ fault. fault ≢ SeatsOut) }
-    ensures office { result.0.book.office ≡ L.office }
-    ensures sites { sites_of result.0.book.office result.0.book.history ≡ sites_of L.office L.began }
-    ensures goes_on { GoesOnFrom L.began result.0.book.history }
+    ensures later { IsLater L.office L.began result.0.book }
 {
     match desk.finish(seats, receipts, looks) {
         Ok(book) => (book, Ok(())),

@@ -2,7 +2,7 @@
 use Rattle.std.proofs.Common.{◌≡◌, ◌≢◌, ℕ, zero, suc, ◌+◌, ◌-◌, ◌*◌, ◌/◌, ◌%◌, ◌<◌, ltb, Bool, true, false, cond, List, length, set, get_or, replicate, refl, sym, ap, ◌∙◌, arith}
 use Rattle.std.specs.Prelude.{max, ◌&&◌}
 use Rattle.std.proofs.lemmas.Nat.{div-mul-add, mod-mul-add, mul-add-lt}
-use Rattle.std.proofs.lemmas.Bool.{cond-false, cond-true, le-ltb, lt-ltb}
+use Rattle.std.proofs.lemmas.Bool.{cond-false, cond-true, false_from_ne_true, le-ltb, lt-ltb}
 use Rattle.std.proofs.lemmas.List.{get_or-set_same, get_or-set_other}
 use Rattle.rights_lattice.specs.declared.cell.Cell.{Cell}
 use Rattle.rights_lattice.specs.declared.cell.Cell.TheVariants.{Gave, Used, Back}
@@ -77,17 +77,13 @@ raised table now place value cell other len at is p q =
     at_zero : (n : ℕ) → n ≡ max n 0
     at_zero n = omega arith
 
-not_true : (b : Bool) → (b ≡ true → ⊥) → b ≡ false
-not_true true h = absurd (h refl)
-not_true false h = refl
-
 -- what a mark of the event says of a cell, and what a mark of another event says
 here : (m : Valued) (event : List ℕ) (cell : Cell) → m.event ≡ event → value_in m event cell ≡ cond (same_cell cell m.cell) m.value 0
 here m event cell is = value_in-tests m event cell ∙ ap (λ b. cond (b && same_cell cell m.cell) m.value 0) (ap (same_event event) is ∙ same_event_self event)
 
 pub elsewhere : (m : Valued) (event : List ℕ) (cell : Cell) → m.event ≢ event → value_in m event cell ≡ 0
 elsewhere m event cell apart =
-    value_in-tests m event cell ∙ ap (λ b. cond (b && same_cell cell m.cell) m.value 0) (not_true (same_event event m.event) (λ t. apart (sym (same_event_is event m.event t))))
+    value_in-tests m event cell ∙ ap (λ b. cond (b && same_cell cell m.cell) m.value 0) (false_from_ne_true (same_event event m.event) (λ t. apart (sym (same_event_is event m.event t))))
 
 pub all_sites : (n : ℕ) → n ≡ site_numbers → n ≡ max_sites
 unfolding max_sites

@@ -1,5 +1,5 @@
 -- What contracts see of a site's book over its keeper. (Our own.)
-use Rattle.std.specs.Prelude.{◌≡◌, ℕ, ◌≤◌, Bool, false, List, length, get_or, Option, refl}
+use Rattle.std.specs.Prelude.{◌≡◌, ℕ, ◌≤◌, Bool, true, false, List, length, get_or, Option, refl}
 use Rattle.std.specs.Coded.{Coded, code_by, coded×, coded_ℕ, coded_bool, coded_list}
 use Rattle.request_ledger.specs.declared.request.Request.{Request}
 use Rattle.book_core.specs.declared.entry.Entry.{Entry}
@@ -10,7 +10,6 @@ use Rattle.book_core.specs.Growing.{GrowDecision, entry_of_grow, grow_decision}
 use Rattle.book_core.specs.OwnRow.{HasOwnRights}
 use Rattle.site_exchange.specs.declared.message.Message.{Message}
 use Rattle.site_exchange.specs.Exchange.{SitePart, Verdict, verdict}
-use Rattle.site_exchange.specs.Pendings.{ExchangeView, IsExchangeOf}
 use Rattle.sql_records.specs.Keeping.{LeavesOnly}
 
 -- the book, what each peer has acknowledged of it, its keeper, and whether it takes nothing more
@@ -25,15 +24,19 @@ coded_view {K} keeper =
     code_by ((BookView × List ℕ) × (K × Bool)) (coded× (coded× coded_book (coded_list coded_ℕ)) (coded× keeper coded_bool))
     (λ s. ((s.book, s.acked), (s.keeper, s.closed))) (λ p. record { book = p.0.0; acked = p.0.1; keeper = p.1.0; closed = p.1.1 }) (λ _. refl)
 
--- an open book's keeper has not failed and, where it is trusted, keeps the history, which is what a stop leaves;
--- closed or not, the exchange is of this book, no peer has acknowledged more than there is, and own rights are not negative
-pub record IsInStep (closed : Bool) (failed : ℕ) (is_trusted : Type 0) (kept : List Entry) (may_leave : Option (List Entry) → Type 0) (exchange : ExchangeView) (book : BookView) : Type 0 where
+-- an open book's keeper has not failed and, where it is trusted, keeps the history, which is what a stop leaves; a closed one's
+-- has failed once; closed or not, no peer has acknowledged more than there is, and own rights are not negative
+pub record IsInStep (closed : Bool) (failed : ℕ) (is_trusted : Type 0) (kept : List Entry) (may_leave : Option (List Entry) → Type 0) (acked : List ℕ) (book : BookView) : Type 0 where
   pub sound : closed ≡ false → failed ≡ 0
+  pub broken : closed ≡ true → failed ≡ 1
   pub same : closed ≡ false → is_trusted → book.history ≡ kept
   pub rests : closed ≡ false → is_trusted → LeavesOnly book.history may_leave
-  pub acknowledged : (peer : ℕ) → get_or exchange.acked peer 0 ≤ length book.history
-  pub of_book : IsExchangeOf book.office book.history exchange
+  pub acknowledged : (peer : ℕ) → get_or acked peer 0 ≤ length book.history
   pub has_rights : HasOwnRights book
+
+-- the same of a site, by what its keeper says of itself
+abbrev pub SiteInStep : {K : Type 0} → (K → ℕ) → (K → Type 0) → (K → List Entry) → (K → Option (List Entry) → Type 0) → SiteView K → Type 0
+SiteInStep failed is_trusted kept may_leave s = IsInStep s.closed (failed s.keeper) (is_trusted s.keeper) (kept s.keeper) (may_leave s.keeper) s.acked s.book
 
 -- the history, and what each peer has acknowledged of it
 abbrev pub site_of : {K : Type 0} → SiteView K → SitePart

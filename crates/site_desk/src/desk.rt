@@ -1,18 +1,13 @@
 //! A site's book that threads share.
-ghost use Rattle.std.specs.Prelude.{◌≡◌, ◌≢◌, ◌+◌, ◌<◌, ◌≤◌, ℕ, All, true, false, length, IfOk, IfErr, IfSome, OnErr, if◌then◌else◌};
-ghost use Rattle.rights_lattice.specs.State.{knows};
-ghost use Rattle.book_core.specs.History.{state_of};
+ghost use Rattle.std.specs.Prelude.{◌≡◌, ◌≢◌, ◌+◌, ◌<◌, ◌≤◌, All, true, length, IfOk, IfErr, IfSome, OnErr, if◌then◌else◌};
 ghost use Rattle.book_core.specs.Legal.{IsLegal};
-ghost use Rattle.book_core.specs.OwnRow.{HasOwnRights};
-ghost use Rattle.site_exchange.specs.Exchange.{ack_for, next, receiver};
-ghost use Rattle.site_exchange.specs.Taking.{MayTake};
-ghost use Rattle.sql_records.specs.Keeping.{LeavesOnly};
-ghost use Rattle.book_core.specs.Decision.{sites_of};
-ghost use Rattle.site_desk.specs.Answers.{IsAnswer, IsAskFault, IsLookFault, IsNextFault, IsSeenAt, IsTakeFault, IsTaken, ack_of, is_peer};
-ghost use Rattle.site_desk.specs.Count.{asked_since, AtOnce, GoesOnFrom};
+ghost use Rattle.site_exchange.specs.Exchange.{ack_for, receiver};
+ghost use Rattle.site_desk.specs.Answers.{ack_of};
+ghost use Rattle.site_desk.specs.Count.{asked_since};
 ghost use Rattle.site_desk.specs.Finish.{FindsFirst, StandsIn, WasSeen, handed_back};
+ghost use Rattle.site_desk.specs.Moments.{AtOnce, Gives, IsLater, Replies, Shows, Takes};
 ghost use Rattle.site_desk.specs.Seats.{held, parts_of, shares_of};
-ghost use Rattle.site_desk.specs.SiteView.{SiteView, decision_in, site_of, verdict_in};
+ghost use Rattle.site_desk.specs.SiteView.{SiteInStep};
 
 use crate::answer::{Answer, Seen, Taken};
 use crate::fault::{AskFault, LookFault, NextFault};
@@ -30,10 +25,11 @@ use std::alloc::Global;
 use std::sync::ledger::Blank;
 use std::sync::{Mutex, Wait};
 
-/// A site's book behind its one lock. `ask`, `look`, `take` and `next` are each one event under it, and may wait.
+/// A site's book behind its one lock. `ask`, `look`, `take` and `next` are each one step under it, and may wait.
 ///
 /// Whenever the lock is free the book's history is legal, its own rights are not negative and, unless it is closed,
-/// its history is what its keeper holds, as far as that is to be trusted.
+/// its history is what its keeper holds, as far as that is to be trusted. What these calls answer fits some such book, of
+/// this site, that goes on from the one that the desk began with: which one it was, only who holds the lock sees.
 #[derive(Drop)]
 pub struct Desk<K: Keeper, L: Opens> {
     lock: Mutex<Locked<K, L>>,
@@ -57,8 +53,7 @@ impl<K: Keeper, L: Opens> Desk<K, L> {
     /// Answers a request as the book does, and gives the receipt for the answer. The seat's share is raised by one
     /// exactly where the answer is fresh. The gate is passed under the lock.
     ///
-    /// Errors are those of `SiteBook::ask`; they leave the seat as it was. The answer or the error is that of the book as
-    /// it was at one moment (`answered`): a legal history of this site that goes on from the one that the desk began with.
+    /// Errors are those of `SiteBook::ask`; they leave the seat as it was.
     pub fn ask<R: Wait, G: Gate>(
         &self,
         rt: &R,
@@ -72,7 +67,7 @@ impl<K: Keeper, L: Opens> Desk<K, L> {
         ensures share { IfOk result (λ r. seat.new ≡ held seat.old.parts (if r.0.fresh then seat.old.count + 1 else seat.old.count)) }
         ensures kept { OnErr result (seat.new ≡ seat.old) }
         ensures place { IfOk result (λ r. r.0.fresh ≡ true → length L.began + seat.old.count ≤ r.0.place) }
-        ensures answered { AtOnce L.office L.began (λ (s : SiteView K). IfOk result (λ r. (s.closed ≡ false) × IsAnswer (decision_in s.book number request.now) (length s.book.history) r.0) × IfErr result (λ fault. (after : ℕ) × IsAskFault s.closed (decision_in s.book number request.now) (K.failed s.keeper) after fault)) }
+        ensures answered { AtOnce L.office L.began (SiteInStep K.failed K.is_trusted K.kept K.may_leave) (Replies K.failed number request.now result) }
     {
         let mut locked = self.lock.lock(rt);
         let site = locked.site();
@@ -83,11 +78,11 @@ impl<K: Keeper, L: Opens> Desk<K, L> {
     /// What the history shows of an event that it knows, once it has all that was newly entered for this seat (the
     /// session guarantee "read your writes", PDIS 1994). It waits for that, though the history always has it.
     ///
-    /// Errors are those of `SiteBook::look`. What is seen, or the error, is that of the book at one moment (`seen`).
+    /// Errors are those of `SiteBook::look`.
     pub fn look<R: Wait>(&self, rt: &R, seat: &Seat<L>, event: Event) -> Result<Seen, LookFault>
         ensures event { IfOk result (λ seen. seen.event ≡ event) }
         ensures at { IfOk result (λ seen. length L.began + seat.now.count ≤ seen.at) }
-        ensures seen { AtOnce L.office L.began (λ (s : SiteView K). IfOk result (λ seen. (s.closed ≡ false) × (knows (state_of s.book.history).names event ≡ true) × ((seen.at ≡ length s.book.history) × IsSeenAt s.book.office s.book.history event seen)) × IfErr result (IsLookFault s.closed (knows (state_of s.book.history).names event))) }
+        ensures seen { AtOnce L.office L.began (SiteInStep K.failed K.is_trusted K.kept K.may_leave) (Shows event result) }
     {
         for _ in rt.forever() {
             let locked = self.lock.lock(rt);
@@ -98,17 +93,17 @@ impl<K: Keeper, L: Opens> Desk<K, L> {
         unreachable!()
     }
 
-    /// Takes a peer's message as the book does at one moment, with its errors (`taken`). The acknowledgement that is given
-    /// is the one for the message, and none is given for an acknowledgement.
+    /// Takes a peer's message as the book does, with its errors. The acknowledgement that is given is the one for the
+    /// message, and none is given for an acknowledgement.
     #[tactic(auto, using(crate::proofs::Sent::ack_taken))]
     pub fn take<R: Wait>(&self, rt: &R, message: Message) -> Result<Taken, TakeFault>
         ensures ack { IfOk result (λ taken. ack_of taken ≡ ack_for message) }
-        ensures taken { AtOnce L.office L.began (λ (s : SiteView K). IfOk result (λ taken. (s.closed ≡ false) × IsTaken (verdict_in s.book message) (ack_for message) taken) × IfErr result (λ fault. (after : ℕ) × IsTakeFault s.closed (verdict_in s.book message) (MayTake (verdict_in s.book message) (site_of s) message) (K.failed s.keeper) after fault)) }
+        ensures taken { AtOnce L.office L.began (SiteInStep K.failed K.is_trusted K.kept K.may_leave) (Takes K.failed message result) }
     {
         self.lock.lock(rt).take(message)
     }
 
-    /// The message that is due to a peer, as the book gives it at one moment, with its errors (`due`).
+    /// The message that is due to a peer, as the book gives it, with its errors.
     #[tactic(auto, using(crate::proofs::Sent::next_sent))]
     pub fn next<R: Wait>(
         &self,
@@ -117,7 +112,7 @@ impl<K: Keeper, L: Opens> Desk<K, L> {
         to: SiteId,
     ) -> Result<Option<Message>, NextFault>
         ensures to { IfOk result (λ message. IfSome message (λ m. receiver m ≡ to)) }
-        ensures due { AtOnce L.office L.began (λ (s : SiteView K). IfOk result (λ message. (s.closed ≡ false) × (is_peer s.book.office s.book.history to ≡ true) × (message ≡ next s.book.office.me (site_of s) to)) × IfErr result (IsNextFault s.closed (is_peer s.book.office s.book.history to) (next s.book.office.me (site_of s) to))) }
+        ensures due { AtOnce L.office L.began (SiteInStep K.failed K.is_trusted K.kept K.may_leave) (Gives to result) }
     {
         self.lock.lock(rt).next(alloc, to)
     }
@@ -142,13 +137,9 @@ impl<K: Keeper, L: Opens> Desk<K, L> {
         ensures whole { parts_of seats.items ≡ L.parts → IfErr result (λ e. e.1 ≢ FinishFault.SeatsOut) }
 
         // What the book kept, whenever the lock was free.
-        ensures office { (handed_back result).book.office ≡ L.office }
-        ensures sites { sites_of (handed_back result).book.office (handed_back result).book.history ≡ sites_of L.office L.began }
-        ensures goes_on { GoesOnFrom L.began (handed_back result).book.history }
+        ensures later { IsLater L.office L.began (handed_back result).book }
         ensures legal { IsLegal (handed_back result).book.office (handed_back result).book.history }
-        ensures has_rights { HasOwnRights (handed_back result).book }
-        ensures same { (handed_back result).closed ≡ false → K.is_trusted (handed_back result).keeper → (handed_back result).book.history ≡ K.kept (handed_back result).keeper }
-        ensures rests { (handed_back result).closed ≡ false → K.is_trusted (handed_back result).keeper → LeavesOnly (handed_back result).book.history (K.may_leave (handed_back result).keeper) }
+        ensures in_step { SiteInStep K.failed K.is_trusted K.kept K.may_leave (handed_back result) }
     {
         self.lock.into_inner().finish(seats, receipts, looks)
     }

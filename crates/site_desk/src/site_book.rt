@@ -16,7 +16,7 @@ ghost use Rattle.sql_records.specs.declared.meta.Meta.{Meta as Numbers};
 ghost use Rattle.sql_records.specs.Layout.{office_of};
 ghost use Rattle.site_desk.specs.Answers.{IsAnswer, IsAskFault, IsGrowFault, IsSeenAt, IsTakeFault, IsTaken, is_peer};
 ghost use Rattle.site_desk.specs.Count.{HasOneMoreIf};
-ghost use Rattle.site_desk.specs.SiteView.{decision_in, entry_in, grow_decision_in, growth_in, site_of, verdict_in};
+ghost use Rattle.site_desk.specs.SiteView.{SiteInStep, decision_in, entry_in, grow_decision_in, growth_in, site_of, verdict_in};
 
 use crate::answer::{Answer, Seen, Taken};
 use crate::asking::answer;
@@ -43,6 +43,7 @@ pub struct SiteBook<K: Keeper> {
 }
 
 impl<K: Keeper> Model for SiteBook<K> {
+    ghost use Rattle.site_exchange.specs.Pendings.{IsExchangeOf};
     ghost use Rattle.site_desk.specs.SiteView.{SiteView, IsInStep, coded_view};
 
     ghost Value = { SiteView K };
@@ -51,7 +52,7 @@ impl<K: Keeper> Model for SiteBook<K> {
 
     ghost view = { λ s. record { book = s.book; acked = s.exchange.acked; keeper = s.keeper; closed = s.is_closed } };
 
-    ghost invariant = { λ s. IsInStep s.is_closed (K.failed s.keeper) (K.is_trusted s.keeper) (K.kept s.keeper) (K.may_leave s.keeper) s.exchange s.book };
+    ghost invariant = { λ s. IsInStep s.is_closed (K.failed s.keeper) (K.is_trusted s.keeper) (K.kept s.keeper) (K.may_leave s.keeper) s.exchange.acked s.book × IsExchangeOf s.book.office s.book.history s.exchange };
 }
 
 impl<K: Keeper> SiteBook<K> {
@@ -101,6 +102,7 @@ impl<K: Keeper> SiteBook<K> {
         ensures book { result.now ≡ self.now.book }
         ensures legal { IsLegal self.now.book.office self.now.book.history }
         ensures has_rights { HasOwnRights self.now.book }
+        ensures in_step { SiteInStep K.failed K.is_trusted K.kept K.may_leave self.now }
     {
         // What the book says of its history.
         let _len = self.book.len();

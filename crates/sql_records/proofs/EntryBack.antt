@@ -22,7 +22,8 @@ use Rattle.book_core.specs.History.{delta_of as added}
 use Rattle.delta_wire.specs.Grammar.{most_bytes, IsDelta, delta_text}
 use Rattle.rights_lattice.proofs.EventLaws.{name_of_again}
 use Rattle.delta_wire.proofs.Texts.{delta_again}
-use Rattle.delta_wire.specs.Wire.{state_from, items_from}
+use Rattle.delta_mutators.specs.Lists.{state_from}
+use Rattle.delta_wire.specs.Wire.{items_from}
 use Rattle.sql_records.specs.Rows.{event_column, amount_column, target_column, number_column, rest_column, columns_of, HasReplyColumns, IsStorable, number_within, positive_in, site_in, event_in, verb_in, announce_of, release_of, sell_of, part_in, refund_in_columns, cede_of, request_in, rest_in, reply_in, delta_in, asked_of, joined_of, is_grow, grown_of, entry_of}
 
 pub within_back : (low high n : ℕ) → low ≤ n → n ≤ high → number_within low high (Int (pos n)) ≡ Some n

@@ -1,5 +1,5 @@
 -- What the one INSERT makes of the database.
-use Rattle.std.proofs.Common.{◌≡◌, ◌⊎◌, flat_map, inl, inr, ℕ, pos, List, [], ◌∷◌, Bool, true, false, cond, None, Option, Ok, Err, Result, refl, ap, subst, ◌∙◌, arith}
+use Rattle.std.proofs.Common.{◌≡◌, ◌⊎◌, flat_map, inl, inr, ℕ, pos, List, [], ◌∷◌, None, Option, Ok, Err, Result, refl, ap, subst, ◌∙◌, arith}
 use Rattle.sqlite.specs.declared.types.Value.{Value}
 use Rattle.sqlite.specs.declared.types.Value.TheVariants.{Null, Int}
 use Rattle.sqlite.specs.Order.{Row}
@@ -28,6 +28,7 @@ use Rattle.sqlite_schema.specs.declared.schema.Index.{Index}
 use Rattle.sqlite_schema.specs.declared.schema.View.{View}
 use Rattle.sqlite_schema.specs.declared.schema.Keys.{Keys}
 use Rattle.std.specs.List.{AllByRecursion, filter_map}
+use Rattle.request_ledger.proofs.SumLaws.{cond_both}
 use Rattle.sql_records.specs.Texts.{insert_text}
 use Rattle.sql_records.specs.Layout.{IsOurs, ours_and, meta_at, entries_at, RefersToNone}
 
@@ -54,17 +55,13 @@ pub no_work : (s : Schema) (keys : Keys) (depth tree : ℕ) (olds news : List Ro
 no_work s keys depth tree olds news [] bare = refl
 no_work s keys depth tree olds news (t ∷ tables) bare = rw (bare.0) (no_work s keys depth tree olds news tables bare.1)
 
-either : (b : Bool) (x : Value) → cond b x x ≡ x
-either true x = refl
-either false x = refl
-
 pub cast_null : cast Integer Null ≡ Null
 unfolding unary
-cast_null = either _ Null
+cast_null = cond_both _ Null
 
 pub cast_int : (n : ℕ) → cast Integer (Int (pos n)) ≡ Int (pos n)
 unfolding unary
-cast_int n = either _ (Int (pos n))
+cast_int n = cond_both _ (Int (pos n))
 
 -- a part that gave a value did not stop on the way
 pub went : {B E R : Type 0} {b : B} {Stops : E → Type 0} → ((stop : E) × Stops stop × (Ok b ≡ Err stop)) ⊎ R → R

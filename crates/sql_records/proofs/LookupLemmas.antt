@@ -6,6 +6,7 @@ use Rattle.std.specs.List.{filter_map}
 use Rattle.std.specs.Cmp.Lexicographic.{texts_ties}
 use Rattle.std.proofs.lemmas.Int.{ints}
 use Rattle.std.proofs.lemmas.Bool.{and_parts}
+use Rattle.std.proofs.lemmas.Option.{cond_some, same_Some, slice_get_within}
 use Rattle.std.proofs.lemmas.List.{take_more, map-append, length-map}
 use Rattle.std.proofs.lemmas.Bool.Decides.{nat_tests}
 use Rattle.sqlite.specs.declared.types.Value.{Value}
@@ -28,7 +29,7 @@ use Rattle.book_core.specs.declared.entry.Entry.{Entry}
 use Rattle.book_core.specs.declared.entry.Entry.TheVariants.{Asked, Joined, Grown}
 use Rattle.book_core.specs.History.{asked_from}
 use Rattle.plain_words.specs.Words.{◌>>=◌}
-use Rattle.plain_words.proofs.WordLaws.{bind_some, some_is}
+use Rattle.plain_words.proofs.WordLaws.{bind_some}
 use Rattle.rights_lattice.specs.EventName.{name_of}
 use Rattle.rights_lattice.proofs.EventLaws.{name_of_found}
 use Rattle.sql_records.specs.declared.lookup.FindFault.{FindFault}
@@ -38,19 +39,14 @@ use Rattle.sql_records.specs.declared.lookup.Listed.{Listed}
 use Rattle.request_ledger.specs.declared.verb.Verb.{Verb}
 use Rattle.request_ledger.specs.declared.verb.Verb.TheVariants as verb
 use Rattle.sqlite.specs.State.{State as Store}
-use Rattle.sql_records.proofs.OpeningLemmas.{has_some}
 use Rattle.sql_records.specs.Rows.{is_null, text_in, number_within, positive_in, site_in, event_in, verb_in, event_column, announce_of, release_of, sell_of, part_in, refund_in_columns, cede_of, request_of, request_in, reply_in, delta_in, asks_nothing, asked_of, joined_of, sites_in, is_grow, only_grows, grown_of, own_of, entry_with, entry_of, AreWhole}
 use Rattle.sql_records.specs.Lookups.{IsFirstUnread, IsListFault, IsQueryFault, ReadsSome, found_in, listed_in, names_event, listing, has_number, has_event, found_columns, listed_columns, found_of, listed_of, first_found}
 
 -- ---- what was read from a value
 
-cond_is : {A : Type 0} (b : Bool) (x y : A) → cond b (Some x) None ≡ Some y → (b ≡ true) × (x ≡ y)
-cond_is true x y e = (refl, some_is x y e)
-cond_is false x y e = absurd cc
-
 within_found : (low high n : ℕ) (v : Value) → number_within low high v ≡ Some n → v ≡ Int (pos n)
 within_found low high n Null e = absurd cc
-within_found low high n (Int (pos m)) e = ap (λ k. Int (pos k)) (cond_is _ m n e).1
+within_found low high n (Int (pos m)) e = ap (λ k. Int (pos k)) (cond_some _ m n e).1
 within_found low high n (Int (negsuc m)) e = absurd cc
 within_found low high n (Real x) e = absurd cc
 within_found low high n (Text t) e = absurd cc
@@ -67,7 +63,7 @@ text_found : (v : Value) (t : List ℕ) → text_in v ≡ Some t → v ≡ Text 
 text_found Null t e = absurd cc
 text_found (Int n) t e = absurd cc
 text_found (Real x) t e = absurd cc
-text_found (Text s) t e = ap Text (some_is s t e)
+text_found (Text s) t e = ap Text (same_Some s t e)
 text_found (Blob b) t e = absurd cc
 
 event_found : (v : Value) (name : List ℕ) → event_in v ≡ Some name → v ≡ Text name
@@ -82,25 +78,25 @@ named : (v : Verb) (event amount target : Value) (q : Request) → request_of v 
 unfolding announce_of release_of sell_of refund_in_columns cede_of
 named verb.Announce event amount target q e =
     let a = bind_some (event_in event) (λ x. cond (is_null amount && is_null target) (Some (Announce x)) None) q e in
-    event_found event a.0 a.1 ∙ ap event_column (cond_is _ (Announce a.0) q a.2).1
+    event_found event a.0 a.1 ∙ ap event_column (cond_some _ (Announce a.0) q a.2).1
 named verb.Release event amount target q e =
     let a = bind_some (event_in event) (λ x. positive_in amount >>= λ n. cond (is_null target) (Some (Release x n)) None) q e in
     let b = bind_some (positive_in amount) (λ n. cond (is_null target) (Some (Release a.0 n)) None) q a.2 in
-    event_found event a.0 a.1 ∙ ap event_column (cond_is _ (Release a.0 b.0) q b.2).1
+    event_found event a.0 a.1 ∙ ap event_column (cond_some _ (Release a.0 b.0) q b.2).1
 named verb.Sell event amount target q e =
     let a = bind_some (event_in event) (λ x. positive_in amount >>= λ n. cond (is_null target) (Some (Sell x n)) None) q e in
     let b = bind_some (positive_in amount) (λ n. cond (is_null target) (Some (Sell a.0 n)) None) q a.2 in
-    event_found event a.0 a.1 ∙ ap event_column (cond_is _ (Sell a.0 b.0) q b.2).1
+    event_found event a.0 a.1 ∙ ap event_column (cond_some _ (Sell a.0 b.0) q b.2).1
 named verb.Refund event amount target q e =
     let a = bind_some (positive_in target) (λ sale. part_in amount >>= λ part. cond (is_null event) (Some (Refund sale part)) None) q e in
     let b = bind_some (part_in amount) (λ part. cond (is_null event) (Some (Refund a.0 part)) None) q a.2 in
-    let d = cond_is _ (Refund a.0 b.0) q b.2 in
+    let d = cond_some _ (Refund a.0 b.0) q b.2 in
     null_found event d.0 ∙ ap event_column d.1
 named verb.Cede event amount target q e =
     let a = bind_some (event_in event) (λ x. positive_in amount >>= λ n. site_in target >>= λ to. Some (Cede x to n)) q e in
     let b = bind_some (positive_in amount) (λ n. site_in target >>= λ to. Some (Cede a.0 to n)) q a.2 in
     let d = bind_some (site_in target) (λ to. Some (Cede a.0 to b.0)) q b.2 in
-    event_found event a.0 a.1 ∙ ap event_column (some_is (Cede a.0 d.0 b.0) q d.2)
+    event_found event a.0 a.1 ∙ ap event_column (same_Some (Cede a.0 d.0 b.0) q d.2)
 
 event_is : (word event amount target : Value) (q : Request) → request_in word event amount target ≡ Some q → event ≡ event_column q
 unfolding request_in
@@ -120,13 +116,13 @@ asked_parts values delta e h =
     let n = bind_some (positive_in (column values 2)) (λ n. request_in (column values 3) (column values 4) (column values 5) (column values 6) >>= λ q. reply_in (column values 7) (column values 8) >>= λ r. Some (Asked n q r delta)) e h in
     let q = bind_some (request_in (column values 3) (column values 4) (column values 5) (column values 6)) (λ q. reply_in (column values 7) (column values 8) >>= λ r. Some (Asked n.0 q r delta)) e n.2 in
     let r = bind_some (reply_in (column values 7) (column values 8)) (λ r. Some (Asked n.0 q.0 r delta)) e q.2 in
-    subst (HasParts values) (some_is (Asked n.0 q.0 r.0 delta) e r.2) (within_found 1 greatest_value n.0 (column values 2) n.1, n.1, q.1, r.1)
+    subst (HasParts values) (same_Some (Asked n.0 q.0 r.0 delta) e r.2) (within_found 1 greatest_value n.0 (column values 2) n.1, n.1, q.1, r.1)
 
 joined_parts : (values : Row) (delta : State) (e : Entry) → joined_of values delta ≡ Some e → HasParts values e
 unfolding joined_of
 joined_parts values delta e h =
     let p = bind_some (site_in (column values 1)) (λ p. cond (asks_nothing values) (Some (Joined p delta)) None) e h in
-    let c = cond_is (asks_nothing values) (Joined p.0 delta) e p.2 in
+    let c = cond_some (asks_nothing values) (Joined p.0 delta) e p.2 in
     let six = (and_parts _ _ c.0).0 in
     let five = (and_parts _ _ six).0 in
     let four = (and_parts _ _ five).0 in
@@ -139,7 +135,7 @@ grown_parts : (values : Row) (e : Entry) → grown_of values ≡ Some e → HasP
 unfolding grown_of
 grown_parts values e h =
     let n = bind_some (sites_in (column values 6)) (λ n. cond (only_grows values) (Some (Grown n)) None) e h in
-    let c = cond_is (only_grows values) (Grown n.0) e n.2 in
+    let c = cond_some (only_grows values) (Grown n.0) e n.2 in
     let five = (and_parts _ _ c.0).0 in
     let four = (and_parts _ _ five).0 in
     let three = (and_parts _ _ four).0 in
@@ -235,7 +231,7 @@ pub found_out : {A : Type 0} (a b : Option A) → option_map Some a ≡ option_m
 found_out None None e = refl
 found_out None (Some b) e = absurd cc
 found_out (Some a) None e = absurd cc
-found_out (Some a) (Some b) e = some_is (Some a) (Some b) e
+found_out (Some a) (Some b) e = same_Some (Some a) (Some b) e
 
 pub reads_all : {A : Type 0} (a : Option A) → option_map Some a ≡ Some None → ⊥
 reads_all None e = cc
@@ -283,7 +279,7 @@ listed_out (x ∷ xs) [] e = absurd cc
 listed_out (x ∷ xs) (y ∷ ys) e =
     let head : Some x ≡ Some y = cc in
     let tail : map Some xs ≡ map Some ys = cc in
-    let first = some_is x y head in
+    let first = same_Some x y head in
     rw first (ap (λ l. y ∷ l) (listed_out xs ys tail))
 
 -- a row that is not read is among the rows
@@ -325,7 +321,7 @@ module _ (rows whole : List Row) (h : List Entry) (name : List ℕ) (are : AreWh
   -- memory is wanted only where something is listed
   some_listed : ReadsSome rows → 0 < length (listed_in h name)
   some_listed some =
-      let low = has_some rows some.at some.values some.here in
+      let low = slice_get_within rows some.at some.values some.here in
       let long = ap length all_are in
       omega (arith, low, long, length-map rows listed_of, length-map (listed_in h name) (λ (x : Listed). Some x))
 

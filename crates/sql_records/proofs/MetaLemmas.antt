@@ -1,7 +1,7 @@
 -- What the row of `meta` says.
 use Rattle.std.proofs.Common.{◌≡◌, ◌≢◌, inl, inr, ℕ, ◌≤◌, ℤ, pos, negsuc, cond, ◌&&◌, leb, ltb, List, [], ◌∷◌, map, length, Option, Some, None, Result, Ok, Err, IfOk, IfErr, refl, sym, ap, subst, ◌∙◌, arith, IsPermutation}
 use Rattle.std.proofs.lemmas.Bool.{and_parts, leb-true, ltb-true, lt-ltb, cond-true}
-use Rattle.std.proofs.lemmas.Option.{cond_some}
+use Rattle.std.proofs.lemmas.Option.{cond_some, none-some}
 use Rattle.std.proofs.lemmas.List.Sorted.{length_permutation, IsPermutation-sym}
 use Rattle.sqlite.proofs.Callers.{one_permutation}
 use Rattle.sqlite.specs.declared.types.Value.{Value}
@@ -91,9 +91,6 @@ differs v w none is = let e : ◌≡◌ {A = Option ℤ} (Some v) None = sym (ap
 pub same_int : (v w : ℤ) (x : Value) → x ≡ Int v → x ≡ Int w → v ≡ w
 same_int v w x p q = cc
 
-never_both : (meta : Meta) (o : Option Meta) → o ≡ None → o ≡ Some meta → ⊥
-never_both meta o p q = cc
-
 no_numbers : (read : Version) (db : Trees) (values : Row) → meta_rows db ≡ values ∷ [] → IsForeignRow read values → (meta : Meta) → AreNumbers meta → ¬ HasMetaAs read meta db
 no_numbers read db values alone foreign meta within has =
     let same : values ≡ meta_as read meta = same_row (meta_rows db) values (meta_as read meta) alone has in
@@ -103,7 +100,7 @@ no_numbers read db values alone foreign meta within has =
       | inr (inl version) ↦ differs (version_number read) (column values 2) version (ap (λ (x : Row). column x 2) same)
       | inr (inr numbers) ↦ (
           let is : HasNumbers meta values = record { me_is = ap (λ (x : Row). column x 3) same; sites_are = ap (λ (x : Row). column x 4) same; limit_is = ap (λ (x : Row). column x 5) same } in
-          never_both meta (meta_in values) numbers.1 (numbers_again meta values is within))
+          none-some meta (sym numbers.1 ∙ numbers_again meta values is within))
     ]
 
 no_version : (read : Version) (db : Trees) (values : Row) → meta_rows db ≡ values ∷ [] → IsForeignRow read values → (version : ℤ) → ¬ HasOtherSchema read version db

@@ -1,10 +1,10 @@
 -- What an open finds.
-use Rattle.std.proofs.Common.{◌≡◌, ◌⊎◌, inl, inr, ℕ, suc, ◌+◌, ◌-◌, ◌<◌, ◌≤◌, pos, false, List, [], ◌∷◌, ◌++◌, length, take, drop, get_or, slice_get, zero, IsTrue, IsSome, Option, Some, None, refl, sym, ap, subst, ◌∙◌, arith, Result, Ok, Err, OnOk, IfErr, IsErrAnd, Bool, true, not}
-use Rattle.std.specs.List.{AllByRecursion, filter_map, cons_option}
+use Rattle.std.proofs.Common.{◌≡◌, ◌⊎◌, inl, inr, ℕ, suc, ◌+◌, ◌-◌, ◌<◌, ◌≤◌, pos, false, List, [], ◌∷◌, ◌++◌, length, take, drop, get_or, slice_get, IsTrue, IsSome, Option, Some, None, refl, sym, ap, subst, ◌∙◌, arith, Result, Ok, Err, OnOk, IfErr, IsErrAnd}
+use Rattle.std.specs.List.{filter_map, cons_option}
 use Rattle.std.proofs.lemmas.List.{take_more, length-take-le, length-drop}
 use Rattle.std.proofs.lemmas.List.Sums.{prefix_len-le-length}
 use Rattle.std.proofs.Math.Seq.{take-length}
-use Rattle.std.proofs.lemmas.Option.{slice_get_read}
+use Rattle.std.proofs.lemmas.Option.{same_Some, slice_get_read, slice_get_within}
 use Rattle.sqlite.specs.Order.{Row, column}
 use Rattle.sqlite.specs.declared.types.Value.TheVariants.{Int}
 use Rattle.sqlite_trees.specs.declared.error.StoreError.TheVariants as StoreError
@@ -32,13 +32,6 @@ pub whole_more : (rows : List Row) (i : ℕ) (values : Row) (entry : Entry) → 
 whole_more rows i values entry low at h is reads =
     rw (take_more rows i values low, ← at) (whole_next (take i rows) values entry 0 i h (omega (arith, length-take-le i rows (omega arith))) is reads)
 
-all_next : (P : Row → Type 0) (rows : List Row) (values : Row) → AllByRecursion P rows → P values → AllByRecursion P (rows ++ values ∷ [])
-all_next P [] values all is = (is, tt)
-all_next P (r ∷ rows) values all is = (all.0, all_next P rows values all.1 is)
-
-pub version_more : (P : Row → Type 0) (rows : List Row) (i : ℕ) (values : Row) → i < length rows → values ≡ get_or rows i values → AllByRecursion P (take i rows) → P values → AllByRecursion P (take (i + 1) rows)
-version_more P rows i values low at all is = rw (take_more rows i values low, ← at) (all_next P (take i rows) values all is)
-
 pub entries_more : (rows : List Row) (i : ℕ) (values : Row) (entry : Entry) → i < length rows → values ≡ get_or rows i values → entry_of values ≡ Some entry
     → filter_map entry_of (take (i + 1) rows) ≡ filter_map entry_of (take i rows) ++ entry ∷ []
 entries_more rows i values entry low at reads = rw (take_more rows i values low, ← at) (entries_next (take i rows) values entry reads)
@@ -60,14 +53,6 @@ fault_at read rows i values fault low at whole (inr is) other wanted = inr (i, i
 
 -- ---- rows in front of the place 0
 
-one_row : (values other : Row) → Some values ≡ Some other → values ≡ other
-one_row values other same = cc
-
-pub has_some : (rows : List Row) (i : ℕ) (values : Row) → slice_get rows i ≡ Some values → i < length rows
-has_some [] i values at = absurd cc
-has_some (r ∷ rows) zero values at = omega arith
-has_some (r ∷ rows) (suc i) values at = let low = has_some rows i values at in omega (arith, low)
-
 -- the rows behind those in front of the place 0
 pub part_from_0 : (rows : List Row) (n : ℕ) → n ≡ rows_below rows → take (length rows - n) (drop n rows) ≡ rows_from_0 rows
 part_from_0 rows n is = ap (λ (k : ℕ). take k (drop n rows)) (sym (length-drop n rows)) ∙ take-length (drop n rows) ∙ ap (λ (k : ℕ). drop k rows) is
@@ -76,9 +61,9 @@ part_from_0 rows n is = ap (λ (k : ℕ). take k (drop n rows)) (sym (length-dro
 pub damaged_above : (read : Version) (rows : List Row) (fault : OpenFault) → StopsReading read (rows_from_0 rows) fault → AreRowsFault read rows fault
 damaged_above read rows fault (inl (is, wanted)) = subst (AreRowsFault read rows) (sym is) wanted
 damaged_above read rows fault (inr (place, is, (whole, (values, at, other)))) =
-    let low = has_some (rows_from_0 rows) place values at in
+    let low = slice_get_within (rows_from_0 rows) place values at in
     let long = length-drop (rows_below rows) rows in
-    let here : (v : Row) → slice_get (rows_from_0 rows) place ≡ Some v → ¬ IsEntryIn read place v = λ v there. subst (λ (r : Row). ¬ IsEntryIn read place r) (one_row values v (sym at ∙ there)) other in
+    let here : (v : Row) → slice_get (rows_from_0 rows) place ≡ Some v → ¬ IsEntryIn read place v = λ v there. subst (λ (r : Row). ¬ IsEntryIn read place r) (same_Some values v (sym at ∙ there)) other in
     subst (AreRowsFault read rows) (sym is) (record { low = omega (arith, low, long); before = whole; reached = omega (arith, low); missing = here })
 
 -- all rows from the place 0 on are whole, and some stand in front of it
@@ -91,7 +76,7 @@ damaged_below read rows some whole =
       low = omega (arith, some, long, few);
       before = subst (AreWholeIn read 0) (sym (take-length own)) whole;
       reached = omega arith;
-      missing = λ v there. absurd (let low = has_some own (length own) v there in omega (arith, low));
+      missing = λ v there. absurd (let low = slice_get_within own (length own) v there in omega (arith, low));
     }
 
 one_more : (o : Option Entry) (entries : List Entry) (n : ℕ) → IsSome o → length entries ≡ n → length (cons_option o entries) ≡ suc n
@@ -242,7 +227,3 @@ one_meta read a b db first second =
     let sites : a.sites ≡ b.sites = cc in
     let limit : a.limit ≡ b.limit = cc in
     ap (λ m. numbers m a.sites a.limit) me ∙ ap (λ s. numbers b.me s a.limit) sites ∙ ap (numbers b.me b.sites) limit
-
-pub not_true : (b : Bool) → not b ≡ true → b ≡ false
-not_true true h = absurd cc
-not_true false h = refl

@@ -2,6 +2,7 @@
 use Rattle.std.proofs.Common.{◌≡◌, ℕ, zero, suc, ◌+◌, ◌≤◌, ◌<◌, List, [], ◌∷◌, length, map, get_or, inl, inr, Option, Some, None, refl, sym, ap, ◌∙◌, subst, arith, Bor}
 use Rattle.std.specs.Prelude.{slice_get}
 use Rattle.std.proofs.lemmas.Bool.{cases_lt}
+use Rattle.std.proofs.lemmas.Option.{slice_get_within}
 use Rattle.rights_lattice.specs.declared.cell.Cell.{Cell}
 use Rattle.rights_lattice.specs.declared.cell.Cell.TheVariants.{Gave, Used, Back}
 use Rattle.rights_lattice.specs.Cell.{owner_of}
@@ -15,6 +16,7 @@ use Rattle.book_core.specs.Legal.{IsLegal}
 use Rattle.book_core.specs.BookView.{BookView}
 use Rattle.world_steps.specs.Audit.{books_of, history_among, AreSites, NoneIsAhead, AreNotOversold}
 use Rattle.world_steps.proofs.Balance.{office_numbered, not_oversold}
+use Rattle.world_steps.proofs.Names.{past_end}
 use Rattle.world_steps.proofs.Promised.{refunds_below}
 use Rattle.world_steps.proofs.Seats.{legal_within}
 
@@ -27,11 +29,6 @@ found_view (x ∷ books) (suc i) book l is = found_view books i book (omega (ari
 pub length-views : (books : List (Bor BookView)) → length (books_of books) ≡ length books
 length-views [] = refl
 length-views (x ∷ books) = ap suc (length-views books)
-
-pub place_below : (books : List BookView) (i : ℕ) (book : BookView) → slice_get books i ≡ Some book → i < length books
-place_below [] i book found = cc
-place_below (x ∷ books) zero book found = omega arith
-place_below (x ∷ books) (suc i) book found = omega (arith, place_below books i book found)
 
 -- one more book of which this holds
 pub each_more : (Holds : ℕ → BookView → Type 0) (books : List BookView) (i : ℕ) (book : BookView) → slice_get books i ≡ Some book → Holds i book
@@ -48,7 +45,7 @@ each_more Holds books i book here holds before k b l found = elim (cases_lt k i)
 -- and of all books
 pub each_all : (Holds : ℕ → BookView → Type 0) (books : List BookView) (i : ℕ) → length books ≤ i
     → ((k : ℕ) (b : BookView) → k < i → slice_get books k ≡ Some b → Holds k b) → (k : ℕ) (b : BookView) → slice_get books k ≡ Some b → Holds k b
-each_all Holds books i all before k b found = before k b (omega (arith, place_below books k b found, all)) found
+each_all Holds books i all before k b found = before k b (omega (arith, slice_get_within books k b found, all)) found
 
 -- the history of a book that is there, and of one that is not
 pub history_there : (books : List BookView) (k : ℕ) (book : BookView) → slice_get books k ≡ Some book → history_among books k ≡ book.history
@@ -60,11 +57,6 @@ history_past : (books : List BookView) (k : ℕ) → slice_get books k ≡ None 
 history_past [] k none = refl
 history_past (x ∷ books) zero none = cc
 history_past (x ∷ books) (suc k) none = history_past books k none
-
-past_end : (books : List BookView) (k : ℕ) → slice_get books k ≡ None → length books ≤ k
-past_end [] k none = omega arith
-past_end (x ∷ books) zero none = cc
-past_end (x ∷ books) (suc k) none = omega (arith, past_end books k none)
 
 no_more : (books : List BookView) (k : ℕ) → length books ≤ k → history_among books k ≡ []
 no_more [] k l = refl

@@ -1,7 +1,7 @@
 -- A delivery: what taking a message that was sent does.
 use Rattle.std.proofs.Common.{◌≡◌, ℕ, ◌<◌, ◌⊎◌, List, Option, Some, refl, subst, sym, ap, ◌∙◌, arith, length, get_or, set, map}
 use Rattle.std.specs.Prelude.{slice_get, Result, Ok, IsSome, IsSomeAnd}
-use Rattle.std.proofs.lemmas.Option.{slice_get_read}
+use Rattle.std.proofs.lemmas.Option.{same_Some, slice_get_read}
 use Rattle.book_core.specs.BookView.{BookView}
 use Rattle.book_core.specs.Decision.{Office}
 use Rattle.site_exchange.specs.declared.message.Message.{Message}
@@ -34,18 +34,15 @@ receiver_below nodes sent index i message kept found is =
     let w : World = world_of nodes sent in
     omega (arith, is, receiver_there w message ((sound_in w kept.reached).sent index message found), length-sites nodes)
 
-one_at : {T : Type 0} (o : Option T) (a b : T) → o ≡ Some a → o ≡ Some b → a ≡ b
-one_at o a b is_a is_b = cc
-
 -- a message that is read again is the same
 pub same_message : (sent now : List Message) (index : ℕ) (message again : Message) → now ≡ sent → index < length sent → message ≡ get_or sent index message → again ≡ get_or now index again
     → again ≡ message
 same_message sent now index message again same l is is_again =
-    one_at (slice_get sent index) again message (message_at sent now index again same l is_again) (message_at sent sent index message refl l is)
+    same_Some again message (sym (message_at sent now index again same l is_again) ∙ message_at sent sent index message refl l is)
 
 -- so is a site
 pub same_node : (nodes : List NodeView) (i : ℕ) (node again : NodeView) → i < length nodes → node ≡ get_or nodes i node → again ≡ get_or nodes i again → node ≡ again
-same_node nodes i node again l is is_again = one_at (slice_get nodes i) node again (found_at nodes i node l is) (found_at nodes i again l is_again)
+same_node nodes i node again l is is_again = same_Some node again (sym (found_at nodes i node l is) ∙ found_at nodes i again l is_again)
 
 -- a verdict by the book that a site shows is the site's
 pub verdict_by : (told : Verdict) (message : Message) (shown book : BookView) → told ≡ verdict shown.office shown.history message → shown ≡ book → told ≡ verdict book.office book.history message

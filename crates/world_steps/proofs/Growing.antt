@@ -4,6 +4,7 @@ use Rattle.std.specs.Prelude.{nat_lt, nat_le, replicate, Result, Ok, Err}
 use Rattle.std.proofs.lemmas.Bool.{lt-ltb}
 use Rattle.std.proofs.lemmas.List.{set-append_left, set-set, get_or-set_same}
 use Rattle.rights_lattice.specs.Limits.{most_sites}
+use Rattle.request_ledger.proofs.SumLaws.{cond_both}
 use Rattle.book_core.specs.declared.entry.Entry.{Entry}
 use Rattle.book_core.specs.declared.entry.Entry.TheVariants.{Grown}
 use Rattle.book_core.specs.declared.plan.GrowFault.{GrowFault}
@@ -122,15 +123,11 @@ still_made nodes sent i sites old new kept l is office same d decided none =
     let w : World = world_of nodes sent in
     let here = at_place nodes sent i old kept l is in
     let entry_is : grows w i sites ≡ None = ap (λ (e : GrowDecision). cond (nat_le sites most_sites) (grown_if e sites) None) (decided_at nodes sent i sites old kept l is ∙ decided)
-    ∙ ap (λ (e : Option Entry). cond (nat_le sites most_sites) e None) none ∙ either (nat_le sites most_sites) in
+    ∙ ap (λ (e : Option Entry). cond (nat_le sites most_sites) e None) none ∙ cond_both (nat_le sites most_sites) None in
     made_at nodes sent sent i old new (Grow i sites) kept here.found office
     (ap (λ b. cond b (entered (grows w i sites) i (with_entry (grows w i sites) (site_numbered w i)) w) w) (lt-ltb i (count w) here.below)
     ∙ ap (λ (e : Option Entry). entered e i (with_entry e (site_numbered w i)) w) entry_is
     ∙ ap (at_site w i) (here.site ∙ sym same))
-  where
-    either : (b : Bool) → cond b (let o : Option Entry = None in o) None ≡ None
-    either true = refl
-    either false = refl
 
 -- a count that is not taken is told so
 pub refused_gives : (nodes : List NodeView) (sent : List Message) (i sites : ℕ) (old new : NodeView) (fault : GrowFault) → IsKept nodes sent → i < length nodes → old ≡ get_or nodes i old

@@ -1,21 +1,19 @@
 -- The names that sites know, as one rising list.
-use Rattle.std.proofs.Common.{◌≡◌, ℕ, zero, suc, ◌+◌, ◌≤◌, ◌<◌, ◌||◌, List, [], ◌∷◌, ◌++◌, map, refl, sym, ap, ◌∙◌, arith, length, take, get_or}
+use Rattle.std.proofs.Common.{◌≡◌, ℕ, zero, suc, ◌+◌, ◌≤◌, ◌||◌, List, [], ◌∷◌, ◌++◌, map, refl, sym, ap, ◌∙◌, arith, length, take, get_or}
 use Rattle.std.specs.Ordering.{match_ordering}
 use Rattle.std.specs.Prelude.{slice_get, Some, None}
-use Rattle.std.specs.List.{list_any}
-use Rattle.std.specs.Ordering.{nat_cmp, eq_by_cmp}
+use Rattle.std.specs.Ordering.{nat_cmp}
 use Rattle.std.specs.declared.cmp.Ordering.{Ordering}
 use Rattle.std.specs.declared.cmp.Ordering.TheVariants.{Less, Equal, Greater}
-use Rattle.std.specs.Cmp.Lexicographic.{slice_cmp, texts_ties}
+use Rattle.std.specs.Cmp.Lexicographic.{slice_cmp}
 use Rattle.std.proofs.lemmas.Cmp.{nat_list_cmp_total}
 use Rattle.std.specs.BTreeSet.{insert_key}
 use Rattle.std.specs.FinMap as finite
 use Rattle.std.specs.FinMap.Entries.{put, by_order}
 use Rattle.std.proofs.lemmas.List.{take_more, take_all}
-use Rattle.rights_lattice.specs.Cell.{same_event}
-use Rattle.rights_lattice.specs.State.{Names, knows, no_names, with_name, with_names, join_names, names_in_order}
-use Rattle.rights_lattice.proofs.StateLaws.{same_names, knows-with_names, contains-union}
-use Rattle.rights_lattice.proofs.MarkLaws.{names_of-none, names_in_order-names_of}
+use Rattle.std.proofs.lemmas.Option.{get_or_from_slice_get, slice_get_within}
+use Rattle.rights_lattice.specs.State.{Names, knows, with_name, with_names, join_names, names_in_order}
+use Rattle.rights_lattice.proofs.StateLaws.{any_by_order, same_names, knows-with_names, contains-union}
 use Rattle.rights_lattice.proofs.OrLaws.{or_comm}
 use Rattle.book_core.specs.declared.entry.Entry.{Entry}
 use Rattle.book_core.specs.History.{state_of, names_known}
@@ -42,38 +40,29 @@ with_names-append : (known : Names) (ns ms : List (List ℕ)) → with_names kno
 with_names-append known [] ms = refl
 with_names-append known (n ∷ ns) ms = with_names-append (with_name known n) ns ms
 
-there : (ns : List (List ℕ)) (k : ℕ) (name : List ℕ) → slice_get ns k ≡ Some name → (k < length ns) × (get_or ns k [] ≡ name)
-there [] k name found = cc
-there (n ∷ ns) zero name found = (omega arith, cc)
-there (n ∷ ns) (suc k) name found = let more = there ns k name found in (omega (arith, more.0), more.1)
-
-pub past : (ns : List (List ℕ)) (k : ℕ) → slice_get ns k ≡ None → length ns ≤ k
-past [] k none = omega arith
-past (n ∷ ns) zero none = cc
-past (n ∷ ns) (suc k) none = omega (arith, past ns k none)
+-- a place where nothing stands is past the end
+pub past_end : {A : Type 0} (xs : List A) (k : ℕ) → slice_get xs k ≡ None → length xs ≤ k
+past_end [] k none = omega arith
+past_end (x ∷ xs) zero none = cc
+past_end (x ∷ xs) (suc k) none = omega (arith, past_end xs k none)
 
 -- one more name of a list
 pub add_more : (old now new : List (List ℕ)) (ns : List (List ℕ)) (k : ℕ) (name : List ℕ) (known : Names) → slice_get ns k ≡ Some name
     → (old ≡ names_in_order known → now ≡ names_in_order (with_names known (take k ns))) → new ≡ insert_key (slice_cmp nat_cmp) now name
     → old ≡ names_in_order known → new ≡ names_in_order (with_names known (take (k + 1) ns))
 add_more old now new ns k name known found before is start =
-    let at = there ns k name found in
     is
     ∙ ap (λ (l : List (List ℕ)). insert_key (slice_cmp nat_cmp) l name) (before start)
     ∙ sym (inserted (with_names known (take k ns)) name)
-    ∙ ap (λ (n : List ℕ). names_in_order (with_name (with_names known (take k ns)) n)) (sym at.1)
+    ∙ ap (λ (n : List ℕ). names_in_order (with_name (with_names known (take k ns)) n)) (sym (get_or_from_slice_get ns k name [] found))
     ∙ ap (λ (N : Names). names_in_order N) (sym (with_names-append known (take k ns) (get_or ns k [] ∷ [])))
-    ∙ ap (λ (l : List (List ℕ)). names_in_order (with_names known l)) (sym (take_more ns k [] at.0))
-
-any_same : (name : List ℕ) (ns : List (List ℕ)) → list_any (eq_by_cmp (slice_cmp nat_cmp) name) ns ≡ list_any (same_event name) ns
-any_same name [] = refl
-any_same name (n ∷ ns) = let rest = any_same name ns in let here = texts_ties name n in λ i. sym here i || rest i
+    ∙ ap (λ (l : List (List ℕ)). names_in_order (with_names known l)) (sym (take_more ns k [] (slice_get_within ns k name found)))
 
 -- the names of a history, in whatever order they are added, make the union
 union_of : (known : Names) (h : List Entry) → with_names known (names_known h) ≡ join_names known (state_of h).names
 union_of known h = same_names _ _ (λ n.
     knows-with_names known (names_known h) n
-    ∙ ap (λ b. b || knows known n) (any_same n (names_known h) ∙ known_names h n)
+    ∙ ap (λ b. b || knows known n) (sym (any_by_order n (names_known h)) ∙ known_names h n)
     ∙ or_comm (knows (state_of h).names n) (knows known n)
     ∙ sym (contains-union known (state_of h).names n))
 
@@ -84,10 +73,6 @@ all_added old now h k known all before start =
     before start
     ∙ ap (λ (l : List (List ℕ)). names_in_order (with_names known l)) (take_all k (names_known h) all)
     ∙ ap (λ (N : Names). names_in_order N) (union_of known h)
-
--- no names at first
-pub none_known : names_in_order no_names ≡ []
-none_known = ap (λ (N : Names). names_in_order N) (sym names_of-none) ∙ names_in_order-names_of [] refl
 
 -- the names of one more site
 pub known_more : (h : ℕ → List Entry) (i : ℕ) (history : List Entry) (now new : List (List ℕ)) → h i ≡ history

@@ -1,4 +1,5 @@
-use Rattle.std.proofs.Common.{◌≡◌, ◌⊎◌, List, Bool, true, false, inl, inr, refl, ◌∙◌, ap, sym, subst, subst₂}
+use Rattle.std.proofs.Common.{List, inl, inr, ◌∙◌, ap, sym, subst, subst₂}
+use Rattle.std.proofs.lemmas.Bool.{cases_Bool}
 use Rattle.sqlite.specs.State.{HasCleanDisk, IsUnchanged}
 use Rattle.sqlite.specs.Held.{Held, state}
 use Rattle.book_core.specs.declared.entry.Entry.{Entry}
@@ -30,15 +31,11 @@ returns-in-Ok-start-clause-site g c = λ clean meta has.
     subst (λ (kept : RecordsView g.row.S.Denot). IsOf g.S.Store kept meta) (sym c.in-Ok-start.ensures.keeper)
     (subst (IsOf g.S.Store c.in-Ok.opened.0) (c.in-Ok.ensures.given trusted meta has) (c.in-Ok.ensures.site trusted))
 
-either : (b : Bool) → (b ≡ true) ⊎ (b ≡ false)
-either true = inl refl
-either false = inr refl
-
 pub returns-in-Err-clause-fault : goal.returns-in-Err-clause-fault
 returns-in-Err-clause-fault g c = record {
   cause = c.in-Err.fault;
   told = c.of_open_fault.ensures;
-  found = elim (either c.args.conn.in_transaction) [
+  found = elim (cases_Bool c.args.conn.in_transaction) [
     | inl busy ↦ inl (busy, (let is = c.in-Err.ensures.busy busy in cc))
     | inr free ↦ inr (free, c.in-Err.ensures.fault free)
   ];

@@ -2,9 +2,10 @@ use Rattle.std.proofs.Common.{◌≡◌, ◌≤◌, ◌+◌, ◌∙◌, Err, Lis
 use Rattle.std.specs.Prelude.{◌≢◌}
 use Rattle.std.specs.List.{flat_map}
 use Rattle.book_core.specs.declared.entry.Entry.{Entry}
-use Rattle.book_core.specs.Decision.{sites_of}
+use Rattle.book_core.specs.Decision.{Office}
 use Rattle.site_desk.specs.declared.finish.FinishFault.TheVariants.{SeatsOut}
-use Rattle.site_desk.specs.Count.{GoesOnFrom, asked_since}
+use Rattle.site_desk.specs.Count.{asked_since}
+use Rattle.site_desk.specs.Moments.{IsLater}
 use Rattle.site_desk.specs.Seats.{Held, parts_of, shares_of}
 use Rattle.session_server.specs.Finished.{given_since}
 use Rattle.session_server.proofs.Sites.{entered_by, finished_by, seats_in}
@@ -26,9 +27,7 @@ returns-clause-left g c =
       whole = λ all.
           let back : parts_of c.in_ok-sessions-2.seats.items ≡ parts_of (map (λ s. s.seat) c.in_ok-sessions.sessions.items) = search rules in
           seats_in c.in_ok-book.finished (c.in_ok-book.ensures.whole (omega (arith, back, c.in_ok-sessions.ensures.parts, ap (λ (h : Held). h.parts) c.new-desk.ensures, c.requires.parts)));
-      office = c.in_ok-book.ensures.office ∙ c.requires.office;
-      sites = c.in_ok-book.ensures.sites ∙ (λ i. sites_of (c.requires.office i) (c.requires.began i));
-      goes_on = subst (λ (h : List Entry). GoesOnFrom h book.history) c.requires.began c.in_ok-book.ensures.goes_on;
+      later = subst (λ (h : List Entry). IsLater c.args.site.book.book.office h book) c.requires.began (subst (λ (o : Office). IsLater o g.L.Opens.began book) c.requires.office c.in_ok-book.ensures.later);
       entered = subst (λ (h : List Entry). c.in_ok-book.finished ≢ Err SeatsOut → asked_since (length h) book.history ≤ given_since (length h) receipts) c.requires.began
           (entered_by (length g.L.Opens.began) share given book receipts looks c.in_ok-book.finished c.in_ok-book.ensures.compared within);
     }

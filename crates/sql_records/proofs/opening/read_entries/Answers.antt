@@ -1,6 +1,7 @@
 use Rattle.std.proofs.Common.{◌<◌, inl, length, arith, ap, sym, subst, refl, IsSome, ◌∙◌, ◌++◌, [], ◌∷◌, Err}
 use Rattle.sql_records.specs.Rows.{IsOfVersion}
-use Rattle.sql_records.proofs.OpeningLemmas.{StopsReading, whole_more, version_more, entries_more, fault_at, if_err, wanted_at}
+use Rattle.delta_wire.proofs.Prefixes.{all_more}
+use Rattle.sql_records.proofs.OpeningLemmas.{StopsReading, whole_more, entries_more, fault_at, if_err, wanted_at}
 use Rattle.sql_records.proofs.opening.read_entries.Goals as goal
 
 pub returns-in_err-entry-clause-fault : goal.returns-in_err-entry-clause-fault
@@ -21,6 +22,6 @@ rows-preserved c =
     let low : c.rows.place < length c.args.rows.now = omega arith in
     let is = c.in_ok-entry.ensures in
     record {
-      whole = (whole_more c.args.rows.now c.rows.place _ c.in_ok-entry.entry low c.index-rows-place.is c.rows.invariant.whole.0 is.placed is.reads, version_more (IsOfVersion c.args.read) c.args.rows.now c.rows.place _ low c.index-rows-place.is c.rows.invariant.whole.1 is.version);
+      whole = (whole_more c.args.rows.now c.rows.place _ c.in_ok-entry.entry low c.index-rows-place.is c.rows.invariant.whole.0 is.placed is.reads, all_more (IsOfVersion c.args.read) c.args.rows.now c.rows.place _ low c.index-rows-place.is c.rows.invariant.whole.1 is.version);
       entries = c.in_ok-push.ensures.items ∙ ap (λ l. l ++ c.in_ok-entry.entry ∷ []) c.rows.invariant.entries ∙ sym (entries_more c.args.rows.now c.rows.place _ c.in_ok-entry.entry low c.index-rows-place.is is.reads);
     }

@@ -1,13 +1,14 @@
 use Rattle.std.proofs.Common.{◌≡◌, ℕ, List, length, sym, ap, subst, ◌∙◌, arith}
 use Rattle.std.specs.Prelude.{IfOk}
+use Rattle.book_core.proofs.Deltas.{no_names_listed}
 use Rattle.world_steps.specs.World.{events_below}
 use Rattle.world_steps.specs.Audit.{books_of, history_among, events_in}
-use Rattle.world_steps.proofs.Names.{known_more, none_known}
+use Rattle.world_steps.proofs.Names.{known_more}
 use Rattle.world_steps.proofs.Audits.{found_view, history_there, length-views}
 use Rattle.world_steps.proofs.auditing.events.Goals as goal
 
 pub loop-book-init : goal.loop-book-init
-loop-book-init c = c.new-names.ensures.empty ∙ sym none_known
+loop-book-init c = c.new-names.ensures.empty ∙ sym no_names_listed
 
 pub loop-book-preserved : goal.loop-book-preserved
 loop-book-preserved c =

@@ -1,20 +1,11 @@
-use Rattle.site_exchange.specs.declared.message.TakeFault.TheVariants as take_fault
-use Rattle.site_exchange.specs.Exchange.{ack_for}
-use Rattle.site_exchange.specs.Taking.{MayTake}
-use Rattle.site_desk.specs.Answers.{IsTakeFault, IsTaken}
-use Rattle.site_desk.specs.SiteView.{site_of, verdict_in}
-use Rattle.site_desk.proofs.Moments.{fault_after, open_if_ok}
+use Rattle.site_desk.proofs.Moments.{takes}
 use Rattle.site_desk.proofs.desk.Desk.take.Goals as goal
 
 pub returns-clause-taken : goal.returns-clause-taken
-returns-clause-taken g c =
-    let s = c.deref_mut.result.now in
-    let verdict = verdict_in s.book c.args.message in
-    record {
-      site = s;
-      later = c.take.ensures.later;
-      holds = (
-        open_if_ok c.take.result take_fault.Closed s.closed (IsTaken verdict (ack_for c.args.message)) c.take.ensures.closed c.take.ensures.taken,
-        fault_after c.take.result (g.K.Keeper.failed c.take.new.self.keeper) (IsTakeFault s.closed verdict (MayTake verdict (site_of s) c.args.message) (g.K.Keeper.failed s.keeper)) c.take.ensures.fault,
-      );
-    }
+returns-clause-taken g c = record {
+  site = c.deref_mut.result.now;
+  later = c.take.ensures.later;
+  legal = c.take.ensures.legal;
+  in_step = c.take.ensures.in_step;
+  holds = takes g.K.Keeper.failed c.deref_mut.result.now c.args.message (g.K.Keeper.failed c.take.new.self.keeper) c.take.result c.take.ensures.closed c.take.ensures.taken c.take.ensures.fault;
+}

@@ -13,8 +13,8 @@ returns-in-Some-clause-fault g c =
 pub returns-in-Some-clause-legal : goal.returns-in-Some-clause-legal
 returns-in-Some-clause-legal g c = rw (← c.self.view_is) c.book-book.ensures.legal
 
-pub returns-in-Some-clause-has_rights : goal.returns-in-Some-clause-has_rights
-returns-in-Some-clause-has_rights g c = rw (← c.self.view_is) c.book-book.ensures.has_rights
+pub returns-in-Some-clause-in_step : goal.returns-in-Some-clause-in_step
+returns-in-Some-clause-in_step g c = rw (← c.self.view_is) c.book-book.ensures.in_step
 
 pub returns-in-Some-first_stranger_seen-clause-fault : goal.returns-in-Some-first_stranger_seen-clause-fault
 returns-in-Some-first_stranger_seen-clause-fault g c =
@@ -28,8 +28,8 @@ returns-in-Some-first_stranger_seen-clause-fault g c =
 pub returns-in-Some-first_stranger_seen-clause-legal : goal.returns-in-Some-first_stranger_seen-clause-legal
 returns-in-Some-first_stranger_seen-clause-legal g c = rw (← c.self.view_is) c.book-book.ensures.legal
 
-pub returns-in-Some-first_stranger_seen-clause-has_rights : goal.returns-in-Some-first_stranger_seen-clause-has_rights
-returns-in-Some-first_stranger_seen-clause-has_rights g c = rw (← c.self.view_is) c.book-book.ensures.has_rights
+pub returns-in-Some-first_stranger_seen-clause-in_step : goal.returns-in-Some-first_stranger_seen-clause-in_step
+returns-in-Some-first_stranger_seen-clause-in_step g c = rw (← c.self.view_is) c.book-book.ensures.in_step
 
 pub returns-clause-receipts : goal.returns-clause-receipts
 returns-clause-receipts g c = rw (← c.self.view_is) (subst (λ (b : BookView). All (StandsIn b.history) c.args.receipts.now) c.book.ensures.book c.in_default.ensures)
@@ -40,5 +40,5 @@ returns-clause-looks g c = rw (← c.self.view_is) (subst (λ (b : BookView). Al
 pub returns-clause-legal : goal.returns-clause-legal
 returns-clause-legal g c = rw (← c.self.view_is) c.book-book.ensures.legal
 
-pub returns-clause-has_rights : goal.returns-clause-has_rights
-returns-clause-has_rights g c = rw (← c.self.view_is) c.book-book.ensures.has_rights
+pub returns-clause-in_step : goal.returns-clause-in_step
+returns-clause-in_step g c = rw (← c.self.view_is) c.book-book.ensures.in_step

@@ -13,13 +13,16 @@ returns-clause-grown g c =
     rw (← c.self.view_is) (one_more_if_fresh answer.result s.book.office s.book.history answer.new.book.history c.args.number c.args.request.now answer.ensures.answer answer.ensures.entered)
 
 pub invariant_of-self : goal.invariant_of-self
-invariant_of-self g c = record {
-  sound = search rules;
-  same = search rules;
-  rests = search rules;
-  acknowledged = λ peer. omega (arith, c.self.invariant.acknowledged peer, no_shorter c.answer-answer.result (entry_in c.self.inside.book c.args.number c.args.request.now) c.self.inside.book.history c.answer-answer.new.book.history c.answer-answer.ensures.entered c.answer-answer.ensures.unchanged);
-  of_book = exchange_entered c.answer-answer.result c.self.inside.book.office c.answer-answer.new.book.office (entry_in c.self.inside.book c.args.number c.args.request.now)
+invariant_of-self g c = (
+  record {
+    sound = search rules;
+    broken = search rules;
+    same = search rules;
+    rests = search rules;
+    acknowledged = λ peer. omega (arith, c.self.invariant.0.acknowledged peer, no_shorter c.answer-answer.result (entry_in c.self.inside.book c.args.number c.args.request.now) c.self.inside.book.history c.answer-answer.new.book.history c.answer-answer.ensures.entered c.answer-answer.ensures.unchanged);
+    has_rights = search rules;
+  },
+  exchange_entered c.answer-answer.result c.self.inside.book.office c.answer-answer.new.book.office (entry_in c.self.inside.book c.args.number c.args.request.now)
       c.self.inside.book.history c.answer-answer.new.book.history c.self.inside.exchange c.answer-answer.ensures.office c.answer-answer.ensures.entered c.answer-answer.ensures.unchanged
-      (count_asked c.self.inside.book.office c.self.inside.book.history c.args.number c.args.request.now) c.self.invariant.of_book;
-  has_rights = search rules;
-}
+      (count_asked c.self.inside.book.office c.self.inside.book.history c.args.number c.args.request.now) c.self.invariant.1,
+)

@@ -1,11 +1,12 @@
 use Rattle.std.proofs.Common.{arith, ◌≡◌, false, length, ap, ◌∙◌, sym, subst, IsTrue, Some}
+use Rattle.std.proofs.lemmas.Bool.{not-true}
 use Rattle.sqlite.specs.Held.{state}
 use Rattle.sqlite.specs.Effect.{Database}
 use Rattle.sql_records.specs.declared.version.Version.TheVariants.{Second}
 use Rattle.sql_records.specs.Layout.{HasMeta}
 use Rattle.sql_records.specs.Held.{history_in, rows_in}
 use Rattle.sql_records.proofs.RowLemmas.{read_from}
-use Rattle.sql_records.proofs.OpeningLemmas.{opened, leaves_only, leaves_site, not_true, one_meta, if_err}
+use Rattle.sql_records.proofs.OpeningLemmas.{opened, leaves_only, leaves_site, one_meta, if_err}
 use Rattle.sql_records.proofs.records.Records.open.Goals as goal
 
 pub invariant_of-records : goal.invariant_of-records
@@ -13,7 +14,7 @@ invariant_of-records g c _ clean =
     let first = state g.S.Store c.args.conn in
     let last = state g.S.Store c.read_records.new.conn in
     let autocommit : IsTrue c.is_autocommit-is_settled.result = c.if-not-is_settled.false in
-    let outside : c.args.conn.in_transaction ≡ false = not_true _ (sym c.is_autocommit-is_settled.ensures.value ∙ autocommit) in
+    let outside : c.args.conn.in_transaction ≡ false = not-true _ (sym c.is_autocommit-is_settled.ensures.value ∙ autocommit) in
     let count : c.len.result ≡ length (history_in first.now.trees) = omega (arith, c.in_ok-entries.entries.ok.0, ap length (c.in_ok-entries.ensures.entries clean)) in
     opened first last c.len.result (c.in_ok-entries.ensures.same clean) outside (c.is_autocommit-is_settled.ensures.settled autocommit) c.read_records.ensures.live c.in_ok-entries.ensures.schema (c.in_ok-entries.ensures.whole clean) count
 
@@ -22,7 +23,7 @@ returns-clause-leaves g c clean =
     let first = state g.S.Store c.args.conn in
     let last = state g.S.Store c.read_records.new.conn in
     let autocommit : IsTrue c.is_autocommit-is_settled.result = c.if-not-is_settled.false in
-    let outside : c.args.conn.in_transaction ≡ false = not_true _ (sym c.is_autocommit-is_settled.ensures.value ∙ autocommit) in
+    let outside : c.args.conn.in_transaction ≡ false = not-true _ (sym c.is_autocommit-is_settled.ensures.value ∙ autocommit) in
     let count : c.len.result ≡ length (history_in first.now.trees) = omega (arith, c.in_ok-entries.entries.ok.0, ap length (c.in_ok-entries.ensures.entries clean)) in
     let rest = opened first last c.len.result (c.in_ok-entries.ensures.same clean) outside (c.is_autocommit-is_settled.ensures.settled autocommit) c.read_records.ensures.live c.in_ok-entries.ensures.schema (c.in_ok-entries.ensures.whole clean) count in
     leaves_only last c.len.result rest (λ db is_open left. g.met.S.Store.settled c.read_records.new.conn.store db is_open left) (λ is_open. g.met.S.Store.stays c.read_records.new.conn.store is_open)
@@ -47,7 +48,7 @@ returns-clause-site g c clean =
     let first = state g.S.Store c.args.conn in
     let last = state g.S.Store c.read_records.new.conn in
     let autocommit : IsTrue c.is_autocommit-is_settled.result = c.if-not-is_settled.false in
-    let outside : c.args.conn.in_transaction ≡ false = not_true _ (sym c.is_autocommit-is_settled.ensures.value ∙ autocommit) in
+    let outside : c.args.conn.in_transaction ≡ false = not-true _ (sym c.is_autocommit-is_settled.ensures.value ∙ autocommit) in
     let count : c.len.result ≡ length (history_in first.now.trees) = omega (arith, c.in_ok-entries.entries.ok.0, ap length (c.in_ok-entries.ensures.entries clean)) in
     let rest = opened first last c.len.result (c.in_ok-entries.ensures.same clean) outside (c.is_autocommit-is_settled.ensures.settled autocommit) c.read_records.ensures.live c.in_ok-entries.ensures.schema (c.in_ok-entries.ensures.whole clean) count in
     let now = subst (λ (d : Database). HasMeta c.in_ok-entries.meta d.trees) (sym (c.in_ok-entries.ensures.same clean).0.now_is) (c.in_ok-entries.ensures.meta clean) in

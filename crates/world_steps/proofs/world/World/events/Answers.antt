@@ -1,14 +1,15 @@
 use Rattle.std.proofs.Common.{◌≡◌, ℕ, List, sym, ap, subst, ◌∙◌, arith, length}
 use Rattle.std.specs.Prelude.{IfOk, Some, slice_get}
 use Rattle.book_core.specs.BookView.{BookView}
+use Rattle.book_core.proofs.Deltas.{no_names_listed}
 use Rattle.world_steps.specs.NodeView.{NodeView}
 use Rattle.world_steps.specs.World.{World, count, history_at, events_of, events_below}
 use Rattle.world_steps.proofs.Sites.{found_at, history_found, length-sites}
-use Rattle.world_steps.proofs.Names.{known_more, none_known}
+use Rattle.world_steps.proofs.Names.{known_more}
 use Rattle.world_steps.proofs.world.World.events.Goals as goal
 
 pub loop-node-init : goal.loop-node-init
-loop-node-init c = c.new-names.ensures.empty ∙ sym none_known
+loop-node-init c = c.new-names.ensures.empty ∙ sym no_names_listed
 
 pub loop-node-preserved : goal.loop-node-preserved
 loop-node-preserved c =

@@ -1,0 +1,59 @@
+-- What the book under a desk's lock is at one moment, and what is answered by it then. (Our own.)
+use Rattle.std.specs.Prelude.{◌≡◌, ℕ, Bool, true, false, List, take, length, Option, Result, Ok, Err}
+use Rattle.rights_lattice.specs.State.{knows}
+use Rattle.request_ledger.specs.declared.request.Request.{Request}
+use Rattle.book_core.specs.declared.entry.Entry.{Entry}
+use Rattle.book_core.specs.BookView.{BookView}
+use Rattle.book_core.specs.Decision.{Office, sites_of}
+use Rattle.book_core.specs.History.{state_of}
+use Rattle.book_core.specs.Legal.{IsLegal}
+use Rattle.site_exchange.specs.declared.message.Message.{Message}
+use Rattle.site_exchange.specs.declared.message.TakeFault.{TakeFault}
+use Rattle.site_exchange.specs.Exchange.{ack_for, next}
+use Rattle.site_exchange.specs.Taking.{MayTake}
+use Rattle.site_desk.specs.declared.answer.Answer.{Answer}
+use Rattle.site_desk.specs.declared.answer.Seen.{Seen}
+use Rattle.site_desk.specs.declared.answer.Taken.{Taken}
+use Rattle.site_desk.specs.declared.fault.AskFault.{AskFault}
+use Rattle.site_desk.specs.declared.fault.LookFault.{LookFault}
+use Rattle.site_desk.specs.declared.fault.NextFault.{NextFault}
+use Rattle.site_desk.specs.declared.receipt.Receipt.{Receipt}
+use Rattle.site_desk.specs.Answers.{IsAnswer, IsAskFault, IsLookFault, IsNextFault, IsSeenAt, IsTaken, IsTakeFault, is_peer}
+use Rattle.site_desk.specs.SiteView.{SiteView, decision_in, site_of, verdict_in}
+
+-- the history begins with this one
+abbrev pub GoesOnFrom : List Entry → List Entry → Type 0
+GoesOnFrom began entries = take (length began) entries ≡ began
+
+-- the book is of this site, counts as many sites as this history, and goes on from it
+pub record IsLater (office : Office) (began : List Entry) (book : BookView) : Type 0 where
+  pub same_office : book.office ≡ office
+  pub same_sites : sites_of book.office book.history ≡ sites_of office began
+  pub goes_on : GoesOnFrom began book.history
+
+-- it holds of some site whose book is a legal one that goes on so, and which is in step with its keeper
+pub record AtOnce {K : Type 0} (office : Office) (began : List Entry) (IsSound : SiteView K → Type 0) (Holds : SiteView K → Type 0) : Type 0 where
+  pub site : SiteView K
+  pub later : IsLater office began site.book
+  pub legal : IsLegal site.book.office site.book.history
+  pub in_step : IsSound site
+  pub holds : Holds site
+
+-- A site gives this for a request, a look, a message, or a peer that asks for its message: what is due where it is open, or the
+-- reason why it gives nothing. A keeper that refuses has failed once after it.
+
+abbrev pub Replies : {K : Type 0} → (K → ℕ) → ℕ → Request → Result (Answer × Receipt) AskFault → SiteView K → Type 0
+Replies failed number request (Ok given) site = (site.closed ≡ false) × IsAnswer (decision_in site.book number request) (length site.book.history) given.0
+Replies failed number request (Err fault) site = IsAskFault site.closed (decision_in site.book number request) (failed site.keeper) 1 fault
+
+abbrev pub Shows : {K : Type 0} → List ℕ → Result Seen LookFault → SiteView K → Type 0
+Shows event (Ok seen) site = (site.closed ≡ false) × (knows (state_of site.book.history).names event ≡ true) × (seen.at ≡ length site.book.history) × IsSeenAt site.book.office site.book.history event seen
+Shows event (Err fault) site = IsLookFault site.closed (knows (state_of site.book.history).names event) fault
+
+abbrev pub Takes : {K : Type 0} → (K → ℕ) → Message → Result Taken TakeFault → SiteView K → Type 0
+Takes failed message (Ok taken) site = (site.closed ≡ false) × IsTaken (verdict_in site.book message) (ack_for message) taken
+Takes failed message (Err fault) site = IsTakeFault site.closed (verdict_in site.book message) (MayTake (verdict_in site.book message) (site_of site) message) (failed site.keeper) 1 fault
+
+abbrev pub Gives : {K : Type 0} → ℕ → Result (Option Message) NextFault → SiteView K → Type 0
+Gives to (Ok message) site = (site.closed ≡ false) × (is_peer site.book.office site.book.history to ≡ true) × (message ≡ next site.book.office.me (site_of site) to)
+Gives to (Err fault) site = IsNextFault site.closed (is_peer site.book.office site.book.history to) (next site.book.office.me (site_of site) to) fault
