@@ -6,7 +6,6 @@ use Rattle.site_exchange.specs.declared.message.Message.{Message}
 use Rattle.site_exchange.specs.declared.message.Message.TheVariants.{Delta, Ack}
 use Rattle.std.specs.Io.KnownBytes.{Appends}
 use Rattle.std.proofs.KnownBytes.{Appends-trans}
-use Rattle.std.proofs.lemmas.List.{take_more}
 use Rattle.std.proofs.lemmas.List.Concat.{flat_map-append}
 use Rattle.rights_lattice.specs.Cells.{Valued, marks_of}
 use Rattle.rights_lattice.specs.State.{State, names_in_order}
@@ -30,14 +29,6 @@ one_written f xs k x a b c line lt is text before now = texts_go_on a b c f xs k
 pub one_failed : {X : Type 0} (f : X → List ℕ) (xs : List X) (k : ℕ) (x : X) (a b c : Option (List ℕ)) (line : List ℕ) → k < length xs → x ≡ get_or xs k x → line ≡ f x → Appends a b (flat_map f (take k xs)) → AppendsFront b c line
     → AppendsFront a c (flat_map f xs)
 one_failed f xs k x a b c line lt is text before now = texts_break_off a b c f xs k x lt is before (subst (AppendsFront b c) text now)
-
-all_end : {X : Type 0} (P : X → Type 0) (xs : List X) (x : X) → AllByRecursion P xs → P x → AllByRecursion P (xs ++ x ∷ [])
-all_end P [] x h p = (p, tt)
-all_end P (y ∷ xs) x h p = (h.0, all_end P xs x h.1 p)
-
-pub all_more : {X : Type 0} (P : X → Type 0) (xs : List X) (k : ℕ) (x : X) → k < length xs → x ≡ get_or xs k x → AllByRecursion P (take k xs) → P x → AllByRecursion P (take (k + 1) xs)
-all_more P xs k x lt is h p =
-    subst (AllByRecursion P) (ap (λ y. take k xs ++ y ∷ []) is ∙ sym (take_more xs k x lt)) (all_end P (take k xs) x h p)
 
 -- ---- the parts of a delta
 

@@ -20,7 +20,7 @@ pub enum WireFault {
     /// Bytes follow the line `end`.
     #[error("bytes follow the end")]
     Trailing,
-    /// A growth was refused.
+    /// Memory was refused.
     #[error("out of memory")]
     Memory,
 }

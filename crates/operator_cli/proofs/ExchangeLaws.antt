@@ -1,5 +1,6 @@
 -- What ends an export or an import early, by the records that were opened, and what a stop leaves of them.
 use Rattle.std.proofs.Common.{◌≡◌, ◌≢◌, ℕ, List, Option, Some, None, false, inl, refl, sym, ap, subst, subst₂}
+use Rattle.std.proofs.lemmas.Option.{IfSome_then}
 use Rattle.std.specs.Prelude.{IfSome, Bool, true, if◌then◌else◌}
 use Rattle.sqlite.specs.Tree.{Trees}
 use Rattle.sqlite.specs.Store.{Ghosts}
@@ -23,7 +24,6 @@ use Rattle.operator_cli.specs.declared.status.Status.TheVariants.{Done, Refused,
 use Rattle.operator_cli.specs.declared.told.Told.{Told}
 use Rattle.operator_cli.specs.declared.told.Told.TheVariants.{Nothing, NoSite}
 use Rattle.operator_cli.specs.Printed.{IsOfGrowing, IsOfSending, IsMessageText}
-use Rattle.operator_cli.proofs.PrintLaws.{if_some_map}
 
 pub export_end : {K : Type 0} (to : ℕ) (book : SiteView K) (meta : Meta) (db : Trees) (cause : StoreFault) → book.closed ≡ false → book.book.office ≡ office_of meta → site_of book ≡ stored_site db
     → IsNextEnd book.closed book.book.office (site_of book) to cause → IsNextEnd false (office_of meta) (stored_site db) to cause
@@ -33,7 +33,7 @@ export_end to book meta db cause unclosed office site e =
 
 -- what ended the command, from the book to the records that hold its history where its keeper did not fail
 input_moved : (office : Office) (h : List Entry) (input : Option (List ℕ)) (P Q : List Entry → Type 0) (cause : StoreFault) → (cause ≢ fault.Store → (list : List Entry) → P list → Q list) → IsInputEnd office h input P cause → IsInputEnd office h input Q cause
-input_moved office h input P Q fault.Write to e = if_some_map input _ _ (λ bytes. to (λ is. cc) (behind_bytes office h bytes)) e
+input_moved office h input P Q fault.Write to e = IfSome_then input e (λ bytes. to (λ is. cc) (behind_bytes office h bytes))
 input_moved office h input P Q fault.Store to e = e
 input_moved office h input P Q fault.Memory to e = to (λ is. cc) h e
 input_moved office h input P Q fault.Read to e = to (λ is. cc) h e

@@ -121,10 +121,6 @@ pub ok_unless_failed : (P : Type 0) (came : Result Status StoreFault) (status : 
 ok_unless_failed P (Ok s) status h e alive = h
 ok_unless_failed P (Err f) status h e alive = absurd (alive e)
 
-pub if_some_map : {A : Type 0} (o : Option A) (P Q : A → Type 0) → ((a : A) → P a → Q a) → IfSome o P → IfSome o Q
-if_some_map None P Q f h = tt
-if_some_map (Some a) P Q f h = f a h
-
 -- what holds of the connection that came back
 pub if_some_is : {A : Type 0} (o : Option A) (a : A) (Q : A → Type 0) → o ≡ Some a → Q a → IfSome o Q
 if_some_is o a Q e h = subst (λ (p : Option _). IfSome p Q) (sym e) h

@@ -9,7 +9,8 @@ use Rattle.plain_words.specs.Input.{longest_line, lines_of, Between, BeginsTooLo
 use Rattle.plain_words.specs.Writing.{AppendsFront, Writes}
 use Rattle.plain_words.specs.declared.lines.LineFault.{LineFault}
 use Rattle.plain_words.specs.declared.lines.LineFault.TheVariants as line_fault
-use Rattle.plain_words.proofs.LineLaws.{AreShort, short-push, read-push, put_before, taken-nil, taken-line, taken-long, taken-too-many, taken-behind, taken-whole}
+use Rattle.plain_words.proofs.TextLaws.{all_end}
+use Rattle.plain_words.proofs.LineLaws.{AreShort, read-push, put_before, taken-nil, taken-line, taken-long, taken-too-many, taken-behind, taken-whole}
 use Rattle.plain_words.proofs.WriteLaws.{AppendsFront-after, AppendsFront-longer, AppendsFront-whole, AppendsFront-nothing, AppendsFront-kept}
 use Rattle.world_steps.specs.World.{World, opening}
 use Rattle.operator_cli.specs.declared.fault.ScriptFault.{ScriptFault}
@@ -182,7 +183,7 @@ goes_on input rest rest' old new new' start mid now count h k =
     record {
       lines = h.lines ++ k.0 ∷ [];
       counted = omega (arith, length-append h.lines (k.0 ∷ []), h.counted);
-      short = short-push h.lines k.0 h.short k.1;
+      short = all_end (λ line. length line ≤ longest_line) h.lines k.0 h.short k.1;
       read = read-push input rest rest' h.lines k.0 h.read k.2;
       written = subst (Appends old new') (sym text) (Appends-trans old new new' (answers start h.lines) (reply mid) h.written k.3);
       made = k.4 ∙ ap (λ (w : World). (answer_to w (line_of k.0)).1) h.made ∙ sym (world_behind-append start h.lines (k.0 ∷ []));

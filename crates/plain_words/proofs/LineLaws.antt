@@ -137,10 +137,6 @@ tells_more a b (Some byte) h = ((byte, h), some_more a b byte h)
 abbrev pub AreShort : List (List ℕ) → Type 0
 AreShort lines = AllByRecursion (λ line. length line ≤ longest_line) lines
 
-pub short-push : (lines : List (List ℕ)) (line : List ℕ) → AreShort lines → length line ≤ longest_line → AreShort (lines ++ line ∷ [])
-short-push [] line h k = (k, tt)
-short-push (l ∷ ls) line h k = (h.0, short-push ls line h.1 k)
-
 pub read-push : (a b c : Option (List ℕ)) (lines : List (List ℕ)) (line : List ℕ) → Between a b (λ xs ys. lines_of xs ≡ lines ++ lines_of ys) → Between b c (λ xs ys. lines_of xs ≡ line ∷ lines_of ys)
     → Between a c (λ xs ys. lines_of xs ≡ (lines ++ line ∷ []) ++ lines_of ys)
 read-push None b c lines line p q = tt

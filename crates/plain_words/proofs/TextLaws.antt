@@ -1,6 +1,6 @@
 -- The texts of several things, one after another.
 use Rattle.std.proofs.Common.{◌≡◌, ℕ, ◌+◌, ◌<◌, List, [], ◌∷◌, ◌++◌, take, drop, length, get_or, sym, ap, ◌∙◌, subst, Option}
-use Rattle.std.specs.List.{flat_map}
+use Rattle.std.specs.List.{AllByRecursion, flat_map}
 use Rattle.std.specs.Io.KnownBytes.{Appends}
 use Rattle.std.proofs.KnownBytes.{Appends-trans}
 use Rattle.std.proofs.lemmas.List.{flat_map_more, take_more, take-append-drop}
@@ -28,3 +28,12 @@ pub texts_go_on : {A : Type 0} (a b c : Option (List ℕ)) (f : A → List ℕ) 
     → Appends a b (flat_map f (take k items)) → Appends b c (f item) → Appends a c (flat_map f (take (k + 1) items))
 texts_go_on a b c f items k item within e before now =
     subst (Appends a c) (texts_more f items k item within e) (Appends-trans a b c _ (f item) before now)
+
+-- what holds of each of them, and of one more
+pub all_end : {X : Type 0} (P : X → Type 0) (xs : List X) (x : X) → AllByRecursion P xs → P x → AllByRecursion P (xs ++ x ∷ [])
+all_end P [] x h p = (p, tt)
+all_end P (y ∷ xs) x h p = (h.0, all_end P xs x h.1 p)
+
+pub all_more : {X : Type 0} (P : X → Type 0) (xs : List X) (k : ℕ) (x : X) → k < length xs → x ≡ get_or xs k x → AllByRecursion P (take k xs) → P x → AllByRecursion P (take (k + 1) xs)
+all_more P xs k x lt is h p =
+    subst (AllByRecursion P) (ap (λ y. take k xs ++ y ∷ []) is ∙ sym (take_more xs k x lt)) (all_end P (take k xs) x h p)

@@ -12,6 +12,7 @@ use Rattle.std.specs.Str.Parse.{AllDigits}
 use Rattle.plain_words.specs.Words.{is_space, is_nil, words_of, first_word, ended, ◌>>=◌}
 use Rattle.std.proofs.lemmas.Option.{cond_some, same_Some}
 use Rattle.std.specs.Borrow.{Bor}
+use Rattle.std.specs.Option.{IfNone, option_map}
 
 is_nil-onto_first : (x : ℕ) (parts : List (List ℕ)) → is_nil (onto_first x parts) ≡ false
 is_nil-onto_first x [] = refl
@@ -104,6 +105,13 @@ word_tested text w u v rest next e = elim (cases_Bool (bytes_eq w (text u))) [
 pub bind_some : {A B : Type 0} (o : Option A) (f : A → Option B) (y : B) → (o >>= f) ≡ Some y → (x : A) × (o ≡ Some x) × (f x ≡ Some y)
 bind_some None f y e = absurd cc
 bind_some (Some x) f y e = (x, refl, e)
+
+-- a word is taken where there is one
+pub one_taken : {A : Type 0} (text : A → List ℕ) (found : Option A) (old new : List (List ℕ)) → option_map (λ w. (text w, new)) found ≡ first_word old → IfNone found (new ≡ old) → new ≡ drop 1 old
+one_taken text None [] new first same = same
+one_taken text None (w ∷ ws) new first same = absurd cc
+one_taken text (Some a) [] new first same = absurd cc
+one_taken text (Some a) (w ∷ ws) new first same = ap (λ (p : List ℕ × List (List ℕ)). p.1) (same_Some (text a, new) (w, ws) first)
 
 pub word_found : (words : List (List ℕ)) (x : List ℕ × List (List ℕ)) → first_word words ≡ Some x → words ≡ x.0 ∷ x.1
 word_found [] x e = absurd cc

@@ -1,6 +1,6 @@
 //! Numbers in decimal.
 
-ghost use Rattle.std.specs.Prelude.{◌≡◌, ◌+◌, ◌*◌, ◌<◌, ◌^◌, ◌≤◌, IfSome, IfNone, SomeIff};
+ghost use Rattle.std.specs.Prelude.{◌≡◌, ◌+◌, ◌*◌, ◌<◌, ◌^◌, ◌≤◌, IfSome, IfNone, SomeIff, drop};
 ghost use Rattle.std.specs.Option.{option_map};
 ghost use Rattle.std.specs.Int.{IsInRange};
 ghost use Rattle.std.specs.Char.{digit_value};
@@ -58,11 +58,12 @@ pub fn read_number(word: &[u8], low: u64, high: u64) -> Option<u64>
 
 /// Takes the next word, and answers the number from `low` to `high` that it spells.
 ///
-/// None where no word is left, or it spells no such number.
-#[tactic(auto, unfolding(crate::specs::Number::number_at))]
+/// None where no word is left, or it spells no such number; the word is taken then too.
+#[tactic(auto, unfolding(crate::specs::Number::number_at), using(crate::proofs::WordLaws::one_taken))]
 pub fn number_at(words: &mut Words<'_>, low: u64, high: u64) -> Option<u64>
     ensures value { option_map (λ n. (n, words.new)) result ≡ number_at low high words.old }
     ensures within { IfSome result (λ n. (low ≤ n) × (n ≤ high)) }
+    ensures taken { words.new ≡ drop 1 words.old }
 {
     let word = words.next()?;
     let number = read_number(word, low, high)?;

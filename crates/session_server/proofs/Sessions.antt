@@ -7,7 +7,8 @@ use Rattle.std.specs.Io.KnownBytes.{Appends}
 use Rattle.std.proofs.KnownBytes.{Appends-trans, Appends-nil, Appends-kept}
 use Rattle.plain_words.specs.Input.{longest_line, lines_of, Between, BeginsTooLong, LineGives, InputEnd, AtEnd, AtLongLine, AtTooMany, TakenLines, taken, none_taken}
 use Rattle.plain_words.specs.Writing.{AppendsFront}
-use Rattle.plain_words.proofs.LineLaws.{AreShort, short-push, read-push, put_before, taken-nil, taken-line, taken-long, taken-too-many, taken-behind}
+use Rattle.plain_words.proofs.TextLaws.{all_end}
+use Rattle.plain_words.proofs.LineLaws.{AreShort, read-push, put_before, taken-nil, taken-line, taken-long, taken-too-many, taken-behind}
 use Rattle.desk_lines.specs.declared.line.Line.{Line}
 use Rattle.desk_lines.specs.declared.line.Line.TheVariants.{Quit}
 use Rattle.desk_lines.specs.declared.answered.Answered.{Answered}
@@ -80,7 +81,7 @@ goes_on S input rest rest' old new new' before mid after count h k = record {
   lines = h.lines ++ k.0.line ∷ [];
   answers = h.answers ++ k.0.answered ∷ [];
   read = read-push input rest rest' h.lines k.0.line h.read k.0.read.1;
-  short = short-push h.lines k.0.line h.short k.0.read.0;
+  short = all_end (λ line. length line ≤ longest_line) h.lines k.0.line h.short k.0.read.0;
   counted = omega (arith, length-append h.lines (k.0.line ∷ []), h.counted);
   chain = chain-push S before h.lines h.answers mid k.0.line k.0.answered after h.chain k.0.step;
   written = subst (Appends old new') (replies-push h.answers k.0.answered) (Appends-trans old new new' (flat_map reply_line h.answers) (reply_line k.0.answered) h.written k.1);
@@ -180,7 +181,7 @@ breaks_off S input rest rest' old new new' before mid after count fault.Write fe
   lines = h.lines ++ k.0.line ∷ [];
   answers = h.answers ++ k.0.answered ∷ [];
   read = not_none input (h.lines ++ k.0.line ∷ []) (one_more h.lines k.0.line)
-      (front_of input rest' (h.lines ++ k.0.line ∷ []) (omega (arith, few, h.counted, length-append h.lines (k.0.line ∷ []))) (short-push h.lines k.0.line h.short k.0.read.0) (read-push input rest rest' h.lines k.0.line h.read k.0.read.1));
+      (front_of input rest' (h.lines ++ k.0.line ∷ []) (omega (arith, few, h.counted, length-append h.lines (k.0.line ∷ []))) (all_end (λ line. length line ≤ longest_line) h.lines k.0.line h.short k.0.read.0) (read-push input rest rest' h.lines k.0.line h.read k.0.read.1));
   unasked = λ wants. cc;
   chain = chain-push S before h.lines h.answers mid k.0.line k.0.answered after h.chain k.0.step;
   written = (h.answers, k.0.answered, k.1.0, k.1.1, refl, k.1.2, Appends-trans old new new' (flat_map reply_line h.answers) k.1.0 h.written k.1.3);

@@ -1,18 +1,27 @@
 -- What a call at a desk answers, by the book that it found.
-use Rattle.std.proofs.Common.{◌≡◌, ℕ, Bool, true, false, Option, Result, Ok, Err, length, refl}
-use Rattle.std.specs.Prelude.{IfOk, IfErr, IsSome, ◌↔◌}
-use Rattle.rights_lattice.specs.State.{knows}
+use Rattle.std.proofs.Common.{◌≡◌, ◌⊎◌, inl, inr, ℕ, Bool, true, false, List, Option, Result, Ok, Err, length, refl, subst, sym, ◌∙◌}
+use Rattle.std.specs.Prelude.{IfOk, IfErr, IsSome, OnOk, ◌↔◌}
+use Rattle.rights_lattice.specs.State.{AtOrBelow, knows}
+use Rattle.rights_lattice.proofs.SpotLaws.{within_at_or_below}
+use Rattle.rights_lattice.proofs.StateLaws.{upper}
 use Rattle.request_ledger.specs.declared.request.Request.{Request}
-use Rattle.book_core.specs.Decision.{Decision}
+use Rattle.book_core.specs.declared.entry.Entry.{Entry}
+use Rattle.book_core.specs.declared.entry.Entry.TheVariants.{Joined}
+use Rattle.book_core.specs.Decision.{Decision, Office}
 use Rattle.book_core.specs.History.{state_of}
+use Rattle.book_core.proofs.Histories.{state_of-push}
 use Rattle.site_exchange.specs.declared.message.Message.{Message}
+use Rattle.site_exchange.specs.declared.message.Message.TheVariants.{Ack, Delta}
 use Rattle.site_exchange.specs.declared.message.TakeFault.{TakeFault}
 use Rattle.site_exchange.specs.declared.message.TakeFault.TheVariants as take_fault
-use Rattle.site_exchange.specs.Exchange.{Verdict, ack_for, next}
-use Rattle.site_exchange.specs.Taking.{MayTake}
+use Rattle.site_exchange.specs.Exchange as exchange
+use Rattle.site_exchange.specs.Exchange.{SitePart, Verdict, ack_for, check, next, verdict}
+use Rattle.site_exchange.specs.Taking.{MayTake, site_after}
+use Rattle.site_exchange.proofs.Verdicts.{verdict_nothing}
 use Rattle.site_desk.specs.declared.answer.Answer.{Answer}
 use Rattle.site_desk.specs.declared.answer.Seen.{Seen}
 use Rattle.site_desk.specs.declared.answer.Taken.{Taken}
+use Rattle.site_desk.specs.declared.answer.Taken.TheVariants as taken
 use Rattle.site_desk.specs.declared.fault.AskFault.{AskFault}
 use Rattle.site_desk.specs.declared.fault.AskFault.TheVariants as ask_fault
 use Rattle.site_desk.specs.declared.fault.LookFault.{LookFault}
@@ -21,8 +30,9 @@ use Rattle.site_desk.specs.declared.fault.NextFault.{NextFault}
 use Rattle.site_desk.specs.declared.fault.NextFault.TheVariants as next_fault
 use Rattle.site_desk.specs.declared.receipt.Receipt.{Receipt}
 use Rattle.site_desk.specs.Answers.{IsAnswer, IsAskFault, IsSeenAt, IsTaken, IsTakeFault, is_peer}
-use Rattle.site_desk.specs.Moments.{Gives, Replies, Shows, Takes}
+use Rattle.site_desk.specs.Moments.{AtOneMoment, Gives, HasDelta, IsAtDesk, LooksUp, Replies, Takes}
 use Rattle.site_desk.specs.SiteView.{SiteView, decision_in, site_of, verdict_in}
+use Rattle.site_desk.proofs.Sent.{none_sent}
 
 apart : {T E : Type 0} (x : T) (e : E) → ◌≡◌ {A = Result T E} (Ok x) (Err e) → ⊥
 apart x e h = cc
@@ -67,14 +77,14 @@ pub takes : {K : Type 0} (failed : K → ℕ) (s : SiteView K) (message : Messag
 takes failed s message after (Ok given) closed taken fault = (open_if_ok given take_fault.Closed s.closed closed, taken)
 takes failed s message after (Err refused) closed taken fault = take_failed s.closed (verdict_in s.book message) (MayTake (verdict_in s.book message) (site_of s) message) (failed s.keeper) after refused fault
 
-pub shows : {K : Type 0} (s : SiteView K) (event : List ℕ) (result : Result Seen LookFault)
+pub looks_up : {K : Type 0} (s : SiteView K) (event : List ℕ) (result : Result Seen LookFault)
     → ((result ≡ Err look_fault.Closed) ↔ (s.closed ≡ true)) → ((result ≡ Err look_fault.Unknown) ↔ ((s.closed ≡ false) × (knows (state_of s.book.history).names event ≡ false)))
-    → IfOk result (λ seen. seen.at ≡ length s.book.history) → IfOk result (IsSeenAt s.book.office s.book.history event) → Shows event result s
-shows s event (Ok seen) closed unknown at shown =
+    → IfOk result (λ seen. seen.at ≡ length s.book.history) → IfOk result (IsSeenAt s.book.office s.book.history event) → LooksUp event result s
+looks_up s event (Ok seen) closed unknown at shown =
     let is = open_if_ok seen look_fault.Closed s.closed closed in
     (is, tested_if_ok seen look_fault.Unknown s.closed (knows (state_of s.book.history).names event) is unknown, at, shown)
-shows s event (Err look_fault.Closed) closed unknown at shown = closed.0 refl
-shows s event (Err look_fault.Unknown) closed unknown at shown = unknown.0 refl
+looks_up s event (Err look_fault.Closed) closed unknown at shown = closed.0 refl
+looks_up s event (Err look_fault.Unknown) closed unknown at shown = unknown.0 refl
 
 abbrev Given : Type 0
 Given = Result (Option Message) NextFault
@@ -97,3 +107,45 @@ gives s to (Err next_fault.NoSite) closed none memory due = none.0 refl
 gives s to (Err next_fault.Memory) closed none memory due =
     let both = no_memory s.closed (is_peer s.book.office s.book.history to) closed none in
     (both.0, both.1, memory refl)
+
+-- what is joined is in the history, and what holds nothing new was
+has_joined : (message : Message) (site : SitePart) → HasDelta message (site_after exchange.Joins message site).history
+has_joined (Delta by to upto delta) site = subst (AtOrBelow delta) (sym (state_of-push site.history (Joined by delta))) (upper (state_of site.history) delta).1
+has_joined (Ack by to upto) site = tt
+
+has_nothing_new : (office : Office) (message : Message) (history : List Entry) → verdict office history message ≡ exchange.NothingNew → HasDelta message history
+has_nothing_new office (Delta by to upto delta) history is = within_at_or_below delta (state_of history) (verdict_nothing office history by to upto delta is)
+has_nothing_new office (Ack by to upto) history is = tt
+
+has_acked : (office : Office) (message : Message) (site : SitePart) → verdict office site.history message ≡ exchange.Acks → HasDelta message (site_after exchange.Acks message site).history
+has_acked office (Delta by to upto delta) site is = absurd (let none = none_sent (check office site.history (Delta by to upto delta)) office site.history (Delta by to upto delta) is in cc)
+has_acked office (Ack by to upto) site is = tt
+
+has_delta : (given : Taken) (office : Office) (message : Message) (old new : SitePart) → IsTaken (verdict office old.history message) (ack_for message) given → new ≡ site_after (verdict office old.history message) message old
+    → HasDelta message new.history
+has_delta given office message old new is now = subst (λ (s : SitePart). HasDelta message s.history) (sym now) (by_answer given is)
+  where
+    by_answer : (given : Taken) → IsTaken (verdict office old.history message) (ack_for message) given → HasDelta message (site_after (verdict office old.history message) message old).history
+    by_answer (taken.Joined ack) is = subst (λ (v : Verdict). HasDelta message (site_after v message old).history) (sym is.0) (has_joined message old)
+    by_answer (taken.NothingNew ack) is = subst (λ (v : Verdict). HasDelta message (site_after v message old).history) (sym is.0) (has_nothing_new office message old.history is.0)
+    by_answer taken.Acked is = subst (λ (v : Verdict). HasDelta message (site_after v message old).history) (sym is) (has_acked office message old is)
+
+-- a book that was open and whose store did not fail is open
+still_open : {T E : Type 0} (x : T) (fault : E) (old new : Bool) → old ≡ false → ((new ≡ true) ↔ ((old ≡ true) ⊎ (◌≡◌ {A = Result T E} (Ok x) (Err fault)))) → new ≡ false
+still_open {T} {E} x fault old false is both = refl
+still_open {T} {E} x fault old true is both = absurd (by_cause (both.0 refl))
+  where
+    by_cause : (old ≡ true) ⊎ (◌≡◌ {A = Result T E} (Ok x) (Err fault)) → ⊥
+    by_cause (inl shut) = let both : true ≡ false = sym shut ∙ is in cc
+    by_cause (inr failed) = apart x fault failed
+
+pub held : {K : Type 0} {office : Office} {began : List Entry} {InStep : SiteView K → Type 0} (old new : SiteView K) (message : Message) (result : Result Taken TakeFault)
+    → ((result ≡ Err take_fault.Closed) ↔ (old.closed ≡ true)) → IfOk result (IsTaken (verdict_in old.book message) (ack_for message))
+    → OnOk result (site_of new ≡ site_after (verdict_in old.book message) message (site_of old)) → ((new.closed ≡ true) ↔ ((old.closed ≡ true) ⊎ (result ≡ Err take_fault.Store)))
+    → IsAtDesk office began InStep new → IfOk result (λ _. AtOneMoment office began InStep (λ s. (s.closed ≡ false) × HasDelta message s.book.history))
+held old new message (Ok given) closed is changed closes stays = record {
+  site = new;
+  at_desk = stays;
+  holds = (still_open given take_fault.Store old.closed new.closed (open_if_ok given take_fault.Closed old.closed closed) closes, has_delta given old.book.office message (site_of old) (site_of new) is changed);
+}
+held old new message (Err fault) closed is changed closes stays = tt

@@ -22,7 +22,8 @@ acks_of join.Joins e = cc
 acks_of join.NothingNew e = cc
 acks_of (join.Refuses fault) e = cc
 
-none_sent : (o : Option CheckFault) (office : Office) (h : List Entry) (m : Message) → verdict_if o office h m ≡ Acks → None ≡ ack_for m
+-- what is taken as an acknowledgement is acknowledged by nothing
+pub none_sent : (o : Option CheckFault) (office : Office) (h : List Entry) (m : Message) → verdict_if o office h m ≡ Acks → None ≡ ack_for m
 none_sent (Some fault) office h m e = cc
 none_sent None office h (Delta by to upto delta) e = absurd (acks_of (join.join_decision office h by delta) e)
 none_sent None office h (Ack by to upto) e = refl

@@ -1,6 +1,6 @@
 -- What the book under a desk's lock is at one moment, and what is answered by it then. (Our own.)
-use Rattle.std.specs.Prelude.{◌≡◌, ℕ, Bool, true, false, List, take, length, Option, Result, Ok, Err}
-use Rattle.rights_lattice.specs.State.{knows}
+use Rattle.std.specs.Prelude.{◌≡◌, ℕ, true, false, List, take, length, Option, Result, Ok, Err}
+use Rattle.rights_lattice.specs.State.{AtOrBelow, knows}
 use Rattle.request_ledger.specs.declared.request.Request.{Request}
 use Rattle.book_core.specs.declared.entry.Entry.{Entry}
 use Rattle.book_core.specs.BookView.{BookView}
@@ -8,6 +8,7 @@ use Rattle.book_core.specs.Decision.{Office, sites_of}
 use Rattle.book_core.specs.History.{state_of}
 use Rattle.book_core.specs.Legal.{IsLegal}
 use Rattle.site_exchange.specs.declared.message.Message.{Message}
+use Rattle.site_exchange.specs.declared.message.Message.TheVariants.{Delta, Ack}
 use Rattle.site_exchange.specs.declared.message.TakeFault.{TakeFault}
 use Rattle.site_exchange.specs.Exchange.{ack_for, next}
 use Rattle.site_exchange.specs.Taking.{MayTake}
@@ -31,24 +32,33 @@ pub record IsLater (office : Office) (began : List Entry) (book : BookView) : Ty
   pub same_sites : sites_of book.office book.history ≡ sites_of office began
   pub goes_on : GoesOnFrom began book.history
 
--- it holds of some site whose book is a legal one that goes on so, and which is in step with its keeper
-pub record AtOnce {K : Type 0} (office : Office) (began : List Entry) (IsSound : SiteView K → Type 0) (Holds : SiteView K → Type 0) : Type 0 where
-  pub site : SiteView K
+-- what a site is under a desk's lock, whenever the lock is free
+pub record IsAtDesk {K : Type 0} (office : Office) (began : List Entry) (InStep : SiteView K → Type 0) (site : SiteView K) : Type 0 where
   pub later : IsLater office began site.book
   pub legal : IsLegal site.book.office site.book.history
-  pub in_step : IsSound site
+  pub in_step : InStep site
+
+-- it holds of some site that may stand there
+pub record AtOneMoment {K : Type 0} (office : Office) (began : List Entry) (InStep : SiteView K → Type 0) (Holds : SiteView K → Type 0) : Type 0 where
+  pub site : SiteView K
+  pub at_desk : IsAtDesk office began InStep site
   pub holds : Holds site
 
--- A site gives this for a request, a look, a message, or a peer that asks for its message: what is due where it is open, or the
--- reason why it gives nothing. A keeper that refuses has failed once after it.
+-- the history has all of the delta that the message brings, if it brings one
+abbrev pub HasDelta : Message → List Entry → Type 0
+HasDelta (Delta by to upto delta) history = AtOrBelow delta (state_of history)
+HasDelta (Ack by to upto) history = Unit {0}
+
+-- A site answers this to a request, a look, a message, or a peer that asks for its message: what is due where it is open, or the
+-- reason why it gives nothing. What its keeper tells behind a refusal is not said: 1, as behind each refusal, stands in its place.
 
 abbrev pub Replies : {K : Type 0} → (K → ℕ) → ℕ → Request → Result (Answer × Receipt) AskFault → SiteView K → Type 0
 Replies failed number request (Ok given) site = (site.closed ≡ false) × IsAnswer (decision_in site.book number request) (length site.book.history) given.0
 Replies failed number request (Err fault) site = IsAskFault site.closed (decision_in site.book number request) (failed site.keeper) 1 fault
 
-abbrev pub Shows : {K : Type 0} → List ℕ → Result Seen LookFault → SiteView K → Type 0
-Shows event (Ok seen) site = (site.closed ≡ false) × (knows (state_of site.book.history).names event ≡ true) × (seen.at ≡ length site.book.history) × IsSeenAt site.book.office site.book.history event seen
-Shows event (Err fault) site = IsLookFault site.closed (knows (state_of site.book.history).names event) fault
+abbrev pub LooksUp : {K : Type 0} → List ℕ → Result Seen LookFault → SiteView K → Type 0
+LooksUp event (Ok seen) site = (site.closed ≡ false) × (knows (state_of site.book.history).names event ≡ true) × (seen.at ≡ length site.book.history) × IsSeenAt site.book.office site.book.history event seen
+LooksUp event (Err fault) site = IsLookFault site.closed (knows (state_of site.book.history).names event) fault
 
 abbrev pub Takes : {K : Type 0} → (K → ℕ) → Message → Result Taken TakeFault → SiteView K → Type 0
 Takes failed message (Ok taken) site = (site.closed ≡ false) × IsTaken (verdict_in site.book message) (ack_for message) taken

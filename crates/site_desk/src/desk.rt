@@ -1,13 +1,12 @@
 //! A site's book that threads share.
-ghost use Rattle.std.specs.Prelude.{◌≡◌, ◌≢◌, ◌+◌, ◌<◌, ◌≤◌, All, true, length, IfOk, IfErr, IfSome, OnErr, if◌then◌else◌};
-ghost use Rattle.book_core.specs.Legal.{IsLegal};
+ghost use Rattle.std.specs.Prelude.{◌≡◌, ◌≢◌, ◌+◌, ◌<◌, ◌≤◌, All, true, false, length, IfOk, IfErr, IfSome, OnErr, if◌then◌else◌};
 ghost use Rattle.site_exchange.specs.Exchange.{ack_for, receiver};
 ghost use Rattle.site_desk.specs.Answers.{ack_of};
 ghost use Rattle.site_desk.specs.Count.{asked_since};
 ghost use Rattle.site_desk.specs.Finish.{FindsFirst, StandsIn, WasSeen, handed_back};
-ghost use Rattle.site_desk.specs.Moments.{AtOnce, Gives, IsLater, Replies, Shows, Takes};
+ghost use Rattle.site_desk.specs.Moments.{AtOneMoment, Gives, HasDelta, IsAtDesk, LooksUp, Replies, Takes};
 ghost use Rattle.site_desk.specs.Seats.{held, parts_of, shares_of};
-ghost use Rattle.site_desk.specs.SiteView.{SiteInStep};
+ghost use Rattle.site_desk.specs.SiteView.{SiteInStep, SiteView};
 
 use crate::answer::{Answer, Seen, Taken};
 use crate::fault::{AskFault, LookFault, NextFault};
@@ -67,7 +66,7 @@ impl<K: Keeper, L: Opens> Desk<K, L> {
         ensures share { IfOk result (λ r. seat.new ≡ held seat.old.parts (if r.0.fresh then seat.old.count + 1 else seat.old.count)) }
         ensures kept { OnErr result (seat.new ≡ seat.old) }
         ensures place { IfOk result (λ r. r.0.fresh ≡ true → length L.began + seat.old.count ≤ r.0.place) }
-        ensures answered { AtOnce L.office L.began (SiteInStep K.failed K.is_trusted K.kept K.may_leave) (Replies K.failed number request.now result) }
+        ensures answered { AtOneMoment L.office L.began (SiteInStep K.failed K.is_trusted K.kept K.may_leave) (Replies K.failed number request.now result) }
     {
         let mut locked = self.lock.lock(rt);
         let site = locked.site();
@@ -82,7 +81,7 @@ impl<K: Keeper, L: Opens> Desk<K, L> {
     pub fn look<R: Wait>(&self, rt: &R, seat: &Seat<L>, event: Event) -> Result<Seen, LookFault>
         ensures event { IfOk result (λ seen. seen.event ≡ event) }
         ensures at { IfOk result (λ seen. length L.began + seat.now.count ≤ seen.at) }
-        ensures seen { AtOnce L.office L.began (SiteInStep K.failed K.is_trusted K.kept K.may_leave) (Shows event result) }
+        ensures seen { AtOneMoment L.office L.began (SiteInStep K.failed K.is_trusted K.kept K.may_leave) (LooksUp event result) }
     {
         for _ in rt.forever() {
             let locked = self.lock.lock(rt);
@@ -94,11 +93,12 @@ impl<K: Keeper, L: Opens> Desk<K, L> {
     }
 
     /// Takes a peer's message as the book does, with its errors. The acknowledgement that is given is the one for the
-    /// message, and none is given for an acknowledgement.
+    /// message, and none is given for an acknowledgement. What is acknowledged is in an open book of this desk.
     #[tactic(auto, using(crate::proofs::Sent::ack_taken))]
     pub fn take<R: Wait>(&self, rt: &R, message: Message) -> Result<Taken, TakeFault>
         ensures ack { IfOk result (λ taken. ack_of taken ≡ ack_for message) }
-        ensures taken { AtOnce L.office L.began (SiteInStep K.failed K.is_trusted K.kept K.may_leave) (Takes K.failed message result) }
+        ensures taken { AtOneMoment L.office L.began (SiteInStep K.failed K.is_trusted K.kept K.may_leave) (Takes K.failed message result) }
+        ensures held { IfOk result (λ _. AtOneMoment L.office L.began (SiteInStep K.failed K.is_trusted K.kept K.may_leave) (λ (s : SiteView K). (s.closed ≡ false) × HasDelta message s.book.history)) }
     {
         self.lock.lock(rt).take(message)
     }
@@ -112,7 +112,7 @@ impl<K: Keeper, L: Opens> Desk<K, L> {
         to: SiteId,
     ) -> Result<Option<Message>, NextFault>
         ensures to { IfOk result (λ message. IfSome message (λ m. receiver m ≡ to)) }
-        ensures due { AtOnce L.office L.began (SiteInStep K.failed K.is_trusted K.kept K.may_leave) (Gives to result) }
+        ensures due { AtOneMoment L.office L.began (SiteInStep K.failed K.is_trusted K.kept K.may_leave) (Gives to result) }
     {
         self.lock.lock(rt).next(alloc, to)
     }
@@ -122,8 +122,8 @@ impl<K: Keeper, L: Opens> Desk<K, L> {
     ///
     /// The first of these is the fault: the seats do not have all that was newly entered; a receipt is not the entry that
     /// it names; a look does not show what the entries that it names say. The book comes back with a fault too: it is of the
-    /// site that the desk was made for, and its history goes on from the one that it had then. Each look costs a walk over
-    /// the entries that it names.
+    /// site that the desk was made for, counts the same sites, is in step with its keeper, and its history goes on from the
+    /// one that it had then. Each look costs a walk over the entries that it names.
     pub fn finish(
         self,
         seats: Vec<Seat<L>>,
@@ -137,9 +137,7 @@ impl<K: Keeper, L: Opens> Desk<K, L> {
         ensures whole { parts_of seats.items ≡ L.parts → IfErr result (λ e. e.1 ≢ FinishFault.SeatsOut) }
 
         // What the book kept, whenever the lock was free.
-        ensures later { IsLater L.office L.began (handed_back result).book }
-        ensures legal { IsLegal (handed_back result).book.office (handed_back result).book.history }
-        ensures in_step { SiteInStep K.failed K.is_trusted K.kept K.may_leave (handed_back result) }
+        ensures at_desk { IsAtDesk L.office L.began (SiteInStep K.failed K.is_trusted K.kept K.may_leave) (handed_back result) }
     {
         self.lock.into_inner().finish(seats, receipts, looks)
     }

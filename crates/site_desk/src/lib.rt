@@ -1,7 +1,7 @@
 //! The book of a site with the keeper of its history, and the desk at which sessions share it.
 //!
 //! An entry is kept before it is entered. Where it is not known to be kept, the book is closed until it is started
-//! again from what the keeper holds. A desk has the book behind one lock; each request, message and look is one event
+//! again from what the keeper holds. A desk has the book behind one lock; each request, message and look is one step
 //! under it.
 #![tactic(auto)]
 

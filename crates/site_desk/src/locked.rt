@@ -2,13 +2,12 @@
 ghost use Rattle.std.specs.Prelude.{◌≡◌, ◌≢◌, ◌↔◌, ◌⊎◌, All, Err, IsSome, ◌+◌, ◌<◌, ◌≤◌, true, false, length, IsTrue, IfOk, IfErr, OnErr, OnOk, if◌then◌else◌};
 ghost use Rattle.rights_lattice.specs.State.{knows};
 ghost use Rattle.book_core.specs.History.{state_of};
-ghost use Rattle.book_core.specs.Legal.{IsLegal};
 ghost use Rattle.site_exchange.specs.Exchange.{ack_for, next};
 ghost use Rattle.site_exchange.specs.Taking.{MayTake, site_after, with_entry};
 ghost use Rattle.site_desk.specs.Answers.{IsAnswer, IsAskFault, IsSeenAt, IsTakeFault, IsTaken, is_peer};
 ghost use Rattle.site_desk.specs.SiteView.{SiteInStep, decision_in, entry_in, site_of, verdict_in};
 ghost use Rattle.site_desk.specs.Count.{asked_since};
-ghost use Rattle.site_desk.specs.Moments.{IsLater};
+ghost use Rattle.site_desk.specs.Moments.{IsAtDesk};
 ghost use Rattle.site_desk.specs.Finish.{FindsFirst, StandsIn, WasSeen, handed_back};
 ghost use Rattle.site_desk.specs.Seats.{held, parts_of, shares_of};
 
@@ -84,9 +83,7 @@ impl<K: Keeper, L: Opens> Locked<K, L> {
         number: RequestNumber,
         request: &Request,
     ) -> Result<(Answer, Receipt), AskFault>
-        ensures later { IsLater L.office L.began self.old.book }
-        ensures legal { IsLegal self.old.book.office self.old.book.history }
-        ensures in_step { SiteInStep K.failed K.is_trusted K.kept K.may_leave self.old }
+        ensures at_desk { IsAtDesk L.office L.began (SiteInStep K.failed K.is_trusted K.kept K.may_leave) self.old }
         ensures office { self.new.book.office ≡ self.old.book.office }
         ensures answer { IfOk result (λ r. IsAnswer (decision_in self.old.book number request.now) (length self.old.book.history) r.0) }
         ensures entered { OnOk result (site_of self.new ≡ with_entry (entry_in self.old.book number request.now) (site_of self.old)) }
@@ -138,9 +135,7 @@ impl<K: Keeper, L: Opens> Locked<K, L> {
 
     /// What the history shows of an event that it knows.
     pub fn look(&self, event: Event) -> Result<Seen, LookFault>
-        ensures later { IsLater L.office L.began self.now.book }
-        ensures legal { IsLegal self.now.book.office self.now.book.history }
-        ensures in_step { SiteInStep K.failed K.is_trusted K.kept K.may_leave self.now }
+        ensures at_desk { IsAtDesk L.office L.began (SiteInStep K.failed K.is_trusted K.kept K.may_leave) self.now }
         ensures seen { IfOk result (IsSeenAt self.now.book.office self.now.book.history event) }
         ensures at { IfOk result (λ seen. seen.at ≡ length self.now.book.history) }
         ensures closed { (result ≡ Err LookFault.Closed) ↔ (self.now.closed ≡ true) }
@@ -153,9 +148,8 @@ impl<K: Keeper, L: Opens> Locked<K, L> {
 
     /// Takes a peer's message.
     pub fn take(&mut self, message: Message) -> Result<Taken, TakeFault>
-        ensures later { IsLater L.office L.began self.old.book }
-        ensures legal { IsLegal self.old.book.office self.old.book.history }
-        ensures in_step { SiteInStep K.failed K.is_trusted K.kept K.may_leave self.old }
+        ensures at_desk { IsAtDesk L.office L.began (SiteInStep K.failed K.is_trusted K.kept K.may_leave) self.old }
+        ensures stays { IsAtDesk L.office L.began (SiteInStep K.failed K.is_trusted K.kept K.may_leave) self.new }
         ensures office { self.new.book.office ≡ self.old.book.office }
         ensures taken { IfOk result (IsTaken (verdict_in self.old.book message) (ack_for message)) }
         ensures changed { OnOk result (site_of self.new ≡ site_after (verdict_in self.old.book message) message (site_of self.old)) }
@@ -166,15 +160,15 @@ impl<K: Keeper, L: Opens> Locked<K, L> {
         ensures closes { (self.new.closed ≡ true) ↔ ((self.old.closed ≡ true) ⊎ (result ≡ Err TakeFault.Store)) }
     {
         // What the book says of its history.
-        let _book = self.book.book();
-        self.book.take(message)
+        let _before = self.book.book();
+        let taken = self.book.take(message);
+        let _after = self.book.book();
+        taken
     }
 
     /// The message that is due to a peer.
     pub fn next(&mut self, alloc: Global, to: SiteId) -> Result<Option<Message>, NextFault>
-        ensures later { IsLater L.office L.began self.old.book }
-        ensures legal { IsLegal self.old.book.office self.old.book.history }
-        ensures in_step { SiteInStep K.failed K.is_trusted K.kept K.may_leave self.old }
+        ensures at_desk { IsAtDesk L.office L.began (SiteInStep K.failed K.is_trusted K.kept K.may_leave) self.old }
         ensures message { IfOk result (λ message. message ≡ next self.old.book.office.me (site_of self.old) to) }
         ensures closed { (result ≡ Err NextFault.Closed) ↔ (self.old.closed ≡ true) }
         ensures no_site { (result ≡ Err NextFault.NoSite) ↔ ((self.old.closed ≡ false) × (is_peer self.old.book.office self.old.book.history to ≡ false)) }
@@ -201,9 +195,7 @@ impl<K: Keeper, L: Opens> Locked<K, L> {
         ensures whole { parts_of seats.items ≡ L.parts → shares_of seats.items ≡ asked_since (length L.began) self.book.history }
 
         // What the types of the book and its keeper keep.
-        ensures later { IsLater L.office L.began self.book }
-        ensures legal { IsLegal self.book.office self.book.history }
-        ensures in_step { SiteInStep K.failed K.is_trusted K.kept K.may_leave self }
+        ensures at_desk { IsAtDesk L.office L.began (SiteInStep K.failed K.is_trusted K.kept K.may_leave) self }
     {
         let Locked {
             book,

@@ -158,7 +158,7 @@ impl<K: Keeper> SiteBook<K> {
         ensures again { IfOk result (λ a. a.fresh ≡ false → self.new.keeper ≡ self.old.keeper) }
         ensures kept { IfOk result (λ a. a.fresh ≡ true → K.is_trusted self.new.keeper → Keeps self.new.book.history (K.kept self.new.keeper) (K.may_leave self.new.keeper)) }
         ensures stopped { result ≡ Err AskFault.Store → K.is_trusted self.new.keeper → LeavesEither self.old.book.history (entry_in self.old.book number request.now) (K.may_leave self.new.keeper) }
-        ensures in_step { self.new.closed ≡ false → K.is_trusted self.new.keeper → self.new.book.history ≡ K.kept self.new.keeper }
+        ensures stored { self.new.closed ≡ false → K.is_trusted self.new.keeper → self.new.book.history ≡ K.kept self.new.keeper }
         ensures rests { self.new.closed ≡ false → K.is_trusted self.new.keeper → LeavesOnly self.new.book.history (K.may_leave self.new.keeper) }
         ensures site { K.is_trusted self.new.keeper → (meta : Numbers) → K.is_of self.old.keeper meta → K.is_of self.new.keeper meta }
         ensures trusted { K.is_trusted self.new.keeper → K.is_trusted self.old.keeper }
@@ -198,7 +198,7 @@ impl<K: Keeper> SiteBook<K> {
         ensures again { OnOk result (verdict_in self.old.book message ≢ Joins → self.new.keeper ≡ self.old.keeper) }
         ensures kept { OnOk result (verdict_in self.old.book message ≡ Joins → K.is_trusted self.new.keeper → Keeps self.new.book.history (K.kept self.new.keeper) (K.may_leave self.new.keeper)) }
         ensures stopped { result ≡ Err TakeFault.Store → K.is_trusted self.new.keeper → LeavesEither self.old.book.history (entry_of_take self.old.book.office self.old.book.history message) (K.may_leave self.new.keeper) }
-        ensures in_step { self.new.closed ≡ false → K.is_trusted self.new.keeper → self.new.book.history ≡ K.kept self.new.keeper }
+        ensures stored { self.new.closed ≡ false → K.is_trusted self.new.keeper → self.new.book.history ≡ K.kept self.new.keeper }
         ensures rests { self.new.closed ≡ false → K.is_trusted self.new.keeper → LeavesOnly self.new.book.history (K.may_leave self.new.keeper) }
         ensures site { K.is_trusted self.new.keeper → (meta : Numbers) → K.is_of self.old.keeper meta → K.is_of self.new.keeper meta }
         ensures trusted { K.is_trusted self.new.keeper → K.is_trusted self.old.keeper }
@@ -254,7 +254,7 @@ impl<K: Keeper> SiteBook<K> {
         // What the keeper holds, and what a stop may leave of it.
         ensures kept { OnOk result (K.is_trusted self.new.keeper → Keeps self.new.book.history (K.kept self.new.keeper) (K.may_leave self.new.keeper)) }
         ensures stopped { result ≡ Err GrowFault.Store → K.is_trusted self.new.keeper → LeavesEither self.old.book.history (growth_in self.old.book sites) (K.may_leave self.new.keeper) }
-        ensures in_step { self.new.closed ≡ false → K.is_trusted self.new.keeper → self.new.book.history ≡ K.kept self.new.keeper }
+        ensures stored { self.new.closed ≡ false → K.is_trusted self.new.keeper → self.new.book.history ≡ K.kept self.new.keeper }
         ensures rests { self.new.closed ≡ false → K.is_trusted self.new.keeper → LeavesOnly self.new.book.history (K.may_leave self.new.keeper) }
         ensures site { K.is_trusted self.new.keeper → (meta : Numbers) → K.is_of self.old.keeper meta → K.is_of self.new.keeper meta }
         ensures trusted { K.is_trusted self.new.keeper → K.is_trusted self.old.keeper }

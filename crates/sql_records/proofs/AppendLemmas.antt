@@ -29,6 +29,7 @@ use Rattle.sql_records.specs.Layout.{IsOurs, ours_and, HasMeta, meta_shown}
 use Rattle.sql_records.specs.Rows.{event_column, amount_column, target_column, rest_column, columns_of, stored, shown, IsStorable, entry_of, in_order, AreWhole}
 use Rattle.sql_records.specs.Held.{IsAtRest, IsSiteIn, MayLeaveIn, LeavesSite, history_in, opened_in, rows_in}
 use Rattle.sql_records.specs.Keeping.{LeavesWithOrWithout}
+use Rattle.sql_records.proofs.MakeLemmas.{was_clean}
 use Rattle.sql_records.proofs.EntryBack.{entry_back}
 use Rattle.sql_records.proofs.RowLemmas.{put_next, whole_next, entries_next, read_from}
 use Rattle.sql_records.proofs.InsertLemmas.{insert_command, insert_is, insert_plain, cast_int, cast_null, Inserted, inserts}
@@ -174,22 +175,19 @@ module _ (place : ℕ) (entry : Entry) (fits : IsStorable entry) (old new : Stat
 
 module _ (place : ℕ) (entry : Entry) (fits : IsStorable entry) (row : Row) (is : row ≡ columns_of place entry) (old new : State) (rest : HasCleanDisk old → IsAtRest old place) (Commits : Trees → Type 0)
     (survives : Survives old new Commits) (commits : (db : Trees) → Commits db → CommitsBy insert_text row old db) where
-  was_clean : HasCleanDisk new → HasCleanDisk old
-  was_clean clean = omega (arith, survives.clean)
-
   pub insert_rests : (r : Result ℕ Error) → (HasCleanDisk new → Executes insert_text row old new r) → HasCleanDisk new → OnOk r (IsAtRest new (place + 1))
-  insert_rests (Ok count) runs clean = (insert_ok place entry fits old new (rest (was_clean clean)) count (subst (λ p. Executes insert_text p old new (Ok count)) is (runs clean))).0
+  insert_rests (Ok count) runs clean = (insert_ok place entry fits old new (rest (was_clean old new _ survives clean)) count (subst (λ p. Executes insert_text p old new (Ok count)) is (runs clean))).0
   insert_rests (Err e) runs clean = tt
 
   pub insert_adds : (r : Result ℕ Error) → (HasCleanDisk new → Executes insert_text row old new r) → HasCleanDisk new → OnOk r (history_in new.now.trees ≡ history_in old.now.trees ++ entry ∷ [])
-  insert_adds (Ok count) runs clean = (insert_ok place entry fits old new (rest (was_clean clean)) count (subst (λ p. Executes insert_text p old new (Ok count)) is (runs clean))).1
+  insert_adds (Ok count) runs clean = (insert_ok place entry fits old new (rest (was_clean old new _ survives clean)) count (subst (λ p. Executes insert_text p old new (Ok count)) is (runs clean))).1
   insert_adds (Err e) runs clean = tt
 
   -- `only` is the law of the store: while it is open, a crash leaves the last commit
   module _ (only : (db : Trees) → IsTrue old.is_open → old.may_leave db → db ≡ old.committed.trees) where
     pub insert_leaves : HasCleanDisk new → LeavesWithOrWithout (history_in old.now.trees) entry (MayLeaveIn new)
     insert_leaves clean list left =
-        let at_rest = rest (was_clean clean) in
+        let at_rest = rest (was_clean old new _ survives clean) in
         let db = left.0 in
         elim (survives.crash clean db left.1) [
           | inl before ↦ (
@@ -203,7 +201,7 @@ module _ (place : ℕ) (entry : Entry) (fits : IsStorable entry) (row : Row) (is
     -- `stays` is the other law: the last commit is one that a crash may leave
     pub insert_site : (IsTrue old.is_open → old.may_leave old.committed.trees) → HasCleanDisk new → (meta : Meta) → LeavesSite old meta → LeavesSite new meta
     insert_site stays clean meta had db left =
-        let at_rest = rest (was_clean clean) in
+        let at_rest = rest (was_clean old new _ survives clean) in
         elim (survives.crash clean db left) [
           | inl before ↦ had db before
           | inr commit ↦ (
@@ -214,5 +212,5 @@ module _ (place : ℕ) (entry : Entry) (fits : IsStorable entry) (row : Row) (is
         ]
 
   pub insert_meta : (r : Result ℕ Error) → (HasCleanDisk new → Executes insert_text row old new r) → HasCleanDisk new → OnOk r (new.now.trees 0 ≡ old.now.trees 0)
-  insert_meta (Ok count) runs clean = (insert_ok place entry fits old new (rest (was_clean clean)) count (subst (λ p. Executes insert_text p old new (Ok count)) is (runs clean))).2
+  insert_meta (Ok count) runs clean = (insert_ok place entry fits old new (rest (was_clean old new _ survives clean)) count (subst (λ p. Executes insert_text p old new (Ok count)) is (runs clean))).2
   insert_meta (Err e) runs clean = tt

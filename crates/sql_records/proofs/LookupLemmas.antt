@@ -1,5 +1,5 @@
 -- What the rows say of a number and of an event is what the entries say.
-use Rattle.std.proofs.Common.{◌≡◌, ◌⊎◌, inl, inr, ℕ, slice_get, zero, suc, ◌+◌, ◌<◌, pos, negsuc, ◌&&◌, Bool, true, false, cond, eqb, Option, Some, None, refl, ap, sym, subst, ◌∙◌, arith, List, [], ◌∷◌, map, filter, IsSome, length, take, get_or, Result, Ok, Err, IfOk, IfErr, OnErr, ◌++◌}
+use Rattle.std.proofs.Common.{◌≡◌, ◌⊎◌, inl, inr, ℕ, slice_get, zero, suc, ◌+◌, ◌<◌, pos, negsuc, ◌&&◌, Bool, true, false, cond, eqb, Option, Some, None, refl, ap, sym, subst, ◌∙◌, arith, List, [], ◌∷◌, map, filter, IsSome, length, Result, Ok, Err, IfOk, IfErr, OnErr}
 use Rattle.std.specs.Option.{option_map}
 use Rattle.std.specs.Ordering.{is_eq, int_cmp}
 use Rattle.std.specs.List.{filter_map}
@@ -7,7 +7,7 @@ use Rattle.std.specs.Cmp.Lexicographic.{texts_ties}
 use Rattle.std.proofs.lemmas.Int.{ints}
 use Rattle.std.proofs.lemmas.Bool.{and_parts}
 use Rattle.std.proofs.lemmas.Option.{cond_some, same_Some, slice_get_within}
-use Rattle.std.proofs.lemmas.List.{take_more, map-append, length-map}
+use Rattle.std.proofs.lemmas.List.{length-map}
 use Rattle.std.proofs.lemmas.Bool.Decides.{nat_tests}
 use Rattle.sqlite.specs.declared.types.Value.{Value}
 use Rattle.sqlite.specs.declared.types.Value.TheVariants.{Null, Int, Real, Text, Blob}
@@ -329,12 +329,6 @@ module _ (rows whole : List Row) (h : List Entry) (name : List ℕ) (are : AreWh
   all_fault Is (Ok all) m e = tt
   all_fault Is (Err f) m (inl memory) = subst Is (sym memory.0) (m (some_listed memory.1))
   all_fault Is (Err f) m (inr first) = absurd (unread rows first.at first.values first.here first.unread (listed_in h name) (sym all_are))
-
--- one row more is read
-pub read_more : (rows : List Row) (i : ℕ) (values : Row) (items : List Listed) (new : Listed) → i < length rows → values ≡ get_or rows i values → listed_of values ≡ Some new → map Some items ≡ map listed_of (take i rows)
-    → map Some (items ++ new ∷ []) ≡ map listed_of (take (i + 1) rows)
-read_more rows i values items new low at reads so_far =
-    rw (take_more rows i values low, ← at, map-append listed_of (take i rows) (values ∷ []), map-append Some items (new ∷ []), so_far, reads) refl
 
 -- a fault of the query is one of the list
 pub of_query : (old new : Store) (listed : List Listed) (f : FindFault) → IsQueryFault old new f → IsListFault old new listed f

@@ -1,10 +1,10 @@
 -- What a query that does not answer leaves.
-use Rattle.std.proofs.Common.{◌≡◌, ◌⊎◌, inl, inr, true, List, Option, Some, None, Result, Ok, Err, OnErr, IsTrue, refl, sym, ◌∙◌, if◌then◌else◌, Bool, ℕ}
+use Rattle.std.proofs.Common.{◌≡◌, ◌⊎◌, inl, inr, true, List, Option, Some, None, Result, Ok, Err, OnErr, IsTrue, sym, ◌∙◌, ℕ}
+use Rattle.std.proofs.lemmas.Bool.{cond-true}
 use Rattle.sqlite_schema.specs.declared.command.Returning.{Returning}
 use Rattle.sqlite_resolve.specs.declared.compiled.Compiled.{Compiled}
 use Rattle.sqlite.specs.Order.{Row}
 use Rattle.sqlite.specs.declared.error.Error.{Error}
-use Rattle.sqlite.specs.Effect.{Database}
 use Rattle.sqlite.specs.State.{State, IsUnchanged, IsRolledBack, KeepsCommit, ShowsRows, Shown, FailsToShow, FailsToQuery, IsNotRun, IsTooLate}
 use Rattle.sql_records.specs.Held.{IsAtRest, IsUndisturbed}
 use Rattle.sql_records.specs.Opening.{IsLeftOrUndone}
@@ -12,9 +12,6 @@ use Rattle.sql_records.specs.Opening.{IsLeftOrUndone}
 pub left_or_undone : (old new : State) → IsUnchanged old new ⊎ IsRolledBack old new → IsLeftOrUndone old new
 left_or_undone old new (inl h) = record { kept = record { was_open = λ _. h.0.was_open; committed = λ _. h.0.committed_is }; shows = λ _. inl (h.0.now_is, h.0.mode, h.2) }
 left_or_undone old new (inr h) = record { kept = record { was_open = h.was_open; committed = λ on. (h.undone on).1 }; shows = λ on. inr ((h.undone on).0, h.autocommit, h.unmarked) }
-
-pub as_it_was : (s : State) → IsLeftOrUndone s s
-as_it_was s = record { kept = record { was_open = λ on. on; committed = λ _. refl }; shows = λ _. inl (refl, refl, refl) }
 
 -- at rest, what was undone is what was shown
 pub undisturbed : (old new : State) (count : ℕ) → IsAtRest old count → IsLeftOrUndone old new → IsUndisturbed old new
@@ -34,13 +31,10 @@ unchanged_keeps old new h = record { was_open = λ _. h.0.was_open; committed = 
 rolled_keeps : (old new : State) → IsRolledBack old new → KeepsCommit old new
 rolled_keeps old new h = record { was_open = h.was_open; committed = λ on. (h.undone on).1 }
 
-inside : (b : Bool) (d e : Database) → b ≡ true → (if b then d else e) ≡ d
-inside b d e is = rw is refl
-
 rows_keep : (old new : State) (sql : List ℕ) (c : Compiled) (params : Row) (rows : List Row) (o : Option Returning) → old.in_transaction ≡ true → ShowsRows old new sql c params rows o → KeepsCommit old new
 rows_keep old new sql c params rows None within h = unchanged_keeps old new h.3
 rows_keep old new sql c params rows (Some what) within h =
-    record { was_open = λ _. h.1.shown.was_open; committed = λ _. h.1.shown.committed_is ∙ inside old.in_transaction old.committed new.now within }
+    record { was_open = λ _. h.1.shown.was_open; committed = λ _. h.1.shown.committed_is ∙ cond-true old.in_transaction old.committed new.now within }
 
 pub shown_keeps : (sql : List ℕ) (params : Row) (old new : State) (rows : List Row) → old.in_transaction ≡ true → Shown sql params old new rows → KeepsCommit old new
 unfolding Shown

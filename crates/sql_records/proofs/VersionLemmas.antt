@@ -1,5 +1,5 @@
 -- What the UPDATE makes of records at rest, and what a stop may leave.
-use Rattle.std.proofs.Common.{◌≡◌, ◌⊎◌, inl, inr, ℕ, List, [], ◌∷◌, length, map, false, Ok, Err, IsTrue, sym, ap, subst, ◌∙◌, arith}
+use Rattle.std.proofs.Common.{◌≡◌, ◌⊎◌, inl, inr, ℕ, List, [], ◌∷◌, length, map, false, Ok, Err, IsTrue, sym, ap, subst, ◌∙◌}
 use Rattle.std.proofs.lemmas.Bool.{cases_Bool}
 use Rattle.sqlite.specs.declared.error.Error.{Error}
 use Rattle.sqlite.specs.Order.{Row}
@@ -9,6 +9,7 @@ use Rattle.sqlite.specs.Listing.{understood}
 use Rattle.sqlite.specs.State.{State, HasCleanDisk, Survives, Executes, ExecutesIn, IsNotRun, CommitsBy, mode_of, IsNewestNamed, names_in, begins_at, shows_rows, IsUnchanged, IsRolledBack}
 use Rattle.sqlite.proofs.Callers.{statement_of, runs_as}
 use Rattle.sql_records.specs.declared.meta.Meta.{Meta}
+use Rattle.sql_records.proofs.MakeLemmas.{was_clean}
 use Rattle.sql_records.specs.declared.version.Version.TheVariants.{First, Second}
 use Rattle.sql_records.specs.Texts.{update_text}
 use Rattle.sql_records.specs.Layout.{IsOurs, ours_and, meta_shown, HasMeta, HasMetaAs, AreNumbers}
@@ -82,30 +83,27 @@ module _ (old new : State) (place : ℕ) (rest : IsAtRest old place) where
 
 -- over any statement that was run, as a function's clauses speak of it
 module _ (old new : State) (rest : HasCleanDisk old → (place : ℕ) × IsAtRest old place) (good : HasCleanDisk old → IsLegalFirst old.now.trees) (survives : Survives old new (CommitsBy update_text [] old)) where
-  pub was_clean : HasCleanDisk new → HasCleanDisk old
-  was_clean clean = omega (arith, survives.clean, clean)
-
   pub leaves_either : HasCleanDisk new → LeavesAsBeforeOrMigrated old new
   leaves_either clean db left =
-      let at_rest = rest (was_clean clean) in
-      let legal = good (was_clean clean) in
+      let at_rest = rest (was_clean old new _ survives clean) in
+      let legal = good (was_clean old new _ survives clean) in
       elim (survives.crash clean db left) [
         | inl before ↦ inl before
         | inr commit ↦ inr (legal, commits old new at_rest.0 at_rest.1 legal.meta legal.first.numbers db commit)
       ]
 
   pub stays_as : (e : Error) → Executes update_text [] old new (Err e) → HasCleanDisk new → IsTrue new.is_open → (new.now ≡ old.now) × (new.committed ≡ old.committed) × (new.in_transaction ≡ old.in_transaction)
-  stays_as e h clean = let at_rest = rest (was_clean clean) in as_before old new at_rest.0 at_rest.1 e h
+  stays_as e h clean = let at_rest = rest (was_clean old new _ survives clean) in as_before old new at_rest.0 at_rest.1 e h
 
   module _ (count : ℕ) (runs : HasCleanDisk new → Executes update_text [] old new (Ok count)) (clean : HasCleanDisk new) where
-    both : IsAtRest new (rest (was_clean clean)).0 × IsMigrated old.now.trees new.now.trees
-    both = let at_rest = rest (was_clean clean) in let legal = good (was_clean clean) in ok old new at_rest.0 at_rest.1 legal.meta legal.first.numbers count (runs clean)
+    both : IsAtRest new (rest (was_clean old new _ survives clean)).0 × IsMigrated old.now.trees new.now.trees
+    both = let at_rest = rest (was_clean old new _ survives clean) in let legal = good (was_clean old new _ survives clean) in ok old new at_rest.0 at_rest.1 legal.meta legal.first.numbers count (runs clean)
 
     pub migrated : IsMigrated old.now.trees new.now.trees
     migrated = both.1
 
     pub rests : (place : ℕ) → IsAtRest old place → IsAtRest new place
-    rests place at_rest = let legal = good (was_clean clean) in (ok old new place at_rest legal.meta legal.first.numbers count (runs clean)).0
+    rests place at_rest = let legal = good (was_clean old new _ survives clean) in (ok old new place at_rest legal.meta legal.first.numbers count (runs clean)).0
 
     same_history : history_in new.now.trees ≡ history_in old.now.trees
     same_history = ap history_of both.1.entries
@@ -113,14 +111,14 @@ module _ (old new : State) (rest : HasCleanDisk old → (place : ℕ) × IsAtRes
     -- `only` and `stays` are the laws of the store: while it is open, a crash leaves the last commit
     module _ (only : (db : Trees) → IsTrue new.is_open → new.may_leave db → db ≡ new.committed.trees) where
       pub leaves_list : (IsTrue new.is_open → new.may_leave new.committed.trees) → LeavesOnly (history_in old.now.trees) (MayLeaveIn new)
-      leaves_list stays = subst (λ list. LeavesOnly list (MayLeaveIn new)) same_history (leaves_only new (rest (was_clean clean)).0 both.0 only stays)
+      leaves_list stays = subst (λ list. LeavesOnly list (MayLeaveIn new)) same_history (leaves_only new (rest (was_clean old new _ survives clean)).0 both.0 only stays)
 
       pub leaves_numbers : (meta : Meta) → HasMetaAs First meta old.now.trees → LeavesSite new meta
       leaves_numbers meta was =
-          let had = good (was_clean clean) in
+          let had = good (was_clean old new _ survives clean) in
           let same = one_meta First had.meta meta old.now.trees had.first.numbers was in
           let also = one_meta First both.1.meta meta old.now.trees both.1.was was in
-          leaves_site new (rest (was_clean clean)).0 both.0 only meta (subst AreNumbers same had.first.within) (subst (λ m. HasMeta m new.now.trees) also both.1.is)
+          leaves_site new (rest (was_clean old new _ survives clean)).0 both.0 only meta (subst AreNumbers same had.first.within) (subst (λ m. HasMeta m new.now.trees) also both.1.is)
 
 -- ---- what is read of what a stop leaves
 

@@ -3,7 +3,8 @@ use Rattle.delta_mutators.specs.declared.delta.Item.TheVariants as item
 use Rattle.delta_wire.specs.Grammar.{IsItem}
 use Rattle.delta_wire.specs.Parts.{name_line}
 use Rattle.plain_words.proofs.WriteLaws.{Writes-err}
-use Rattle.delta_wire.proofs.Prefixes.{one_written, one_failed, all_more}
+use Rattle.plain_words.proofs.TextLaws.{all_more}
+use Rattle.delta_wire.proofs.Prefixes.{one_written, one_failed}
 use Rattle.delta_wire.proofs.writing.write_names.Goals as goal
 
 pub names-preserved : goal.names-preserved

@@ -1,4 +1,5 @@
 use Rattle.std.proofs.Common.{◌≡◌, ◌≢◌, Some, inl, refl, ap, sym, subst, subst₂, ◌∙◌}
+use Rattle.std.proofs.lemmas.Option.{IfSome_then}
 use Rattle.std.specs.Prelude.{ℕ, IfOk, IfSome, OnOk, List, false}
 use Rattle.sqlite.specs.Effect.{Database}
 use Rattle.sqlite.specs.Held.{state}
@@ -17,7 +18,7 @@ use Rattle.operator_cli.specs.Opened.{IsIllegal, IsImportEnd, IsRefused}
 use Rattle.operator_cli.proofs.EndLaws.{both_err, both_ok, holds_behind, if_back, on_ok_map, on_ok_some, weaker}
 use Rattle.operator_cli.proofs.ExchangeLaws.{import_end, kept_as_it_was, leaves_as_they_were}
 use Rattle.operator_cli.proofs.OpenedLaws.{book_back, opened_cause, opened_illegal, opened_ours, refused_cause, refused_illegal, refused_lost, refused_ours, refused_silent}
-use Rattle.operator_cli.proofs.PrintLaws.{came_said, came_unsaid, ends_as, ends_printed, fails_unsaid, if_some_is, if_some_map, ok_unless_failed, telling_as, unsaid_as}
+use Rattle.operator_cli.proofs.PrintLaws.{came_said, came_unsaid, ends_as, ends_printed, fails_unsaid, if_some_is, ok_unless_failed, telling_as, unsaid_as}
 use Rattle.operator_cli.proofs.import.import_store.Goals as goal
 
 pub returns-in-Ok-clause-out : goal.returns-in-Ok-clause-out
@@ -32,11 +33,10 @@ returns-in-Ok-clause-taken g c =
     let b = g.W.Write.contents c.write_taken-came.new.out in
     let after : IsTrusted g.S.Store c.write_taken-came.new.book.keeper = clean in
     let of = c.in-Ok.ensures.book (c.write_taken-came.ensures.trusted after) in
-    if_some_map _ _ _ (λ bytes came.
+    IfSome_then _ c.write_taken-came.ensures.taken (λ bytes came.
     let here = subst (λ (h : List Entry). IfOk c.write_taken-came.result (Printed (IsTellingOf (λ told. told ≡ told_of_bytes c.in-Ok.book.book.office h bytes)) a b)) of.history came in
     let there = subst (λ (o : Office). IfOk c.write_taken-came.result (Printed (IsTellingOf (λ told. told ≡ told_of_bytes o (history_in db) bytes)) a b)) (of.office meta has) here in
-    ends_printed (IsTellingOf (λ told. told ≡ told_of_bytes (office_of meta) (history_in db) bytes)) a b (g.W.Write.contents c.close_book.new.out) c.write_taken-came.result c.close_book.result.0 there c.close_book.ensures.kept c.close_book.ensures.status)
-    c.write_taken-came.ensures.taken)
+    ends_printed (IsTellingOf (λ told. told ≡ told_of_bytes (office_of meta) (history_in db) bytes)) a b (g.W.Write.contents c.close_book.new.out) c.write_taken-came.result c.close_book.result.0 there c.close_book.ensures.kept c.close_book.ensures.status))
 
 pub returns-in-Ok-clause-kept : goal.returns-in-Ok-clause-kept
 returns-in-Ok-clause-kept g c =
@@ -52,11 +52,10 @@ returns-in-Ok-clause-holds g c =
     let after : IsTrusted g.S.Store c.write_taken-came.new.book.keeper = clean in
     let of = c.in-Ok.ensures.book (c.write_taken-came.ensures.trusted after) in
     let unclosed = ok_unless_failed _ c.write_taken-came.result c.close_book.result.0 c.write_taken-came.ensures.unclosed c.close_book.ensures.status alive of.unclosed in
-    if_some_map _ _ _ (λ bytes entered.
+    IfSome_then _ c.write_taken-came.ensures.entered (λ bytes entered.
     let behind = ok_unless_failed _ c.write_taken-came.result c.close_book.result.0 entered c.close_book.ensures.status alive ∙ (λ i. behind_bytes (of.office meta has i) (of.history i) bytes) in
     subst (HoldsOnly (state g.S.Store c.write_taken-came.new.book.keeper.conn)) behind
-    (holds_behind g.S.Store c.close_book.result.1 c.write_taken-came.new.book c.write_taken-came.new.book refl c.close_book.ensures.back c.close_book.ensures.holds unclosed clean))
-    c.write_taken-came.ensures.entered)
+    (holds_behind g.S.Store c.close_book.result.1 c.write_taken-came.new.book c.write_taken-came.new.book refl c.close_book.ensures.back c.close_book.ensures.holds unclosed clean)))
 
 pub returns-in-Err-clause-lost : goal.returns-in-Err-clause-lost
 returns-in-Err-clause-lost g c =
@@ -132,10 +131,9 @@ returns-in-Ok-clause-stopped g c =
     let after : IsTrusted g.S.Store c.write_taken-came.new.book.keeper = clean in
     let first = c.write_taken-came.ensures.trusted after in
     let of = c.in-Ok.ensures.book first in
-    if_some_map _ _ _ (λ bytes stopped.
+    IfSome_then _ c.write_taken-came.ensures.stopped (λ bytes stopped.
     subst₂ (λ (o : Office) (h : List Entry). LeavesOneOf h (behind_bytes o h bytes) (MayLeaveIn (state g.S.Store c.write_taken-came.new.book.keeper.conn))) (of.office meta has) of.history
-    (stopped after (λ left m. inl ((c.in-Ok.ensures.rests first).alone left m ∙ ap (λ (h : List Entry). Some h) (c.in-Ok.ensures.kept first ∙ sym of.history)))))
-    c.write_taken-came.ensures.stopped)
+    (stopped after (λ left m. inl ((c.in-Ok.ensures.rests first).alone left m ∙ ap (λ (h : List Entry). Some h) (c.in-Ok.ensures.kept first ∙ sym of.history))))))
 
 pub returns-in-Err-clause-stopped : goal.returns-in-Err-clause-stopped
 returns-in-Err-clause-stopped g c =

@@ -1,4 +1,5 @@
 use Rattle.std.proofs.Common.{◌≡◌, false, refl}
+use Rattle.std.proofs.lemmas.Option.{IfSome_then}
 use Rattle.std.proofs.KnownBytes.{Keeps-refl}
 use Rattle.operator_cli.specs.declared.status.Status.{Status}
 use Rattle.operator_cli.specs.declared.status.Status.TheVariants.{Refused}
@@ -6,7 +7,7 @@ use Rattle.operator_cli.specs.declared.store_fault.StoreFault.TheVariants as fau
 use Rattle.operator_cli.specs.Exchanged.{IsInputEnd, IsTakenOf, told_of_bytes}
 use Rattle.operator_cli.specs.Printed.{IsTakenText, IsTellingOf}
 use Rattle.operator_cli.proofs.EndLaws.{for_write, weaker}
-use Rattle.operator_cli.proofs.PrintLaws.{told_printed, told_ends, told_unsaid, unsaid_quiet, if_some_map}
+use Rattle.operator_cli.proofs.PrintLaws.{told_printed, told_ends, told_unsaid, unsaid_quiet}
 use Rattle.operator_cli.proofs.import.write_taken.Goals as goal
 
 pub returns-in-Ok-clause-out : goal.returns-in-Ok-clause-out
@@ -15,10 +16,9 @@ returns-in-Ok-clause-out g c =
 
 pub returns-in-Ok-clause-taken : goal.returns-in-Ok-clause-taken
 returns-in-Ok-clause-taken g c =
-    if_some_map _ _ _ (λ bytes is.
+    IfSome_then _ c.in-Ok.ensures.told (λ bytes is.
     told_printed (IsTellingOf (λ told. told ≡ told_of_bytes c.args.book.now.book.office c.args.book.now.book.history bytes)) (g.W.Write.contents c.args.out.now) (g.W.Write.contents c.tell.new.out) c.tell.result c.in-Ok.told
     (c.in-Ok.told, is, refl, refl) c.tell.ensures.written c.tell.ensures.status)
-    c.in-Ok.ensures.told
 
 pub returns-in-Ok-clause-kept : goal.returns-in-Ok-clause-kept
 returns-in-Ok-clause-kept g c = told_ends (λ (status : Status). status ≡ Refused → c.take_input.new.book.keeper ≡ c.args.book.now.keeper) c.tell.result c.in-Ok.told c.tell.ensures.status c.in-Ok.ensures.kept

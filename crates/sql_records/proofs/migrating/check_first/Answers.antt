@@ -1,9 +1,9 @@
 use Rattle.std.proofs.Common.{◌≡◌, inr, false, IsTrue, length, refl, sym, subst, ◌∙◌}
+use Rattle.std.proofs.lemmas.Result.{IfErr-weaker}
 use Rattle.std.proofs.lemmas.Bool.{not-true}
 use Rattle.sqlite.specs.Held.{state}
 use Rattle.sql_records.specs.Layout.{IsOurs}
 use Rattle.sql_records.specs.Held.{history_in}
-use Rattle.sql_records.proofs.MakeLemmas.{each_err}
 use Rattle.sql_records.proofs.OpeningLemmas.{opened, on_ok}
 use Rattle.sql_records.proofs.MigrateLemmas.{unfit, no_history}
 use Rattle.sql_records.proofs.migrating.check_first.Goals as goal
@@ -22,14 +22,14 @@ returns-in-Ok-clause-fault g c clean =
     let new = state g.S.Store c.read_as.new.conn in
     let autocommit : IsTrue c.is_autocommit-is_settled.result = c.if-not-is_settled.false in
     let outside : c.args.conn.now.in_transaction ≡ false = not-true _ (sym c.is_autocommit-is_settled.ensures.value ∙ autocommit) in
-    each_err c.check_history.result _ _ c.check_history.ensures.fault (λ fault it. inr (
+    IfErr-weaker c.check_history.result _ _ (λ fault it. inr (
       outside,
       inr (
         c.in-Ok.ensures.schema,
         no_history old new c.in-Ok.meta c.in-Ok.entries.items it.0 fault (c.in-Ok.ensures.same clean)
             (record { numbers = c.in-Ok.ensures.meta clean; within = c.in-Ok.ensures.numbers; whole = c.in-Ok.ensures.whole clean }) (c.in-Ok.ensures.entries clean) it.1 it.2,
       ),
-    ))
+    )) c.check_history.ensures.fault
 
 pub returns-in-Err-clause-fault : goal.returns-in-Err-clause-fault
 returns-in-Err-clause-fault g c clean =

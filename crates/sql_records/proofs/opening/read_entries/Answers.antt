@@ -1,6 +1,6 @@
 use Rattle.std.proofs.Common.{◌<◌, inl, length, arith, ap, sym, subst, refl, IsSome, ◌∙◌, ◌++◌, [], ◌∷◌, Err}
 use Rattle.sql_records.specs.Rows.{IsOfVersion}
-use Rattle.delta_wire.proofs.Prefixes.{all_more}
+use Rattle.plain_words.proofs.TextLaws.{all_more}
 use Rattle.sql_records.proofs.OpeningLemmas.{StopsReading, whole_more, entries_more, fault_at, if_err, wanted_at}
 use Rattle.sql_records.proofs.opening.read_entries.Goals as goal
 

@@ -1,4 +1,5 @@
-use Rattle.std.proofs.Common.{◌≡◌, ℕ, List, Bool, true, false, inl, inr, sym, ap, subst, ◌∙◌, length, arith}
+use Rattle.std.proofs.Common.{ℕ, List, true, inl, inr, sym, ap, subst, ◌∙◌, length, arith}
+use Rattle.std.proofs.lemmas.Bool.{true≢false}
 use Rattle.sqlite.specs.Held.{state}
 use Rattle.delta_wire.specs.Grammar.{delta_text}
 use Rattle.sql_records.specs.Rows.{HasRoom}
@@ -7,9 +8,6 @@ use Rattle.sql_records.proofs.OpeningLemmas.{if_err, leaves_still, rest_count}
 use Rattle.sql_records.proofs.KeepLemmas.{told_keep}
 use Rattle.sql_records.proofs.records.store.Goals as goal
 use Rattle.sql_records.proofs.records.store.Goals.{then-place-ge-MOST-via-then-place-ge-MOST, then-place-ge-MOST-via-else-place-ge-MOST+then-not-fits}
-
-never : {b : Bool} → b ≡ true → b ≡ false → ⊥
-never p q = cc
 
 pub returns-in_err-text-clause-stopped : goal.returns-in_err-text-clause-stopped
 returns-in_err-text-clause-stopped g c clean =
@@ -29,7 +27,7 @@ returns-then-place-ge-MOST-clause-cause g c clean =
       | then-place-ge-MOST-via-else-place-ge-MOST+then-not-fits w ↦ inl (inl (λ room.
           let text = w.deref.ensures ∙ c.in_ok-text.ensures.text ∙ ap delta_text c.delta.ensures in
           let here = subst (λ (t : List ℕ). HasRoom c.args.entry.now (length t)) (sym text) room in
-          never (w.fits.ensures.1 here) w.if-not-fits.true))
+          true≢false (sym (w.fits.ensures.1 here) ∙ w.if-not-fits.true)))
     ]
 
 pub returns-in_err-insert-clause-cause : goal.returns-in_err-insert-clause-cause

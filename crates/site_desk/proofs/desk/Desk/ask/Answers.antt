@@ -4,8 +4,6 @@ use Rattle.site_desk.proofs.desk.Desk.ask.Goals as goal
 pub returns-clause-answered : goal.returns-clause-answered
 returns-clause-answered g c = record {
   site = c.deref_mut.result.now;
-  later = c.ask.ensures.later;
-  legal = c.ask.ensures.legal;
-  in_step = c.ask.ensures.in_step;
+  at_desk = c.ask.ensures.at_desk;
   holds = replies g.K.Keeper.failed c.deref_mut.result.now c.args.number c.args.request.now (g.K.Keeper.failed c.ask.new.self.keeper) c.ask.result c.ask.ensures.closed c.ask.ensures.answer c.ask.ensures.fault;
 }

@@ -36,11 +36,5 @@ returns-clause-receipts g c = of_result c.finish.result c.into_inner.result (λ 
 pub returns-clause-looks : goal.returns-clause-looks
 returns-clause-looks g c = of_result c.finish.result c.into_inner.result (λ s. All (WasSeen s.book.office s.book.history) c.args.looks.now) c.finish.ensures.book c.finish.ensures.looks
 
-pub returns-clause-later : goal.returns-clause-later
-returns-clause-later g c = rw c.finish.ensures.book c.finish.ensures.later
-
-pub returns-clause-legal : goal.returns-clause-legal
-returns-clause-legal g c = rw c.finish.ensures.book c.finish.ensures.legal
-
-pub returns-clause-in_step : goal.returns-clause-in_step
-returns-clause-in_step g c = rw c.finish.ensures.book c.finish.ensures.in_step
+pub returns-clause-at_desk : goal.returns-clause-at_desk
+returns-clause-at_desk g c = rw c.finish.ensures.book c.finish.ensures.at_desk

@@ -4,8 +4,6 @@ use Rattle.site_desk.proofs.desk.Desk.next.Goals as goal
 pub returns-clause-due : goal.returns-clause-due
 returns-clause-due g c = record {
   site = c.deref_mut.result.now;
-  later = c.next.ensures.later;
-  legal = c.next.ensures.legal;
-  in_step = c.next.ensures.in_step;
+  at_desk = c.next.ensures.at_desk;
   holds = gives c.deref_mut.result.now c.args.to c.next.result c.next.ensures.closed c.next.ensures.no_site c.next.ensures.memory c.next.ensures.message;
 }

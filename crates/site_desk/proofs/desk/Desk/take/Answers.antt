@@ -1,11 +1,12 @@
-use Rattle.site_desk.proofs.Moments.{takes}
+use Rattle.site_desk.proofs.Moments.{held, takes}
 use Rattle.site_desk.proofs.desk.Desk.take.Goals as goal
 
 pub returns-clause-taken : goal.returns-clause-taken
 returns-clause-taken g c = record {
   site = c.deref_mut.result.now;
-  later = c.take.ensures.later;
-  legal = c.take.ensures.legal;
-  in_step = c.take.ensures.in_step;
+  at_desk = c.take.ensures.at_desk;
   holds = takes g.K.Keeper.failed c.deref_mut.result.now c.args.message (g.K.Keeper.failed c.take.new.self.keeper) c.take.result c.take.ensures.closed c.take.ensures.taken c.take.ensures.fault;
 }
+
+pub returns-clause-held : goal.returns-clause-held
+returns-clause-held g c = held c.deref_mut.result.now c.take.new.self c.args.message c.take.result c.take.ensures.closed c.take.ensures.taken c.take.ensures.changed c.take.ensures.closes c.take.ensures.stays

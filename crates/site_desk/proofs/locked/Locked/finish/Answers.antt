@@ -10,11 +10,8 @@ returns-in-Some-clause-fault g c =
     let count : shares_of c.args.seats.items ≡ asked_since (length g.L.Opens.began) c.self.inside.book.book.history = sym c.gather.ensures.sum ∙ c.if-gather-total.false ∙ c.self.invariant.counted in
     rw (← c.self.view_is) (count, subst (λ (b : BookView). FirstNot (StandsIn b.history) c.args.receipts.now c.in-Some.at) c.book.ensures.book c.in-Some.ensures)
 
-pub returns-in-Some-clause-legal : goal.returns-in-Some-clause-legal
-returns-in-Some-clause-legal g c = rw (← c.self.view_is) c.book-book.ensures.legal
-
-pub returns-in-Some-clause-in_step : goal.returns-in-Some-clause-in_step
-returns-in-Some-clause-in_step g c = rw (← c.self.view_is) c.book-book.ensures.in_step
+pub returns-in-Some-clause-at_desk : goal.returns-in-Some-clause-at_desk
+returns-in-Some-clause-at_desk g c = rw (← c.self.view_is) (record { later = c.self.invariant.later; legal = c.book-book.ensures.legal; in_step = c.book-book.ensures.in_step })
 
 pub returns-in-Some-first_stranger_seen-clause-fault : goal.returns-in-Some-first_stranger_seen-clause-fault
 returns-in-Some-first_stranger_seen-clause-fault g c =
@@ -25,11 +22,8 @@ returns-in-Some-first_stranger_seen-clause-fault g c =
       subst (λ (b : BookView). FirstNot (WasSeen b.office b.history) c.args.looks.now c.in-Some-first_stranger_seen.at) c.book-2.ensures.book c.in-Some-first_stranger_seen.ensures,
     )
 
-pub returns-in-Some-first_stranger_seen-clause-legal : goal.returns-in-Some-first_stranger_seen-clause-legal
-returns-in-Some-first_stranger_seen-clause-legal g c = rw (← c.self.view_is) c.book-book.ensures.legal
-
-pub returns-in-Some-first_stranger_seen-clause-in_step : goal.returns-in-Some-first_stranger_seen-clause-in_step
-returns-in-Some-first_stranger_seen-clause-in_step g c = rw (← c.self.view_is) c.book-book.ensures.in_step
+pub returns-in-Some-first_stranger_seen-clause-at_desk : goal.returns-in-Some-first_stranger_seen-clause-at_desk
+returns-in-Some-first_stranger_seen-clause-at_desk g c = rw (← c.self.view_is) (record { later = c.self.invariant.later; legal = c.book-book.ensures.legal; in_step = c.book-book.ensures.in_step })
 
 pub returns-clause-receipts : goal.returns-clause-receipts
 returns-clause-receipts g c = rw (← c.self.view_is) (subst (λ (b : BookView). All (StandsIn b.history) c.args.receipts.now) c.book.ensures.book c.in_default.ensures)
@@ -37,8 +31,5 @@ returns-clause-receipts g c = rw (← c.self.view_is) (subst (λ (b : BookView).
 pub returns-clause-looks : goal.returns-clause-looks
 returns-clause-looks g c = rw (← c.self.view_is) (subst (λ (b : BookView). All (WasSeen b.office b.history) c.args.looks.now) c.book-2.ensures.book c.in_default-first_stranger_seen.ensures)
 
-pub returns-clause-legal : goal.returns-clause-legal
-returns-clause-legal g c = rw (← c.self.view_is) c.book-book.ensures.legal
-
-pub returns-clause-in_step : goal.returns-clause-in_step
-returns-clause-in_step g c = rw (← c.self.view_is) c.book-book.ensures.in_step
+pub returns-clause-at_desk : goal.returns-clause-at_desk
+returns-clause-at_desk g c = rw (← c.self.view_is) (record { later = c.self.invariant.later; legal = c.book-book.ensures.legal; in_step = c.book-book.ensures.in_step })
