@@ -2,6 +2,7 @@
 use Rattle.std.specs.Prelude.{ℕ, List, [], ◌∷◌, ◌++◌, Option, Some, None, codes}
 use Rattle.std.specs.Fmt.{decimal}
 use Rattle.request_ledger.specs.declared.reply.Reply.{Reply}
+use Rattle.request_ledger.specs.declared.reply.Reply.TheVariants.{Unknown}
 use Rattle.request_ledger.specs.Words.{reply_word, reply_number}
 use Rattle.book_core.specs.declared.plan.GrowFault.{GrowFault}
 use Rattle.book_core.specs.declared.plan.GrowFault.TheVariants as grow
@@ -60,7 +61,7 @@ abbrev pub answered_text : Answered → List ℕ
 answered_text (Kept reply) = reply_text reply
 answered_text (LeftIs left) = codes "left " ++ decimal left
 answered_text (TotalsAre totals) = totals_text totals
-answered_text NotKnown = codes "unknown"
+answered_text NotKnown = reply_text Unknown
 answered_text (Refused fault) = ask_fault_text fault
 answered_text Unread = codes "bad-line"
 

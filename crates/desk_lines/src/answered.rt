@@ -39,7 +39,7 @@ pub(crate) fn answered_text(answered: &Answered) -> Text
         Answered::Kept(reply) => reply_text(*reply),
         Answered::LeftIs(left) => numbered(b"left ", *left),
         Answered::TotalsAre(totals) => totals_text(*totals),
-        Answered::NotKnown => word(b"unknown"),
+        Answered::NotKnown => reply_text(Reply::Unknown),
         Answered::Refused(fault) => ask_fault_text(*fault),
         Answered::Unread => word(b"bad-line"),
     }

@@ -7,6 +7,8 @@ use Rattle.plain_words.specs.Input.{lines_of}
 use Rattle.world_steps.specs.World.{World, opening, totals_of, events_of}
 use Rattle.local_rights.specs.declared.seat_totals.Totals.{Totals}
 use Rattle.desk_lines.specs.Reading.{line_of, sites_from_line, limit_from_line}
+use Rattle.desk_lines.specs.declared.answered.Answered.TheVariants.{Unread}
+use Rattle.desk_lines.specs.Replies.{reply_line}
 use Rattle.desk_lines.specs.ScriptReplies.{script_reply_line}
 use Rattle.operator_cli.specs.Answering.{answer_to}
 
@@ -33,7 +35,7 @@ abbrev pub replies_and_totals : World → List (List ℕ) → List ℕ
 replies_and_totals w lines = answers w lines ++ total_lines (world_behind w lines)
 
 abbrev pub bad_line : List ℕ
-bad_line = codes "bad-line" ++ 10 ∷ []
+bad_line = reply_line Unread
 
 -- the second line is the first to be answered, unless it gives the limit
 abbrev pub opened_by : ℕ → Option ℕ → List ℕ → List (List ℕ) → World × List (List ℕ)

@@ -3,6 +3,7 @@ use Rattle.std.specs.Prelude.{ℕ, List, [], ◌∷◌, ◌++◌, Option, Result
 use Rattle.std.specs.Io.KnownBytes.{Keeps}
 use Rattle.std.specs.Fmt.{decimal, signed_decimal}
 use Rattle.plain_words.specs.Writing.{AppendsFront}
+use Rattle.request_ledger.specs.declared.reply.Reply.TheVariants as reply
 use Rattle.site_exchange.specs.declared.message.TakeFault.{TakeFault}
 use Rattle.site_exchange.specs.declared.message.TakeFault.TheVariants as take
 use Rattle.delta_wire.specs.declared.fault.WireFault.{WireFault}
@@ -25,7 +26,7 @@ use Rattle.operator_cli.specs.declared.told.Told.{Told}
 use Rattle.operator_cli.specs.declared.told.Told.TheVariants.{Made, Migrated, Joined, NothingNew, Acked, AlreadyThere, NoSite, Nothing, NotFound, TooLong, Unread, NotTaken, NotWhole, Ahead, Grown, NotGrown}
 use Rattle.operator_cli.specs.declared.status.Status.{Status}
 use Rattle.operator_cli.specs.declared.status.Status.TheVariants.{Done, Refused, NotUnderstood, Failed}
-use Rattle.desk_lines.specs.Replies.{take_fault_text, grow_fault_text}
+use Rattle.desk_lines.specs.Replies.{reply_text, take_fault_text, grow_fault_text}
 
 -- the cause of status 3, one line on standard error
 abbrev pub store_fault_text : StoreFault → List ℕ
@@ -58,13 +59,13 @@ wire_fault_text wire.Trailing = codes "trailing"
 wire_fault_text wire.Memory = codes "memory"
 
 abbrev pub told_text : Told → List ℕ
-told_text Made = codes "done"
+told_text Made = reply_text reply.Done
 told_text Migrated = codes "migrated"
 told_text Joined = codes "joined"
 told_text NothingNew = codes "nothing-new"
 told_text Acked = codes "acked"
 told_text AlreadyThere = codes "already-there"
-told_text NoSite = codes "no-site"
+told_text NoSite = reply_text reply.NoSite
 told_text Nothing = codes "nothing"
 told_text NotFound = codes "none"
 told_text TooLong = codes "too-long"

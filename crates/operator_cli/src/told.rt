@@ -12,8 +12,9 @@ use crate::status::Status;
 use crate::store_fault::StoreFault;
 use book_core::GrowFault;
 use delta_wire::WireFault;
-use desk_lines::{grow_fault_text, take_fault_text};
+use desk_lines::{grow_fault_text, reply_text, take_fault_text};
 use plain_words::{Text, numbered, put, put_number, word, write_bytes};
+use request_ledger::Reply;
 use rights_lattice::SiteId;
 use site_exchange::TakeFault;
 use std::io::Write;
@@ -84,13 +85,13 @@ fn told_text(told: &Told) -> Text
     ensures len { array_vec_len result ≤ longest_line }
 {
     match told {
-        Told::Made => word(b"done"),
+        Told::Made => reply_text(Reply::Done),
         Told::Migrated => word(b"migrated"),
         Told::Joined => word(b"joined"),
         Told::NothingNew => word(b"nothing-new"),
         Told::Acked => word(b"acked"),
         Told::AlreadyThere => word(b"already-there"),
-        Told::NoSite => word(b"no-site"),
+        Told::NoSite => reply_text(Reply::NoSite),
         Told::Nothing => word(b"nothing"),
         Told::NotFound => word(b"none"),
         Told::TooLong => word(b"too-long"),

@@ -270,8 +270,8 @@ fn release(rt: &impl Abort, asked: u64, count: u64) -> Step {
     ask_zero(rt, asked, Request::Release { event, amount })
 }
 
-// The messages of site 0, which releases more once its first message is sent, and hears of it once the second is.
-fn sent_by_interval(rt: &impl Abort, alloc: Global) -> [Page; 3] {
+// The messages of a world in which site 0 releases more once its first message is sent, and hears of it once the second is.
+fn sent_by_interval(rt: &impl Abort, alloc: Global) -> [Page; 5] {
     let mut world = two_sites(rt, alloc);
     let by = site(rt, 0);
     let to = site(rt, 1);
@@ -284,6 +284,7 @@ fn sent_by_interval(rt: &impl Abort, alloc: Global) -> [Page; 3] {
         Step::Deliver { index: 0 },
         Step::Deliver { index: 2 },
         Step::Send { by, to },
+        Step::Deliver { index: 3 },
     ];
     for step in &steps {
         made(rt, alloc, &mut world, step);
@@ -291,15 +292,19 @@ fn sent_by_interval(rt: &impl Abort, alloc: Global) -> [Page; 3] {
     [
         sent(rt, &world, 0),
         sent(rt, &world, 1),
+        sent(rt, &world, 2),
         sent(rt, &world, 3),
+        sent(rt, &world, 4),
     ]
 }
 
 // What is pending for a peer is none the worse for a refusal.
 #[test]
 fn messages_are_as_they_would_have_been(rt: HostRuntime) {
-    let [first, second, last] = sent_by_interval(&rt, rt.alloc());
+    let [first, second, heard, last, heard_last] = sent_by_interval(&rt, rt.alloc());
     assert!(rt; first.text() == b"delta 0 1 2\nname gala\ngave gala 0 0 10\nend\n".as_slice());
     assert!(rt; second.text() == b"delta 0 1 3\nname gala\ngave gala 0 0 15\nend\n".as_slice());
+    assert!(rt; heard.text() == b"ack 1 0 2\nend\n".as_slice());
     assert!(rt; last.text() == b"delta 0 1 3\ngave gala 0 0 15\nend\n".as_slice());
+    assert!(rt; heard_last.text() == b"ack 1 0 3\nend\n".as_slice());
 }

@@ -30,7 +30,7 @@ use Rattle.site_desk.specs.declared.fault.NextFault.{NextFault}
 use Rattle.site_desk.specs.declared.fault.NextFault.TheVariants as next_fault
 use Rattle.site_desk.specs.declared.receipt.Receipt.{Receipt}
 use Rattle.site_desk.specs.Answers.{IsAnswer, IsAskFault, IsSeenAt, IsTaken, IsTakeFault, is_peer}
-use Rattle.site_desk.specs.Moments.{AtOneMoment, Gives, HasDelta, IsAtDesk, LooksUp, Replies, Takes}
+use Rattle.site_desk.specs.Moments.{AtOneMoment, HasDelta, IsAtDesk, LooksUp, Replies, Sends, Takes}
 use Rattle.site_desk.specs.SiteView.{SiteView, decision_in, site_of, verdict_in}
 use Rattle.site_desk.proofs.Sent.{none_sent}
 
@@ -96,15 +96,15 @@ no_memory true peer shut none = absurd (let is = shut.1 refl in cc)
 no_memory false true shut none = (refl, refl)
 no_memory false false shut none = absurd (let is = none.1 (refl, refl) in cc)
 
-pub gives : {K : Type 0} (s : SiteView K) (to : ℕ) (result : Result (Option Message) NextFault)
+pub sends : {K : Type 0} (s : SiteView K) (to : ℕ) (result : Result (Option Message) NextFault)
     → ((result ≡ Err next_fault.Closed) ↔ (s.closed ≡ true)) → ((result ≡ Err next_fault.NoSite) ↔ ((s.closed ≡ false) × (is_peer s.book.office s.book.history to ≡ false)))
-    → (result ≡ Err next_fault.Memory → IsSome (next s.book.office.me (site_of s) to)) → IfOk result (λ message. message ≡ next s.book.office.me (site_of s) to) → Gives to result s
-gives s to (Ok message) closed none memory due =
+    → (result ≡ Err next_fault.Memory → IsSome (next s.book.office.me (site_of s) to)) → IfOk result (λ message. message ≡ next s.book.office.me (site_of s) to) → Sends to result s
+sends s to (Ok message) closed none memory due =
     let is = open_if_ok message next_fault.Closed s.closed closed in
     (is, tested_if_ok message next_fault.NoSite s.closed (is_peer s.book.office s.book.history to) is none, due)
-gives s to (Err next_fault.Closed) closed none memory due = closed.0 refl
-gives s to (Err next_fault.NoSite) closed none memory due = none.0 refl
-gives s to (Err next_fault.Memory) closed none memory due =
+sends s to (Err next_fault.Closed) closed none memory due = closed.0 refl
+sends s to (Err next_fault.NoSite) closed none memory due = none.0 refl
+sends s to (Err next_fault.Memory) closed none memory due =
     let both = no_memory s.closed (is_peer s.book.office s.book.history to) closed none in
     (both.0, both.1, memory refl)
 

@@ -64,6 +64,6 @@ abbrev pub Takes : {K : Type 0} → (K → ℕ) → Message → Result Taken Tak
 Takes failed message (Ok taken) site = (site.closed ≡ false) × IsTaken (verdict_in site.book message) (ack_for message) taken
 Takes failed message (Err fault) site = IsTakeFault site.closed (verdict_in site.book message) (MayTake (verdict_in site.book message) (site_of site) message) (failed site.keeper) 1 fault
 
-abbrev pub Gives : {K : Type 0} → ℕ → Result (Option Message) NextFault → SiteView K → Type 0
-Gives to (Ok message) site = (site.closed ≡ false) × (is_peer site.book.office site.book.history to ≡ true) × (message ≡ next site.book.office.me (site_of site) to)
-Gives to (Err fault) site = IsNextFault site.closed (is_peer site.book.office site.book.history to) (next site.book.office.me (site_of site) to) fault
+abbrev pub Sends : {K : Type 0} → ℕ → Result (Option Message) NextFault → SiteView K → Type 0
+Sends to (Ok message) site = (site.closed ≡ false) × (is_peer site.book.office site.book.history to ≡ true) × (message ≡ next site.book.office.me (site_of site) to)
+Sends to (Err fault) site = IsNextFault site.closed (is_peer site.book.office site.book.history to) (next site.book.office.me (site_of site) to) fault

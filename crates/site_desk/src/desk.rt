@@ -4,7 +4,7 @@ ghost use Rattle.site_exchange.specs.Exchange.{ack_for, receiver};
 ghost use Rattle.site_desk.specs.Answers.{ack_of};
 ghost use Rattle.site_desk.specs.Count.{asked_since};
 ghost use Rattle.site_desk.specs.Finish.{FindsFirst, StandsIn, WasSeen, handed_back};
-ghost use Rattle.site_desk.specs.Moments.{AtOneMoment, Gives, HasDelta, IsAtDesk, LooksUp, Replies, Takes};
+ghost use Rattle.site_desk.specs.Moments.{AtOneMoment, HasDelta, IsAtDesk, LooksUp, Replies, Sends, Takes};
 ghost use Rattle.site_desk.specs.Seats.{held, parts_of, shares_of};
 ghost use Rattle.site_desk.specs.SiteView.{SiteInStep, SiteView};
 
@@ -112,7 +112,7 @@ impl<K: Keeper, L: Opens> Desk<K, L> {
         to: SiteId,
     ) -> Result<Option<Message>, NextFault>
         ensures to { IfOk result (λ message. IfSome message (λ m. receiver m ≡ to)) }
-        ensures due { AtOneMoment L.office L.began (SiteInStep K.failed K.is_trusted K.kept K.may_leave) (Gives to result) }
+        ensures due { AtOneMoment L.office L.began (SiteInStep K.failed K.is_trusted K.kept K.may_leave) (Sends to result) }
     {
         self.lock.lock(rt).next(alloc, to)
     }
