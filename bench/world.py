@@ -7,7 +7,8 @@ usage: world.py PROGRAM
 
 PROGRAM is the built boxoffice. It is compared with bench/plain_world.rs, an unproved program over Rust's standard
 library alone, which rustc has to be there for; both are made for the same processor (x86-64-v2). Each time is the best
-of three runs, and their answers have to be the same.
+of three runs, and their answers have to be the same. The most memory is that of runs of their own: of the long script of
+one site and one event, and of a site that joins a large delta.
 """
 import os
 import random
@@ -18,7 +19,19 @@ import time
 
 
 # What a mark and a name of a delta take, in bytes.
-OWN = 48 + 33
+MARK = 48
+NAME = 33
+
+# Runs the words that it is given and tells the most memory that they took, in kilobytes. The kernel counts what a process held
+# before it became a program as the program's own, so it is started by a process that holds little, and not by this one.
+STARTER = '''
+import os, sys
+quiet = (os.POSIX_SPAWN_OPEN, 1, os.devnull, os.O_WRONLY, 0)
+child = os.posix_spawnp(sys.argv[1], sys.argv[1:], os.environ, file_actions=[quiet])
+_, status, used = os.wait4(child, 0)
+print(used.ru_maxrss)
+sys.exit(status != 0)
+'''
 
 
 def one_site(events):
@@ -107,26 +120,45 @@ def best(words, path):
 
 
 def memory(words, path):
-    """The most memory that a run takes, in bytes."""
-    with open(path, 'rb') as script, subprocess.Popen(words, stdin=script, stdout=subprocess.DEVNULL) as command:
-        _, status, used = os.wait4(command.pid, 0)
-        command.returncode = os.waitstatus_to_exitcode(status)
-    if command.returncode != 0:
+    """The most memory that a run takes, in bytes; of a run that takes less than a bare Python (some 10 MB), what that takes."""
+    starter = [sys.executable, '-I', '-S', '-c', STARTER]
+    with open(path, 'rb') as script:
+        ran = subprocess.run(starter + words, stdin=script, stdout=subprocess.PIPE, check=False)
+    if ran.returncode != 0:
         sys.exit('a script was not run')
-    return used.ru_maxrss * 1024
+    return int(ran.stdout) * 1024
 
 
-def taking(words, path, marks):
-    """What a site takes more, for each mark, than the run before it, where it joins a delta of so many marks, each of an event
-    with a name of its own."""
-    lines = ['sites 2\n']
+def marks_and_names(marks, out):
+    """A site raises so many marks, each of an event with a name of its own, and sends them with the names. Gives the line that
+    delivers them."""
+    out.write('sites 2\n')
     for k in range(marks):
-        lines.append('1 announce %d e%06d\n1 release %d e%06d 1000\n' % (2 * k + 1, k, 2 * k + 2, k))
-    lines.append('send 1 0\n')
+        out.write('1 announce %d e%06d\n1 release %d e%06d 1000\n' % (2 * k + 1, k, 2 * k + 2, k))
+    out.write('send 1 0\n')
+    return 'deliver 0\n'
+
+
+def marks_alone(marks, out):
+    """The same where the names were sent, joined and acknowledged before, so that the delta has none."""
+    out.write('sites 2\n')
+    for k in range(marks):
+        out.write('1 announce %d e%06d\n' % (k + 1, k))
+    out.write('send 1 0\ndeliver 0\ndeliver 1\n')
+    for k in range(marks):
+        out.write('1 release %d e%06d 1000\n' % (marks + k + 1, k))
+    out.write('send 1 0\n')
+    return 'deliver 2\n'
+
+
+def taking(words, path, write, marks):
+    """How many bytes a run in which the delta is joined takes more, for each mark, than one that ends before."""
     runs = []
-    for last in ([], ['deliver 0\n']):
+    for is_joined in (False, True):
         with open(path, 'w') as out:
-            out.writelines(lines + last)
+            last = write(marks, out)
+            if is_joined:
+                out.write(last)
         runs.append(memory(words, path))
     return (runs[1] - runs[0]) / marks
 
@@ -166,6 +198,10 @@ def main(words):
                 sys.exit('%s, %d lines: the answers differ' % (name, lines))
             per_line = ours / lines * 1e6
             print('%s, %d lines: %.3f s, %.2f us a line, ratio to the plain program %.2f' % (name, lines, ours, per_line, ours / theirs))
+            if (name, size) == ('one site', 1000000):
+                # Each line behind the first is an entry.
+                most = memory([words[0], 'world'], path)
+                print('    the most memory: %.0f MB in all, %.0f bytes an entry' % (most / 1e6, most / (lines - 1)))
             if name.endswith(', sales alone'):
                 alone[name.removesuffix(', sales alone'), size] = ours
             elif (name, size) in alone:
@@ -173,8 +209,9 @@ def main(words):
                 more = ours - alone[name, size]
                 print('    %d messages of %.0f marks each: %.0f us a message beside the sales, %.3f us a mark' % (messages, marks / messages, more / messages * 1e6, more / marks * 1e6))
         marks = 100000
-        more = taking([words[0], 'world'], path, marks)
-        print('joining a delta of %d marks and names: %.0f bytes of memory each, %.1f times its own' % (marks, more, more / OWN))
+        for what, write, own in (('marks and names', marks_and_names, MARK + NAME), ('marks alone', marks_alone, MARK)):
+            more = taking([words[0], 'world'], path, write, marks)
+            print('joining a delta of %d %s: %.0f bytes of memory each, %.1f times its own' % (marks, what, more, more / own))
 
 
 main(sys.argv[1:])
