@@ -18,6 +18,8 @@ import sys
 import tempfile
 import time
 
+from memory import memory
+
 TABLE = (
     'CREATE TABLE entries (pos INTEGER PRIMARY KEY, peer INTEGER, number INTEGER UNIQUE, verb TEXT, event TEXT, amount INTEGER,'
     ' target INTEGER, reply TEXT, rest INTEGER, delta TEXT NOT NULL) STRICT'
@@ -30,9 +32,14 @@ def fresh(path):
             os.remove(path + end)
 
 
-def released(program, path):
+def begun(program, path, sites):
+    """New records of the first of so many sites."""
     fresh(path)
-    subprocess.run([program, 'init', path, '0', '1', '1000000'], stdout=subprocess.DEVNULL, check=True)
+    subprocess.run([program, 'init', path, '0', str(sites), '1000000'], stdout=subprocess.DEVNULL, check=True)
+
+
+def released(program, path):
+    begun(program, path, 1)
     lines = 'announce 1 gala\nrelease 2 gala 1000000\n'
     subprocess.run([program, 'ask', path], input=lines, text=True, stdout=subprocess.DEVNULL, check=True)
 
@@ -86,23 +93,20 @@ def filled(program, path, sales):
 
 
 def taking(program, path, marks):
-    """The shortest time of three imports of a delta of so many marks, and the greatest memory that one took, in bytes."""
-    text = 'delta 1 0 1\n' + ''.join('gave e%06d 1 1 %d\n' % (k, 1000 + k) for k in range(marks)) + 'end\n'
-    times, memory = [], 0
+    """The shortest time of three imports of a delta of so many marks, and the most memory that one took, in bytes."""
+    message = path + '.message'
+    with open(message, 'w') as out:
+        out.write('delta 1 0 1\n' + ''.join('gave e%06d 1 1 %d\n' % (k, 1000 + k) for k in range(marks)) + 'end\n')
+    words = [program, 'import', path]
+    times = []
     for _ in range(3):
-        fresh(path)
-        subprocess.run([program, 'init', path, '0', '2', '1000000'], stdout=subprocess.DEVNULL, check=True)
+        begun(program, path, 2)
         began = time.perf_counter()
-        with subprocess.Popen([program, 'import', path], stdin=subprocess.PIPE, stdout=subprocess.DEVNULL, text=True) as command:
-            command.stdin.write(text)
-            command.stdin.close()
-            _, status, used = os.wait4(command.pid, 0)
-            command.returncode = os.waitstatus_to_exitcode(status)
+        with open(message) as given:
+            subprocess.run(words, stdin=given, stdout=subprocess.DEVNULL, check=True)
         times.append(time.perf_counter() - began)
-        if command.returncode != 0:
-            sys.exit('a delta was not joined')
-        memory = max(memory, used.ru_maxrss * 1024)
-    return min(times), memory
+    begun(program, path, 2)
+    return min(times), memory(words, message)
 
 
 def opening(program, path):

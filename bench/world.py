@@ -17,21 +17,12 @@ import sys
 import tempfile
 import time
 
+from memory import memory
+
 
 # What a mark and a name of a delta take, in bytes.
 MARK = 48
 NAME = 33
-
-# Runs the words that it is given and tells the most memory that they took, in kilobytes. The kernel counts what a process held
-# before it became a program as the program's own, so it is started by a process that holds little, and not by this one.
-STARTER = '''
-import os, sys
-quiet = (os.POSIX_SPAWN_OPEN, 1, os.devnull, os.O_WRONLY, 0)
-child = os.posix_spawnp(sys.argv[1], sys.argv[1:], os.environ, file_actions=[quiet])
-_, status, used = os.wait4(child, 0)
-print(used.ru_maxrss)
-sys.exit(status != 0)
-'''
 
 
 def one_site(events):
@@ -117,16 +108,6 @@ def best(words, path):
             printed = subprocess.run(words, stdin=script, stdout=subprocess.PIPE, check=True).stdout
             times.append(time.perf_counter() - began)
     return min(times), printed
-
-
-def memory(words, path):
-    """The most memory that a run takes, in bytes; of a run that takes less than a bare Python (some 10 MB), what that takes."""
-    starter = [sys.executable, '-I', '-S', '-c', STARTER]
-    with open(path, 'rb') as script:
-        ran = subprocess.run(starter + words, stdin=script, stdout=subprocess.PIPE, check=False)
-    if ran.returncode != 0:
-        sys.exit('a script was not run')
-    return int(ran.stdout) * 1024
 
 
 def marks_and_names(marks, out):
