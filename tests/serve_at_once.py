@@ -160,6 +160,27 @@ def bad_sessions(folder, files, line):
     same("the end of bad sessions", ended(serving), (0, line, ""))
 
 
+def is_reached(address, port):
+    """Whether anything listens to the port at this address of this machine."""
+    try:
+        socket.create_connection((address, port), timeout=SECONDS).close()
+    except ConnectionRefusedError:
+        return False
+    return True
+
+
+def this_machine_alone(folder, files, line):
+    """While it waits for its second connection, it listens to 127.0.0.1, and to no other address of this machine."""
+    port = free_port()
+    serving = started(folder, port, 2, 0, files)
+    first = Caller(port)
+    same("another address is not listened to", is_reached("127.0.0.2", port), False)
+    second = Caller(port)
+    same("the first of the two is let go", first.quit(), True)
+    same("the second of the two is let go", second.quit(), True)
+    same("the end of two sessions", ended(serving), (0, line, ""))
+
+
 def forged(folder, files):
     """A view above its owner's row is told in place of the sums, behind the sessions, whose sales stay."""
     same("a forged message", call(folder, ["import", files[1]], FORGED), (0, "joined\n", ""))
@@ -196,6 +217,7 @@ def all_at_two_sites(folder):
     sell_at_once(folder, files)
     line = netcat(folder, files)
     bad_sessions(folder, files, line)
+    this_machine_alone(folder, files, line)
     refusals(folder, files, line)
     forged(folder, files)
 

@@ -60,11 +60,6 @@ pub for_write : (r : Result Status StoreFault) (P : StoreFault → Type 0) → I
 for_write (Ok status) P e h = tt
 for_write (Err f) P e h = subst P (sym e) h
 
--- where it came well
-pub on_ok_map : (r : Result Status StoreFault) (P Q : Type 0) → (P → Q) → OnOk r P → OnOk r Q
-on_ok_map (Ok status) P Q to h = to h
-on_ok_map (Err f) P Q to h = tt
-
 pub fails_for : (P : StoreFault → Type 0) (a b : Option (List ℕ)) (came : Result Status StoreFault) (status : Status) → IfErr came P → OnOk came (P fault.Write) → IfOk came (λ s. s ≢ Failed)
     → IfErr came (λ f. AppendsFront a b (store_fault_line f)) → IfOk came (λ s. status ≢ s → AppendsFront a b (store_fault_line fault.Write)) → FailsFor P a b status
 fails_for P a b (Ok s) status cause write lives line flush = λ failed. (fault.Write, write, flush (λ same. lives (sym same ∙ failed)))
@@ -72,10 +67,6 @@ fails_for P a b (Err f) status cause write lives line flush = λ failed. (f, cau
 
 pub fails_as : (P Q : StoreFault → Type 0) (a b : Option (List ℕ)) (status : Status) → ((f : StoreFault) → P f → Q f) → FailsFor P a b status → FailsFor Q a b status
 fails_as P Q a b status to h failed = let e = h failed in (e.0, to e.0 e.1, e.2)
-
-pub weaker : (P Q : StoreFault → Type 0) (r : Result Status StoreFault) → ((f : StoreFault) → P f → Q f) → IfErr r P → IfErr r Q
-weaker P Q (Ok s) to h = tt
-weaker P Q (Err f) to h = to f h
 
 pub both_err : (r : Result Status StoreFault) (P Q R : StoreFault → Type 0) → ((f : StoreFault) → P f → Q f → R f) → IfErr r P → IfErr r Q → IfErr r R
 both_err (Ok s) P Q R to p q = tt

@@ -2,6 +2,7 @@
 use Rattle.std.proofs.Common.{◌≡◌, ◌≢◌, ◌⊎◌, inl, inr, ℕ, List, Option, None, Some, Result, sym, subst, ◌∙◌}
 use Rattle.std.specs.Prelude.{IfOk, IfErr, IfSome, OnOk, MatchOption}
 use Rattle.std.specs.Io.KnownBytes.{Keeps}
+use Rattle.std.proofs.lemmas.Result.{on_ok_weaker}
 use Rattle.sqlite.specs.Store.{Ghosts}
 use Rattle.sqlite.specs.State.{State, HasCleanDisk, IsUnchanged}
 use Rattle.sqlite.specs.Held.{Held, state}
@@ -23,7 +24,7 @@ use Rattle.sql_records.specs.declared.fault.OpenFault.TheVariants as opening
 use Rattle.operator_cli.specs.Printed.{Unsaid}
 use Rattle.operator_cli.specs.Told.{of_find_fault, of_open_fault, of_replay_fault, store_fault_line}
 use Rattle.operator_cli.specs.Opened.{EndsOpened, FailsFor, FailsIfIllegal, FailsOpened, IsFindEnd, IsIllegal, IsListEnd, IsLost, IsRefused, ShowedRecords}
-use Rattle.operator_cli.proofs.EndLaws.{both_err, both_ok, fails_for, if_back, on_ok_map}
+use Rattle.operator_cli.proofs.EndLaws.{both_err, both_ok, fails_for, if_back}
 use Rattle.operator_cli.proofs.PrintLaws.{refused_if_none, unsaid_quiet}
 
 -- ---- the records were refused, or their history is not legal
@@ -88,7 +89,7 @@ module _ {S K : Type 0} (g : Ghosts S) (conn last : Held S) (book : SiteView K) 
       let P : StoreFault → Type 0 = λ f. (IsIllegal g conn last f ⊎ EndsOpened g conn Ends last f) × Unsaid Says old_out new_out f in
       let ends : (f : StoreFault) → Ends (state g opened) (state g last) f → Unsaid Says old_out new_out f → P f =
       λ f e said. (inr (record { opened = opened; unchanged = unchanged; limit = limit; ours = (of clean).ours; legal = (of clean).legal; ended = e }), said) in
-      fails_for P old_err new_err came status (both_err came _ _ P ends ended silent) (on_ok_map came _ (P fault.Write) (λ b. ends fault.Write b.0 b.1) (both_ok came _ _ write unsaid)) lives line flush
+      fails_for P old_err new_err came status (both_err came _ _ P ends ended silent) (on_ok_weaker {Q = P fault.Write} came (λ b. ends fault.Write b.0 b.1) (both_ok came _ _ write unsaid)) lives line flush
 
 -- ---- a lookup ended early
 

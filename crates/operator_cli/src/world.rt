@@ -20,8 +20,8 @@ use crate::status::Status;
 use crate::store_fault::StoreFault;
 use crate::totals::write_totals;
 use book_core::Limit;
-use desk_lines::{MOST_LINES, read_limit, read_sites, write_answer};
-use plain_words::{LineBytes, has_more, next_line, write_bytes};
+use desk_lines::{Answered, MOST_LINES, read_limit, read_sites, reply_line, write_answer};
+use plain_words::{LineBytes, has_more, next_line};
 use rights_lattice::Sites;
 use std::alloc::Global;
 use std::io::{BufRead, BufReader, Read, Write};
@@ -166,7 +166,8 @@ fn read_start<R: BufRead>(reader: &mut R) -> Result<Option<Sites>, ScriptFault>
 /// Runs a script: the reply line of each line and the lines of totals go to `out`. True where its
 /// first line gives the count of sites, and else `bad-line` is all that goes there.
 ///
-/// A fault ends it early. What was answered before stays written, and no line of totals is.
+/// A fault ends it early. What was answered before stays written, and no line of totals is, but a front of them
+/// where they could not be written.
 pub fn run_script<R: BufRead, W: Write>(
     alloc: Global,
     reader: &mut R,
@@ -176,7 +177,7 @@ pub fn run_script<R: BufRead, W: Write>(
     ensures reads { result ≡ Err ReadFailed → ReadBrokeOff most_lines replies (R.remaining reader.old) (R.remaining reader.new) (W.contents out.old) (W.contents out.new) }
 {
     let Some(sites) = read_start(reader)? else {
-        write_bytes(b"bad-line\n", out)?;
+        reply_line(&Answered::Unread, out)?;
         return Ok(false);
     };
     run_world(alloc, reader, out, sites)?;

@@ -4,11 +4,11 @@ use Rattle.std.specs.Prelude.{All, MatchResult, map}
 use Rattle.std.proofs.Common.{Result, Ok, Err}
 use Rattle.std.proofs.lemmas.List.{append-nil, length-append, length_push}
 use Rattle.std.specs.List.{filter_map, AllZip, cons_option}
-use Rattle.std.proofs.lemmas.List.Elements.{All-append, All-cons, All-head, All-nil, All-tail, filter_map-append}
+use Rattle.std.proofs.lemmas.List.Elements.{All-append, All-cons, All-head, All-nil, All-push, All-tail, filter_map-append}
 use Rattle.link_queue.specs.End.{End, end_of}
 use Rattle.site_exchange.specs.declared.message.Message.{Message}
 use Rattle.site_exchange.specs.Exchange.{ack_for, receiver}
-use Rattle.session_server.specs.Exchanged.{IsSubsequence, Acknowledges, SentTo, SentMore, IsEndOf, Exchanged, Sent, Received, HasSent, HasReceived, outgoing, incoming}
+use Rattle.session_server.specs.Exchanged.{IsSubsequence, Acknowledges, AcknowledgesHeld, SendsBackHeld, SentTo, SentMore, IsEndOf, Exchanged, Sent, Received, HasSent, HasReceived, outgoing, incoming}
 use Rattle.session_server.specs.Mesh.{IsNewPeer, linkage_left, linkage_of}
 use Rattle.session_server.specs.Settled.{IsLeftOfNew}
 use Rattle.session_server.specs.declared.peer.Peer.{Peer}
@@ -77,6 +77,19 @@ pub sent_or_back : (came sent came1 came2 : List Message) (tx tx2 : End) (refuse
     → (tx2.link ≡ tx.link) × Acknowledges came sent refused came2 tx2.messages
 sent_or_back came sent came1 came2 tx tx2 refused m a (Ok done) h is p q = (ap (λ e. e.link) q, sent_for came sent came1 tx.messages came2 tx2.messages refused m a h is p (ap (λ e. e.messages) q))
 sent_or_back came sent came1 came2 tx tx2 refused m a (Err back) h is p q = (ap (λ e. e.link) q.1, came_more came sent came1 tx.messages came2 tx2.messages refused refused m h p (ap (λ e. e.messages) q.1) (omega (arith)))
+
+pub none_held : (Holds : Message → Type 0) (sent : List Message) → AcknowledgesHeld Holds sent sent
+none_held Holds sent = record { put = []; more_sent = sym (append-nil sent); held = All-nil (λ ack. (message : Message) × (ack_for message ≡ Some ack) × Holds message) }
+
+-- the acknowledgement of a message that is held was sent, or it came back
+pub held_or_back : (Holds : Message → Type 0) (sent : List Message) (tx tx2 : End) (m a : Message) (result : Result (Unit {0}) Message) → AcknowledgesHeld Holds sent tx.messages
+    → Some a ≡ ack_for m → Holds m → MatchResult result (λ _. tx2 ≡ end_of tx.link (tx.messages ++ a ∷ [])) (λ back. (back ≡ a) × (tx2 ≡ tx)) → AcknowledgesHeld Holds sent tx2.messages
+held_or_back Holds sent tx tx2 m a (Ok done) h is holds q = record {
+  put = h.put ++ a ∷ [];
+  more_sent = one_more sent h.put tx.messages tx2.messages a h.more_sent (ap (λ (e : End). e.messages) q);
+  held = All-push (λ ack. (message : Message) × (ack_for message ≡ Some ack) × Holds message) h.put a h.held (m, sym is, holds);
+}
+held_or_back Holds sent tx tx2 m a (Err back) h is holds q = subst (λ (e : End). AcknowledgesHeld Holds sent e.messages) (sym q.1) h
 
 -- nothing more was sent
 sent_nothing : (to most : ℕ) (sent : List Message) → SentTo to most sent sent
@@ -162,18 +175,18 @@ told came sent n n2 rx rx2 tx tx2 a b c h =
     (subst (λ (r : End). Acknowledges came sent n r.messages tx2.messages) (sym b)
     (subst (λ (t : End). Acknowledges came sent n rx.messages t.messages) (sym c) h))
 
-pub exchanged : (rounds : ℕ) (ps : List Peer) (os : List OutgoingEnd) (is : List IncomingEnd) (es : List PeerEnd)
-    → AllZip (Sent rounds) (map outgoing ps) os → AllZip Received (map incoming ps) is → AllZip HasSent os es → AllZip HasReceived is es → AllZip (Exchanged rounds) ps es
-exchanged rounds [] [] [] [] s r hs hr = tt
-exchanged rounds [] [] [] (e ∷ es) s r hs hr = absurd hs
-exchanged rounds [] [] (i ∷ is) es s r hs hr = absurd r
-exchanged rounds [] (o ∷ os) is es s r hs hr = absurd s
-exchanged rounds (p ∷ ps) [] is es s r hs hr = absurd s
-exchanged rounds (p ∷ ps) (o ∷ os) [] es s r hs hr = absurd r
-exchanged rounds (p ∷ ps) (o ∷ os) (i ∷ is) [] s r hs hr = absurd hs
-exchanged rounds (p ∷ ps) (o ∷ os) (i ∷ is) (e ∷ es) s r hs hr = (one p o i e s.0 r.0 hs.0 hr.0, exchanged rounds ps os is es s.1 r.1 hs.1 hr.1)
+pub exchanged : (Holds : Message → Type 0) (rounds : ℕ) (ps : List Peer) (os : List OutgoingEnd) (is : List IncomingEnd) (es : List PeerEnd)
+    → AllZip (Sent rounds) (map outgoing ps) os → AllZip (Received Holds) (map incoming ps) is → AllZip HasSent os es → AllZip HasReceived is es → AllZip (Exchanged rounds) ps es
+exchanged Holds rounds [] [] [] [] s r hs hr = tt
+exchanged Holds rounds [] [] [] (e ∷ es) s r hs hr = absurd hs
+exchanged Holds rounds [] [] (i ∷ is) es s r hs hr = absurd r
+exchanged Holds rounds [] (o ∷ os) is es s r hs hr = absurd s
+exchanged Holds rounds (p ∷ ps) [] is es s r hs hr = absurd s
+exchanged Holds rounds (p ∷ ps) (o ∷ os) [] es s r hs hr = absurd r
+exchanged Holds rounds (p ∷ ps) (o ∷ os) (i ∷ is) [] s r hs hr = absurd hs
+exchanged Holds rounds (p ∷ ps) (o ∷ os) (i ∷ is) (e ∷ es) s r hs hr = (one p o i e s.0 r.0 hs.0 hr.0, exchanged Holds rounds ps os is es s.1 r.1 hs.1 hr.1)
   where
-    one : (p : Peer) (o : OutgoingEnd) (i : IncomingEnd) (e : PeerEnd) → Sent rounds (outgoing p) o → Received (incoming p) i → HasSent o e → HasReceived i e → Exchanged rounds p e
+    one : (p : Peer) (o : OutgoingEnd) (i : IncomingEnd) (e : PeerEnd) → Sent rounds (outgoing p) o → Received Holds (incoming p) i → HasSent o e → HasReceived i e → Exchanged rounds p e
     one p o i e s r hs hr = record {
       to = hs.to ∙ s.to;
       delta_tx = ap (λ t. t.link) hs.delta_tx ∙ s.link;
@@ -184,6 +197,15 @@ exchanged rounds (p ∷ ps) (o ∷ os) (i ∷ is) (e ∷ es) s r hs hr = (one p 
       acks_counted = omega (arith, r.acks_counted, hr.acks_refused, ap (λ (t : End). length t.messages) hr.ack_rx);
       acknowledged = told _ _ _ _ _ _ _ _ hr.refused hr.delta_rx hr.ack_tx r.acknowledged;
     }
+
+-- and what was sent back acknowledges what is held
+pub sent_back : (Holds : Message → Type 0) (ps : List Peer) (is : List IncomingEnd) (es : List PeerEnd) → AllZip (Received Holds) (map incoming ps) is → AllZip HasReceived is es → AllZip (SendsBackHeld Holds) ps es
+sent_back Holds [] [] [] r hr = tt
+sent_back Holds [] [] (e ∷ es) r hr = absurd hr
+sent_back Holds [] (i ∷ is) es r hr = absurd r
+sent_back Holds (p ∷ ps) [] es r hr = absurd r
+sent_back Holds (p ∷ ps) (i ∷ is) [] r hr = absurd hr
+sent_back Holds (p ∷ ps) (i ∷ is) (e ∷ es) r hr = (subst (λ (t : End). AcknowledgesHeld Holds p.ack_tx.messages t.messages) (sym hr.0.ack_tx) r.0.held, sent_back Holds ps is es r.1 hr.1)
 
 -- the same by other names
 pub exchanged_as : (n rounds : ℕ) (ps qs : List Peer) (es fs : List PeerEnd) → n ≡ rounds → ps ≡ qs → fs ≡ es → AllZip (Exchanged n) ps es → AllZip (Exchanged rounds) qs fs

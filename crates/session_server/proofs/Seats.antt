@@ -10,6 +10,8 @@ use Rattle.std.proofs.lemmas.List.Sums.{sum_by-append, sum_by_push}
 use Rattle.request_ledger.specs.declared.request.Request.{Request}
 use Rattle.site_desk.specs.declared.answer.Answer.{Answer}
 use Rattle.site_desk.specs.declared.answer.Seen.{Seen}
+use Rattle.site_desk.specs.declared.fault.LookFault.{LookFault}
+use Rattle.site_desk.specs.declared.fault.LookFault.TheVariants as look
 use Rattle.site_desk.specs.declared.receipt.Receipt.{Receipt}
 use Rattle.site_desk.specs.Seats.{Held, held, parts_of, shares_of}
 use Rattle.desk_lines.specs.declared.line.Line.{Line}
@@ -18,11 +20,12 @@ use Rattle.desk_lines.specs.declared.answered.Answered.{Answered}
 use Rattle.desk_lines.specs.declared.answered.Answered.TheVariants.{Kept, LeftIs, TotalsAre, NotKnown, Refused, Unread}
 use Rattle.session_server.specs.declared.fault.Ended.{Ended}
 use Rattle.session_server.specs.declared.fault.TalkFault.{TalkFault}
-use Rattle.session_server.specs.SeatStep.{Seated, SeatStep, IsLookAt, IsRaisedAt, seated, with_receipt}
+use Rattle.session_server.specs.SeatStep.{DeskStep, Refusing, Seated, SeatStep, IsLookAt, IsRaisedAt, WhyNotShown, seated, with_receipt}
+use Rattle.session_server.specs.BookStep.{not_shown}
 use Rattle.session_server.specs.Finished.{given_since}
 use Rattle.session_server.specs.Served.{Served}
 use Rattle.session_server.specs.Session.{Answers, Talked}
-use Rattle.session_server.proofs.Sessions.{chain_keeps}
+use Rattle.session_server.proofs.Sessions.{chain_keeps, talked_less}
 
 raised : (opening place : ℕ) (old new : Held) (fresh : Bool) → new ≡ held old.parts (if fresh then old.count + 1 else old.count) → (fresh ≡ true → opening + old.count ≤ place) → IsRaisedAt opening place old new
 raised opening place old new true is at = inr (is, at refl)
@@ -34,6 +37,15 @@ pub asked : (opening : ℕ) (old new : Seated) (number : ℕ) (request : Request
     → (answer.fresh ≡ true → opening + old.seat.count ≤ answer.place) → SeatStep opening old (Ask number request) (Kept answer.reply) new
 asked opening old new number request answer receipt seat is is_receipt is_seat place =
     (answer.place, seat, is ∙ ap (with_receipt old seat) is_receipt, raised opening answer.place old.seat seat answer.fresh is_seat place)
+
+-- a look that the desk refuses shows nothing
+pub why_not_shown : (r : Refusing) (event : List ℕ) (fault : LookFault) → r.look event fault → WhyNotShown r event (not_shown fault)
+why_not_shown r event look.Closed why = inr (refl, why)
+why_not_shown r event look.Unknown why = why
+
+-- a session at a desk is one of a seat
+pub of_desk : (r : Refusing) (opening : ℕ) (input old new : Option (List ℕ)) (before after : Seated) (result : Result Ended TalkFault) → Talked (DeskStep r opening) input old new before after result → Talked (SeatStep opening) input old new before after result
+of_desk r opening input old new before after result t = talked_less (DeskStep r opening) (SeatStep opening) (λ a line x b h. h.0) input old new before after result t
 
 -- a seat that had been given nothing answered it, and what it was given is this
 pub served_by : (opening : ℕ) (a b c a_now b_now : Option (List ℕ)) (before after : Seated) (seat : Held) (receipts : List Receipt) (looks : List Seen) (result : Result Ended TalkFault)

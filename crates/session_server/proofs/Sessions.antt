@@ -10,7 +10,7 @@ use Rattle.plain_words.specs.Writing.{AppendsFront}
 use Rattle.plain_words.proofs.TextLaws.{all_end}
 use Rattle.plain_words.proofs.LineLaws.{AreShort, read-push, put_before, taken-nil, taken-line, taken-long, taken-too-many, taken-behind}
 use Rattle.desk_lines.specs.declared.line.Line.{Line}
-use Rattle.desk_lines.specs.declared.line.Line.TheVariants.{Quit}
+use Rattle.desk_lines.specs.declared.line.Line.TheVariants.{Ask, Left, Totals, Quit}
 use Rattle.desk_lines.specs.declared.answered.Answered.{Answered}
 use Rattle.desk_lines.specs.Grammar.{most_lines}
 use Rattle.desk_lines.specs.Reading.{session_line_of}
@@ -70,6 +70,27 @@ chain_keeps S P step a [] [] b h p = subst P (sym h) p
 chain_keeps S P step a (line ∷ lines) (x ∷ answers) b h p = chain_keeps S P step h.0 lines answers b h.2 (step a (session_line_of line) x h.0 h.1 p)
 chain_keeps S P step a [] (x ∷ answers) b h p = absurd h
 chain_keeps S P step a (line ∷ lines) [] b h p = absurd h
+
+answers_less : {A : Type 0} (S T : Steps A) → ((a : A) (line : Line) (x : Answered) (b : A) → S a line x b → T a line x b)
+    → (a : A) (o : Option Line) (x : Answered) (b : A) → Answers S a o x b → Answers T a o x b
+answers_less S T less a (Some (Ask number request)) x b h = less a (Ask number request) x b h
+answers_less S T less a (Some (Left event)) x b h = less a (Left event) x b h
+answers_less S T less a (Some (Totals event)) x b h = less a (Totals event) x b h
+answers_less S T less a (Some Quit) x b h = h
+answers_less S T less a None x b h = h
+
+chain_less : {A : Type 0} (S T : Steps A) → ((a : A) (line : Line) (x : Answered) (b : A) → S a line x b → T a line x b)
+    → (a : A) (lines : List (List ℕ)) (answers : List Answered) (b : A) → Chain S a lines answers b → Chain T a lines answers b
+chain_less S T less a [] [] b h = h
+chain_less S T less a (line ∷ lines) (x ∷ answers) b h = (h.0, answers_less S T less a (session_line_of line) x h.0 h.1, chain_less S T less h.0 lines answers b h.2)
+chain_less S T less a [] (x ∷ answers) b h = h
+chain_less S T less a (line ∷ lines) [] b h = h
+
+-- steps that say more say less
+pub talked_less : {A : Type 0} (S T : Steps A) → ((a : A) (line : Line) (x : Answered) (b : A) → S a line x b → T a line x b)
+    → (input old new : Option (List ℕ)) (before after : A) (result : Result Ended TalkFault) → Talked S input old new before after result → Talked T input old new before after result
+talked_less S T less input old new before after result t =
+    record { lines = t.lines; answers = t.answers; read = t.read; unasked = t.unasked; chain = chain_less S T less before t.lines t.answers after t.chain; written = t.written }
 
 replies-push : (answers : List Answered) (answered : Answered) → flat_map reply_line answers ++ reply_line answered ≡ flat_map reply_line (answers ++ answered ∷ [])
 replies-push answers answered = flat_map_more reply_line [] answers answered

@@ -1,5 +1,5 @@
 -- What an exchange leaves of the links to a peer. (That a replica acknowledges what it joined: JPDC 2018; the links: our own.)
-use Rattle.std.specs.Prelude.{◌≡◌, ℕ, ◌+◌, ◌≤◌, All, List, [], ◌∷◌, ◌++◌, length, ◌⊎◌}
+use Rattle.std.specs.Prelude.{◌≡◌, ℕ, ◌+◌, ◌≤◌, All, List, [], ◌∷◌, ◌++◌, length, Some, ◌⊎◌}
 use Rattle.std.specs.List.{filter_map}
 use Rattle.site_exchange.specs.declared.message.Message.{Message}
 use Rattle.site_exchange.specs.Exchange.{ack_for, receiver}
@@ -26,6 +26,12 @@ pub record Acknowledges (came sent : List Message) (refused : ℕ) (came_now sen
   pub due : IsSubsequence put (filter_map ack_for got)
   pub counted : length put + refused ≤ length got
 
+-- Since there were these messages more were sent, each of which acknowledges a message that is held.
+pub record AcknowledgesHeld (Holds : Message → Type 0) (sent sent_now : List Message) : Type 0 where
+  pub put : List Message
+  pub more_sent : sent_now ≡ sent ++ put
+  pub held : All (λ ack. (message : Message) × (ack_for message ≡ Some ack) × Holds message) put
+
 -- Since there were these messages, no more than so many were sent, each of them to this site.
 pub record SentTo (to most : ℕ) (sent sent_now : List Message) : Type 0 where
   pub put : List Message
@@ -44,6 +50,10 @@ pub record Exchanged (rounds : ℕ) (peer : Peer) (end : PeerEnd) : Type 0 where
   pub sent : SentTo peer.to rounds peer.delta_tx.messages end.delta_tx.messages
   pub acks_counted : length peer.ack_rx.messages + end.acks_refused ≤ length end.ack_rx.messages
   pub acknowledged : Acknowledges peer.delta_rx.messages peer.ack_tx.messages end.deltas_refused end.delta_rx.messages end.ack_tx.messages
+
+-- what was sent back to a peer acknowledges messages that are held
+abbrev pub SendsBackHeld : (Message → Type 0) → Peer → PeerEnd → Type 0
+SendsBackHeld Holds peer end = AcknowledgesHeld Holds peer.ack_tx.messages end.ack_tx.messages
 
 -- what goes to a peer, and what comes from it
 abbrev pub outgoing : Peer → Outgoing
@@ -69,13 +79,14 @@ pub record Sent (most : ℕ) (out : Outgoing) (end : OutgoingEnd) : Type 0 where
   pub link : end.tx.link ≡ out.tx.link
   pub put : SentTo out.to most out.tx.messages end.tx.messages
 
--- the ends of the links that were received on, with what was acknowledged
-pub record Received (before : Incoming) (after : IncomingEnd) : Type 0 where
+-- the ends of the links that were received on, with what was acknowledged, all of it held
+pub record Received (Holds : Message → Type 0) (before : Incoming) (after : IncomingEnd) : Type 0 where
   pub delta_rx : after.delta_rx.link ≡ before.delta_rx.link
   pub ack_tx : after.ack_tx.link ≡ before.ack_tx.link
   pub ack_rx : after.ack_rx.link ≡ before.ack_rx.link
   pub acks_counted : length before.ack_rx.messages + after.acks_refused ≤ length after.ack_rx.messages
   pub acknowledged : Acknowledges before.delta_rx.messages before.ack_tx.messages after.deltas_refused after.delta_rx.messages after.ack_tx.messages
+  pub held : AcknowledgesHeld Holds before.ack_tx.messages after.ack_tx.messages
 
 -- the part of a peer's end that was sent on, and the part that was received on
 pub record HasSent (out : OutgoingEnd) (end : PeerEnd) : Type 0 where

@@ -1,10 +1,17 @@
 -- How a seat at a desk answers the lines of a session, and what it was given. (Our own.)
-use Rattle.std.specs.Prelude.{◌≡◌, ◌⊎◌, ⊤, ℕ, ◌+◌, ◌≤◌, List, [], ◌∷◌, ◌++◌}
+use Rattle.std.specs.Prelude.{◌≡◌, ◌⊎◌, ⊤, ℕ, ◌+◌, ◌≤◌, List, [], ◌∷◌, ◌++◌, Err}
+use Rattle.request_ledger.specs.declared.request.Request.{Request}
+use Rattle.book_core.specs.declared.entry.Entry.{Entry}
+use Rattle.book_core.specs.Decision.{Office}
 use Rattle.site_desk.specs.declared.answer.Seen.{Seen}
 use Rattle.site_desk.specs.declared.fault.AskFault.{AskFault}
 use Rattle.site_desk.specs.declared.fault.AskFault.TheVariants as ask
+use Rattle.site_desk.specs.declared.fault.LookFault.{LookFault}
+use Rattle.site_desk.specs.declared.fault.LookFault.TheVariants as look
 use Rattle.site_desk.specs.declared.receipt.Receipt.{Receipt}
+use Rattle.site_desk.specs.Moments.{AtOneMoment, Looks, Replies}
 use Rattle.site_desk.specs.Seats.{Held, held}
+use Rattle.site_desk.specs.SiteView.{SiteView}
 use Rattle.desk_lines.specs.declared.line.Line.{Line}
 use Rattle.desk_lines.specs.declared.line.Line.TheVariants.{Ask, Left, Totals as TotalsOf, Quit}
 use Rattle.desk_lines.specs.declared.answered.Answered.{Answered}
@@ -58,3 +65,31 @@ abbrev pub ShowsNothing : Answered → Type 0
 ShowsNothing NotKnown = ⊤
 ShowsNothing (Refused fault) = RefusesLook fault
 ShowsNothing answered = ⊥
+
+-- what may be refused to a request, and at a look, where a site that may stand under a desk's lock refuses it
+pub record Refusing : Type 1 where
+  pub request : ℕ → Request → AskFault → Type 0
+  pub look : List ℕ → LookFault → Type 0
+
+abbrev pub refusing : {K : Type 0} → Office → List Entry → (K → ℕ) → (SiteView K → Type 0) → Refusing
+refusing office began failed InStep = record {
+  request = λ number request fault. AtOneMoment office began InStep (Replies failed number request (Err fault));
+  look = λ event fault. AtOneMoment office began InStep (Looks event (Err fault));
+}
+
+-- a look shows nothing since memory was refused at the seat, or since the desk refuses it
+abbrev pub WhyNotShown : Refusing → List ℕ → Answered → Type 0
+WhyNotShown r event NotKnown = r.look event look.Unknown
+WhyNotShown r event (Refused fault) = (fault ≡ ask.Memory) ⊎ ((fault ≡ ask.Closed) × r.look event look.Closed)
+WhyNotShown r event answered = ⊤
+
+-- a line is refused since memory was refused at the seat, or since the desk refuses it
+abbrev pub WhyRefused : Refusing → Line → Answered → Type 0
+WhyRefused r (Ask number request) (Refused fault) = (fault ≡ ask.Memory) ⊎ r.request number request fault
+WhyRefused r (Left event) answered = WhyNotShown r event answered
+WhyRefused r (TotalsOf event) answered = WhyNotShown r event answered
+WhyRefused r line answered = ⊤
+
+-- a step of a seat whose desk refuses so
+abbrev pub DeskStep : Refusing → ℕ → Seated → Line → Answered → Seated → Type 0
+DeskStep r opening old line answered new = SeatStep opening old line answered new × WhyRefused r line answered

@@ -1,7 +1,8 @@
 //! A seat at a desk as what answers a session.
 
-ghost use Rattle.std.specs.Prelude.{◌≡◌, [], length, MatchResult};
-ghost use Rattle.session_server.specs.SeatStep.{IsLookAt, SeatStep, ShowsNothing};
+ghost use Rattle.std.specs.Prelude.{◌≡◌, [], length, IfErr, MatchResult};
+ghost use Rattle.site_desk.specs.SiteView.{SiteInStep};
+ghost use Rattle.session_server.specs.SeatStep.{DeskStep, IsLookAt, ShowsNothing, WhyNotShown, refusing};
 ghost use Rattle.desk_lines.specs.declared.line.Line.TheVariants.{Ask, Left, Totals as TotalsOf};
 
 use crate::answerer::Answerer;
@@ -75,7 +76,7 @@ impl<'a, K: Keeper, L: Opens, G: Gate> AtDesk<'a, K, L, G> {
     }
 
     fn ask<T: Wait>(&mut self, rt: &T, number: RequestNumber, request: &Request) -> Answered
-        ensures { SeatStep (length L.began) self.old (Ask number request.now) result self.new }
+        ensures { DeskStep (refusing L.office L.began K.failed (SiteInStep K.failed K.is_trusted K.kept K.may_leave)) (length L.began) self.old (Ask number request.now) result self.new }
     {
         if self.receipts.reserve(1).is_err() {
             return Answered::Refused(AskFault::Memory);
@@ -92,7 +93,8 @@ impl<'a, K: Keeper, L: Opens, G: Gate> AtDesk<'a, K, L, G> {
 
     // Looks at an event, or tells what is answered where nothing is shown.
     fn look<T: Wait>(&mut self, rt: &T, event: Event) -> Result<Seen, Answered>
-        ensures { MatchResult result (λ seen. IsLookAt (length L.began) event self.old seen self.new) (λ answered. ShowsNothing answered × (self.new ≡ self.old)) }
+        ensures shown { MatchResult result (λ seen. IsLookAt (length L.began) event self.old seen self.new) (λ answered. ShowsNothing answered × (self.new ≡ self.old)) }
+        ensures why { IfErr result (WhyNotShown (refusing L.office L.began K.failed (SiteInStep K.failed K.is_trusted K.kept K.may_leave)) event) }
     {
         if self.looks.reserve(1).is_err() {
             return Err(Answered::Refused(AskFault::Memory));
@@ -107,7 +109,7 @@ impl<'a, K: Keeper, L: Opens, G: Gate> AtDesk<'a, K, L, G> {
     }
 
     fn left<T: Wait>(&mut self, rt: &T, event: Event) -> Answered
-        ensures { SeatStep (length L.began) self.old (Left event) result self.new }
+        ensures { DeskStep (refusing L.office L.began K.failed (SiteInStep K.failed K.is_trusted K.kept K.may_leave)) (length L.began) self.old (Left event) result self.new }
     {
         match self.look(rt, event) {
             Ok(seen) => Answered::LeftIs(seen.left),
@@ -116,7 +118,7 @@ impl<'a, K: Keeper, L: Opens, G: Gate> AtDesk<'a, K, L, G> {
     }
 
     fn totals<T: Wait>(&mut self, rt: &T, event: Event) -> Answered
-        ensures { SeatStep (length L.began) self.old (TotalsOf event) result self.new }
+        ensures { DeskStep (refusing L.office L.began K.failed (SiteInStep K.failed K.is_trusted K.kept K.may_leave)) (length L.began) self.old (TotalsOf event) result self.new }
     {
         match self.look(rt, event) {
             Ok(seen) => Answered::TotalsAre(seen.totals),
@@ -127,9 +129,10 @@ impl<'a, K: Keeper, L: Opens, G: Gate> AtDesk<'a, K, L, G> {
 
 impl<'a, K: Keeper, L: Opens, G: Gate> Answerer for AtDesk<'a, K, L, G> {
     ghost use Rattle.std.specs.Prelude.{length};
-    ghost use Rattle.session_server.specs.SeatStep.{SeatStep};
+    ghost use Rattle.site_desk.specs.SiteView.{SiteInStep};
+    ghost use Rattle.session_server.specs.SeatStep.{DeskStep, refusing};
 
-    ghost step = { SeatStep (length L.began) };
+    ghost step = { DeskStep (refusing L.office L.began K.failed (SiteInStep K.failed K.is_trusted K.kept K.may_leave)) (length L.began) };
 
     fn answer<T: Wait>(&mut self, rt: &T, line: &Line) -> Answered {
         self.line = self.line.wrapping_add(1);

@@ -2,7 +2,9 @@
 
 ghost use Rattle.std.specs.Prelude.{◌≡◌, ◌≤◌, [], map, vec_len, vec_capacity, IfOk};
 ghost use Rattle.std.specs.List.{AllZip};
-ghost use Rattle.session_server.specs.Exchanged.{Exchanged, HasReceived, HasSent, Received, Sent, incoming, outgoing};
+ghost use Rattle.session_server.specs.Exchanged.{Exchanged, HasReceived, HasSent, Received, SendsBackHeld, Sent, incoming, outgoing};
+ghost use Rattle.site_desk.specs.Moments.{AtOneMoment, HoldsDelta};
+ghost use Rattle.site_desk.specs.SiteView.{SiteInStep};
 
 use crate::peer::{Peer, PeerEnd};
 use crate::receiving::{Incoming, IncomingEnd, receive_from};
@@ -51,7 +53,7 @@ fn run<'s, E, R: Threads + Wait + Sync, S: Replica + Sync + 's>(
     requires room { (vec_len outs ≤ vec_capacity out_ends) × (vec_len ins ≤ vec_capacity in_ends) }
     requires empty { (out_ends.items ≡ []) × (in_ends.items ≡ []) }
     ensures sent { IfOk result (λ r. AllZip (Sent rounds) outs.items r.0.items) }
-    ensures received { IfOk result (λ r. AllZip Received ins.items r.1.items) }
+    ensures received { IfOk result (λ r. AllZip (Received S.holds) ins.items r.1.items) }
     ensures len { IfOk result (λ r. (vec_len r.0 ≡ vec_len outs) × (vec_len r.1 ≡ vec_len ins)) }
 {
     let links_of = LinksOf {
@@ -140,7 +142,7 @@ fn zip(mut outs: Vec<OutgoingEnd>, mut ins: Vec<IncomingEnd>, ends: &mut Vec<Pee
 ///
 /// It hands back the ends of the links that it was given, peer by peer. Each message that was sent to a peer is for it, and
 /// there are no more than rounds. What was sent back to a peer acknowledges messages that came from it, in their order; a
-/// message that is refused is counted and not acknowledged.
+/// message that is refused is counted and not acknowledged. What is acknowledged is in an open book that may be the desk's.
 pub fn exchange_all<T: Threads + Wait + Sync, K: Keeper + Send, L: Opens + Send + Sync>(
     rt: &T,
     alloc: Global,
@@ -148,12 +150,13 @@ pub fn exchange_all<T: Threads + Wait + Sync, K: Keeper + Send, L: Opens + Send 
     peers: Vec<Peer>,
     rounds: u64,
 ) -> Result<Vec<PeerEnd>, ExchangeFault>
-    ensures { IfOk result (λ r. AllZip (Exchanged rounds) peers.items r.items) }
+    ensures exchanged { IfOk result (λ r. AllZip (Exchanged rounds) peers.items r.items) }
+    ensures held { IfOk result (λ r. AllZip (SendsBackHeld (λ message. AtOneMoment L.office L.began (SiteInStep K.failed K.is_trusted K.kept K.may_leave) (HoldsDelta message))) peers.items r.items) }
 {
     exchange(rt, alloc, &DeskReplica { alloc, desk }, peers, rounds)
 }
 
-#[tactic(auto, using(crate::proofs::Exchanges::exchanged))]
+#[tactic(auto, using(crate::proofs::Exchanges::exchanged, crate::proofs::Exchanges::sent_back))]
 fn exchange<T: Threads + Wait + Sync, S: Replica + Sync>(
     rt: &T,
     alloc: Global,
@@ -161,7 +164,8 @@ fn exchange<T: Threads + Wait + Sync, S: Replica + Sync>(
     peers: Vec<Peer>,
     rounds: u64,
 ) -> Result<Vec<PeerEnd>, ExchangeFault>
-    ensures { IfOk result (λ r. AllZip (Exchanged rounds) peers.items r.items) }
+    ensures exchanged { IfOk result (λ r. AllZip (Exchanged rounds) peers.items r.items) }
+    ensures held { IfOk result (λ r. AllZip (SendsBackHeld S.holds) peers.items r.items) }
 {
     let count = peers.len();
     let mut ends = Vec::with_capacity(alloc, count)?;
@@ -188,7 +192,7 @@ fn in_threads<R: Threads + Wait + Sync, S: Replica + Sync>(
     requires room { (vec_len outs ≤ vec_capacity out_ends) × (vec_len ins ≤ vec_capacity in_ends) }
     requires empty { (out_ends.items ≡ []) × (in_ends.items ≡ []) }
     ensures sent { IfOk result (λ r. AllZip (Sent rounds) outs.items r.0.items) }
-    ensures received { IfOk result (λ r. AllZip Received ins.items r.1.items) }
+    ensures received { IfOk result (λ r. AllZip (Received S.holds) ins.items r.1.items) }
     ensures len { IfOk result (λ r. (vec_len r.0 ≡ vec_len outs) × (vec_len r.1 ≡ vec_len ins)) }
 {
     thread::scope(
@@ -196,7 +200,7 @@ fn in_threads<R: Threads + Wait + Sync, S: Replica + Sync>(
         rt,
         move |scope| -> Result<(Vec<OutgoingEnd>, Vec<IncomingEnd>), ExchangeFault>
             requires { (vec_len outs ≤ vec_capacity out_ends) × (vec_len ins ≤ vec_capacity in_ends) × (out_ends.items ≡ []) × (in_ends.items ≡ []) }
-            ensures { IfOk result (λ r. AllZip (Sent rounds) outs.items r.0.items × AllZip Received ins.items r.1.items × (vec_len r.0 ≡ vec_len outs) × (vec_len r.1 ≡ vec_len ins)) }
+            ensures { IfOk result (λ r. AllZip (Sent rounds) outs.items r.0.items × AllZip (Received S.holds) ins.items r.1.items × (vec_len r.0 ≡ vec_len outs) × (vec_len r.1 ≡ vec_len ins)) }
         { run(scope, rt, replica, outs, out_ends, ins, in_ends, rounds) },
     )
 }

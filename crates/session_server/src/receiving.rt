@@ -2,7 +2,7 @@
 
 ghost use Rattle.std.specs.Prelude.{◌≡◌, ◌≤◌, ◌+◌, [], length, vec_len, vec_capacity, OnOk};
 ghost use Rattle.std.specs.List.{AllZip};
-ghost use Rattle.session_server.specs.Exchanged.{Acknowledges, Received};
+ghost use Rattle.session_server.specs.Exchanged.{Acknowledges, AcknowledgesHeld, Received};
 
 use crate::exchange::ExchangeFault;
 use crate::replica::Replica;
@@ -28,15 +28,16 @@ pub(crate) struct IncomingEnd {
     pub(crate) acks_refused: u64,
 }
 
-// The links that a receiver of deltas was begun with.
+// The links that a receiver of deltas was begun with, and its replica.
 #[derive(Drop)]
-struct DeltasOf {
+struct DeltasOf<'s, S: Replica> {
+    _replica: &'s S,
     rx: Snapshot<Rx>,
     tx: Snapshot<Tx>,
 }
 
-impl Promise<(RxEnd, TxEnd, u64)> for DeltasOf {
-    ghost kept_by = { λ p r. (r.0.link ≡ p.rx.value.link) × (r.1.link ≡ p.tx.value.link) × Acknowledges p.rx.value.messages p.tx.value.messages r.2 r.0.messages r.1.messages };
+impl<'s, S: Replica> Promise<(RxEnd, TxEnd, u64)> for DeltasOf<'s, S> {
+    ghost kept_by = { λ p r. (r.0.link ≡ p.rx.value.link) × (r.1.link ≡ p.tx.value.link) × Acknowledges p.rx.value.messages p.tx.value.messages r.2 r.0.messages r.1.messages × AcknowledgesHeld S.holds p.tx.value.messages r.1.messages };
 }
 
 // The link that a receiver of acknowledgements was begun with.
@@ -58,6 +59,7 @@ fn receive_deltas<S: Replica, R: Wait>(
 ) -> (RxEnd, TxEnd, u64)
     ensures links { (result.0.link ≡ rx.link) × (result.1.link ≡ tx.link) }
     ensures acknowledged { Acknowledges rx.messages tx.messages result.2 result.0.messages result.1.messages }
+    ensures held { AcknowledgesHeld S.holds tx.messages result.1.messages }
 {
     let mut refused: u64 = 0;
     for _ in rt.forever() {
@@ -102,7 +104,7 @@ pub(crate) fn receive_from<'s, E, R: Threads + Wait + Sync, S: Replica + Sync + 
 ) -> Result<(), ExchangeFault>
     requires empty { ends.old.items ≡ [] }
     requires room { vec_len peers ≤ vec_capacity ends.old }
-    ensures received { OnOk result (AllZip Received peers.items ends.new.items) }
+    ensures received { OnOk result (AllZip (Received S.holds) peers.items ends.new.items) }
     ensures room { OnOk result ((vec_len ends.new ≡ vec_len peers) × (vec_capacity ends.new ≡ vec_capacity ends.old)) }
 {
     let Some(
@@ -116,6 +118,7 @@ pub(crate) fn receive_from<'s, E, R: Threads + Wait + Sync, S: Replica + Sync + 
         return Ok(());
     };
     let deltas_of = DeltasOf {
+        _replica: replica,
         rx: Snapshot::of(&delta_rx),
         tx: Snapshot::of(&ack_tx),
     };

@@ -2,6 +2,7 @@
 
 ghost use Rattle.std.specs.Prelude.{◌≡◌, IfOk, IfSome};
 ghost use Rattle.site_exchange.specs.Exchange.{ack_for, receiver};
+ghost use Rattle.site_exchange.specs.declared.message.Message.{Message};
 
 use rights_lattice::SiteId;
 use site_desk::{Desk, Opens, Taken};
@@ -16,13 +17,17 @@ pub(crate) struct Refused;
 
 // A replica that threads share, of which messages are asked and to which they come.
 pub(crate) trait Replica {
+    // It may hold what this message brings.
+    ghost holds: { Message → Type 0 };
+
     // The message that is due to a peer, if there is one and it could be made.
     fn next<R: Wait>(&self, rt: &R, to: SiteId) -> Option<Message>
         ensures { IfSome result (λ message. receiver message ≡ to) };
 
     // Takes a message, and gives the acknowledgement that is due for it.
     fn take<R: Wait>(&self, rt: &R, message: Message) -> Result<Option<Message>, Refused>
-        ensures { IfOk result (λ ack. ack ≡ ack_for message) };
+        ensures due { IfOk result (λ ack. ack ≡ ack_for message) }
+        ensures held { IfOk result (λ _. holds message) };
 }
 
 // The replica behind a desk.
@@ -33,6 +38,11 @@ pub(crate) struct DeskReplica<'a, K: Keeper, L: Opens> {
 }
 
 impl<'a, K: Keeper, L: Opens> Replica for DeskReplica<'a, K, L> {
+    ghost use Rattle.site_desk.specs.Moments.{AtOneMoment, HoldsDelta};
+    ghost use Rattle.site_desk.specs.SiteView.{SiteInStep};
+
+    ghost holds = { λ message. AtOneMoment L.office L.began (SiteInStep K.failed K.is_trusted K.kept K.may_leave) (HoldsDelta message) };
+
     fn next<R: Wait>(&self, rt: &R, to: SiteId) -> Option<Message> {
         match self.desk.next(rt, self.alloc, to) {
             Ok(message) => message,

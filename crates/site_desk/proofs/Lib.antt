@@ -2,5 +2,6 @@ pub mod Acknowledged
 pub mod EventTables
 pub mod Growth
 pub mod Moments
+pub mod Receipts
 pub mod Sent
 pub mod Shown

@@ -1,5 +1,5 @@
 -- What a call at a desk answers, by the book that it found.
-use Rattle.std.proofs.Common.{◌≡◌, ◌⊎◌, inl, inr, ℕ, Bool, true, false, List, Option, Result, Ok, Err, length, refl, subst, sym, ◌∙◌}
+use Rattle.std.proofs.Common.{◌≡◌, ◌⊎◌, inl, inr, ℕ, Bool, true, false, List, Option, Result, Ok, Err, length, refl, ap, subst, sym, ◌∙◌}
 use Rattle.std.specs.Prelude.{IfOk, IfErr, IsSome, OnOk, ◌↔◌}
 use Rattle.rights_lattice.specs.State.{AtOrBelow, knows}
 use Rattle.rights_lattice.proofs.SpotLaws.{within_at_or_below}
@@ -16,7 +16,7 @@ use Rattle.site_exchange.specs.declared.message.TakeFault.{TakeFault}
 use Rattle.site_exchange.specs.declared.message.TakeFault.TheVariants as take_fault
 use Rattle.site_exchange.specs.Exchange as exchange
 use Rattle.site_exchange.specs.Exchange.{SitePart, Verdict, ack_for, check, next, verdict}
-use Rattle.site_exchange.specs.Taking.{MayTake, site_after}
+use Rattle.site_exchange.specs.Taking.{MayTake, site_after, with_entry}
 use Rattle.site_exchange.proofs.Verdicts.{verdict_nothing}
 use Rattle.site_desk.specs.declared.answer.Answer.{Answer}
 use Rattle.site_desk.specs.declared.answer.Seen.{Seen}
@@ -30,8 +30,10 @@ use Rattle.site_desk.specs.declared.fault.NextFault.{NextFault}
 use Rattle.site_desk.specs.declared.fault.NextFault.TheVariants as next_fault
 use Rattle.site_desk.specs.declared.receipt.Receipt.{Receipt}
 use Rattle.site_desk.specs.Answers.{IsAnswer, IsAskFault, IsSeenAt, IsTaken, IsTakeFault, is_peer}
-use Rattle.site_desk.specs.Moments.{AtOneMoment, HasDelta, IsAtDesk, LooksUp, Replies, Sends, Takes}
-use Rattle.site_desk.specs.SiteView.{SiteView, decision_in, site_of, verdict_in}
+use Rattle.site_desk.specs.Finish.{StandsIn}
+use Rattle.site_desk.specs.Moments.{AtOneMoment, HasDelta, HoldsDelta, HoldsReceipt, IsAtDesk, Looks, Replies, Sends, Takes}
+use Rattle.site_desk.specs.SiteView.{SiteView, decision_in, entry_in, site_of, verdict_in}
+use Rattle.site_desk.proofs.Receipts.{receipt_of, stands_then}
 use Rattle.site_desk.proofs.Sent.{none_sent}
 
 apart : {T E : Type 0} (x : T) (e : E) → ◌≡◌ {A = Result T E} (Ok x) (Err e) → ⊥
@@ -77,14 +79,14 @@ pub takes : {K : Type 0} (failed : K → ℕ) (s : SiteView K) (message : Messag
 takes failed s message after (Ok given) closed taken fault = (open_if_ok given take_fault.Closed s.closed closed, taken)
 takes failed s message after (Err refused) closed taken fault = take_failed s.closed (verdict_in s.book message) (MayTake (verdict_in s.book message) (site_of s) message) (failed s.keeper) after refused fault
 
-pub looks_up : {K : Type 0} (s : SiteView K) (event : List ℕ) (result : Result Seen LookFault)
+pub looks : {K : Type 0} (s : SiteView K) (event : List ℕ) (result : Result Seen LookFault)
     → ((result ≡ Err look_fault.Closed) ↔ (s.closed ≡ true)) → ((result ≡ Err look_fault.Unknown) ↔ ((s.closed ≡ false) × (knows (state_of s.book.history).names event ≡ false)))
-    → IfOk result (λ seen. seen.at ≡ length s.book.history) → IfOk result (IsSeenAt s.book.office s.book.history event) → LooksUp event result s
-looks_up s event (Ok seen) closed unknown at shown =
+    → IfOk result (λ seen. seen.at ≡ length s.book.history) → IfOk result (IsSeenAt s.book.office s.book.history event) → Looks event result s
+looks s event (Ok seen) closed unknown at shown =
     let is = open_if_ok seen look_fault.Closed s.closed closed in
     (is, tested_if_ok seen look_fault.Unknown s.closed (knows (state_of s.book.history).names event) is unknown, at, shown)
-looks_up s event (Err look_fault.Closed) closed unknown at shown = closed.0 refl
-looks_up s event (Err look_fault.Unknown) closed unknown at shown = unknown.0 refl
+looks s event (Err look_fault.Closed) closed unknown at shown = closed.0 refl
+looks s event (Err look_fault.Unknown) closed unknown at shown = unknown.0 refl
 
 abbrev Given : Type 0
 Given = Result (Option Message) NextFault
@@ -142,10 +144,31 @@ still_open {T} {E} x fault old true is both = absurd (by_cause (both.0 refl))
 pub held : {K : Type 0} {office : Office} {began : List Entry} {InStep : SiteView K → Type 0} (old new : SiteView K) (message : Message) (result : Result Taken TakeFault)
     → ((result ≡ Err take_fault.Closed) ↔ (old.closed ≡ true)) → IfOk result (IsTaken (verdict_in old.book message) (ack_for message))
     → OnOk result (site_of new ≡ site_after (verdict_in old.book message) message (site_of old)) → ((new.closed ≡ true) ↔ ((old.closed ≡ true) ⊎ (result ≡ Err take_fault.Store)))
-    → IsAtDesk office began InStep new → IfOk result (λ _. AtOneMoment office began InStep (λ s. (s.closed ≡ false) × HasDelta message s.book.history))
+    → IsAtDesk office began InStep new → IfOk result (λ _. AtOneMoment office began InStep (HoldsDelta message))
 held old new message (Ok given) closed is changed closes stays = record {
   site = new;
   at_desk = stays;
   holds = (still_open given take_fault.Store old.closed new.closed (open_if_ok given take_fault.Closed old.closed closed) closes, has_delta given old.book.office message (site_of old) (site_of new) is changed);
 }
 held old new message (Err fault) closed is changed closes stays = tt
+
+-- what was answered stands in the book as it was then
+pub stands : {K : Type 0} {office : Office} {began : List Entry} {InStep : SiteView K → Type 0} (old new : SiteView K) (number : ℕ) (request : Request) (result : Result (Answer × Receipt) AskFault)
+    → ((result ≡ Err ask_fault.Closed) ↔ (old.closed ≡ true)) → IfOk result (λ r. IsAnswer (decision_in old.book number request) (length old.book.history) r.0)
+    → OnOk result (site_of new ≡ with_entry (entry_in old.book number request) (site_of old)) → IfOk result (λ r. r.1 ≡ receipt_of number request r.0)
+    → ((new.closed ≡ true) ↔ ((old.closed ≡ true) ⊎ (result ≡ Err ask_fault.Store))) → IsAtDesk office began InStep new
+    → IfOk result (λ r. AtOneMoment office began InStep (HoldsReceipt r.1))
+stands old new number request (Ok given) closed is entered receipt closes stays = record {
+  site = new;
+  at_desk = stays;
+  holds = (
+    still_open given ask_fault.Store old.closed new.closed (open_if_ok given ask_fault.Closed old.closed closed) closes,
+    subst (StandsIn new.book.history) (sym receipt) (stands_then (decision_in old.book number request) old.book.office old.book.history new.book.history number request given.0 refl is (ap (λ (s : SitePart). s.history) entered)),
+  );
+}
+stands old new number request (Err fault) closed is entered receipt closes stays = tt
+
+-- a store that failed has closed the book
+pub shut : {K T E : Type 0} {office : Office} {began : List Entry} {InStep : SiteView K → Type 0} (old new : SiteView K) (result : Result T E) (store : E)
+    → ((new.closed ≡ true) ↔ ((old.closed ≡ true) ⊎ (result ≡ Err store))) → IsAtDesk office began InStep new → result ≡ Err store → AtOneMoment office began InStep (λ s. s.closed ≡ true)
+shut old new result store closes stays failed = record { site = new; at_desk = stays; holds = closes.1 (inr failed) }

@@ -20,6 +20,7 @@ use Rattle.site_desk.specs.declared.fault.LookFault.{LookFault}
 use Rattle.site_desk.specs.declared.fault.NextFault.{NextFault}
 use Rattle.site_desk.specs.declared.receipt.Receipt.{Receipt}
 use Rattle.site_desk.specs.Answers.{IsAnswer, IsAskFault, IsLookFault, IsNextFault, IsSeenAt, IsTaken, IsTakeFault, is_peer}
+use Rattle.site_desk.specs.Finish.{StandsIn}
 use Rattle.site_desk.specs.SiteView.{SiteView, decision_in, site_of, verdict_in}
 
 -- the history begins with this one
@@ -49,16 +50,25 @@ abbrev pub HasDelta : Message → List Entry → Type 0
 HasDelta (Delta by to upto delta) history = AtOrBelow delta (state_of history)
 HasDelta (Ack by to upto) history = Unit {0}
 
+-- the site is open, and its history has that delta
+abbrev pub HoldsDelta : {K : Type 0} → Message → SiteView K → Type 0
+HoldsDelta message site = (site.closed ≡ false) × HasDelta message site.book.history
+
+-- the site is open, and what the receipt names stands in its history
+abbrev pub HoldsReceipt : {K : Type 0} → Receipt → SiteView K → Type 0
+HoldsReceipt receipt site = (site.closed ≡ false) × StandsIn site.book.history receipt
+
 -- A site answers this to a request, a look, a message, or a peer that asks for its message: what is due where it is open, or the
--- reason why it gives nothing. What its keeper tells behind a refusal is not said: 1, as behind each refusal, stands in its place.
+-- reason why it gives nothing. What its keeper tells behind the call is not said: 1, as behind an append that failed, stands in its
+-- place; of the faults `Store` alone reads it.
 
 abbrev pub Replies : {K : Type 0} → (K → ℕ) → ℕ → Request → Result (Answer × Receipt) AskFault → SiteView K → Type 0
 Replies failed number request (Ok given) site = (site.closed ≡ false) × IsAnswer (decision_in site.book number request) (length site.book.history) given.0
 Replies failed number request (Err fault) site = IsAskFault site.closed (decision_in site.book number request) (failed site.keeper) 1 fault
 
-abbrev pub LooksUp : {K : Type 0} → List ℕ → Result Seen LookFault → SiteView K → Type 0
-LooksUp event (Ok seen) site = (site.closed ≡ false) × (knows (state_of site.book.history).names event ≡ true) × (seen.at ≡ length site.book.history) × IsSeenAt site.book.office site.book.history event seen
-LooksUp event (Err fault) site = IsLookFault site.closed (knows (state_of site.book.history).names event) fault
+abbrev pub Looks : {K : Type 0} → List ℕ → Result Seen LookFault → SiteView K → Type 0
+Looks event (Ok seen) site = (site.closed ≡ false) × (knows (state_of site.book.history).names event ≡ true) × (seen.at ≡ length site.book.history) × IsSeenAt site.book.office site.book.history event seen
+Looks event (Err fault) site = IsLookFault site.closed (knows (state_of site.book.history).names event) fault
 
 abbrev pub Takes : {K : Type 0} → (K → ℕ) → Message → Result Taken TakeFault → SiteView K → Type 0
 Takes failed message (Ok taken) site = (site.closed ≡ false) × IsTaken (verdict_in site.book message) (ack_for message) taken

@@ -1,10 +1,10 @@
 //! A site's book that threads share.
-ghost use Rattle.std.specs.Prelude.{◌≡◌, ◌≢◌, ◌+◌, ◌<◌, ◌≤◌, All, true, false, length, IfOk, IfErr, IfSome, OnErr, if◌then◌else◌};
+ghost use Rattle.std.specs.Prelude.{◌≡◌, ◌≢◌, ◌+◌, ◌<◌, ◌≤◌, All, Err, true, false, length, IfOk, IfErr, IfSome, OnErr, if◌then◌else◌};
 ghost use Rattle.site_exchange.specs.Exchange.{ack_for, receiver};
 ghost use Rattle.site_desk.specs.Answers.{ack_of};
 ghost use Rattle.site_desk.specs.Count.{asked_since};
 ghost use Rattle.site_desk.specs.Finish.{FindsFirst, StandsIn, WasSeen, handed_back};
-ghost use Rattle.site_desk.specs.Moments.{AtOneMoment, HasDelta, IsAtDesk, LooksUp, Replies, Sends, Takes};
+ghost use Rattle.site_desk.specs.Moments.{AtOneMoment, HoldsDelta, HoldsReceipt, IsAtDesk, Looks, Replies, Sends, Takes};
 ghost use Rattle.site_desk.specs.Seats.{held, parts_of, shares_of};
 ghost use Rattle.site_desk.specs.SiteView.{SiteInStep, SiteView};
 
@@ -50,7 +50,8 @@ impl<K: Keeper, L: Opens> Desk<K, L> {
     }
 
     /// Answers a request as the book does, and gives the receipt for the answer. The seat's share is raised by one
-    /// exactly where the answer is fresh. The gate is passed under the lock.
+    /// exactly where the answer is fresh. The gate is passed under the lock. What the receipt names stands in an open
+    /// book that may be this desk's, and behind `Store` one that may be is closed.
     ///
     /// Errors are those of `SiteBook::ask`; they leave the seat as it was.
     pub fn ask<R: Wait, G: Gate>(
@@ -67,6 +68,8 @@ impl<K: Keeper, L: Opens> Desk<K, L> {
         ensures kept { OnErr result (seat.new ≡ seat.old) }
         ensures place { IfOk result (λ r. r.0.fresh ≡ true → length L.began + seat.old.count ≤ r.0.place) }
         ensures answered { AtOneMoment L.office L.began (SiteInStep K.failed K.is_trusted K.kept K.may_leave) (Replies K.failed number request.now result) }
+        ensures stands { IfOk result (λ r. AtOneMoment L.office L.began (SiteInStep K.failed K.is_trusted K.kept K.may_leave) (HoldsReceipt r.1)) }
+        ensures shut { result ≡ Err AskFault.Store → AtOneMoment L.office L.began (SiteInStep K.failed K.is_trusted K.kept K.may_leave) (λ (s : SiteView K). s.closed ≡ true) }
     {
         let mut locked = self.lock.lock(rt);
         let site = locked.site();
@@ -81,7 +84,7 @@ impl<K: Keeper, L: Opens> Desk<K, L> {
     pub fn look<R: Wait>(&self, rt: &R, seat: &Seat<L>, event: Event) -> Result<Seen, LookFault>
         ensures event { IfOk result (λ seen. seen.event ≡ event) }
         ensures at { IfOk result (λ seen. length L.began + seat.now.count ≤ seen.at) }
-        ensures seen { AtOneMoment L.office L.began (SiteInStep K.failed K.is_trusted K.kept K.may_leave) (LooksUp event result) }
+        ensures seen { AtOneMoment L.office L.began (SiteInStep K.failed K.is_trusted K.kept K.may_leave) (Looks event result) }
     {
         for _ in rt.forever() {
             let locked = self.lock.lock(rt);
@@ -93,12 +96,14 @@ impl<K: Keeper, L: Opens> Desk<K, L> {
     }
 
     /// Takes a peer's message as the book does, with its errors. The acknowledgement that is given is the one for the
-    /// message, and none is given for an acknowledgement. What is acknowledged is in an open book of this desk.
+    /// message, and none is given for an acknowledgement. What is acknowledged is in an open book that may be this
+    /// desk's, and behind `Store` one that may be is closed.
     #[tactic(auto, using(crate::proofs::Sent::ack_taken))]
     pub fn take<R: Wait>(&self, rt: &R, message: Message) -> Result<Taken, TakeFault>
         ensures ack { IfOk result (λ taken. ack_of taken ≡ ack_for message) }
         ensures taken { AtOneMoment L.office L.began (SiteInStep K.failed K.is_trusted K.kept K.may_leave) (Takes K.failed message result) }
-        ensures held { IfOk result (λ _. AtOneMoment L.office L.began (SiteInStep K.failed K.is_trusted K.kept K.may_leave) (λ (s : SiteView K). (s.closed ≡ false) × HasDelta message s.book.history)) }
+        ensures held { IfOk result (λ _. AtOneMoment L.office L.began (SiteInStep K.failed K.is_trusted K.kept K.may_leave) (HoldsDelta message)) }
+        ensures shut { result ≡ Err TakeFault.Store → AtOneMoment L.office L.began (SiteInStep K.failed K.is_trusted K.kept K.may_leave) (λ (s : SiteView K). s.closed ≡ true) }
     {
         self.lock.lock(rt).take(message)
     }

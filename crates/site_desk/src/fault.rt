@@ -2,7 +2,7 @@
 use std::alloc::AllocError;
 use thiserror::Error;
 
-/// Why a request is not answered. All but `Store` change nothing.
+/// Why a request is not answered. All but `Store` change nothing, though behind `Memory` there may be more room.
 #[derive(Clone, Copy, PartialEq, Eq, Debug, Error)]
 pub enum AskFault {
     /// The book takes nothing more until it is started again from what was kept.

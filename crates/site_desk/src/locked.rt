@@ -84,6 +84,7 @@ impl<K: Keeper, L: Opens> Locked<K, L> {
         request: &Request,
     ) -> Result<(Answer, Receipt), AskFault>
         ensures at_desk { IsAtDesk L.office L.began (SiteInStep K.failed K.is_trusted K.kept K.may_leave) self.old }
+        ensures stays { IsAtDesk L.office L.began (SiteInStep K.failed K.is_trusted K.kept K.may_leave) self.new }
         ensures office { self.new.book.office ≡ self.old.book.office }
         ensures answer { IfOk result (λ r. IsAnswer (decision_in self.old.book number request.now) (length self.old.book.history) r.0) }
         ensures entered { OnOk result (site_of self.new ≡ with_entry (entry_in self.old.book number request.now) (site_of self.old)) }
@@ -97,10 +98,12 @@ impl<K: Keeper, L: Opens> Locked<K, L> {
         ensures kept { OnErr result (seat.new ≡ seat.old) }
         ensures place { IfOk result (λ r. r.0.fresh ≡ true → length L.began + seat.old.count ≤ r.0.place) }
     {
-        // What the book says of its history.
-        let _book = self.book.book();
+        // What the book says of its history, before and after.
+        let _before = self.book.book();
         self.tally.audit(&mut seat.share);
-        let answer = self.book.ask(alloc, number, request)?;
+        let answer = self.book.ask(alloc, number, request);
+        let _after = self.book.book();
+        let answer = answer?;
         // What the book says of its length, which the total is not above.
         let _len = self.book.book().len();
         if answer.fresh {
@@ -159,7 +162,7 @@ impl<K: Keeper, L: Opens> Locked<K, L> {
         ensures untouched { IfErr result (λ fault. fault ≢ TakeFault.Store → self.new.keeper ≡ self.old.keeper) }
         ensures closes { (self.new.closed ≡ true) ↔ ((self.old.closed ≡ true) ⊎ (result ≡ Err TakeFault.Store)) }
     {
-        // What the book says of its history.
+        // What the book says of its history, before and after.
         let _before = self.book.book();
         let taken = self.book.take(message);
         let _after = self.book.book();

@@ -131,7 +131,8 @@ impl<K: Keeper> SiteBook<K> {
     /// kept and then entered.
     ///
     /// `Store` where the entry is not known to be kept: the history is as it was, and the book is closed. Every
-    /// other error changes nothing. Neither a kept number nor a full history takes memory.
+    /// other error changes nothing, but that behind `Memory` there may be more room. Neither a kept number nor a full
+    /// history wants memory.
     #[tactic(auto, using(crate::proofs::Growth::sites_asked))]
     pub fn ask(
         &mut self,
@@ -176,7 +177,7 @@ impl<K: Keeper> SiteBook<K> {
     /// Takes a peer's message: joins its delta where it holds something new, or notes what it acknowledges.
     ///
     /// No message changes a cell of the own row, forged ones too. Errors are as for a request; a delta that holds nothing
-    /// new takes no memory, and neither does an acknowledgement of no more than was acknowledged.
+    /// new wants no memory, and neither does an acknowledgement of no more than was acknowledged.
     #[tactic(auto, using(crate::proofs::Growth::sites_taken))]
     pub fn take(&mut self, message: Message) -> Result<Taken, TakeFault>
         ensures office { self.new.book.office ≡ self.old.book.office }
@@ -236,7 +237,7 @@ impl<K: Keeper> SiteBook<K> {
     /// Counts so many sites from here on: the growth is kept and then entered. It changes no cell.
     ///
     /// `NotMore` where the count is not above the count so far. Other errors are as for a request; neither `NotMore` nor
-    /// a full history takes memory.
+    /// a full history wants memory.
     pub fn grow(&mut self, alloc: Global, sites: Sites) -> Result<(), GrowFault>
         ensures office { self.new.book.office ≡ self.old.book.office }
         ensures growth { OnOk result (growth_in self.old.book sites ≡ Some (Grown sites)) }
@@ -272,7 +273,7 @@ impl<K: Keeper> SiteBook<K> {
         Ok(())
     }
 
-    /// The message that is due to a peer, and none where it has acknowledged all, which takes no memory.
+    /// The message that is due to a peer, and none where it has acknowledged all, which wants no memory.
     pub fn next(&mut self, alloc: Global, to: SiteId) -> Result<Option<Message>, NextFault>
         ensures message { IfOk result (λ message. message ≡ next self.old.book.office.me (site_of self.old) to) }
         ensures closed { (result ≡ Err NextFault.Closed) ↔ (self.old.closed ≡ true) }

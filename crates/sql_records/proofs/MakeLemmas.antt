@@ -1,4 +1,4 @@
--- Why no new records are made.
+-- A disk that is clean now was clean before.
 use Rattle.std.proofs.Common.{arith}
 use Rattle.sqlite.specs.Tree.{Trees}
 use Rattle.sqlite.specs.State.{State, HasCleanDisk, Survives}

@@ -127,7 +127,7 @@ module _ {S : Type 0} (g : Ghosts S) (old new : RecordsView S) (entry : Entry) w
   abbrev pub FailsToInsert : Error → Type 0
   FailsToInsert e = Executes insert_text (columns_of (length (kept_in g old)) entry) (state g old.conn) (state g new.conn) (Err e)
 
-  -- want of memory before the INSERT or in it; no room for the entry, or the INSERT failed for another cause
+  -- nothing was done, or the INSERT was answered with want of memory; no room for the entry, or the INSERT failed for another cause
   abbrev pub IsKeepFault : KeepFault → Type 0
   IsKeepFault Memory = (new.conn ≡ old.conn) ⊎ FailsToInsert (SqliteFailure OutOfMemory)
   IsKeepFault Disk = ((¬ HasRoom entry (length (delta_text (delta_of entry)))) ⊎ (most ≤ length (kept_in g old))) ⊎ ((e : Error) × (e ≢ SqliteFailure OutOfMemory) × FailsToInsert e)

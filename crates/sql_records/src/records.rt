@@ -104,8 +104,8 @@ impl<S: Alter> Keeper for Records<S> {
 
     ghost survives = { λ k clean. ∥∥₁_map (S.Store.survives k.conn.store clean) (λ it. (opened_in it.0, (it.0, it.1, refl))) };
 
-    /// As of every keeper; `Memory` only where it was refused, and `Disk` only where there is no room for the
-    /// entry or its INSERT failed.
+    /// As of every keeper; behind `Memory` nothing was done, or what the INSERT began is undone, and `Disk` comes
+    /// only where there is no room for the entry or its INSERT failed.
     fn append(&mut self, entry: &Entry) -> Result<(), KeepFault>
         ensures kept { OnOk result (IsTrusted S.Store self.new → Keeps (kept_in S.Store self.old ++ entry.now ∷ []) (kept_in S.Store self.new) (MayLeave S.Store self.new)) }
         ensures stopped { self.old.failures ≡ 0 → OnErr result (IsTrusted S.Store self.new → LeavesWithOrWithout (kept_in S.Store self.old) entry.now (MayLeave S.Store self.new)) }

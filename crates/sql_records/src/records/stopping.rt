@@ -38,8 +38,9 @@ impl<S: Alter + Reopen + Drop> Records<S> {
     ///
     /// What is found is a database that may be left: so after an Ok of `append` it is the list with the entry,
     /// after its first error that or the list before, and the numbers are those of `init`. Where each one that may
-    /// be left is a site's and reads, only memory or the disk can stand in the way. Each error is that of an open of
-    /// the database that came back, by a new connection, and `None` says nothing.
+    /// be left is a site's and reads, only memory or the disk can stand in the way. Each fault is that of an open of
+    /// the database that came back, by a new connection. `None` is answered where no connection came back; no clause
+    /// says that it comes only then.
     pub fn open_after_stop(
         alloc: Global,
         conn: Connection<S>,

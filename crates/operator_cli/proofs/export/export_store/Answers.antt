@@ -1,5 +1,6 @@
 use Rattle.std.proofs.Common.{◌≡◌, Some, refl, ap, sym, subst, subst₂, ◌∙◌}
 use Rattle.std.specs.Prelude.{ℕ, IfOk, List}
+use Rattle.std.proofs.lemmas.Result.{IfErr-weaker, on_ok_weaker}
 use Rattle.sqlite.specs.Effect.{Database}
 use Rattle.sqlite.specs.Held.{state}
 use Rattle.book_core.specs.declared.entry.Entry.{Entry}
@@ -15,7 +16,7 @@ use Rattle.operator_cli.specs.declared.store_fault.StoreFault.TheVariants as fau
 use Rattle.operator_cli.specs.Printed.{Printed}
 use Rattle.operator_cli.specs.Printed.{IsMessageText, IsSentText, Unsaid}
 use Rattle.operator_cli.specs.Opened.{IsExportEnd, IsIllegal, IsRefused}
-use Rattle.operator_cli.proofs.EndLaws.{fails_as, if_back, on_ok_map, weaker}
+use Rattle.operator_cli.proofs.EndLaws.{fails_as, if_back}
 use Rattle.operator_cli.proofs.ExchangeLaws.{due_is_message, export_end}
 use Rattle.operator_cli.proofs.OpenedLaws.{book_back, opened_cause, opened_illegal, opened_ours, refused_cause, refused_illegal, refused_lost, refused_ours, refused_silent}
 use Rattle.operator_cli.proofs.PrintLaws.{came_said, came_unsaid, ends_printed, fails_unsaid, if_some_is, unsaid_as}
@@ -97,11 +98,11 @@ returns-in-Ok-clause-cause g c =
     let says = IsDueTold db c.args.to in
     let same_told : (status : Status) (text : List ℕ) → due status text → says status text =
     λ status text is meta has. subst₂ (λ (o : Office) (s : SitePart). IsDueText o s c.args.to status text) (of.office meta has) site is in
-    let ended = weaker _ (IsExportEnd c.args.to (state g.S.Store opened) (state g.S.Store opened)) came
+    let ended = IfErr-weaker came _ (IsExportEnd c.args.to (state g.S.Store opened) (state g.S.Store opened))
     (λ f e meta has. export_end c.args.to book meta (state g.S.Store opened).now.trees f of.unclosed (of.office meta (subst (HasMeta meta) now has)) (site ∙ ap stored_site (sym now)) e) c.write_next-came.ensures.fault in
     opened_cause g.S.Store c.args.conn opened book back (IsExportEnd c.args.to) says opened before after (g.E.Write.contents c.args.err.now) (g.E.Write.contents c.close_book.new.err) came c.close_book.result.0 clean (c.in-Ok.ensures.unchanged clean) c.in-Ok.ensures.limit ended (on_ok came _ (λ meta has. tt))
-    (weaker _ _ came (unsaid_as due says before after same_told) (came_unsaid due before between after came c.close_book.ensures.kept c.write_next-came.ensures.unsaid))
-    (on_ok_map came _ _ (unsaid_as due says before after same_told fault.Write) (came_said due before between after came c.close_book.ensures.kept c.write_next-came.ensures.due c.write_next-came.ensures.ends))
+    (IfErr-weaker came _ _ (unsaid_as due says before after same_told) (came_unsaid due before between after came c.close_book.ensures.kept c.write_next-came.ensures.unsaid))
+    (on_ok_weaker came (unsaid_as due says before after same_told fault.Write) (came_said due before between after came c.close_book.ensures.kept c.write_next-came.ensures.due c.write_next-came.ensures.ends))
     c.write_next-came.ensures.ends c.close_book.ensures.line c.close_book.ensures.flush)
 
 pub returns-in-Ok-clause-silent : goal.returns-in-Ok-clause-silent

@@ -1,5 +1,6 @@
 use Rattle.std.proofs.Common.{◌≡◌, ◌≢◌, Some, inl, refl, ap, sym, subst, subst₂, ◌∙◌}
 use Rattle.std.specs.Prelude.{ℕ, IfOk, List, false}
+use Rattle.std.proofs.lemmas.Result.{IfErr-weaker, on_ok_weaker}
 use Rattle.sqlite.specs.Effect.{Database}
 use Rattle.sqlite.specs.Held.{state}
 use Rattle.book_core.specs.declared.entry.Entry.{Entry}
@@ -15,7 +16,7 @@ use Rattle.operator_cli.specs.Exchanged.{HoldsOnly, IsGrowthTold, LeavesAsItWas,
 use Rattle.operator_cli.specs.Printed.{Printed, IsOfGrowing, IsTellingOf}
 use Rattle.operator_cli.specs.Printed.{IsGrownText}
 use Rattle.operator_cli.specs.Opened.{IsIllegal, IsGrowEnd, IsRefused}
-use Rattle.operator_cli.proofs.EndLaws.{both_err, both_ok, holds_behind, if_back, on_ok_map, weaker}
+use Rattle.operator_cli.proofs.EndLaws.{both_err, both_ok, holds_behind, if_back}
 use Rattle.operator_cli.proofs.ExchangeLaws.{growing_end, growth_is_told, kept_as_it_was}
 use Rattle.operator_cli.proofs.OpenedLaws.{book_back, opened_cause, opened_illegal, opened_ours, refused_cause, refused_illegal, refused_lost, refused_ours, refused_silent}
 use Rattle.operator_cli.proofs.PrintLaws.{came_said, came_unsaid, ends_as, ends_printed, fails_unsaid, if_some_is, ok_unless_failed, telling_as, unsaid_as}
@@ -113,12 +114,12 @@ returns-in-Ok-clause-cause g c =
     ))
     (both_err came _ _ (λ f. LeavesAsItWas f book.keeper left.keeper × (f ≢ fault.Store → book.closed ≡ false → left.closed ≡ false))
     (λ f p q. (p, q)) c.write_grown-came.ensures.untouched c.write_grown-came.ensures.open) c.write_grown-came.ensures.fault in
-    let written = on_ok_map came _ (IsGrowEnd c.args.sites first last fault.Write)
+    let written = on_ok_weaker {Q = IsGrowEnd c.args.sites first last fault.Write} came
     (λ p. (tt, λ meta has. growing_end book meta first.now.trees c.args.sites (λ h. left.book.history ≡ h) (HoldsOnly last) fault.Write (first_meta meta has) first_history (λ other list. held list (p.1 of.unclosed)) p.0))
     (both_ok came _ _ c.write_grown-came.ensures.entered c.write_grown-came.ensures.unclosed) in
     opened_cause g.S.Store c.args.conn left.keeper.conn book back (IsGrowEnd c.args.sites) says opened before after (g.E.Write.contents c.args.err.now) (g.E.Write.contents c.close_book.new.err) came c.close_book.result.0 clean (c.in-Ok.ensures.unchanged (c.write_grown-came.ensures.trusted clean)) c.in-Ok.ensures.limit ended written
-    (weaker _ _ came (unsaid_as told says before after same_told) (came_unsaid told before between after came c.close_book.ensures.kept c.write_grown-came.ensures.unsaid))
-    (on_ok_map came _ _ (unsaid_as told says before after same_told fault.Write) (came_said told before between after came c.close_book.ensures.kept c.write_grown-came.ensures.told c.write_grown-came.ensures.ends))
+    (IfErr-weaker came _ _ (unsaid_as told says before after same_told) (came_unsaid told before between after came c.close_book.ensures.kept c.write_grown-came.ensures.unsaid))
+    (on_ok_weaker came (unsaid_as told says before after same_told fault.Write) (came_said told before between after came c.close_book.ensures.kept c.write_grown-came.ensures.told c.write_grown-came.ensures.ends))
     c.write_grown-came.ensures.ends c.close_book.ensures.line c.close_book.ensures.flush)
 
 pub returns-in-Ok-clause-stopped : goal.returns-in-Ok-clause-stopped
@@ -143,7 +144,7 @@ returns-in-Ok-clause-silent g c =
     let told = IsTellingOf (λ told. told ≡ told_of_growth (grow_decision c.in-Ok.book.book.office c.in-Ok.book.book.history c.args.sites)) in
     let to = telling_as _ IsOfGrowing (λ t is. subst IsOfGrowing (sym is) (growth_is_told (grow_decision c.in-Ok.book.book.office c.in-Ok.book.book.history c.args.sites))) in
     fails_unsaid IsGrownText before between after (g.E.Write.contents c.args.err.now) (g.E.Write.contents c.close_book.new.err) c.write_grown-came.result c.close_book.result.0 c.close_book.ensures.kept c.write_grown-came.ensures.out
-    (weaker _ _ c.write_grown-came.result (unsaid_as told IsGrownText before between to) c.write_grown-came.ensures.unsaid) c.write_grown-came.ensures.ends c.close_book.ensures.line c.close_book.ensures.flush
+    (IfErr-weaker c.write_grown-came.result _ _ (unsaid_as told IsGrownText before between to) c.write_grown-came.ensures.unsaid) c.write_grown-came.ensures.ends c.close_book.ensures.line c.close_book.ensures.flush
 
 pub returns-in-Err-clause-silent : goal.returns-in-Err-clause-silent
 returns-in-Err-clause-silent g c =

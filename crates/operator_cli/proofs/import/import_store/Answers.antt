@@ -1,6 +1,7 @@
 use Rattle.std.proofs.Common.{◌≡◌, ◌≢◌, Some, inl, refl, ap, sym, subst, subst₂, ◌∙◌}
 use Rattle.std.proofs.lemmas.Option.{IfSome_then}
 use Rattle.std.specs.Prelude.{ℕ, IfOk, IfSome, OnOk, List, false}
+use Rattle.std.proofs.lemmas.Result.{IfErr-weaker, on_ok_weaker}
 use Rattle.sqlite.specs.Effect.{Database}
 use Rattle.sqlite.specs.Held.{state}
 use Rattle.book_core.specs.declared.entry.Entry.{Entry}
@@ -15,7 +16,7 @@ use Rattle.operator_cli.specs.Exchanged.{HoldsOnly, IsInputTold, IsTakenOf, Leav
 use Rattle.operator_cli.specs.Printed.{Printed, IsOfTaking, IsTellingOf}
 use Rattle.operator_cli.specs.Printed.{IsTakenText}
 use Rattle.operator_cli.specs.Opened.{IsIllegal, IsImportEnd, IsRefused}
-use Rattle.operator_cli.proofs.EndLaws.{both_err, both_ok, holds_behind, if_back, on_ok_map, on_ok_some, weaker}
+use Rattle.operator_cli.proofs.EndLaws.{both_err, both_ok, holds_behind, if_back, on_ok_some}
 use Rattle.operator_cli.proofs.ExchangeLaws.{import_end, kept_as_it_was, leaves_as_they_were}
 use Rattle.operator_cli.proofs.OpenedLaws.{book_back, opened_cause, opened_illegal, opened_ours, refused_cause, refused_illegal, refused_lost, refused_ours, refused_silent}
 use Rattle.operator_cli.proofs.PrintLaws.{came_said, came_unsaid, ends_as, ends_printed, fails_unsaid, if_some_is, ok_unless_failed, telling_as, unsaid_as}
@@ -117,12 +118,12 @@ returns-in-Ok-clause-cause g c =
     (both_err came _ _ (λ f. LeavesAsItWas f book.keeper left.keeper × (f ≢ fault.Store → book.closed ≡ false → left.closed ≡ false))
     (λ f p q. (p, q)) c.write_taken-came.ensures.untouched c.write_taken-came.ensures.open) c.write_taken-came.ensures.fault in
     let entered : IfSome input (λ bytes. OnOk came (left.book.history ≡ behind_bytes book.book.office book.book.history bytes)) = c.write_taken-came.ensures.entered in
-    let written = on_ok_map came _ (IsImportEnd input first last fault.Write)
+    let written = on_ok_weaker {Q = IsImportEnd input first last fault.Write} came
     (λ p. (tt, λ meta has. import_end book meta first.now.trees input (λ h. left.book.history ≡ h) (HoldsOnly last) fault.Write (first_meta meta has) first_history (λ other list. held list (p.1 of.unclosed)) p.0))
     (both_ok came _ _ (on_ok_some came input _ entered) c.write_taken-came.ensures.unclosed) in
     opened_cause g.S.Store c.args.conn left.keeper.conn book back (IsImportEnd input) says opened before after (g.E.Write.contents c.args.err.now) (g.E.Write.contents c.close_book.new.err) came c.close_book.result.0 clean (c.in-Ok.ensures.unchanged (c.write_taken-came.ensures.trusted clean)) c.in-Ok.ensures.limit ended written
-    (weaker _ _ came (unsaid_as told says before after same_told) (came_unsaid told before between after came c.close_book.ensures.kept c.write_taken-came.ensures.unsaid))
-    (on_ok_map came _ _ (unsaid_as told says before after same_told fault.Write) (came_said told before between after came c.close_book.ensures.kept c.write_taken-came.ensures.told c.write_taken-came.ensures.ends))
+    (IfErr-weaker came _ _ (unsaid_as told says before after same_told) (came_unsaid told before between after came c.close_book.ensures.kept c.write_taken-came.ensures.unsaid))
+    (on_ok_weaker came (unsaid_as told says before after same_told fault.Write) (came_said told before between after came c.close_book.ensures.kept c.write_taken-came.ensures.told c.write_taken-came.ensures.ends))
     c.write_taken-came.ensures.ends c.close_book.ensures.line c.close_book.ensures.flush)
 
 pub returns-in-Ok-clause-stopped : goal.returns-in-Ok-clause-stopped
@@ -149,7 +150,7 @@ returns-in-Ok-clause-silent g c =
     let after = g.W.Write.contents c.close_book.new.out in
     let Taken = IsTakenOf c.in-Ok.book.book.office c.in-Ok.book.book.history (g.R.Read.remaining c.args.input) in
     fails_unsaid IsTakenText before between after (g.E.Write.contents c.args.err.now) (g.E.Write.contents c.close_book.new.err) c.write_taken-came.result c.close_book.result.0 c.close_book.ensures.kept c.write_taken-came.ensures.out
-    (weaker _ _ c.write_taken-came.result (unsaid_as (IsTellingOf Taken) IsTakenText before between (telling_as Taken IsOfTaking (λ t is. is.0))) c.write_taken-came.ensures.unsaid) c.write_taken-came.ensures.ends c.close_book.ensures.line c.close_book.ensures.flush
+    (IfErr-weaker c.write_taken-came.result _ _ (unsaid_as (IsTellingOf Taken) IsTakenText before between (telling_as Taken IsOfTaking (λ t is. is.0))) c.write_taken-came.ensures.unsaid) c.write_taken-came.ensures.ends c.close_book.ensures.line c.close_book.ensures.flush
 
 pub returns-in-Err-clause-silent : goal.returns-in-Err-clause-silent
 returns-in-Err-clause-silent g c =

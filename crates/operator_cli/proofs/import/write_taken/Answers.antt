@@ -1,12 +1,13 @@
 use Rattle.std.proofs.Common.{◌≡◌, false, refl}
 use Rattle.std.proofs.lemmas.Option.{IfSome_then}
 use Rattle.std.proofs.KnownBytes.{Keeps-refl}
+use Rattle.std.proofs.lemmas.Result.{IfErr-weaker}
 use Rattle.operator_cli.specs.declared.status.Status.{Status}
 use Rattle.operator_cli.specs.declared.status.Status.TheVariants.{Refused}
 use Rattle.operator_cli.specs.declared.store_fault.StoreFault.TheVariants as fault
 use Rattle.operator_cli.specs.Exchanged.{IsInputEnd, IsTakenOf, told_of_bytes}
 use Rattle.operator_cli.specs.Printed.{IsTakenText, IsTellingOf}
-use Rattle.operator_cli.proofs.EndLaws.{for_write, weaker}
+use Rattle.operator_cli.proofs.EndLaws.{for_write}
 use Rattle.operator_cli.proofs.PrintLaws.{told_printed, told_ends, told_unsaid, unsaid_quiet}
 use Rattle.operator_cli.proofs.import.write_taken.Goals as goal
 
@@ -47,7 +48,7 @@ returns-in-Ok-clause-fault g c =
 
 pub returns-in-Ok-clause-open : goal.returns-in-Ok-clause-open
 returns-in-Ok-clause-open g c =
-    weaker (λ f. f ≡ fault.Write) _ c.tell.result (λ f is other still. c.in-Ok.ensures.unclosed still) c.tell.ensures.fault
+    IfErr-weaker c.tell.result (λ f. f ≡ fault.Write) _ (λ f is other still. c.in-Ok.ensures.unclosed still) c.tell.ensures.fault
 
 pub returns-in-Err-clause-open : goal.returns-in-Err-clause-open
 returns-in-Err-clause-open g c = c.in-Err.ensures.open

@@ -1,12 +1,13 @@
 use Rattle.std.proofs.Common.{Some, ap, sym, subst, ◌∙◌}
 use Rattle.std.specs.Prelude.{List, IfOk, IfErr, IsTrue}
+use Rattle.std.proofs.lemmas.Result.{on_ok_weaker}
 use Rattle.sqlite.specs.State.{HasCleanDisk, IsUnchanged}
 use Rattle.sqlite.specs.Held.{Held, state}
 use Rattle.book_core.specs.declared.entry.Entry.{Entry}
 use Rattle.sql_records.specs.Held.{IsTrusted, RecordsView, MayLeaveIn, kept_in, history_in}
 use Rattle.operator_cli.specs.Printed.{Printed, Unsaid, IsListText, IsListIn}
 use Rattle.operator_cli.specs.Opened.{IsIllegal, IsRefused, IsListEnd}
-use Rattle.operator_cli.proofs.EndLaws.{if_back, on_ok_map}
+use Rattle.operator_cli.proofs.EndLaws.{if_back}
 use Rattle.operator_cli.proofs.OpenedLaws.{book_back, opened_cause, opened_illegal, opened_ours, refused_cause, refused_illegal, refused_lost, refused_ours, refused_silent}
 use Rattle.operator_cli.proofs.PrintLaws.{came_said, came_unsaid, ends_printed, fails_unsaid, ok_unless_failed}
 use Rattle.operator_cli.proofs.list.list_store.Goals as goal
@@ -71,7 +72,7 @@ returns-in-Ok-clause-cause g c clean =
     let limit = ap (λ (k : RecordsView g.row.S.Denot). k.conn.step_limit) c.into_keeper-records.ensures ∙ c.in-Ok.ensures.limit in
     let sound = ap (λ (k : RecordsView g.row.S.Denot). k.failures) c.into_keeper-records.ensures ∙ c.in-Ok.ensures.open in
     let fault = subst (λ (conn : Held g.row.S.Denot). IfErr c.write_listed-came.result (IsListEnd c.args.event.now (state g.S.Store opened) (state g.S.Store conn))) (sym c.close.ensures) (c.write_listed-came.ensures.fault sound left) in
-    let written = on_ok_map c.write_listed-came.result _ _ (λ is. ap (λ (conn : Held g.row.S.Denot). (state g.S.Store conn).now) c.close.ensures ∙ is) (c.write_listed-came.ensures.same left) in
+    let written = on_ok_weaker c.write_listed-came.result (λ is. ap (λ (conn : Held g.row.S.Denot). (state g.S.Store conn).now) c.close.ensures ∙ is) (c.write_listed-came.ensures.same left) in
     let unchanged = subst (λ (k : RecordsView g.row.S.Denot). IsUnchanged (state g.S.Store c.args.conn) (state g.S.Store k.conn)) (sym c.into_keeper-records.ensures) (c.in-Ok.ensures.unchanged before) in
     let entries = ap (kept_in g.S.Store) c.into_keeper-records.ensures ∙ c.in-Ok.ensures.kept before in
     let start = g.W.Write.contents c.args.out.now in

@@ -1,5 +1,6 @@
 use Rattle.std.proofs.Common.{ℕ, List, refl, sym, ap, subst, ◌∙◌}
 use Rattle.std.proofs.lemmas.Bool.{false≢true}
+use Rattle.std.proofs.lemmas.Result.{IfErr-weaker}
 use Rattle.rights_lattice.specs.EventName.{IsEventName}
 use Rattle.sql_records.specs.Held.{history_in, kept_in}
 use Rattle.operator_cli.specs.declared.told.Told.TheVariants.{NotFound}
@@ -8,7 +9,7 @@ use Rattle.sqlite.specs.Held.{state}
 use Rattle.sql_records.specs.Lookups.{IsListFault, listed_in}
 use Rattle.operator_cli.specs.Opened.{IsListEnd}
 use Rattle.operator_cli.proofs.OpenedLaws.{list_end}
-use Rattle.operator_cli.proofs.EndLaws.{for_write, told_lives, weaker}
+use Rattle.operator_cli.proofs.EndLaws.{for_write, told_lives}
 use Rattle.operator_cli.proofs.PrintLaws.{listed_is_in, listed_is_text, told_printed, told_unsaid, unsaid_as}
 use Rattle.operator_cli.proofs.list.write_listed.Goals as goal
 
@@ -54,7 +55,7 @@ returns-in_default-clause-unsaid g c clean =
 pub returns-in-Ok-clause-silent : goal.returns-in-Ok-clause-silent
 returns-in-Ok-clause-silent g c =
     let rows = c.as_slice.result.now in
-    weaker _ _ c.write_all.result (unsaid_as (AreListed rows) IsListText (g.W.Write.contents c.args.out.now) (g.W.Write.contents c.write_all.new.out) (listed_is_text rows)) c.write_all.ensures.silent
+    IfErr-weaker c.write_all.result _ _ (unsaid_as (AreListed rows) IsListText (g.W.Write.contents c.args.out.now) (g.W.Write.contents c.write_all.new.out) (listed_is_text rows)) c.write_all.ensures.silent
 
 pub returns-in-Ok-clause-unsaid : goal.returns-in-Ok-clause-unsaid
 returns-in-Ok-clause-unsaid g c clean =
@@ -62,4 +63,4 @@ returns-in-Ok-clause-unsaid g c clean =
     let h = kept_in g.S.Store c.args.records.now in
     let event = c.in-Some.ensures.same ∙ c.as_bytes.ensures.value in
     let is = c.as_slice.ensures.value ∙ c.in-Ok.ensures.listed clean ∙ ap (listed_in h) event in
-    weaker _ _ c.write_all.result (unsaid_as (AreListed rows) (IsListIn h c.args.event.now) (g.W.Write.contents c.args.out.now) (g.W.Write.contents c.write_all.new.out) (listed_is_in h c.args.event.now rows is)) c.write_all.ensures.silent
+    IfErr-weaker c.write_all.result _ _ (unsaid_as (AreListed rows) (IsListIn h c.args.event.now) (g.W.Write.contents c.args.out.now) (g.W.Write.contents c.write_all.new.out) (listed_is_in h c.args.event.now rows is)) c.write_all.ensures.silent

@@ -1,4 +1,5 @@
-use Rattle.site_desk.proofs.Moments.{held, takes}
+use Rattle.site_exchange.specs.declared.message.TakeFault.TheVariants as take_fault
+use Rattle.site_desk.proofs.Moments.{held, shut, takes}
 use Rattle.site_desk.proofs.desk.Desk.take.Goals as goal
 
 pub returns-clause-taken : goal.returns-clause-taken
@@ -10,3 +11,6 @@ returns-clause-taken g c = record {
 
 pub returns-clause-held : goal.returns-clause-held
 returns-clause-held g c = held c.deref_mut.result.now c.take.new.self c.args.message c.take.result c.take.ensures.closed c.take.ensures.taken c.take.ensures.changed c.take.ensures.closes c.take.ensures.stays
+
+pub returns-clause-shut : goal.returns-clause-shut
+returns-clause-shut g c = shut c.deref_mut.result.now c.take.new.self c.take.result take_fault.Store c.take.ensures.closes c.take.ensures.stays
