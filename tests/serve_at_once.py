@@ -170,7 +170,7 @@ def is_reached(address, port):
 
 
 def this_machine_alone(folder, files, line):
-    """While it waits for its second connection, it listens to 127.0.0.1, and to no other address of this machine."""
+    """While it waits for its second connection, it listens to 127.0.0.1, and not to every address of this machine."""
     port = free_port()
     serving = started(folder, port, 2, 0, files)
     first = Caller(port)

@@ -173,8 +173,8 @@ pub(crate) fn open_or_make<S: Start>(
     }
 }
 
-// Copies the log into the file, and gives both back: what the connection showed is in the file alone, also over a
-// crash, as far as the disk is to be trusted.
+// Copies the log into the file, and gives both back: what the connection had committed is in the file alone, also
+// over a crash, as far as the disk is to be trusted.
 fn copied<D: Disk + Drop>(conn: Connection<FileStore<D>>) -> Result<FileAndLog<D>, Error>
     ensures copied { IfOk result (λ files. AreClean D.Disk files.log files.db → IsCopied conn files) }
 {

@@ -3,12 +3,12 @@ use Rattle.std.proofs.Common.{◌≡◌, ℕ, zero, suc, ◌+◌, ◌<◌, ◌�
 use Rattle.std.specs.Prelude.{All, MatchResult, map}
 use Rattle.std.proofs.Common.{Result, Ok, Err}
 use Rattle.std.proofs.lemmas.List.{append-nil, length-append, length_push}
-use Rattle.std.specs.List.{filter_map, AllZip, cons_option}
-use Rattle.std.proofs.lemmas.List.Elements.{All-append, All-cons, All-head, All-nil, All-push, All-tail, filter_map-append}
+use Rattle.std.specs.List.{AllZip}
+use Rattle.std.proofs.lemmas.List.Elements.{All-append, All-cons, All-head, All-nil, All-push, All-tail, AllZip-push}
 use Rattle.link_queue.specs.End.{End, end_of}
 use Rattle.site_exchange.specs.declared.message.Message.{Message}
 use Rattle.site_exchange.specs.Exchange.{ack_for, receiver}
-use Rattle.session_server.specs.Exchanged.{IsSubsequence, Acknowledges, AcknowledgesHeld, SendsBackHeld, SentTo, SentMore, IsEndOf, Exchanged, Sent, Received, HasSent, HasReceived, outgoing, incoming}
+use Rattle.session_server.specs.Exchanged.{IsSubsequence, Acknowledges, AnyMessage, SentTo, SentMore, IsEndOf, Exchanged, Sent, Received, HasSent, HasReceived, outgoing, incoming}
 use Rattle.session_server.specs.Mesh.{IsNewPeer, linkage_left, linkage_of}
 use Rattle.session_server.specs.Settled.{IsLeftOfNew}
 use Rattle.session_server.specs.declared.peer.Peer.{Peer}
@@ -44,52 +44,46 @@ associative (x ∷ xs) ys zs = ap (λ t. x ∷ t) (associative xs ys zs)
 one_more : {X : Type 0} (xs ys now now' : List X) (y : X) → now ≡ xs ++ ys → now' ≡ now ++ y ∷ [] → now' ≡ xs ++ (ys ++ y ∷ [])
 one_more xs ys now now' y p q = q ∙ ap (λ l. l ++ y ∷ []) p ∙ associative xs ys (y ∷ [])
 
-pub nothing_came : (came sent : List Message) → Acknowledges came sent 0 came sent
-nothing_came came sent = record { got = []; put = []; more_came = sym (append-nil came); more_sent = sym (append-nil sent); due = tt; counted = omega (arith) }
+pub nothing_came : (Holds : Message → Type 0) (came sent : List Message) → Acknowledges Holds came sent 0 came sent
+nothing_came Holds came sent =
+    record { got = []; taken = []; put = []; more_came = sym (append-nil came); more_sent = sym (append-nil sent); among = tt; held = All-nil Holds; due = tt; counted = omega (arith) }
 
--- a message came, and its acknowledgement was sent
-pub sent_for : (came sent came1 sent1 came2 sent2 : List Message) (refused : ℕ) (m a : Message) → Acknowledges came sent refused came1 sent1
-    → Some a ≡ ack_for m → came2 ≡ came1 ++ m ∷ [] → sent2 ≡ sent1 ++ a ∷ [] → Acknowledges came sent refused came2 sent2
-sent_for came sent came1 sent1 came2 sent2 refused m a h is p q = record {
+-- a message came that is held, and its acknowledgement was sent
+pub sent_for : (Holds : Message → Type 0) (came sent came1 sent1 came2 sent2 : List Message) (refused : ℕ) (m a : Message) → Acknowledges Holds came sent refused came1 sent1
+    → Some a ≡ ack_for m → Holds m → came2 ≡ came1 ++ m ∷ [] → sent2 ≡ sent1 ++ a ∷ [] → Acknowledges Holds came sent refused came2 sent2
+sent_for Holds came sent came1 sent1 came2 sent2 refused m a h is holds p q = record {
   got = h.got ++ m ∷ [];
+  taken = h.taken ++ m ∷ [];
   put = h.put ++ a ∷ [];
   more_came = one_more came h.got came1 came2 m h.more_came p;
   more_sent = one_more sent h.put sent1 sent2 a h.more_sent q;
-  due = subst (IsSubsequence (h.put ++ a ∷ [])) (ap (λ o. filter_map ack_for h.got ++ cons_option o []) is ∙ sym (filter_map-append ack_for h.got (m ∷ []))) (subsequence_push h.put (filter_map ack_for h.got) a h.due);
+  among = subsequence_push h.taken h.got m h.among;
+  held = All-push Holds h.taken m h.held holds;
+  due = AllZip-push (λ message ack. ack_for message ≡ Some ack) h.taken h.put m a h.due (sym is);
   counted = omega (arith, h.counted, length_push h.put a, length_push h.got m);
 }
 
 -- a message came, and nothing was sent for it; it may have been refused
-pub came_more : (came sent came1 sent1 came2 sent2 : List Message) (refused refused2 : ℕ) (m : Message) → Acknowledges came sent refused came1 sent1
-    → came2 ≡ came1 ++ m ∷ [] → sent2 ≡ sent1 → refused2 ≤ refused + 1 → Acknowledges came sent refused2 came2 sent2
-came_more came sent came1 sent1 came2 sent2 refused refused2 m h p q r = record {
+pub came_more : (Holds : Message → Type 0) (came sent came1 sent1 came2 sent2 : List Message) (refused refused2 : ℕ) (m : Message) → Acknowledges Holds came sent refused came1 sent1
+    → came2 ≡ came1 ++ m ∷ [] → sent2 ≡ sent1 → refused2 ≤ refused + 1 → Acknowledges Holds came sent refused2 came2 sent2
+came_more Holds came sent came1 sent1 came2 sent2 refused refused2 m h p q r = record {
   got = h.got ++ m ∷ [];
+  taken = h.taken;
   put = h.put;
   more_came = one_more came h.got came1 came2 m h.more_came p;
   more_sent = q ∙ h.more_sent;
-  due = subst (IsSubsequence h.put) (sym (filter_map-append ack_for h.got (m ∷ []))) (subsequence_end h.put (filter_map ack_for h.got) (filter_map ack_for (m ∷ [])) h.due);
+  among = subsequence_end h.taken h.got (m ∷ []) h.among;
+  held = h.held;
+  due = h.due;
   counted = omega (arith, h.counted, length_push h.got m, r);
 }
 
 -- the acknowledgement was sent, or it came back
-pub sent_or_back : (came sent came1 came2 : List Message) (tx tx2 : End) (refused : ℕ) (m a : Message) (result : Result (Unit {0}) Message) → Acknowledges came sent refused came1 tx.messages
-    → Some a ≡ ack_for m → came2 ≡ came1 ++ m ∷ [] → MatchResult result (λ _. tx2 ≡ end_of tx.link (tx.messages ++ a ∷ [])) (λ back. (back ≡ a) × (tx2 ≡ tx))
-    → (tx2.link ≡ tx.link) × Acknowledges came sent refused came2 tx2.messages
-sent_or_back came sent came1 came2 tx tx2 refused m a (Ok done) h is p q = (ap (λ e. e.link) q, sent_for came sent came1 tx.messages came2 tx2.messages refused m a h is p (ap (λ e. e.messages) q))
-sent_or_back came sent came1 came2 tx tx2 refused m a (Err back) h is p q = (ap (λ e. e.link) q.1, came_more came sent came1 tx.messages came2 tx2.messages refused refused m h p (ap (λ e. e.messages) q.1) (omega (arith)))
-
-pub none_held : (Holds : Message → Type 0) (sent : List Message) → AcknowledgesHeld Holds sent sent
-none_held Holds sent = record { put = []; more_sent = sym (append-nil sent); held = All-nil (λ ack. (message : Message) × (ack_for message ≡ Some ack) × Holds message) }
-
--- the acknowledgement of a message that is held was sent, or it came back
-pub held_or_back : (Holds : Message → Type 0) (sent : List Message) (tx tx2 : End) (m a : Message) (result : Result (Unit {0}) Message) → AcknowledgesHeld Holds sent tx.messages
-    → Some a ≡ ack_for m → Holds m → MatchResult result (λ _. tx2 ≡ end_of tx.link (tx.messages ++ a ∷ [])) (λ back. (back ≡ a) × (tx2 ≡ tx)) → AcknowledgesHeld Holds sent tx2.messages
-held_or_back Holds sent tx tx2 m a (Ok done) h is holds q = record {
-  put = h.put ++ a ∷ [];
-  more_sent = one_more sent h.put tx.messages tx2.messages a h.more_sent (ap (λ (e : End). e.messages) q);
-  held = All-push (λ ack. (message : Message) × (ack_for message ≡ Some ack) × Holds message) h.put a h.held (m, sym is, holds);
-}
-held_or_back Holds sent tx tx2 m a (Err back) h is holds q = subst (λ (e : End). AcknowledgesHeld Holds sent e.messages) (sym q.1) h
+pub sent_or_back : (Holds : Message → Type 0) (came sent came1 came2 : List Message) (tx tx2 : End) (refused : ℕ) (m a : Message) (result : Result (Unit {0}) Message) → Acknowledges Holds came sent refused came1 tx.messages
+    → Some a ≡ ack_for m → Holds m → came2 ≡ came1 ++ m ∷ [] → MatchResult result (λ _. tx2 ≡ end_of tx.link (tx.messages ++ a ∷ [])) (λ back. (back ≡ a) × (tx2 ≡ tx))
+    → (tx2.link ≡ tx.link) × Acknowledges Holds came sent refused came2 tx2.messages
+sent_or_back Holds came sent came1 came2 tx tx2 refused m a (Ok done) h is holds p q = (ap (λ e. e.link) q, sent_for Holds came sent came1 tx.messages came2 tx2.messages refused m a h is holds p (ap (λ e. e.messages) q))
+sent_or_back Holds came sent came1 came2 tx tx2 refused m a (Err back) h is holds p q = (ap (λ e. e.link) q.1, came_more Holds came sent came1 tx.messages came2 tx2.messages refused refused m h p (ap (λ e. e.messages) q.1) (omega (arith)))
 
 -- nothing more was sent
 sent_nothing : (to most : ℕ) (sent : List Message) → SentTo to most sent sent
@@ -169,14 +163,14 @@ sent_from most (x ∷ xs) (y ∷ ys) (e ∷ es) h k = (ended x y e h.0 k.0, sent
     }
 
 -- the same by other names
-told : (came sent : List Message) (n n2 : ℕ) (rx rx2 tx tx2 : End) → n2 ≡ n → rx2 ≡ rx → tx2 ≡ tx → Acknowledges came sent n rx.messages tx.messages → Acknowledges came sent n2 rx2.messages tx2.messages
-told came sent n n2 rx rx2 tx tx2 a b c h =
-    subst (λ (m : ℕ). Acknowledges came sent m rx2.messages tx2.messages) (sym a)
-    (subst (λ (r : End). Acknowledges came sent n r.messages tx2.messages) (sym b)
-    (subst (λ (t : End). Acknowledges came sent n rx.messages t.messages) (sym c) h))
+told : (Holds : Message → Type 0) (came sent : List Message) (n n2 : ℕ) (rx rx2 tx tx2 : End) → n2 ≡ n → rx2 ≡ rx → tx2 ≡ tx → Acknowledges Holds came sent n rx.messages tx.messages → Acknowledges Holds came sent n2 rx2.messages tx2.messages
+told Holds came sent n n2 rx rx2 tx tx2 a b c h =
+    subst (λ (m : ℕ). Acknowledges Holds came sent m rx2.messages tx2.messages) (sym a)
+    (subst (λ (r : End). Acknowledges Holds came sent n r.messages tx2.messages) (sym b)
+    (subst (λ (t : End). Acknowledges Holds came sent n rx.messages t.messages) (sym c) h))
 
 pub exchanged : (Holds : Message → Type 0) (rounds : ℕ) (ps : List Peer) (os : List OutgoingEnd) (is : List IncomingEnd) (es : List PeerEnd)
-    → AllZip (Sent rounds) (map outgoing ps) os → AllZip (Received Holds) (map incoming ps) is → AllZip HasSent os es → AllZip HasReceived is es → AllZip (Exchanged rounds) ps es
+    → AllZip (Sent rounds) (map outgoing ps) os → AllZip (Received Holds) (map incoming ps) is → AllZip HasSent os es → AllZip HasReceived is es → AllZip (Exchanged Holds rounds) ps es
 exchanged Holds rounds [] [] [] [] s r hs hr = tt
 exchanged Holds rounds [] [] [] (e ∷ es) s r hs hr = absurd hs
 exchanged Holds rounds [] [] (i ∷ is) es s r hs hr = absurd r
@@ -186,7 +180,7 @@ exchanged Holds rounds (p ∷ ps) (o ∷ os) [] es s r hs hr = absurd r
 exchanged Holds rounds (p ∷ ps) (o ∷ os) (i ∷ is) [] s r hs hr = absurd hs
 exchanged Holds rounds (p ∷ ps) (o ∷ os) (i ∷ is) (e ∷ es) s r hs hr = (one p o i e s.0 r.0 hs.0 hr.0, exchanged Holds rounds ps os is es s.1 r.1 hs.1 hr.1)
   where
-    one : (p : Peer) (o : OutgoingEnd) (i : IncomingEnd) (e : PeerEnd) → Sent rounds (outgoing p) o → Received Holds (incoming p) i → HasSent o e → HasReceived i e → Exchanged rounds p e
+    one : (p : Peer) (o : OutgoingEnd) (i : IncomingEnd) (e : PeerEnd) → Sent rounds (outgoing p) o → Received Holds (incoming p) i → HasSent o e → HasReceived i e → Exchanged Holds rounds p e
     one p o i e s r hs hr = record {
       to = hs.to ∙ s.to;
       delta_tx = ap (λ t. t.link) hs.delta_tx ∙ s.link;
@@ -195,61 +189,77 @@ exchanged Holds rounds (p ∷ ps) (o ∷ os) (i ∷ is) (e ∷ es) s r hs hr = (
       ack_rx = ap (λ t. t.link) hr.ack_rx ∙ r.ack_rx;
       sent = subst (SentTo p.to rounds p.delta_tx.messages) (sym (ap (λ (t : End). t.messages) hs.delta_tx)) s.put;
       acks_counted = omega (arith, r.acks_counted, hr.acks_refused, ap (λ (t : End). length t.messages) hr.ack_rx);
-      acknowledged = told _ _ _ _ _ _ _ _ hr.refused hr.delta_rx hr.ack_tx r.acknowledged;
+      acknowledged = told _ _ _ _ _ _ _ _ _ hr.refused hr.delta_rx hr.ack_tx r.acknowledged;
     }
 
--- and what was sent back acknowledges what is held
-pub sent_back : (Holds : Message → Type 0) (ps : List Peer) (is : List IncomingEnd) (es : List PeerEnd) → AllZip (Received Holds) (map incoming ps) is → AllZip HasReceived is es → AllZip (SendsBackHeld Holds) ps es
-sent_back Holds [] [] [] r hr = tt
-sent_back Holds [] [] (e ∷ es) r hr = absurd hr
-sent_back Holds [] (i ∷ is) es r hr = absurd r
-sent_back Holds (p ∷ ps) [] es r hr = absurd r
-sent_back Holds (p ∷ ps) (i ∷ is) [] r hr = absurd hr
-sent_back Holds (p ∷ ps) (i ∷ is) (e ∷ es) r hr = (subst (λ (t : End). AcknowledgesHeld Holds p.ack_tx.messages t.messages) (sym hr.0.ack_tx) r.0.held, sent_back Holds ps is es r.1 hr.1)
+-- the same, with nothing said of what is held
+pub any_held : (Holds : Message → Type 0) (rounds : ℕ) (ps : List Peer) (es : List PeerEnd) → AllZip (Exchanged Holds rounds) ps es → AllZip (Exchanged AnyMessage rounds) ps es
+any_held Holds rounds [] [] h = h
+any_held Holds rounds [] (e ∷ es) h = h
+any_held Holds rounds (p ∷ ps) [] h = h
+any_held Holds rounds (p ∷ ps) (e ∷ es) h = (less p e h.0, any_held Holds rounds ps es h.1)
+  where
+    all_any : (ms : List Message) → All Holds ms → All AnyMessage ms
+    all_any [] a = All-nil AnyMessage
+    all_any (m ∷ ms) a = All-cons AnyMessage m ms tt (all_any ms (All-tail Holds m ms a))
+
+    less : (p : Peer) (e : PeerEnd) → Exchanged Holds rounds p e → Exchanged AnyMessage rounds p e
+    less p e h = record {
+      to = h.to;
+      delta_tx = h.delta_tx;
+      ack_tx = h.ack_tx;
+      delta_rx = h.delta_rx;
+      ack_rx = h.ack_rx;
+      sent = h.sent;
+      acks_counted = h.acks_counted;
+      acknowledged =
+          let a = h.acknowledged in
+          record { got = a.got; taken = a.taken; put = a.put; more_came = a.more_came; more_sent = a.more_sent; among = a.among; held = all_any a.taken a.held; due = a.due; counted = a.counted };
+    }
 
 -- the same by other names
-pub exchanged_as : (n rounds : ℕ) (ps qs : List Peer) (es fs : List PeerEnd) → n ≡ rounds → ps ≡ qs → fs ≡ es → AllZip (Exchanged n) ps es → AllZip (Exchanged rounds) qs fs
-exchanged_as n rounds ps qs es fs same of by h = subst (λ l. AllZip (Exchanged rounds) qs l) (sym by) (subst (λ l. AllZip (Exchanged rounds) l es) of (subst (λ m. AllZip (Exchanged m) ps es) same h))
+pub exchanged_as : (n rounds : ℕ) (ps qs : List Peer) (es fs : List PeerEnd) → n ≡ rounds → ps ≡ qs → fs ≡ es → AllZip (Exchanged AnyMessage n) ps es → AllZip (Exchanged AnyMessage rounds) qs fs
+exchanged_as n rounds ps qs es fs same of by h = subst (λ l. AllZip (Exchanged AnyMessage rounds) qs l) (sym by) (subst (λ l. AllZip (Exchanged AnyMessage rounds) l es) of (subst (λ m. AllZip (Exchanged AnyMessage m) ps es) same h))
 
 -- one pair more at the ends of two lists
 pub paired : {A B : Type 0} (R : A → B → Type 0) (xs xs' : List A) (ys ys' : List B) (x : A) (y : B) → xs ≡ xs' ++ x ∷ [] → ys ≡ ys' ++ y ∷ [] → AllZip R xs' ys' → R x y → AllZip R xs ys
 paired R xs xs' ys ys' x y p q h r = subst (λ l. AllZip R l ys) (sym p) (subst (λ l. AllZip R (xs' ++ x ∷ []) l) (sym q) (all_zip_push R xs' ys' x y h r))
 
 -- the ends are of the links of what was handed in
-pub same_links : (rounds : ℕ) (ps : List Peer) (es : List PeerEnd) → AllZip (Exchanged rounds) ps es → map linkage_left es ≡ map linkage_of ps
+pub same_links : (rounds : ℕ) (ps : List Peer) (es : List PeerEnd) → AllZip (Exchanged AnyMessage rounds) ps es → map linkage_left es ≡ map linkage_of ps
 same_links rounds [] [] h = refl
 same_links rounds [] (e ∷ es) h = absurd h
 same_links rounds (p ∷ ps) [] h = absurd h
 same_links rounds (p ∷ ps) (e ∷ es) h = λ i. record { delta_tx = h.0.delta_tx i; ack_tx = h.0.ack_tx i; delta_rx = h.0.delta_rx i; ack_rx = h.0.ack_rx i } ∷ same_links rounds ps es h.1 i
 
 -- each site's ends are of its links
-pub rows_linked : {A B : Type 0} (rounds : ℕ) (peers : A → List Peer) (ends : B → List PeerEnd) (xs : List A) (ys : List B) → AllZip (λ x y. AllZip (Exchanged rounds) (peers x) (ends y)) xs ys → map (λ y. map linkage_left (ends y)) ys ≡ map (λ x. map linkage_of (peers x)) xs
+pub rows_linked : {A B : Type 0} (rounds : ℕ) (peers : A → List Peer) (ends : B → List PeerEnd) (xs : List A) (ys : List B) → AllZip (λ x y. AllZip (Exchanged AnyMessage rounds) (peers x) (ends y)) xs ys → map (λ y. map linkage_left (ends y)) ys ≡ map (λ x. map linkage_of (peers x)) xs
 rows_linked rounds peers ends [] [] h = refl
 rows_linked rounds peers ends [] (y ∷ ys) h = absurd h
 rows_linked rounds peers ends (x ∷ xs) [] h = absurd h
 rows_linked rounds peers ends (x ∷ xs) (y ∷ ys) h = λ i. same_links rounds (peers x) (ends y) h.0 i ∷ rows_linked rounds peers ends xs ys h.1 i
 
-same_names : (rounds : ℕ) (ps : List Peer) (es : List PeerEnd) → AllZip (Exchanged rounds) ps es → map (λ e. e.to) es ≡ map (λ p. p.to) ps
+same_names : (rounds : ℕ) (ps : List Peer) (es : List PeerEnd) → AllZip (Exchanged AnyMessage rounds) ps es → map (λ e. e.to) es ≡ map (λ p. p.to) ps
 same_names rounds [] [] h = refl
 same_names rounds [] (e ∷ es) h = absurd h
 same_names rounds (p ∷ ps) [] h = absurd h
 same_names rounds (p ∷ ps) (e ∷ es) h = λ i. h.0.to i ∷ same_names rounds ps es h.1 i
 
 -- and has the names that were handed in
-pub rows_named : {A B : Type 0} (rounds : ℕ) (peers : A → List Peer) (ends : B → List PeerEnd) (xs : List A) (ys : List B) → AllZip (λ x y. AllZip (Exchanged rounds) (peers x) (ends y)) xs ys → map (λ y. map (λ e. e.to) (ends y)) ys ≡ map (λ x. map (λ p. p.to) (peers x)) xs
+pub rows_named : {A B : Type 0} (rounds : ℕ) (peers : A → List Peer) (ends : B → List PeerEnd) (xs : List A) (ys : List B) → AllZip (λ x y. AllZip (Exchanged AnyMessage rounds) (peers x) (ends y)) xs ys → map (λ y. map (λ e. e.to) (ends y)) ys ≡ map (λ x. map (λ p. p.to) (peers x)) xs
 rows_named rounds peers ends [] [] h = refl
 rows_named rounds peers ends [] (y ∷ ys) h = absurd h
 rows_named rounds peers ends (x ∷ xs) [] h = absurd h
 rows_named rounds peers ends (x ∷ xs) (y ∷ ys) h = λ i. same_names rounds (peers x) (ends y) h.0 i ∷ rows_named rounds peers ends xs ys h.1 i
 
-left_of_new : (rounds : ℕ) (ps : List Peer) (es : List PeerEnd) → All IsNewPeer ps → AllZip (Exchanged rounds) ps es → All (IsLeftOfNew rounds) es
+left_of_new : (rounds : ℕ) (ps : List Peer) (es : List PeerEnd) → All IsNewPeer ps → AllZip (Exchanged AnyMessage rounds) ps es → All (IsLeftOfNew rounds) es
 left_of_new rounds [] [] n h = All-nil (IsLeftOfNew rounds)
 left_of_new rounds [] (e ∷ es) n h = absurd h
 left_of_new rounds (p ∷ ps) [] n h = absurd h
 left_of_new rounds (p ∷ ps) (e ∷ es) n h = All-cons (IsLeftOfNew rounds) e es (p, All-head IsNewPeer p ps n, h.0) (left_of_new rounds ps es (All-tail IsNewPeer p ps n) h.1)
 
 -- and each was left by an exchange of new links
-pub rows_left : {A B : Type 0} (rounds : ℕ) (peers : A → List Peer) (ends : B → List PeerEnd) (xs : List A) (ys : List B) → All (λ x. All IsNewPeer (peers x)) xs → AllZip (λ x y. AllZip (Exchanged rounds) (peers x) (ends y)) xs ys → All (λ row. All (IsLeftOfNew rounds) row) (map ends ys)
+pub rows_left : {A B : Type 0} (rounds : ℕ) (peers : A → List Peer) (ends : B → List PeerEnd) (xs : List A) (ys : List B) → All (λ x. All IsNewPeer (peers x)) xs → AllZip (λ x y. AllZip (Exchanged AnyMessage rounds) (peers x) (ends y)) xs ys → All (λ row. All (IsLeftOfNew rounds) row) (map ends ys)
 rows_left rounds peers ends [] [] n h = All-nil (λ row. All (IsLeftOfNew rounds) row)
 rows_left rounds peers ends [] (y ∷ ys) n h = absurd h
 rows_left rounds peers ends (x ∷ xs) [] n h = absurd h

@@ -1,17 +1,16 @@
 -- What a session leaves of a seat.
-use Rattle.std.proofs.Common.{◌≡◌, ◌⊎◌, inl, inr, ℕ, ◌+◌, ◌≤◌, Bool, true, false, List, [], ◌∷◌, ◌++◌, cond, map, length, nat_le, arith, Option, Some, None, Result, refl, sym, ap, ◌∙◌, subst}
-use Rattle.std.specs.Prelude.{All, count_by, if◌then◌else◌}
+use Rattle.std.proofs.Common.{◌≡◌, ◌⊎◌, inl, inr, ℕ, ◌+◌, ◌≤◌, Bool, true, false, List, [], ◌∷◌, ◌++◌, cond, map, length, nat_le, arith, Option, Some, None, Result, Ok, Err, refl, sym, ap, ◌∙◌, subst}
+use Rattle.std.specs.Prelude.{All, IfErr, IfOk, MatchResult, OnErr, count_by, if◌then◌else◌}
 use Rattle.std.specs.List.{flat_map}
 use Rattle.std.proofs.lemmas.Bool.{le-leb}
 use Rattle.std.proofs.lemmas.List.{append-nil, length-append, map-append}
 use Rattle.std.proofs.lemmas.Grind.{flat_map-append}
-use Rattle.std.proofs.lemmas.List.Elements.{All-pop}
+use Rattle.std.proofs.lemmas.List.Elements.{All-pop, All-push}
 use Rattle.std.proofs.lemmas.List.Sums.{sum_by-append, sum_by_push}
 use Rattle.request_ledger.specs.declared.request.Request.{Request}
 use Rattle.site_desk.specs.declared.answer.Answer.{Answer}
 use Rattle.site_desk.specs.declared.answer.Seen.{Seen}
-use Rattle.site_desk.specs.declared.fault.LookFault.{LookFault}
-use Rattle.site_desk.specs.declared.fault.LookFault.TheVariants as look
+use Rattle.site_desk.specs.declared.fault.AskFault.{AskFault}
 use Rattle.site_desk.specs.declared.receipt.Receipt.{Receipt}
 use Rattle.site_desk.specs.Seats.{Held, held, parts_of, shares_of}
 use Rattle.desk_lines.specs.declared.line.Line.{Line}
@@ -20,8 +19,7 @@ use Rattle.desk_lines.specs.declared.answered.Answered.{Answered}
 use Rattle.desk_lines.specs.declared.answered.Answered.TheVariants.{Kept, LeftIs, TotalsAre, NotKnown, Refused, Unread}
 use Rattle.session_server.specs.declared.fault.Ended.{Ended}
 use Rattle.session_server.specs.declared.fault.TalkFault.{TalkFault}
-use Rattle.session_server.specs.SeatStep.{DeskStep, Refusing, Seated, SeatStep, IsLookAt, IsRaisedAt, WhyNotShown, seated, with_receipt}
-use Rattle.session_server.specs.BookStep.{not_shown}
+use Rattle.session_server.specs.SeatStep.{AreTold, DeskStep, Telling, Seated, SeatStep, IsLookAt, IsRaisedAt, ShowsNothing, WhyNotShown, WhyRefused, seated, with_receipt}
 use Rattle.session_server.specs.Finished.{given_since}
 use Rattle.session_server.specs.Served.{Served}
 use Rattle.session_server.specs.Session.{Answers, Talked}
@@ -38,14 +36,62 @@ pub asked : (opening : ℕ) (old new : Seated) (number : ℕ) (request : Request
 asked opening old new number request answer receipt seat is is_receipt is_seat place =
     (answer.place, seat, is ∙ ap (with_receipt old seat) is_receipt, raised opening answer.place old.seat seat answer.fresh is_seat place)
 
--- a look that the desk refuses shows nothing
-pub why_not_shown : (r : Refusing) (event : List ℕ) (fault : LookFault) → r.look event fault → WhyNotShown r event (not_shown fault)
-why_not_shown r event look.Closed why = inr (refl, why)
-why_not_shown r event look.Unknown why = why
+-- one receipt more, or one look more, that the desk may tell
+pub receipt_told : (t : Telling) (old new : Seated) (receipt : Receipt) → new.receipts ≡ old.receipts ++ receipt ∷ [] → new.looks ≡ old.looks → t.receipts receipt → AreTold t old → AreTold t new
+receipt_told t old new receipt more same is told =
+    record { receipts = subst (All t.receipts) (sym more) (All-push t.receipts old.receipts receipt told.receipts is); looks = subst (All t.shows) (sym same) told.looks }
+
+pub look_told : (t : Telling) (old new : Seated) (seen : Seen) → new.receipts ≡ old.receipts → new.looks ≡ old.looks ++ seen ∷ [] → t.shows seen → AreTold t old → AreTold t new
+look_told t old new seen same more is told =
+    record { receipts = subst (All t.receipts) (sym same) told.receipts; looks = subst (All t.shows) (sym more) (All-push t.shows old.looks seen told.looks is) }
+
+still_told : (t : Telling) (old new : Seated) → new.receipts ≡ old.receipts → new.looks ≡ old.looks → AreTold t old → AreTold t new
+still_told t old new same still told = record { receipts = subst (All t.receipts) (sym same) told.receipts; looks = subst (All t.shows) (sym still) told.looks }
+
+-- what holds of an error, if it is one
+pub if_err : {T E : Type 0} (P : Result T E → Type 0) (result : Result T E) → P result → IfErr result (λ fault. P (Err fault))
+if_err P (Ok x) h = tt
+if_err P (Err fault) h = h
+
+-- a request came to this, and its receipt, if it has one, was kept
+pub asked_at_desk : (t : Telling) (opening : ℕ) (old new : Seated) (number : ℕ) (request : Request) (came : Result (Answer × Receipt) AskFault) (answered : Answered)
+    → MatchResult came (λ r. answered ≡ Kept r.0.reply) (λ fault. answered ≡ Refused fault) → MatchResult came (λ r. new.receipts ≡ old.receipts ++ r.1 ∷ []) (λ _. new.receipts ≡ old.receipts) → new.looks ≡ old.looks
+    → IfOk came (λ r. r.1 ≡ record { number = number; request = request; reply = r.0.reply; place = r.0.place }) → IfOk came (λ r. new.seat ≡ held old.seat.parts (if r.0.fresh then old.seat.count + 1 else old.seat.count))
+    → OnErr came (new.seat ≡ old.seat) → IfOk came (λ r. r.0.fresh ≡ true → opening + old.seat.count ≤ r.0.place) → IfOk came (λ r. t.receipts r.1) → IfErr came (t.refuses number request)
+    → DeskStep t opening old (Ask number request) answered new
+asked_at_desk t opening old new number request (Ok r) answered is more same receipt seat still place holds refused = record {
+  step = subst (λ a. SeatStep opening old (Ask number request) a new) (sym is) (asked opening old new number request r.0 r.1 new.seat (λ i. seated new.seat (more i) (same i)) receipt seat place);
+  why = subst (λ a. WhyRefused t (Ask number request) a) (sym is) tt;
+  told = receipt_told t old new r.1 more same holds;
+}
+asked_at_desk t opening old new number request (Err fault) answered is more same receipt seat still place holds refused = record {
+  step = subst (λ a. SeatStep opening old (Ask number request) a new) (sym is) (λ i. seated (still i) (more i) (same i));
+  why = subst (λ a. WhyRefused t (Ask number request) a) (sym is) (inr refused);
+  told = still_told t old new more same;
+}
+
+-- a look showed nothing
+pub left_nothing : (t : Telling) (opening : ℕ) (old new : Seated) (event : List ℕ) (answered : Answered) → ShowsNothing answered → new ≡ old → WhyNotShown t event answered → (AreTold t old → AreTold t new)
+    → DeskStep t opening old (Left event) answered new
+left_nothing t opening old new event NotKnown none is why told = record { step = is; why = why; told = told }
+left_nothing t opening old new event (Refused fault) none is why told = record { step = (none, is); why = why; told = told }
+left_nothing t opening old new event (Kept reply) none is why told = absurd none
+left_nothing t opening old new event (LeftIs left) none is why told = absurd none
+left_nothing t opening old new event (TotalsAre totals) none is why told = absurd none
+left_nothing t opening old new event Unread none is why told = absurd none
+
+pub totals_nothing : (t : Telling) (opening : ℕ) (old new : Seated) (event : List ℕ) (answered : Answered) → ShowsNothing answered → new ≡ old → WhyNotShown t event answered → (AreTold t old → AreTold t new)
+    → DeskStep t opening old (Totals event) answered new
+totals_nothing t opening old new event NotKnown none is why told = record { step = is; why = why; told = told }
+totals_nothing t opening old new event (Refused fault) none is why told = record { step = (none, is); why = why; told = told }
+totals_nothing t opening old new event (Kept reply) none is why told = absurd none
+totals_nothing t opening old new event (LeftIs left) none is why told = absurd none
+totals_nothing t opening old new event (TotalsAre totals) none is why told = absurd none
+totals_nothing t opening old new event Unread none is why told = absurd none
 
 -- a session at a desk is one of a seat
-pub of_desk : (r : Refusing) (opening : ℕ) (input old new : Option (List ℕ)) (before after : Seated) (result : Result Ended TalkFault) → Talked (DeskStep r opening) input old new before after result → Talked (SeatStep opening) input old new before after result
-of_desk r opening input old new before after result t = talked_less (DeskStep r opening) (SeatStep opening) (λ a line x b h. h.0) input old new before after result t
+pub of_desk : (t : Telling) (opening : ℕ) (input old new : Option (List ℕ)) (before after : Seated) (result : Result Ended TalkFault) → Talked (DeskStep t opening) input old new before after result → Talked (SeatStep opening) input old new before after result
+of_desk t opening input old new before after result talked = talked_less (DeskStep t opening) (SeatStep opening) (λ a line x b h. h.step) input old new before after result talked
 
 -- a seat that had been given nothing answered it, and what it was given is this
 pub served_by : (opening : ℕ) (a b c a_now b_now : Option (List ℕ)) (before after : Seated) (seat : Held) (receipts : List Receipt) (looks : List Seen) (result : Result Ended TalkFault)

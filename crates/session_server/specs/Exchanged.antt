@@ -1,8 +1,12 @@
 -- What an exchange leaves of the links to a peer. (That a replica acknowledges what it joined: JPDC 2018; the links: our own.)
 use Rattle.std.specs.Prelude.{◌≡◌, ℕ, ◌+◌, ◌≤◌, All, List, [], ◌∷◌, ◌++◌, length, Some, ◌⊎◌}
-use Rattle.std.specs.List.{filter_map}
+use Rattle.std.specs.List.{AllZip}
+use Rattle.book_core.specs.declared.entry.Entry.{Entry}
+use Rattle.book_core.specs.Decision.{Office}
 use Rattle.site_exchange.specs.declared.message.Message.{Message}
 use Rattle.site_exchange.specs.Exchange.{ack_for, receiver}
+use Rattle.site_desk.specs.Moments.{AtOneMoment, HoldsDelta}
+use Rattle.site_desk.specs.SiteView.{SiteView}
 use Rattle.session_server.specs.declared.peer.Peer.{Peer}
 use Rattle.session_server.specs.declared.peer.PeerEnd.{PeerEnd}
 use Rattle.session_server.specs.declared.sending.Outgoing.{Outgoing}
@@ -16,21 +20,26 @@ IsSubsequence [] ys = Unit {0}
 IsSubsequence (x ∷ xs) [] = ⊥
 IsSubsequence (x ∷ xs) (y ∷ ys) = ((x ≡ y) × IsSubsequence xs ys) ⊎ IsSubsequence (x ∷ xs) ys
 
--- Since there were these messages, more came and more were sent: what was sent acknowledges messages that came, in their
--- order, and with those that were refused they are no more than came.
-pub record Acknowledges (came sent : List Message) (refused : ℕ) (came_now sent_now : List Message) : Type 0 where
+-- Since there were these messages, more came and more were sent: what was sent acknowledges, in their order, some of those that
+-- came, each of which is held; and with those that were refused they are no more than came.
+pub record Acknowledges (Holds : Message → Type 0) (came sent : List Message) (refused : ℕ) (came_now sent_now : List Message) : Type 0 where
   pub got : List Message
+  pub taken : List Message
   pub put : List Message
   pub more_came : came_now ≡ came ++ got
   pub more_sent : sent_now ≡ sent ++ put
-  pub due : IsSubsequence put (filter_map ack_for got)
+  pub among : IsSubsequence taken got
+  pub held : All Holds taken
+  pub due : AllZip (λ message ack. ack_for message ≡ Some ack) taken put
   pub counted : length put + refused ≤ length got
 
--- Since there were these messages more were sent, each of which acknowledges a message that is held.
-pub record AcknowledgesHeld (Holds : Message → Type 0) (sent sent_now : List Message) : Type 0 where
-  pub put : List Message
-  pub more_sent : sent_now ≡ sent ++ put
-  pub held : All (λ ack. (message : Message) × (ack_for message ≡ Some ack) × Holds message) put
+-- where nothing is said of what is held
+abbrev pub AnyMessage : Message → Type 0
+AnyMessage message = Unit {0}
+
+-- some open book that may stand at the desk has what the message brings
+abbrev pub held_at_desk : {K : Type 0} → Office → List Entry → (SiteView K → Type 0) → Message → Type 0
+held_at_desk office began InStep message = AtOneMoment office began InStep (HoldsDelta message)
 
 -- Since there were these messages, no more than so many were sent, each of them to this site.
 pub record SentTo (to most : ℕ) (sent sent_now : List Message) : Type 0 where
@@ -40,8 +49,8 @@ pub record SentTo (to most : ℕ) (sent sent_now : List Message) : Type 0 where
   pub few : length put ≤ most
 
 -- The ends are those of the peer's links. What was sent is for the peer, no more than a message for each round; what was
--- sent back acknowledges what came, and no more acknowledgements were refused than came.
-pub record Exchanged (rounds : ℕ) (peer : Peer) (end : PeerEnd) : Type 0 where
+-- sent back acknowledges what came and is held, and no more acknowledgements were refused than came.
+pub record Exchanged (Holds : Message → Type 0) (rounds : ℕ) (peer : Peer) (end : PeerEnd) : Type 0 where
   pub to : end.to ≡ peer.to
   pub delta_tx : end.delta_tx.link ≡ peer.delta_tx.link
   pub ack_tx : end.ack_tx.link ≡ peer.ack_tx.link
@@ -49,11 +58,7 @@ pub record Exchanged (rounds : ℕ) (peer : Peer) (end : PeerEnd) : Type 0 where
   pub ack_rx : end.ack_rx.link ≡ peer.ack_rx.link
   pub sent : SentTo peer.to rounds peer.delta_tx.messages end.delta_tx.messages
   pub acks_counted : length peer.ack_rx.messages + end.acks_refused ≤ length end.ack_rx.messages
-  pub acknowledged : Acknowledges peer.delta_rx.messages peer.ack_tx.messages end.deltas_refused end.delta_rx.messages end.ack_tx.messages
-
--- what was sent back to a peer acknowledges messages that are held
-abbrev pub SendsBackHeld : (Message → Type 0) → Peer → PeerEnd → Type 0
-SendsBackHeld Holds peer end = AcknowledgesHeld Holds peer.ack_tx.messages end.ack_tx.messages
+  pub acknowledged : Acknowledges Holds peer.delta_rx.messages peer.ack_tx.messages end.deltas_refused end.delta_rx.messages end.ack_tx.messages
 
 -- what goes to a peer, and what comes from it
 abbrev pub outgoing : Peer → Outgoing
@@ -85,8 +90,7 @@ pub record Received (Holds : Message → Type 0) (before : Incoming) (after : In
   pub ack_tx : after.ack_tx.link ≡ before.ack_tx.link
   pub ack_rx : after.ack_rx.link ≡ before.ack_rx.link
   pub acks_counted : length before.ack_rx.messages + after.acks_refused ≤ length after.ack_rx.messages
-  pub acknowledged : Acknowledges before.delta_rx.messages before.ack_tx.messages after.deltas_refused after.delta_rx.messages after.ack_tx.messages
-  pub held : AcknowledgesHeld Holds before.ack_tx.messages after.ack_tx.messages
+  pub acknowledged : Acknowledges Holds before.delta_rx.messages before.ack_tx.messages after.deltas_refused after.delta_rx.messages after.ack_tx.messages
 
 -- the part of a peer's end that was sent on, and the part that was received on
 pub record HasSent (out : OutgoingEnd) (end : PeerEnd) : Type 0 where

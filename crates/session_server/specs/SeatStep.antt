@@ -1,5 +1,5 @@
 -- How a seat at a desk answers the lines of a session, and what it was given. (Our own.)
-use Rattle.std.specs.Prelude.{◌≡◌, ◌⊎◌, ⊤, ℕ, ◌+◌, ◌≤◌, List, [], ◌∷◌, ◌++◌, Err}
+use Rattle.std.specs.Prelude.{◌≡◌, ◌⊎◌, ⊤, ℕ, ◌+◌, ◌≤◌, List, [], ◌∷◌, ◌++◌, All, Ok, Err}
 use Rattle.request_ledger.specs.declared.request.Request.{Request}
 use Rattle.book_core.specs.declared.entry.Entry.{Entry}
 use Rattle.book_core.specs.Decision.{Office}
@@ -9,13 +9,14 @@ use Rattle.site_desk.specs.declared.fault.AskFault.TheVariants as ask
 use Rattle.site_desk.specs.declared.fault.LookFault.{LookFault}
 use Rattle.site_desk.specs.declared.fault.LookFault.TheVariants as look
 use Rattle.site_desk.specs.declared.receipt.Receipt.{Receipt}
-use Rattle.site_desk.specs.Moments.{AtOneMoment, Looks, Replies}
+use Rattle.site_desk.specs.Moments.{AtOneMoment, HoldsReceipt, Looks, Replies}
 use Rattle.site_desk.specs.Seats.{Held, held}
 use Rattle.site_desk.specs.SiteView.{SiteView}
 use Rattle.desk_lines.specs.declared.line.Line.{Line}
 use Rattle.desk_lines.specs.declared.line.Line.TheVariants.{Ask, Left, Totals as TotalsOf, Quit}
 use Rattle.desk_lines.specs.declared.answered.Answered.{Answered}
 use Rattle.desk_lines.specs.declared.answered.Answered.TheVariants.{Kept, LeftIs, TotalsAre, NotKnown, Refused}
+use Rattle.session_server.specs.BookStep.{not_shown}
 
 -- a seat, with the receipts and the looks that it was given, the first one first
 pub record Seated : Type 0 where
@@ -66,30 +67,42 @@ ShowsNothing NotKnown = ⊤
 ShowsNothing (Refused fault) = RefusesLook fault
 ShowsNothing answered = ⊥
 
--- what may be refused to a request, and at a look, where a site that may stand under a desk's lock refuses it
-pub record Refusing : Type 1 where
-  pub request : ℕ → Request → AskFault → Type 0
-  pub look : List ℕ → LookFault → Type 0
+-- what a desk may tell: why it answers no request, why it shows nothing, a receipt, and what it shows
+pub record Telling : Type 1 where
+  pub refuses : ℕ → Request → AskFault → Type 0
+  pub hides : List ℕ → LookFault → Type 0
+  pub receipts : Receipt → Type 0
+  pub shows : Seen → Type 0
 
-abbrev pub refusing : {K : Type 0} → Office → List Entry → (K → ℕ) → (SiteView K → Type 0) → Refusing
-refusing office began failed InStep = record {
-  request = λ number request fault. AtOneMoment office began InStep (Replies failed number request (Err fault));
-  look = λ event fault. AtOneMoment office began InStep (Looks event (Err fault));
+-- what it may tell as the book that stands under its lock, at one moment
+abbrev pub told_at : {K : Type 0} → Office → List Entry → (K → ℕ) → (SiteView K → Type 0) → Telling
+told_at office began failed InStep = record {
+  refuses = λ number request fault. AtOneMoment office began InStep (Replies failed number request (Err fault));
+  hides = λ event fault. AtOneMoment office began InStep (Looks event (Err fault));
+  receipts = λ receipt. AtOneMoment office began InStep (HoldsReceipt receipt);
+  shows = λ seen. AtOneMoment office began InStep (Looks seen.event (Ok seen));
 }
 
--- a look shows nothing since memory was refused at the seat, or since the desk refuses it
-abbrev pub WhyNotShown : Refusing → List ℕ → Answered → Type 0
-WhyNotShown r event NotKnown = r.look event look.Unknown
-WhyNotShown r event (Refused fault) = (fault ≡ ask.Memory) ⊎ ((fault ≡ ask.Closed) × r.look event look.Closed)
-WhyNotShown r event answered = ⊤
+-- each receipt and each look that the seat was given is one that its desk may tell
+pub record AreTold (t : Telling) (s : Seated) : Type 0 where
+  pub receipts : All t.receipts s.receipts
+  pub looks : All t.shows s.looks
 
--- a line is refused since memory was refused at the seat, or since the desk refuses it
-abbrev pub WhyRefused : Refusing → Line → Answered → Type 0
-WhyRefused r (Ask number request) (Refused fault) = (fault ≡ ask.Memory) ⊎ r.request number request fault
-WhyRefused r (Left event) answered = WhyNotShown r event answered
-WhyRefused r (TotalsOf event) answered = WhyNotShown r event answered
-WhyRefused r line answered = ⊤
+-- a look shows nothing since memory was refused at the seat, or since the desk may show nothing
+abbrev pub WhyNotShown : Telling → List ℕ → Answered → Type 0
+WhyNotShown t event answered = (answered ≡ Refused ask.Memory) ⊎ ((fault : LookFault) × (answered ≡ not_shown fault) × t.hides event fault)
 
--- a step of a seat whose desk refuses so
-abbrev pub DeskStep : Refusing → ℕ → Seated → Line → Answered → Seated → Type 0
-DeskStep r opening old line answered new = SeatStep opening old line answered new × WhyRefused r line answered
+-- a line is refused since memory was refused at the seat, or since the desk may refuse it
+abbrev pub WhyRefused : Telling → Line → Answered → Type 0
+WhyRefused t (Ask number request) (Refused fault) = (fault ≡ ask.Memory) ⊎ t.refuses number request fault
+WhyRefused t (Left event) NotKnown = WhyNotShown t event NotKnown
+WhyRefused t (Left event) (Refused fault) = WhyNotShown t event (Refused fault)
+WhyRefused t (TotalsOf event) NotKnown = WhyNotShown t event NotKnown
+WhyRefused t (TotalsOf event) (Refused fault) = WhyNotShown t event (Refused fault)
+WhyRefused t line answered = ⊤
+
+-- a step of a seat whose desk may tell this
+pub record DeskStep (t : Telling) (opening : ℕ) (old : Seated) (line : Line) (answered : Answered) (new : Seated) : Type 0 where
+  pub step : SeatStep opening old line answered new
+  pub why : WhyRefused t line answered
+  pub told : AreTold t old → AreTold t new

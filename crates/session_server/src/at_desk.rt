@@ -1,8 +1,9 @@
 //! A seat at a desk as what answers a session.
 
-ghost use Rattle.std.specs.Prelude.{◌≡◌, [], length, IfErr, MatchResult};
+ghost use Rattle.std.specs.Prelude.{◌≡◌, ◌<◌, [], ◌∷◌, ◌++◌, length, vec_len, vec_capacity, IfErr, IfOk, MatchResult};
 ghost use Rattle.site_desk.specs.SiteView.{SiteInStep};
-ghost use Rattle.session_server.specs.SeatStep.{DeskStep, IsLookAt, ShowsNothing, WhyNotShown, refusing};
+ghost use Rattle.session_server.specs.SeatStep.{DeskStep, IsLookAt, ShowsNothing, WhyNotShown, AreTold, told_at};
+ghost use Rattle.desk_lines.specs.declared.answered.Answered.TheVariants.{Kept, Refused};
 ghost use Rattle.desk_lines.specs.declared.line.Line.TheVariants.{Ask, Left, Totals as TotalsOf};
 
 use crate::answerer::Answerer;
@@ -10,7 +11,7 @@ use crate::at_book::not_shown;
 use desk_lines::{Answered, Line};
 use request_ledger::{Request, RequestNumber};
 use rights_lattice::Event;
-use site_desk::{AskFault, Desk, Gate, Opens, Place, Receipt, Seat, Seen};
+use site_desk::{Answer, AskFault, Desk, Gate, Opens, Place, Receipt, Seat, Seen};
 use sql_records::Keeper;
 use std::alloc::Global;
 use std::marker::Model;
@@ -76,25 +77,21 @@ impl<'a, K: Keeper, L: Opens, G: Gate> AtDesk<'a, K, L, G> {
     }
 
     fn ask<T: Wait>(&mut self, rt: &T, number: RequestNumber, request: &Request) -> Answered
-        ensures { DeskStep (refusing L.office L.began K.failed (SiteInStep K.failed K.is_trusted K.kept K.may_leave)) (length L.began) self.old (Ask number request.now) result self.new }
+        ensures { DeskStep (told_at L.office L.began K.failed (SiteInStep K.failed K.is_trusted K.kept K.may_leave)) (length L.began) self.old (Ask number request.now) result self.new }
     {
         if self.receipts.reserve(1).is_err() {
             return Answered::Refused(AskFault::Memory);
         }
         let (desk, gate) = (self.desk, self.gate);
-        match desk.ask(rt, self.alloc, gate, &mut self.seat, number, request) {
-            Ok((answer, receipt)) => {
-                self.receipts.push_reserved(receipt);
-                Answered::Kept(answer.reply)
-            }
-            Err(fault) => Answered::Refused(fault),
-        }
+        let came = desk.ask(rt, self.alloc, gate, &mut self.seat, number, request);
+        kept(came, &mut self.receipts)
     }
 
     // Looks at an event, or tells what is answered where nothing is shown.
     fn look<T: Wait>(&mut self, rt: &T, event: Event) -> Result<Seen, Answered>
         ensures shown { MatchResult result (λ seen. IsLookAt (length L.began) event self.old seen self.new) (λ answered. ShowsNothing answered × (self.new ≡ self.old)) }
-        ensures why { IfErr result (WhyNotShown (refusing L.office L.began K.failed (SiteInStep K.failed K.is_trusted K.kept K.may_leave)) event) }
+        ensures told { AreTold (told_at L.office L.began K.failed (SiteInStep K.failed K.is_trusted K.kept K.may_leave)) self.old → AreTold (told_at L.office L.began K.failed (SiteInStep K.failed K.is_trusted K.kept K.may_leave)) self.new }
+        ensures why { IfErr result (WhyNotShown (told_at L.office L.began K.failed (SiteInStep K.failed K.is_trusted K.kept K.may_leave)) event) }
     {
         if self.looks.reserve(1).is_err() {
             return Err(Answered::Refused(AskFault::Memory));
@@ -103,13 +100,13 @@ impl<'a, K: Keeper, L: Opens, G: Gate> AtDesk<'a, K, L, G> {
             Ok(seen) => seen,
             Err(fault) => return Err(not_shown(fault)),
         };
-        let kept = seen;
-        self.looks.push_reserved(kept);
+        let given = seen;
+        self.looks.push_reserved(given);
         Ok(seen)
     }
 
     fn left<T: Wait>(&mut self, rt: &T, event: Event) -> Answered
-        ensures { DeskStep (refusing L.office L.began K.failed (SiteInStep K.failed K.is_trusted K.kept K.may_leave)) (length L.began) self.old (Left event) result self.new }
+        ensures { DeskStep (told_at L.office L.began K.failed (SiteInStep K.failed K.is_trusted K.kept K.may_leave)) (length L.began) self.old (Left event) result self.new }
     {
         match self.look(rt, event) {
             Ok(seen) => Answered::LeftIs(seen.left),
@@ -118,7 +115,7 @@ impl<'a, K: Keeper, L: Opens, G: Gate> AtDesk<'a, K, L, G> {
     }
 
     fn totals<T: Wait>(&mut self, rt: &T, event: Event) -> Answered
-        ensures { DeskStep (refusing L.office L.began K.failed (SiteInStep K.failed K.is_trusted K.kept K.may_leave)) (length L.began) self.old (TotalsOf event) result self.new }
+        ensures { DeskStep (told_at L.office L.began K.failed (SiteInStep K.failed K.is_trusted K.kept K.may_leave)) (length L.began) self.old (TotalsOf event) result self.new }
     {
         match self.look(rt, event) {
             Ok(seen) => Answered::TotalsAre(seen.totals),
@@ -127,12 +124,27 @@ impl<'a, K: Keeper, L: Opens, G: Gate> AtDesk<'a, K, L, G> {
     }
 }
 
+// What is answered where a request came to this. Its receipt, if it has one, is kept.
+fn kept(came: Result<(Answer, Receipt), AskFault>, receipts: &mut Vec<Receipt>) -> Answered
+    requires room { vec_len receipts.old < vec_capacity receipts.old }
+    ensures answered { MatchResult came (λ r. result ≡ Kept r.0.reply) (λ fault. result ≡ Refused fault) }
+    ensures receipts { MatchResult came (λ r. receipts.new.items ≡ receipts.old.items ++ r.1 ∷ []) (λ _. receipts.new.items ≡ receipts.old.items) }
+{
+    match came {
+        Ok((answer, receipt)) => {
+            receipts.push_reserved(receipt);
+            Answered::Kept(answer.reply)
+        }
+        Err(fault) => Answered::Refused(fault),
+    }
+}
+
 impl<'a, K: Keeper, L: Opens, G: Gate> Answerer for AtDesk<'a, K, L, G> {
     ghost use Rattle.std.specs.Prelude.{length};
     ghost use Rattle.site_desk.specs.SiteView.{SiteInStep};
-    ghost use Rattle.session_server.specs.SeatStep.{DeskStep, refusing};
+    ghost use Rattle.session_server.specs.SeatStep.{DeskStep, told_at};
 
-    ghost step = { DeskStep (refusing L.office L.began K.failed (SiteInStep K.failed K.is_trusted K.kept K.may_leave)) (length L.began) };
+    ghost step = { DeskStep (told_at L.office L.began K.failed (SiteInStep K.failed K.is_trusted K.kept K.may_leave)) (length L.began) };
 
     fn answer<T: Wait>(&mut self, rt: &T, line: &Line) -> Answered {
         self.line = self.line.wrapping_add(1);

@@ -2,8 +2,7 @@
 
 ghost use Rattle.std.specs.Prelude.{◌≡◌, ◌≤◌, [], map, vec_len, vec_capacity, IfOk};
 ghost use Rattle.std.specs.List.{AllZip};
-ghost use Rattle.session_server.specs.Exchanged.{Exchanged, HasReceived, HasSent, Received, SendsBackHeld, Sent, incoming, outgoing};
-ghost use Rattle.site_desk.specs.Moments.{AtOneMoment, HoldsDelta};
+ghost use Rattle.session_server.specs.Exchanged.{Exchanged, HasReceived, HasSent, Received, Sent, held_at_desk, incoming, outgoing};
 ghost use Rattle.site_desk.specs.SiteView.{SiteInStep};
 
 use crate::peer::{Peer, PeerEnd};
@@ -150,13 +149,12 @@ pub fn exchange_all<T: Threads + Wait + Sync, K: Keeper + Send, L: Opens + Send 
     peers: Vec<Peer>,
     rounds: u64,
 ) -> Result<Vec<PeerEnd>, ExchangeFault>
-    ensures exchanged { IfOk result (λ r. AllZip (Exchanged rounds) peers.items r.items) }
-    ensures held { IfOk result (λ r. AllZip (SendsBackHeld (λ message. AtOneMoment L.office L.began (SiteInStep K.failed K.is_trusted K.kept K.may_leave) (HoldsDelta message))) peers.items r.items) }
+    ensures { IfOk result (λ r. AllZip (Exchanged (held_at_desk L.office L.began (SiteInStep K.failed K.is_trusted K.kept K.may_leave)) rounds) peers.items r.items) }
 {
     exchange(rt, alloc, &DeskReplica { alloc, desk }, peers, rounds)
 }
 
-#[tactic(auto, using(crate::proofs::Exchanges::exchanged, crate::proofs::Exchanges::sent_back))]
+#[tactic(auto, using(crate::proofs::Exchanges::exchanged))]
 fn exchange<T: Threads + Wait + Sync, S: Replica + Sync>(
     rt: &T,
     alloc: Global,
@@ -164,8 +162,7 @@ fn exchange<T: Threads + Wait + Sync, S: Replica + Sync>(
     peers: Vec<Peer>,
     rounds: u64,
 ) -> Result<Vec<PeerEnd>, ExchangeFault>
-    ensures exchanged { IfOk result (λ r. AllZip (Exchanged rounds) peers.items r.items) }
-    ensures held { IfOk result (λ r. AllZip (SendsBackHeld S.holds) peers.items r.items) }
+    ensures { IfOk result (λ r. AllZip (Exchanged S.holds rounds) peers.items r.items) }
 {
     let count = peers.len();
     let mut ends = Vec::with_capacity(alloc, count)?;

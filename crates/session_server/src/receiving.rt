@@ -2,7 +2,7 @@
 
 ghost use Rattle.std.specs.Prelude.{◌≡◌, ◌≤◌, ◌+◌, [], length, vec_len, vec_capacity, OnOk};
 ghost use Rattle.std.specs.List.{AllZip};
-ghost use Rattle.session_server.specs.Exchanged.{Acknowledges, AcknowledgesHeld, Received};
+ghost use Rattle.session_server.specs.Exchanged.{Acknowledges, Received};
 
 use crate::exchange::ExchangeFault;
 use crate::replica::Replica;
@@ -37,7 +37,7 @@ struct DeltasOf<'s, S: Replica> {
 }
 
 impl<'s, S: Replica> Promise<(RxEnd, TxEnd, u64)> for DeltasOf<'s, S> {
-    ghost kept_by = { λ p r. (r.0.link ≡ p.rx.value.link) × (r.1.link ≡ p.tx.value.link) × Acknowledges p.rx.value.messages p.tx.value.messages r.2 r.0.messages r.1.messages × AcknowledgesHeld S.holds p.tx.value.messages r.1.messages };
+    ghost kept_by = { λ p r. (r.0.link ≡ p.rx.value.link) × (r.1.link ≡ p.tx.value.link) × Acknowledges S.holds p.rx.value.messages p.tx.value.messages r.2 r.0.messages r.1.messages };
 }
 
 // The link that a receiver of acknowledgements was begun with.
@@ -58,8 +58,7 @@ fn receive_deltas<S: Replica, R: Wait>(
     mut tx: Tx,
 ) -> (RxEnd, TxEnd, u64)
     ensures links { (result.0.link ≡ rx.link) × (result.1.link ≡ tx.link) }
-    ensures acknowledged { Acknowledges rx.messages tx.messages result.2 result.0.messages result.1.messages }
-    ensures held { AcknowledgesHeld S.holds tx.messages result.1.messages }
+    ensures acknowledged { Acknowledges S.holds rx.messages tx.messages result.2 result.0.messages result.1.messages }
 {
     let mut refused: u64 = 0;
     for _ in rt.forever() {

@@ -1,6 +1,6 @@
 //! A desk as its links see it.
 
-ghost use Rattle.std.specs.Prelude.{◌≡◌, IfOk, IfSome};
+ghost use Rattle.std.specs.Prelude.{◌≡◌, IfErr, IfOk, IfSome};
 ghost use Rattle.site_exchange.specs.Exchange.{ack_for, receiver};
 ghost use Rattle.site_exchange.specs.declared.message.Message.{Message};
 
@@ -17,8 +17,10 @@ pub(crate) struct Refused;
 
 // A replica that threads share, of which messages are asked and to which they come.
 pub(crate) trait Replica {
-    // It may hold what this message brings.
+    // It may hold what this message brings, and may refuse this one.
     ghost holds: { Message → Type 0 };
+
+    ghost refuses: { Message → Type 0 };
 
     // The message that is due to a peer, if there is one and it could be made.
     fn next<R: Wait>(&self, rt: &R, to: SiteId) -> Option<Message>
@@ -27,7 +29,8 @@ pub(crate) trait Replica {
     // Takes a message, and gives the acknowledgement that is due for it.
     fn take<R: Wait>(&self, rt: &R, message: Message) -> Result<Option<Message>, Refused>
         ensures due { IfOk result (λ ack. ack ≡ ack_for message) }
-        ensures held { IfOk result (λ _. holds message) };
+        ensures held { IfOk result (λ _. holds message) }
+        ensures refused { IfErr result (λ _. refuses message) };
 }
 
 // The replica behind a desk.
@@ -38,10 +41,15 @@ pub(crate) struct DeskReplica<'a, K: Keeper, L: Opens> {
 }
 
 impl<'a, K: Keeper, L: Opens> Replica for DeskReplica<'a, K, L> {
-    ghost use Rattle.site_desk.specs.Moments.{AtOneMoment, HoldsDelta};
+    ghost use Rattle.std.specs.Prelude.{Err};
+    ghost use Rattle.site_exchange.specs.declared.message.TakeFault.{TakeFault};
+    ghost use Rattle.site_desk.specs.Moments.{AtOneMoment, Takes};
     ghost use Rattle.site_desk.specs.SiteView.{SiteInStep};
+    ghost use Rattle.session_server.specs.Exchanged.{held_at_desk};
 
-    ghost holds = { λ message. AtOneMoment L.office L.began (SiteInStep K.failed K.is_trusted K.kept K.may_leave) (HoldsDelta message) };
+    ghost holds = { held_at_desk L.office L.began (SiteInStep K.failed K.is_trusted K.kept K.may_leave) };
+
+    ghost refuses = { λ message. (fault : TakeFault) × AtOneMoment L.office L.began (SiteInStep K.failed K.is_trusted K.kept K.may_leave) (Takes K.failed message (Err fault)) };
 
     fn next<R: Wait>(&self, rt: &R, to: SiteId) -> Option<Message> {
         match self.desk.next(rt, self.alloc, to) {

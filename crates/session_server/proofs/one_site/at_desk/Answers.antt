@@ -7,7 +7,10 @@ use Rattle.site_desk.specs.declared.finish.FinishFault.TheVariants.{SeatsOut}
 use Rattle.site_desk.specs.Count.{asked_since}
 use Rattle.site_desk.specs.Moments.{IsLater}
 use Rattle.site_desk.specs.Seats.{Held, parts_of, shares_of}
+use Rattle.site_desk.specs.SiteView.{SiteInStep}
+use Rattle.session_server.specs.Exchanged.{held_at_desk}
 use Rattle.session_server.specs.Finished.{given_since}
+use Rattle.session_server.proofs.Exchanges.{any_held}
 use Rattle.session_server.proofs.Sites.{entered_by, finished_by, seats_in}
 use Rattle.session_server.proofs.one_site.at_desk.Goals as goal
 
@@ -31,3 +34,7 @@ returns-clause-left g c =
       entered = subst (λ (h : List Entry). c.in_ok-book.finished ≢ Err SeatsOut → asked_since (length h) book.history ≤ given_since (length h) receipts) c.requires.began
           (entered_by (length g.L.Opens.began) share given book receipts looks c.in_ok-book.finished c.in_ok-book.ensures.compared within);
     }
+
+pub returns-clause-peers : goal.returns-clause-peers
+returns-clause-peers g c =
+    any_held (held_at_desk g.L.Opens.office g.L.Opens.began (SiteInStep g.K.Keeper.failed g.K.Keeper.is_trusted g.K.Keeper.kept g.K.Keeper.may_leave)) c.args.rounds _ _ (search rules)

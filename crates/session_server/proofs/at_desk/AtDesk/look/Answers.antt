@@ -1,10 +1,12 @@
-use Rattle.std.proofs.Common.{subst, sym}
+use Rattle.std.proofs.Common.{Ok, rules, subst, sym}
+use Rattle.site_desk.specs.Moments.{AtOneMoment, Looks}
 use Rattle.site_desk.specs.SiteView.{SiteInStep}
-use Rattle.session_server.specs.SeatStep.{WhyNotShown, refusing}
-use Rattle.session_server.proofs.Seats.{why_not_shown}
+use Rattle.session_server.specs.SeatStep.{told_at}
+use Rattle.session_server.proofs.Seats.{look_told}
 use Rattle.session_server.proofs.at_desk.AtDesk.look.Goals as goal
 
-pub returns-in-Err-clause-why : goal.returns-in-Err-clause-why
-returns-in-Err-clause-why g c =
-    let desk = refusing g.L.Opens.office g.L.Opens.began g.K.Keeper.failed (SiteInStep g.K.Keeper.failed g.K.Keeper.is_trusted g.K.Keeper.kept g.K.Keeper.may_leave) in
-    subst (WhyNotShown desk c.args.event) (sym c.not_shown.ensures) (why_not_shown desk c.args.event c.in-Err.fault c.in-Err.ensures.seen)
+pub returns-clause-told : goal.returns-clause-told
+returns-clause-told g c =
+    let in_step = SiteInStep g.K.Keeper.failed g.K.Keeper.is_trusted g.K.Keeper.kept g.K.Keeper.may_leave in
+    look_told (told_at g.L.Opens.office g.L.Opens.began g.K.Keeper.failed in_step) c.args.self.now _ c.in-Ok.seen (search rules) (search rules)
+    (subst (λ event. AtOneMoment g.L.Opens.office g.L.Opens.began in_step (Looks event (Ok c.in-Ok.seen))) (sym c.in-Ok.ensures.event) c.in-Ok.ensures.seen)
