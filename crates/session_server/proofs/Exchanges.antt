@@ -1,6 +1,6 @@
 -- An exchange, message by message and peer by peer.
-use Rattle.std.proofs.Common.{◌≡◌, ℕ, zero, suc, ◌+◌, ◌<◌, ◌≤◌, get_or, set, List, [], ◌∷◌, ◌++◌, length, inl, inr, Some, refl, sym, ap, ◌∙◌, subst, arith}
-use Rattle.std.specs.Prelude.{All, MatchResult, map}
+use Rattle.std.proofs.Common.{◌≡◌, ℕ, zero, suc, ◌+◌, ◌<◌, ◌≤◌, get_or, set, List, [], ◌∷◌, ◌++◌, length, inl, inr, Option, Some, None, refl, sym, ap, ◌∙◌, subst, arith}
+use Rattle.std.specs.Prelude.{All, IfSome, MatchResult, map}
 use Rattle.std.proofs.Common.{Result, Ok, Err}
 use Rattle.std.proofs.lemmas.List.{append-nil, length-append, length_push}
 use Rattle.std.specs.List.{AllZip}
@@ -8,7 +8,7 @@ use Rattle.std.proofs.lemmas.List.Elements.{All-append, All-cons, All-head, All-
 use Rattle.link_queue.specs.End.{End, end_of}
 use Rattle.site_exchange.specs.declared.message.Message.{Message}
 use Rattle.site_exchange.specs.Exchange.{ack_for, receiver}
-use Rattle.session_server.specs.Exchanged.{IsSubsequence, Acknowledges, AnyMessage, SentTo, SentMore, IsEndOf, Exchanged, Sent, Received, HasSent, HasReceived, outgoing, incoming}
+use Rattle.session_server.specs.Exchanged.{IsSubsequence, Acknowledges, AnyGiven, AnyMessage, SentTo, SentMore, IsEndOf, Exchanged, Sent, Received, HasSent, HasReceived, outgoing, incoming}
 use Rattle.session_server.specs.Mesh.{IsNewPeer, linkage_left, linkage_of}
 use Rattle.session_server.specs.Settled.{IsLeftOfNew}
 use Rattle.session_server.specs.declared.peer.Peer.{Peer}
@@ -85,81 +85,87 @@ pub sent_or_back : (Holds : Message → Type 0) (came sent came1 came2 : List Me
 sent_or_back Holds came sent came1 came2 tx tx2 refused m a (Ok done) h is holds p q = (ap (λ e. e.link) q, sent_for Holds came sent came1 tx.messages came2 tx2.messages refused m a h is holds p (ap (λ e. e.messages) q))
 sent_or_back Holds came sent came1 came2 tx tx2 refused m a (Err back) h is holds p q = (ap (λ e. e.link) q.1, came_more Holds came sent came1 tx.messages came2 tx2.messages refused refused m h p (ap (λ e. e.messages) q.1) (omega (arith)))
 
--- nothing more was sent
-sent_nothing : (to most : ℕ) (sent : List Message) → SentTo to most sent sent
-sent_nothing to most sent = record { put = []; more_sent = sym (append-nil sent); for_it = All-nil (λ m. receiver m ≡ to); few = omega (arith) }
+-- what holds of what is there, if anything is
+pub if_some : {X : Type 0} (P : Option X → Type 0) (o : Option X) → P o → IfSome o (λ x. P (Some x))
+if_some P None h = tt
+if_some P (Some x) h = h
 
-sent_then : (to m n : ℕ) (a b c : List Message) → SentTo to m a b → SentTo to n b c → SentTo to (m + n) a c
-sent_then to m n a b c h k = record {
+-- nothing more was sent
+sent_nothing : (Gives : ℕ → Message → Type 0) (to most : ℕ) (sent : List Message) → SentTo Gives to most sent sent
+sent_nothing Gives to most sent = record { put = []; more_sent = sym (append-nil sent); for_it = All-nil (λ m. receiver m ≡ to); given = All-nil (Gives to); few = omega (arith) }
+
+sent_then : (Gives : ℕ → Message → Type 0) (to m n : ℕ) (a b c : List Message) → SentTo Gives to m a b → SentTo Gives to n b c → SentTo Gives to (m + n) a c
+sent_then Gives to m n a b c h k = record {
   put = h.put ++ k.put;
   more_sent = k.more_sent ∙ ap (λ l. l ++ k.put) h.more_sent ∙ associative a h.put k.put;
   for_it = All-append (λ m. receiver m ≡ to) h.put k.put h.for_it k.for_it;
+  given = All-append (Gives to) h.put k.put h.given k.given;
   few = omega (arith, h.few, k.few, length-append h.put k.put);
 }
 
-pub not_sent : (most : ℕ) (out : Outgoing) → SentMore most out out
-not_sent most out = record { to = refl; link = refl; put = sent_nothing out.to most out.tx.messages }
+pub not_sent : (Gives : ℕ → Message → Type 0) (most : ℕ) (out : Outgoing) → SentMore Gives most out out
+not_sent Gives most out = record { to = refl; link = refl; put = sent_nothing Gives out.to most out.tx.messages }
 
-more_then : (m n : ℕ) (x y z : Outgoing) → SentMore m x y → SentMore n y z → SentMore (m + n) x z
-more_then m n x y z h k = record {
+more_then : (Gives : ℕ → Message → Type 0) (m n : ℕ) (x y z : Outgoing) → SentMore Gives m x y → SentMore Gives n y z → SentMore Gives (m + n) x z
+more_then Gives m n x y z h k = record {
   to = k.to ∙ h.to;
   link = k.link ∙ h.link;
-  put = sent_then x.to m n x.tx.messages y.tx.messages z.tx.messages h.put (subst (λ to. SentTo to n y.tx.messages z.tx.messages) h.to k.put);
+  put = sent_then Gives x.to m n x.tx.messages y.tx.messages z.tx.messages h.put (subst (λ to. SentTo Gives to n y.tx.messages z.tx.messages) h.to k.put);
 }
 
-pub none_sent : (most : ℕ) (xs : List Outgoing) → AllZip (SentMore most) xs xs
-none_sent most [] = tt
-none_sent most (x ∷ xs) = (not_sent most x, none_sent most xs)
+pub none_sent : (Gives : ℕ → Message → Type 0) (most : ℕ) (xs : List Outgoing) → AllZip (SentMore Gives most) xs xs
+none_sent Gives most [] = tt
+none_sent Gives most (x ∷ xs) = (not_sent Gives most x, none_sent Gives most xs)
 
-pub all_then : (m n : ℕ) (xs ys zs : List Outgoing) → AllZip (SentMore m) xs ys → AllZip (SentMore n) ys zs → AllZip (SentMore (m + n)) xs zs
-all_then m n [] [] [] h k = tt
-all_then m n [] [] (z ∷ zs) h k = absurd k
-all_then m n [] (y ∷ ys) zs h k = absurd h
-all_then m n (x ∷ xs) [] zs h k = absurd h
-all_then m n (x ∷ xs) (y ∷ ys) [] h k = absurd k
-all_then m n (x ∷ xs) (y ∷ ys) (z ∷ zs) h k = (more_then m n x y z h.0 k.0, all_then m n xs ys zs h.1 k.1)
+pub all_then : (Gives : ℕ → Message → Type 0) (m n : ℕ) (xs ys zs : List Outgoing) → AllZip (SentMore Gives m) xs ys → AllZip (SentMore Gives n) ys zs → AllZip (SentMore Gives (m + n)) xs zs
+all_then Gives m n [] [] [] h k = tt
+all_then Gives m n [] [] (z ∷ zs) h k = absurd k
+all_then Gives m n [] (y ∷ ys) zs h k = absurd h
+all_then Gives m n (x ∷ xs) [] zs h k = absurd h
+all_then Gives m n (x ∷ xs) (y ∷ ys) [] h k = absurd k
+all_then Gives m n (x ∷ xs) (y ∷ ys) (z ∷ zs) h k = (more_then Gives m n x y z h.0 k.0, all_then Gives m n xs ys zs h.1 k.1)
 
 -- on the first so many links one message was sent at most, on the others none
-abbrev pub FirstSent : ℕ → List Outgoing → List Outgoing → Type 0
-FirstSent zero xs ys = ys ≡ xs
-FirstSent (suc k) [] ys = ys ≡ []
-FirstSent (suc k) (x ∷ xs) [] = ⊥
-FirstSent (suc k) (x ∷ xs) (y ∷ ys) = SentMore 1 x y × FirstSent k xs ys
+abbrev pub FirstSent : (ℕ → Message → Type 0) → ℕ → List Outgoing → List Outgoing → Type 0
+FirstSent Gives zero xs ys = ys ≡ xs
+FirstSent Gives (suc k) [] ys = ys ≡ []
+FirstSent Gives (suc k) (x ∷ xs) [] = ⊥
+FirstSent Gives (suc k) (x ∷ xs) (y ∷ ys) = SentMore Gives 1 x y × FirstSent Gives k xs ys
 
-one_more_sent : (k : ℕ) (xs ys : List Outgoing) (x y : Outgoing) → k < length xs → FirstSent k xs ys → x ≡ get_or ys k x → SentMore 1 x y → FirstSent (suc k) xs (set ys k y)
-one_more_sent k [] ys x y lt h is s = absurd (omega (arith, lt))
-one_more_sent zero (z ∷ xs) ys x y lt h is s =
-    subst (λ l. FirstSent (suc zero) (z ∷ xs) (set l zero y)) (sym h) (subst (λ a. SentMore 1 a y) (is ∙ ap (λ l. get_or l zero x) h) s, refl)
-one_more_sent (suc k) (z ∷ xs) [] x y lt h is s = absurd h
-one_more_sent (suc k) (z ∷ xs) (w ∷ ys) x y lt h is s = (h.0, one_more_sent k xs ys x y (omega (arith, lt)) h.1 is s)
+one_more_sent : (Gives : ℕ → Message → Type 0) (k : ℕ) (xs ys : List Outgoing) (x y : Outgoing) → k < length xs → FirstSent Gives k xs ys → x ≡ get_or ys k x → SentMore Gives 1 x y → FirstSent Gives (suc k) xs (set ys k y)
+one_more_sent Gives k [] ys x y lt h is s = absurd (omega (arith, lt))
+one_more_sent Gives zero (z ∷ xs) ys x y lt h is s =
+    subst (λ l. FirstSent Gives (suc zero) (z ∷ xs) (set l zero y)) (sym h) (subst (λ a. SentMore Gives 1 a y) (is ∙ ap (λ l. get_or l zero x) h) s, refl)
+one_more_sent Gives (suc k) (z ∷ xs) [] x y lt h is s = absurd h
+one_more_sent Gives (suc k) (z ∷ xs) (w ∷ ys) x y lt h is s = (h.0, one_more_sent Gives k xs ys x y (omega (arith, lt)) h.1 is s)
 
 -- one of the links was sent on
-pub next_sent : (k : ℕ) (xs ys : List Outgoing) (x y : Outgoing) → k < length xs → FirstSent k xs ys → x ≡ get_or ys k x → SentMore 1 x y → FirstSent (k + 1) xs (set ys k y)
-next_sent k xs ys x y lt h is s =
+pub next_sent : (Gives : ℕ → Message → Type 0) (k : ℕ) (xs ys : List Outgoing) (x y : Outgoing) → k < length xs → FirstSent Gives k xs ys → x ≡ get_or ys k x → SentMore Gives 1 x y → FirstSent Gives (k + 1) xs (set ys k y)
+next_sent Gives k xs ys x y lt h is s =
     let next : suc k ≡ k + 1 = omega (arith) in
-    subst (λ n. FirstSent n xs (set ys k y)) next (one_more_sent k xs ys x y lt h is s)
+    subst (λ n. FirstSent Gives n xs (set ys k y)) next (one_more_sent Gives k xs ys x y lt h is s)
 
 -- all of them were
-pub all_sent : (k : ℕ) (xs ys : List Outgoing) → length xs ≤ k → FirstSent k xs ys → AllZip (SentMore 1) xs ys
-all_sent zero [] ys le h = subst (AllZip (SentMore 1) []) (sym h) tt
-all_sent (suc k) [] ys le h = subst (AllZip (SentMore 1) []) (sym h) tt
-all_sent zero (x ∷ xs) ys le h = absurd (omega (arith, le))
-all_sent (suc k) (x ∷ xs) [] le h = absurd h
-all_sent (suc k) (x ∷ xs) (y ∷ ys) le h = (h.0, all_sent k xs ys (omega (arith, le)) h.1)
+pub all_sent : (Gives : ℕ → Message → Type 0) (k : ℕ) (xs ys : List Outgoing) → length xs ≤ k → FirstSent Gives k xs ys → AllZip (SentMore Gives 1) xs ys
+all_sent Gives zero [] ys le h = subst (AllZip (SentMore Gives 1) []) (sym h) tt
+all_sent Gives (suc k) [] ys le h = subst (AllZip (SentMore Gives 1) []) (sym h) tt
+all_sent Gives zero (x ∷ xs) ys le h = absurd (omega (arith, le))
+all_sent Gives (suc k) (x ∷ xs) [] le h = absurd h
+all_sent Gives (suc k) (x ∷ xs) (y ∷ ys) le h = (h.0, all_sent Gives k xs ys (omega (arith, le)) h.1)
 
-pub sent_from : (most : ℕ) (xs ys : List Outgoing) (es : List OutgoingEnd) → AllZip (SentMore most) xs ys → AllZip IsEndOf ys es → AllZip (Sent most) xs es
-sent_from most [] [] [] h k = tt
-sent_from most [] [] (e ∷ es) h k = absurd k
-sent_from most [] (y ∷ ys) es h k = absurd h
-sent_from most (x ∷ xs) [] es h k = absurd h
-sent_from most (x ∷ xs) (y ∷ ys) [] h k = absurd k
-sent_from most (x ∷ xs) (y ∷ ys) (e ∷ es) h k = (ended x y e h.0 k.0, sent_from most xs ys es h.1 k.1)
+pub sent_from : (Gives : ℕ → Message → Type 0) (most : ℕ) (xs ys : List Outgoing) (es : List OutgoingEnd) → AllZip (SentMore Gives most) xs ys → AllZip IsEndOf ys es → AllZip (Sent Gives most) xs es
+sent_from Gives most [] [] [] h k = tt
+sent_from Gives most [] [] (e ∷ es) h k = absurd k
+sent_from Gives most [] (y ∷ ys) es h k = absurd h
+sent_from Gives most (x ∷ xs) [] es h k = absurd h
+sent_from Gives most (x ∷ xs) (y ∷ ys) [] h k = absurd k
+sent_from Gives most (x ∷ xs) (y ∷ ys) (e ∷ es) h k = (ended x y e h.0 k.0, sent_from Gives most xs ys es h.1 k.1)
   where
-    ended : (x y : Outgoing) (e : OutgoingEnd) → SentMore most x y → IsEndOf y e → Sent most x e
+    ended : (x y : Outgoing) (e : OutgoingEnd) → SentMore Gives most x y → IsEndOf y e → Sent Gives most x e
     ended x y e h k = record {
       to = k.to ∙ h.to;
       link = ap (λ (t : End). t.link) k.tx ∙ h.link;
-      put = subst (SentTo x.to most x.tx.messages) (sym (ap (λ (t : End). t.messages) k.tx)) h.put;
+      put = subst (SentTo Gives x.to most x.tx.messages) (sym (ap (λ (t : End). t.messages) k.tx)) h.put;
     }
 
 -- the same by other names
@@ -169,48 +175,52 @@ told Holds came sent n n2 rx rx2 tx tx2 a b c h =
     (subst (λ (r : End). Acknowledges Holds came sent n r.messages tx2.messages) (sym b)
     (subst (λ (t : End). Acknowledges Holds came sent n rx.messages t.messages) (sym c) h))
 
-pub exchanged : (Holds : Message → Type 0) (rounds : ℕ) (ps : List Peer) (os : List OutgoingEnd) (is : List IncomingEnd) (es : List PeerEnd)
-    → AllZip (Sent rounds) (map outgoing ps) os → AllZip (Received Holds) (map incoming ps) is → AllZip HasSent os es → AllZip HasReceived is es → AllZip (Exchanged Holds rounds) ps es
-exchanged Holds rounds [] [] [] [] s r hs hr = tt
-exchanged Holds rounds [] [] [] (e ∷ es) s r hs hr = absurd hs
-exchanged Holds rounds [] [] (i ∷ is) es s r hs hr = absurd r
-exchanged Holds rounds [] (o ∷ os) is es s r hs hr = absurd s
-exchanged Holds rounds (p ∷ ps) [] is es s r hs hr = absurd s
-exchanged Holds rounds (p ∷ ps) (o ∷ os) [] es s r hs hr = absurd r
-exchanged Holds rounds (p ∷ ps) (o ∷ os) (i ∷ is) [] s r hs hr = absurd hs
-exchanged Holds rounds (p ∷ ps) (o ∷ os) (i ∷ is) (e ∷ es) s r hs hr = (one p o i e s.0 r.0 hs.0 hr.0, exchanged Holds rounds ps os is es s.1 r.1 hs.1 hr.1)
+pub exchanged : (Holds : Message → Type 0) (Gives : ℕ → Message → Type 0) (rounds : ℕ) (ps : List Peer) (os : List OutgoingEnd) (is : List IncomingEnd) (es : List PeerEnd)
+    → AllZip (Sent Gives rounds) (map outgoing ps) os → AllZip (Received Holds) (map incoming ps) is → AllZip HasSent os es → AllZip HasReceived is es → AllZip (Exchanged Holds Gives rounds) ps es
+exchanged Holds Gives rounds [] [] [] [] s r hs hr = tt
+exchanged Holds Gives rounds [] [] [] (e ∷ es) s r hs hr = absurd hs
+exchanged Holds Gives rounds [] [] (i ∷ is) es s r hs hr = absurd r
+exchanged Holds Gives rounds [] (o ∷ os) is es s r hs hr = absurd s
+exchanged Holds Gives rounds (p ∷ ps) [] is es s r hs hr = absurd s
+exchanged Holds Gives rounds (p ∷ ps) (o ∷ os) [] es s r hs hr = absurd r
+exchanged Holds Gives rounds (p ∷ ps) (o ∷ os) (i ∷ is) [] s r hs hr = absurd hs
+exchanged Holds Gives rounds (p ∷ ps) (o ∷ os) (i ∷ is) (e ∷ es) s r hs hr = (one p o i e s.0 r.0 hs.0 hr.0, exchanged Holds Gives rounds ps os is es s.1 r.1 hs.1 hr.1)
   where
-    one : (p : Peer) (o : OutgoingEnd) (i : IncomingEnd) (e : PeerEnd) → Sent rounds (outgoing p) o → Received Holds (incoming p) i → HasSent o e → HasReceived i e → Exchanged Holds rounds p e
+    one : (p : Peer) (o : OutgoingEnd) (i : IncomingEnd) (e : PeerEnd) → Sent Gives rounds (outgoing p) o → Received Holds (incoming p) i → HasSent o e → HasReceived i e → Exchanged Holds Gives rounds p e
     one p o i e s r hs hr = record {
       to = hs.to ∙ s.to;
       delta_tx = ap (λ t. t.link) hs.delta_tx ∙ s.link;
       ack_tx = ap (λ t. t.link) hr.ack_tx ∙ r.ack_tx;
       delta_rx = ap (λ t. t.link) hr.delta_rx ∙ r.delta_rx;
       ack_rx = ap (λ t. t.link) hr.ack_rx ∙ r.ack_rx;
-      sent = subst (SentTo p.to rounds p.delta_tx.messages) (sym (ap (λ (t : End). t.messages) hs.delta_tx)) s.put;
+      sent = subst (SentTo Gives p.to rounds p.delta_tx.messages) (sym (ap (λ (t : End). t.messages) hs.delta_tx)) s.put;
       acks_counted = omega (arith, r.acks_counted, hr.acks_refused, ap (λ (t : End). length t.messages) hr.ack_rx);
       acknowledged = told _ _ _ _ _ _ _ _ _ hr.refused hr.delta_rx hr.ack_tx r.acknowledged;
     }
 
--- the same, with nothing said of what is held
-pub any_held : (Holds : Message → Type 0) (rounds : ℕ) (ps : List Peer) (es : List PeerEnd) → AllZip (Exchanged Holds rounds) ps es → AllZip (Exchanged AnyMessage rounds) ps es
-any_held Holds rounds [] [] h = h
-any_held Holds rounds [] (e ∷ es) h = h
-any_held Holds rounds (p ∷ ps) [] h = h
-any_held Holds rounds (p ∷ ps) (e ∷ es) h = (less p e h.0, any_held Holds rounds ps es h.1)
+-- the same, with nothing said of what is held and given
+pub any_held : (Holds : Message → Type 0) (Gives : ℕ → Message → Type 0) (rounds : ℕ) (ps : List Peer) (es : List PeerEnd) → AllZip (Exchanged Holds Gives rounds) ps es → AllZip (Exchanged AnyMessage AnyGiven rounds) ps es
+any_held Holds Gives rounds [] [] h = h
+any_held Holds Gives rounds [] (e ∷ es) h = h
+any_held Holds Gives rounds (p ∷ ps) [] h = h
+any_held Holds Gives rounds (p ∷ ps) (e ∷ es) h = (less p e h.0, any_held Holds Gives rounds ps es h.1)
   where
     all_any : (ms : List Message) → All Holds ms → All AnyMessage ms
     all_any [] a = All-nil AnyMessage
     all_any (m ∷ ms) a = All-cons AnyMessage m ms tt (all_any ms (All-tail Holds m ms a))
 
-    less : (p : Peer) (e : PeerEnd) → Exchanged Holds rounds p e → Exchanged AnyMessage rounds p e
+    all_given : (to : ℕ) (ms : List Message) → All (AnyGiven to) ms
+    all_given to [] = All-nil (AnyGiven to)
+    all_given to (m ∷ ms) = All-cons (AnyGiven to) m ms tt (all_given to ms)
+
+    less : (p : Peer) (e : PeerEnd) → Exchanged Holds Gives rounds p e → Exchanged AnyMessage AnyGiven rounds p e
     less p e h = record {
       to = h.to;
       delta_tx = h.delta_tx;
       ack_tx = h.ack_tx;
       delta_rx = h.delta_rx;
       ack_rx = h.ack_rx;
-      sent = h.sent;
+      sent = record { put = h.sent.put; more_sent = h.sent.more_sent; for_it = h.sent.for_it; given = all_given p.to h.sent.put; few = h.sent.few };
       acks_counted = h.acks_counted;
       acknowledged =
           let a = h.acknowledged in
@@ -218,48 +228,48 @@ any_held Holds rounds (p ∷ ps) (e ∷ es) h = (less p e h.0, any_held Holds ro
     }
 
 -- the same by other names
-pub exchanged_as : (n rounds : ℕ) (ps qs : List Peer) (es fs : List PeerEnd) → n ≡ rounds → ps ≡ qs → fs ≡ es → AllZip (Exchanged AnyMessage n) ps es → AllZip (Exchanged AnyMessage rounds) qs fs
-exchanged_as n rounds ps qs es fs same of by h = subst (λ l. AllZip (Exchanged AnyMessage rounds) qs l) (sym by) (subst (λ l. AllZip (Exchanged AnyMessage rounds) l es) of (subst (λ m. AllZip (Exchanged AnyMessage m) ps es) same h))
+pub exchanged_as : (n rounds : ℕ) (ps qs : List Peer) (es fs : List PeerEnd) → n ≡ rounds → ps ≡ qs → fs ≡ es → AllZip (Exchanged AnyMessage AnyGiven n) ps es → AllZip (Exchanged AnyMessage AnyGiven rounds) qs fs
+exchanged_as n rounds ps qs es fs same of by h = subst (λ l. AllZip (Exchanged AnyMessage AnyGiven rounds) qs l) (sym by) (subst (λ l. AllZip (Exchanged AnyMessage AnyGiven rounds) l es) of (subst (λ m. AllZip (Exchanged AnyMessage AnyGiven m) ps es) same h))
 
 -- one pair more at the ends of two lists
 pub paired : {A B : Type 0} (R : A → B → Type 0) (xs xs' : List A) (ys ys' : List B) (x : A) (y : B) → xs ≡ xs' ++ x ∷ [] → ys ≡ ys' ++ y ∷ [] → AllZip R xs' ys' → R x y → AllZip R xs ys
 paired R xs xs' ys ys' x y p q h r = subst (λ l. AllZip R l ys) (sym p) (subst (λ l. AllZip R (xs' ++ x ∷ []) l) (sym q) (all_zip_push R xs' ys' x y h r))
 
 -- the ends are of the links of what was handed in
-pub same_links : (rounds : ℕ) (ps : List Peer) (es : List PeerEnd) → AllZip (Exchanged AnyMessage rounds) ps es → map linkage_left es ≡ map linkage_of ps
+pub same_links : (rounds : ℕ) (ps : List Peer) (es : List PeerEnd) → AllZip (Exchanged AnyMessage AnyGiven rounds) ps es → map linkage_left es ≡ map linkage_of ps
 same_links rounds [] [] h = refl
 same_links rounds [] (e ∷ es) h = absurd h
 same_links rounds (p ∷ ps) [] h = absurd h
 same_links rounds (p ∷ ps) (e ∷ es) h = λ i. record { delta_tx = h.0.delta_tx i; ack_tx = h.0.ack_tx i; delta_rx = h.0.delta_rx i; ack_rx = h.0.ack_rx i } ∷ same_links rounds ps es h.1 i
 
 -- each site's ends are of its links
-pub rows_linked : {A B : Type 0} (rounds : ℕ) (peers : A → List Peer) (ends : B → List PeerEnd) (xs : List A) (ys : List B) → AllZip (λ x y. AllZip (Exchanged AnyMessage rounds) (peers x) (ends y)) xs ys → map (λ y. map linkage_left (ends y)) ys ≡ map (λ x. map linkage_of (peers x)) xs
+pub rows_linked : {A B : Type 0} (rounds : ℕ) (peers : A → List Peer) (ends : B → List PeerEnd) (xs : List A) (ys : List B) → AllZip (λ x y. AllZip (Exchanged AnyMessage AnyGiven rounds) (peers x) (ends y)) xs ys → map (λ y. map linkage_left (ends y)) ys ≡ map (λ x. map linkage_of (peers x)) xs
 rows_linked rounds peers ends [] [] h = refl
 rows_linked rounds peers ends [] (y ∷ ys) h = absurd h
 rows_linked rounds peers ends (x ∷ xs) [] h = absurd h
 rows_linked rounds peers ends (x ∷ xs) (y ∷ ys) h = λ i. same_links rounds (peers x) (ends y) h.0 i ∷ rows_linked rounds peers ends xs ys h.1 i
 
-same_names : (rounds : ℕ) (ps : List Peer) (es : List PeerEnd) → AllZip (Exchanged AnyMessage rounds) ps es → map (λ e. e.to) es ≡ map (λ p. p.to) ps
+same_names : (rounds : ℕ) (ps : List Peer) (es : List PeerEnd) → AllZip (Exchanged AnyMessage AnyGiven rounds) ps es → map (λ e. e.to) es ≡ map (λ p. p.to) ps
 same_names rounds [] [] h = refl
 same_names rounds [] (e ∷ es) h = absurd h
 same_names rounds (p ∷ ps) [] h = absurd h
 same_names rounds (p ∷ ps) (e ∷ es) h = λ i. h.0.to i ∷ same_names rounds ps es h.1 i
 
 -- and has the names that were handed in
-pub rows_named : {A B : Type 0} (rounds : ℕ) (peers : A → List Peer) (ends : B → List PeerEnd) (xs : List A) (ys : List B) → AllZip (λ x y. AllZip (Exchanged AnyMessage rounds) (peers x) (ends y)) xs ys → map (λ y. map (λ e. e.to) (ends y)) ys ≡ map (λ x. map (λ p. p.to) (peers x)) xs
+pub rows_named : {A B : Type 0} (rounds : ℕ) (peers : A → List Peer) (ends : B → List PeerEnd) (xs : List A) (ys : List B) → AllZip (λ x y. AllZip (Exchanged AnyMessage AnyGiven rounds) (peers x) (ends y)) xs ys → map (λ y. map (λ e. e.to) (ends y)) ys ≡ map (λ x. map (λ p. p.to) (peers x)) xs
 rows_named rounds peers ends [] [] h = refl
 rows_named rounds peers ends [] (y ∷ ys) h = absurd h
 rows_named rounds peers ends (x ∷ xs) [] h = absurd h
 rows_named rounds peers ends (x ∷ xs) (y ∷ ys) h = λ i. same_names rounds (peers x) (ends y) h.0 i ∷ rows_named rounds peers ends xs ys h.1 i
 
-left_of_new : (rounds : ℕ) (ps : List Peer) (es : List PeerEnd) → All IsNewPeer ps → AllZip (Exchanged AnyMessage rounds) ps es → All (IsLeftOfNew rounds) es
+left_of_new : (rounds : ℕ) (ps : List Peer) (es : List PeerEnd) → All IsNewPeer ps → AllZip (Exchanged AnyMessage AnyGiven rounds) ps es → All (IsLeftOfNew rounds) es
 left_of_new rounds [] [] n h = All-nil (IsLeftOfNew rounds)
 left_of_new rounds [] (e ∷ es) n h = absurd h
 left_of_new rounds (p ∷ ps) [] n h = absurd h
 left_of_new rounds (p ∷ ps) (e ∷ es) n h = All-cons (IsLeftOfNew rounds) e es (p, All-head IsNewPeer p ps n, h.0) (left_of_new rounds ps es (All-tail IsNewPeer p ps n) h.1)
 
 -- and each was left by an exchange of new links
-pub rows_left : {A B : Type 0} (rounds : ℕ) (peers : A → List Peer) (ends : B → List PeerEnd) (xs : List A) (ys : List B) → All (λ x. All IsNewPeer (peers x)) xs → AllZip (λ x y. AllZip (Exchanged AnyMessage rounds) (peers x) (ends y)) xs ys → All (λ row. All (IsLeftOfNew rounds) row) (map ends ys)
+pub rows_left : {A B : Type 0} (rounds : ℕ) (peers : A → List Peer) (ends : B → List PeerEnd) (xs : List A) (ys : List B) → All (λ x. All IsNewPeer (peers x)) xs → AllZip (λ x y. AllZip (Exchanged AnyMessage AnyGiven rounds) (peers x) (ends y)) xs ys → All (λ row. All (IsLeftOfNew rounds) row) (map ends ys)
 rows_left rounds peers ends [] [] n h = All-nil (λ row. All (IsLeftOfNew rounds) row)
 rows_left rounds peers ends [] (y ∷ ys) n h = absurd h
 rows_left rounds peers ends (x ∷ xs) [] n h = absurd h

@@ -53,6 +53,15 @@ pub if_err : {T E : Type 0} (P : Result T E → Type 0) (result : Result T E) �
 if_err P (Ok x) h = tt
 if_err P (Err fault) h = h
 
+-- and what follows from one error
+pub if_shut : {T E : Type 0} (store : E) (X : Type 0) (result : Result T E) → (result ≡ Err store → X) → IfErr result (λ fault. fault ≡ store → X)
+if_shut store X (Ok x) h = tt
+if_shut store X (Err fault) h = λ same. h (ap Err same)
+
+pub both_if_err : {T E : Type 0} (P Q : E → Type 0) (result : Result T E) → IfErr result P → IfErr result Q → IfErr result (λ fault. P fault × Q fault)
+both_if_err P Q (Ok x) h k = tt
+both_if_err P Q (Err fault) h k = (h, k)
+
 -- a request came to this, and its receipt, if it has one, was kept
 pub asked_at_desk : (t : Telling) (opening : ℕ) (old new : Seated) (number : ℕ) (request : Request) (came : Result (Answer × Receipt) AskFault) (answered : Answered)
     → MatchResult came (λ r. answered ≡ Kept r.0.reply) (λ fault. answered ≡ Refused fault) → MatchResult came (λ r. new.receipts ≡ old.receipts ++ r.1 ∷ []) (λ _. new.receipts ≡ old.receipts) → new.looks ≡ old.looks

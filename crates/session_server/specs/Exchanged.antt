@@ -1,11 +1,11 @@
 -- What an exchange leaves of the links to a peer. (That a replica acknowledges what it joined: JPDC 2018; the links: our own.)
-use Rattle.std.specs.Prelude.{◌≡◌, ℕ, ◌+◌, ◌≤◌, All, List, [], ◌∷◌, ◌++◌, length, Some, ◌⊎◌}
+use Rattle.std.specs.Prelude.{◌≡◌, ℕ, ◌+◌, ◌≤◌, All, List, [], ◌∷◌, ◌++◌, length, Some, Ok, ◌⊎◌}
 use Rattle.std.specs.List.{AllZip}
 use Rattle.book_core.specs.declared.entry.Entry.{Entry}
 use Rattle.book_core.specs.Decision.{Office}
 use Rattle.site_exchange.specs.declared.message.Message.{Message}
 use Rattle.site_exchange.specs.Exchange.{ack_for, receiver}
-use Rattle.site_desk.specs.Moments.{AtOneMoment, HoldsDelta}
+use Rattle.site_desk.specs.Moments.{AtOneMoment, HoldsDelta, Sends}
 use Rattle.site_desk.specs.SiteView.{SiteView}
 use Rattle.session_server.specs.declared.peer.Peer.{Peer}
 use Rattle.session_server.specs.declared.peer.PeerEnd.{PeerEnd}
@@ -33,30 +33,38 @@ pub record Acknowledges (Holds : Message → Type 0) (came sent : List Message) 
   pub due : AllZip (λ message ack. ack_for message ≡ Some ack) taken put
   pub counted : length put + refused ≤ length got
 
--- where nothing is said of what is held
+-- where nothing is said of what is held, and of what is given for a peer
 abbrev pub AnyMessage : Message → Type 0
 AnyMessage message = Unit {0}
 
--- some open book that may stand at the desk has what the message brings
+abbrev pub AnyGiven : ℕ → Message → Type 0
+AnyGiven to message = Unit {0}
+
+-- some open book that may stand at the desk has the delta that the message brings, if it brings one
 abbrev pub held_at_desk : {K : Type 0} → Office → List Entry → (SiteView K → Type 0) → Message → Type 0
 held_at_desk office began InStep message = AtOneMoment office began InStep (HoldsDelta message)
 
--- Since there were these messages, no more than so many were sent, each of them to this site.
-pub record SentTo (to most : ℕ) (sent sent_now : List Message) : Type 0 where
+-- some open book that may stand at the desk has this message due to that peer
+abbrev pub given_at_desk : {K : Type 0} → Office → List Entry → (SiteView K → Type 0) → ℕ → Message → Type 0
+given_at_desk office began InStep to message = AtOneMoment office began InStep (Sends to (Ok (Some message)))
+
+-- Since there were these messages, no more than so many were sent, each of them to this site, and given for it.
+pub record SentTo (Gives : ℕ → Message → Type 0) (to most : ℕ) (sent sent_now : List Message) : Type 0 where
   pub put : List Message
   pub more_sent : sent_now ≡ sent ++ put
   pub for_it : All (λ m. receiver m ≡ to) put
+  pub given : All (Gives to) put
   pub few : length put ≤ most
 
--- The ends are those of the peer's links. What was sent is for the peer, no more than a message for each round; what was
+-- The ends are those of the peer's links. What was sent was given for the peer, no more than a message for each round; what was
 -- sent back acknowledges what came and is held, and no more acknowledgements were refused than came.
-pub record Exchanged (Holds : Message → Type 0) (rounds : ℕ) (peer : Peer) (end : PeerEnd) : Type 0 where
+pub record Exchanged (Holds : Message → Type 0) (Gives : ℕ → Message → Type 0) (rounds : ℕ) (peer : Peer) (end : PeerEnd) : Type 0 where
   pub to : end.to ≡ peer.to
   pub delta_tx : end.delta_tx.link ≡ peer.delta_tx.link
   pub ack_tx : end.ack_tx.link ≡ peer.ack_tx.link
   pub delta_rx : end.delta_rx.link ≡ peer.delta_rx.link
   pub ack_rx : end.ack_rx.link ≡ peer.ack_rx.link
-  pub sent : SentTo peer.to rounds peer.delta_tx.messages end.delta_tx.messages
+  pub sent : SentTo Gives peer.to rounds peer.delta_tx.messages end.delta_tx.messages
   pub acks_counted : length peer.ack_rx.messages + end.acks_refused ≤ length end.ack_rx.messages
   pub acknowledged : Acknowledges Holds peer.delta_rx.messages peer.ack_tx.messages end.deltas_refused end.delta_rx.messages end.ack_tx.messages
 
@@ -68,10 +76,10 @@ abbrev pub incoming : Peer → Incoming
 incoming peer = record { delta_rx = peer.delta_rx; ack_tx = peer.ack_tx; ack_rx = peer.ack_rx }
 
 -- a link on which no more than so many messages were sent, each for its peer
-pub record SentMore (most : ℕ) (before after : Outgoing) : Type 0 where
+pub record SentMore (Gives : ℕ → Message → Type 0) (most : ℕ) (before after : Outgoing) : Type 0 where
   pub to : after.to ≡ before.to
   pub link : after.tx.link ≡ before.tx.link
-  pub put : SentTo before.to most before.tx.messages after.tx.messages
+  pub put : SentTo Gives before.to most before.tx.messages after.tx.messages
 
 -- the end of a link, with what was sent on it
 pub record IsEndOf (out : Outgoing) (end : OutgoingEnd) : Type 0 where
@@ -79,10 +87,10 @@ pub record IsEndOf (out : Outgoing) (end : OutgoingEnd) : Type 0 where
   pub tx : end.tx ≡ out.tx
 
 -- the end of a link on which no more than so many messages were sent
-pub record Sent (most : ℕ) (out : Outgoing) (end : OutgoingEnd) : Type 0 where
+pub record Sent (Gives : ℕ → Message → Type 0) (most : ℕ) (out : Outgoing) (end : OutgoingEnd) : Type 0 where
   pub to : end.to ≡ out.to
   pub link : end.tx.link ≡ out.tx.link
-  pub put : SentTo out.to most out.tx.messages end.tx.messages
+  pub put : SentTo Gives out.to most out.tx.messages end.tx.messages
 
 -- the ends of the links that were received on, with what was acknowledged, all of it held
 pub record Received (Holds : Message → Type 0) (before : Incoming) (after : IncomingEnd) : Type 0 where

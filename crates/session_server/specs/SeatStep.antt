@@ -1,5 +1,5 @@
 -- How a seat at a desk answers the lines of a session, and what it was given. (Our own.)
-use Rattle.std.specs.Prelude.{◌≡◌, ◌⊎◌, ⊤, ℕ, ◌+◌, ◌≤◌, List, [], ◌∷◌, ◌++◌, All, Ok, Err}
+use Rattle.std.specs.Prelude.{◌≡◌, ◌⊎◌, ⊤, ℕ, ◌+◌, ◌≤◌, List, [], ◌∷◌, ◌++◌, All, true, Ok, Err}
 use Rattle.request_ledger.specs.declared.request.Request.{Request}
 use Rattle.book_core.specs.declared.entry.Entry.{Entry}
 use Rattle.book_core.specs.Decision.{Office}
@@ -74,10 +74,10 @@ pub record Telling : Type 1 where
   pub receipts : Receipt → Type 0
   pub shows : Seen → Type 0
 
--- what it may tell as the book that stands under its lock, at one moment
+-- what it may tell as a book that may stand under its lock; where it tells `store`, one that may is closed
 abbrev pub told_at : {K : Type 0} → Office → List Entry → (K → ℕ) → (SiteView K → Type 0) → Telling
 told_at office began failed InStep = record {
-  refuses = λ number request fault. AtOneMoment office began InStep (Replies failed number request (Err fault));
+  refuses = λ number request fault. AtOneMoment office began InStep (Replies failed number request (Err fault)) × (fault ≡ ask.Store → AtOneMoment office began InStep (λ site. site.closed ≡ true));
   hides = λ event fault. AtOneMoment office began InStep (Looks event (Err fault));
   receipts = λ receipt. AtOneMoment office began InStep (HoldsReceipt receipt);
   shows = λ seen. AtOneMoment office began InStep (Looks seen.event (Ok seen));
@@ -88,11 +88,11 @@ pub record AreTold (t : Telling) (s : Seated) : Type 0 where
   pub receipts : All t.receipts s.receipts
   pub looks : All t.shows s.looks
 
--- a look shows nothing since memory was refused at the seat, or since the desk may show nothing
+-- where a look shows nothing, `memory` is told, or what the desk may tell
 abbrev pub WhyNotShown : Telling → List ℕ → Answered → Type 0
 WhyNotShown t event answered = (answered ≡ Refused ask.Memory) ⊎ ((fault : LookFault) × (answered ≡ not_shown fault) × t.hides event fault)
 
--- a line is refused since memory was refused at the seat, or since the desk may refuse it
+-- where a line is refused, `memory` is told, or what the desk may tell
 abbrev pub WhyRefused : Telling → Line → Answered → Type 0
 WhyRefused t (Ask number request) (Refused fault) = (fault ≡ ask.Memory) ⊎ t.refuses number request fault
 WhyRefused t (Left event) NotKnown = WhyNotShown t event NotKnown

@@ -1,6 +1,6 @@
 //! A desk as its links see it.
 
-ghost use Rattle.std.specs.Prelude.{◌≡◌, IfErr, IfOk, IfSome};
+ghost use Rattle.std.specs.Prelude.{◌≡◌, ℕ, IfErr, IfOk, IfSome};
 ghost use Rattle.site_exchange.specs.Exchange.{ack_for, receiver};
 ghost use Rattle.site_exchange.specs.declared.message.Message.{Message};
 
@@ -17,14 +17,17 @@ pub(crate) struct Refused;
 
 // A replica that threads share, of which messages are asked and to which they come.
 pub(crate) trait Replica {
-    // It may hold what this message brings, and may refuse this one.
+    // It may hold what this message brings, may refuse this one, and may give this one for that peer.
     ghost holds: { Message → Type 0 };
 
     ghost refuses: { Message → Type 0 };
 
+    ghost gives: { ℕ → Message → Type 0 };
+
     // The message that is due to a peer, if there is one and it could be made.
     fn next<R: Wait>(&self, rt: &R, to: SiteId) -> Option<Message>
-        ensures { IfSome result (λ message. receiver message ≡ to) };
+        ensures to { IfSome result (λ message. receiver message ≡ to) }
+        ensures given { IfSome result (λ message. gives to message) };
 
     // Takes a message, and gives the acknowledgement that is due for it.
     fn take<R: Wait>(&self, rt: &R, message: Message) -> Result<Option<Message>, Refused>
@@ -45,11 +48,13 @@ impl<'a, K: Keeper, L: Opens> Replica for DeskReplica<'a, K, L> {
     ghost use Rattle.site_exchange.specs.declared.message.TakeFault.{TakeFault};
     ghost use Rattle.site_desk.specs.Moments.{AtOneMoment, Takes};
     ghost use Rattle.site_desk.specs.SiteView.{SiteInStep};
-    ghost use Rattle.session_server.specs.Exchanged.{held_at_desk};
+    ghost use Rattle.session_server.specs.Exchanged.{given_at_desk, held_at_desk};
 
     ghost holds = { held_at_desk L.office L.began (SiteInStep K.failed K.is_trusted K.kept K.may_leave) };
 
     ghost refuses = { λ message. (fault : TakeFault) × AtOneMoment L.office L.began (SiteInStep K.failed K.is_trusted K.kept K.may_leave) (Takes K.failed message (Err fault)) };
+
+    ghost gives = { given_at_desk L.office L.began (SiteInStep K.failed K.is_trusted K.kept K.may_leave) };
 
     fn next<R: Wait>(&self, rt: &R, to: SiteId) -> Option<Message> {
         match self.desk.next(rt, self.alloc, to) {

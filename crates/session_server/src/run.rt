@@ -2,7 +2,7 @@
 
 ghost use Rattle.std.specs.Prelude.{◌≡◌, ◌<◌, ◌≤◌, [], All, IfOk, IsSome, map, vec_len, vec_capacity};
 ghost use Rattle.std.specs.List.{AllZip, flat_map};
-ghost use Rattle.session_server.specs.Exchanged.{AnyMessage, Exchanged};
+ghost use Rattle.session_server.specs.Exchanged.{AnyGiven, AnyMessage, Exchanged};
 ghost use Rattle.session_server.specs.Finished.{IsLeftOf};
 ghost use Rattle.session_server.specs.LinkNames.{link_names, link_name_of};
 ghost use Rattle.session_server.specs.Settled.{AreAcknowledged, AreLinksTold, IsCounted};
@@ -32,7 +32,7 @@ struct SiteOf<K: Keeper + Drop, R: Read + Drop, W: Write + Drop> {
 impl<K: Keeper + Drop, R: Read + Drop, W: Write + Drop> Promise<
     Result<Left<K, R, W>, ExchangeFault>,
 > for SiteOf<K, R, W> {
-    ghost kept_by = { λ p r. IfOk r (λ left. (map (λ e. e.id) left.1.items ≡ map (λ v. v.id) p.linked.value.site.sessions.items) × (map (λ e. e.reader_began.value) left.1.items ≡ map (λ v. v.reader) p.linked.value.site.sessions.items) × (map (λ e. e.writer_began.value) left.1.items ≡ map (λ v. v.writer) p.linked.value.site.sessions.items) × IsLeftOf p.linked.value.site.book.book left.0.book (All (λ e. IsSome e.writer) left.1.items) (flat_map (λ e. e.receipts.items) left.1.items) (flat_map (λ e. e.seen.items) left.1.items) left.2.0 × AllZip (Exchanged AnyMessage p.rounds) p.linked.value.peers.items left.2.1.items) };
+    ghost kept_by = { λ p r. IfOk r (λ left. (map (λ e. e.id) left.1.items ≡ map (λ v. v.id) p.linked.value.site.sessions.items) × (map (λ e. e.reader_began.value) left.1.items ≡ map (λ v. v.reader) p.linked.value.site.sessions.items) × (map (λ e. e.writer_began.value) left.1.items ≡ map (λ v. v.writer) p.linked.value.site.sessions.items) × IsLeftOf p.linked.value.site.book.book left.0.book (All (λ e. IsSome e.writer) left.1.items) (flat_map (λ e. e.receipts.items) left.1.items) (flat_map (λ e. e.seen.items) left.1.items) left.2.0 × AllZip (Exchanged AnyMessage AnyGiven p.rounds) p.linked.value.peers.items left.2.1.items) };
 }
 
 /// Runs all sites at once, each in a thread of its own, with a thread for each of its sessions and with links to all
@@ -81,7 +81,7 @@ pub fn run_all<
     let mut jobs = Vec::with_capacity(alloc, linked.len())?;
     begun(linked, rounds, &mut jobs);
     let run = |one: LinkedSite<K, R, W>| -> Result<Left<K, R, W>, ExchangeFault>
-        ensures { IfOk result (λ left. (map (λ e. e.id) left.1.items ≡ map (λ v. v.id) one.site.sessions.items) × (map (λ e. e.reader_began.value) left.1.items ≡ map (λ v. v.reader) one.site.sessions.items) × (map (λ e. e.writer_began.value) left.1.items ≡ map (λ v. v.writer) one.site.sessions.items) × IsLeftOf one.site.book.book left.0.book (All (λ e. IsSome e.writer) left.1.items) (flat_map (λ e. e.receipts.items) left.1.items) (flat_map (λ e. e.seen.items) left.1.items) left.2.0 × AllZip (Exchanged AnyMessage rounds) one.peers.items left.2.1.items) }
+        ensures { IfOk result (λ left. (map (λ e. e.id) left.1.items ≡ map (λ v. v.id) one.site.sessions.items) × (map (λ e. e.reader_began.value) left.1.items ≡ map (λ v. v.reader) one.site.sessions.items) × (map (λ e. e.writer_began.value) left.1.items ≡ map (λ v. v.writer) one.site.sessions.items) × IsLeftOf one.site.book.book left.0.book (All (λ e. IsSome e.writer) left.1.items) (flat_map (λ e. e.receipts.items) left.1.items) (flat_map (λ e. e.seen.items) left.1.items) left.2.0 × AllZip (Exchanged AnyMessage AnyGiven rounds) one.peers.items left.2.1.items) }
     { run_site(rt, alloc, one, rounds, gate) };
     let done = work_all(rt, alloc, jobs, &run)?;
     let mut ends = Vec::with_capacity(alloc, done.len())?;

@@ -24,15 +24,16 @@ pub(crate) struct OutgoingEnd {
     pub(crate) tx: TxEnd,
 }
 
-// The links that the sending thread was begun with, and for how many rounds.
+// The links that the sending thread was begun with, for how many rounds, and the replica that gives what is sent.
 #[derive(Drop)]
-pub(crate) struct LinksOf {
+pub(crate) struct LinksOf<'s, S: Replica> {
+    pub(crate) _replica: &'s S,
     pub(crate) outs: Snapshot<Vec<Outgoing>>,
     pub(crate) rounds: u64,
 }
 
-impl Promise<Vec<OutgoingEnd>> for LinksOf {
-    ghost kept_by = { λ p r. AllZip (Sent p.rounds) p.outs.value.items r.items × (vec_len r ≡ vec_len p.outs.value) };
+impl<'s, S: Replica> Promise<Vec<OutgoingEnd>> for LinksOf<'s, S> {
+    ghost kept_by = { λ p r. AllZip (Sent S.gives p.rounds) p.outs.value.items r.items × (vec_len r ≡ vec_len p.outs.value) };
 }
 
 // Sends for so many rounds, and ends each link.
@@ -46,7 +47,7 @@ pub(crate) fn send_all<S: Replica, R: Wait>(
 ) -> Vec<OutgoingEnd>
     requires room { vec_len outs ≤ vec_capacity ends }
     requires empty { ends.items ≡ [] }
-    ensures sent { AllZip (Sent rounds) outs.items result.items }
+    ensures sent { AllZip (Sent S.gives rounds) outs.items result.items }
     ensures len { vec_len result ≡ vec_len outs }
 {
     let mut outs = outs;
@@ -57,7 +58,7 @@ pub(crate) fn send_all<S: Replica, R: Wait>(
 }
 
 fn send_rounds<S: Replica, R: Wait>(rt: &R, replica: &S, outs: &mut Vec<Outgoing>, rounds: u64)
-    ensures sent { AllZip (SentMore rounds) outs.old.items outs.new.items }
+    ensures sent { AllZip (SentMore S.gives rounds) outs.old.items outs.new.items }
     ensures len { vec_len outs.new ≡ vec_len outs.old }
 {
     for _ in 0..rounds {
@@ -67,7 +68,7 @@ fn send_rounds<S: Replica, R: Wait>(rt: &R, replica: &S, outs: &mut Vec<Outgoing
 
 // One round: what is next for each peer is sent.
 fn send_round<S: Replica, R: Wait>(rt: &R, replica: &S, outs: &mut Vec<Outgoing>)
-    ensures sent { AllZip (SentMore 1) outs.old.items outs.new.items }
+    ensures sent { AllZip (SentMore S.gives 1) outs.old.items outs.new.items }
     ensures len { vec_len outs.new ≡ vec_len outs.old }
 {
     for k in 0..outs.len() {
@@ -77,7 +78,7 @@ fn send_round<S: Replica, R: Wait>(rt: &R, replica: &S, outs: &mut Vec<Outgoing>
 
 // Sends what is next for one peer. A message that comes back is due again in the next round.
 fn send_next<S: Replica, R: Wait>(rt: &R, replica: &S, out: &mut Outgoing)
-    ensures { SentMore 1 out.old out.new }
+    ensures { SentMore S.gives 1 out.old out.new }
 {
     if let Some(message) = replica.next(rt, out.to) {
         let _ = out.tx.send(rt, message);

@@ -1,9 +1,10 @@
-use Rattle.std.proofs.Common.{length, refl, rules, subst}
+use Rattle.std.proofs.Common.{◌≡◌, length, refl, rules, subst, true}
+use Rattle.site_desk.specs.declared.fault.AskFault.TheVariants as ask
 use Rattle.site_desk.specs.Moments.{AtOneMoment, Replies}
 use Rattle.site_desk.specs.SiteView.{SiteInStep}
 use Rattle.session_server.specs.SeatStep.{DeskStep, Seated, seated, told_at}
 use Rattle.desk_lines.specs.declared.line.Line.TheVariants.{Ask}
-use Rattle.session_server.proofs.Seats.{asked_at_desk, if_err}
+use Rattle.session_server.proofs.Seats.{asked_at_desk, both_if_err, if_err, if_shut}
 use Rattle.session_server.proofs.at_desk.AtDesk.ask.Goals as goal
 
 pub returns : goal.returns
@@ -15,4 +16,6 @@ returns g c =
     subst (λ (s : Seated). DeskStep desk (length g.L.Opens.began) s (Ask c.args.number c.args.request.now) c.kept.result new) (search rules)
     (asked_at_desk desk (length g.L.Opens.began) old new c.args.number c.args.request.now c.ask-came.result c.kept.result c.kept.ensures.answered c.kept.ensures.receipts refl
     c.ask-came.ensures.receipt c.ask-came.ensures.share c.ask-came.ensures.kept c.ask-came.ensures.place c.ask-came.ensures.stands
-    (if_err (λ result. AtOneMoment g.L.Opens.office g.L.Opens.began in_step (Replies g.K.Keeper.failed c.args.number c.args.request.now result)) c.ask-came.result c.ask-came.ensures.answered))
+    (both_if_err _ _ c.ask-came.result
+    (if_err (λ result. AtOneMoment g.L.Opens.office g.L.Opens.began in_step (Replies g.K.Keeper.failed c.args.number c.args.request.now result)) c.ask-came.result c.ask-came.ensures.answered)
+    (if_shut ask.Store (AtOneMoment g.L.Opens.office g.L.Opens.began in_step (λ site. site.closed ≡ true)) c.ask-came.result c.ask-came.ensures.shut)))
