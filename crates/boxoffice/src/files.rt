@@ -2,8 +2,6 @@
 
 ghost use Rattle.std.specs.Prelude.{◌≡◌, ◌≢◌, ◌↔◌, false, IfOk};
 ghost use Rattle.sqlite_wal.specs.Files.{image_at};
-ghost use Rattle.sqlite_wal.specs.Reads.{AreClean};
-ghost use Rattle.sqlite.specs.Closing.{IsCopied};
 ghost use Rattle.sqlite_store.specs.FileStore.{view};
 ghost use Rattle.sqlite.specs.State.{HasCleanDisk};
 ghost use Rattle.sqlite.specs.Held.{IsNew};
@@ -14,8 +12,7 @@ ghost use Rattle.sqlite.specs.declared.error.ErrorCode.TheVariants.{OutOfMemory,
 ghost use Rattle.boxoffice.specs.declared.files.FileFault.TheVariants.{NotOurs, Memory};
 
 use operator_cli::Status;
-use sqlite::{Connection, Error, ErrorCode, Files as FileAndLog};
-use sqlite_disk::Disk;
+use sqlite::{Connection, Error, ErrorCode};
 use sqlite_std_file::{FileFrom, Start};
 use sqlite_store::FileStore;
 use std::alloc::{AllocError, Global};
@@ -173,20 +170,6 @@ pub(crate) fn open_or_make<S: Start>(
     }
 }
 
-// Copies the log into the file, and gives both back: what the connection had committed is in the file alone, also
-// over a crash, as far as the disk is to be trusted.
-fn copied<D: Disk + Drop>(conn: Connection<FileStore<D>>) -> Result<FileAndLog<D>, Error>
-    ensures copied { IfOk result (λ files. AreClean D.Disk files.log files.db → IsCopied conn files) }
-{
-    match conn.close_files() {
-        Ok(files) => Ok(files),
-        Err((error, store)) => {
-            drop(store.close());
-            Err(error)
-        }
-    }
-}
-
 /// The status of a command that came to this and gave its connection back. Unless it failed, the log is
 /// copied into the file, and both are closed; a fault of that is told. Where it failed the file may be
 /// damaged, so it and its log are left as they are.
@@ -197,8 +180,8 @@ pub(crate) fn close<S: Start>(
     match came {
         (Status::Failed, _) => Status::Failed,
         (status, None) => status,
-        (status, Some(conn)) => match copied(conn) {
-            Ok(_) => status,
+        (status, Some(conn)) => match conn.close() {
+            Ok(()) => status,
             Err(error) => failed(rt, fault_of_closing(error)),
         },
     }
