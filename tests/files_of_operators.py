@@ -7,9 +7,11 @@ Says what differs and ends with status 1 where anything does.
 """
 
 import os
+import shutil
+import subprocess
 import sys
 
-from trial import call, change, intact, opened, same, try_each
+from trial import PROGRAM, SECONDS, call, change, intact, opened, same, try_each
 
 # Each request of a first evening with its reply.
 ASKED = [
@@ -202,6 +204,7 @@ def locked_out(folder):
             ["CREATE TABLE a (n INTEGER)", "INSERT INTO a VALUES (1)", "ALTER TABLE a ADD COLUMN m INTEGER DEFAULT 7"],
             ["DROP TABLE a"],
         ),
+        ("virtual", ["CREATE VIRTUAL TABLE words USING fts5(text)"], ["DROP TABLE words"]),
     ]
     for name, made, dropped in changes:
         make(folder, name)
@@ -231,6 +234,50 @@ def in_use(folder):
     ask(folder, "site.db", ASKED)
 
 
+def not_plain_files(folder):
+    """A folder, and a file of two names, are told as `disk`, and so is a file whose journal C SQLite has to play back first."""
+    os.mkdir(os.path.join(folder, "folder.db"))
+    for words in commands("folder.db") + [["init", "folder.db", "0", "2", "1000"]]:
+        same(f"a folder: {words}", call(folder, words, "quit\n"), (3, "", "disk\n"))
+    same("made beside or in a folder", (os.listdir(folder), os.listdir(os.path.join(folder, "folder.db"))), (["folder.db"], []))
+    os.rmdir(os.path.join(folder, "folder.db"))
+    make(folder, "site.db")
+    ask(folder, "site.db", ASKED)
+    os.link(os.path.join(folder, "site.db"), os.path.join(folder, "again.db"))
+    for name in ["site.db", "again.db"]:
+        refused(folder, "a second name", commands(name), "disk")
+    os.remove(os.path.join(folder, "again.db"))
+    with opened(folder, "site.db") as db:
+        db.execute("PRAGMA journal_mode = DELETE")
+        db.execute("CREATE TABLE notes (text TEXT)")
+        db.execute("PRAGMA cache_size = 1")
+        db.execute("BEGIN")
+        db.executemany("INSERT INTO notes VALUES (?)", [("the gala is on the first night" * 40,)] * 400)
+        for name in ["site.db", "site.db-journal"]:
+            shutil.copyfile(os.path.join(folder, name), os.path.join(folder, "stopped" + name))
+        db.execute("ROLLBACK")
+    refused(folder, "a journal to play back", commands("stoppedsite.db"), "disk")
+    with opened(folder, "stoppedsite.db") as db:
+        intact("played back", db)
+    same("played back: its journal", os.path.exists(os.path.join(folder, "stoppedsite.db-journal")), False)
+    for name in ["site.db", "stoppedsite.db"]:
+        ask(folder, name, [("sell 5 gala 2", "done"), ("left gala", "left 55")])
+
+
+def input_still_open(folder):
+    """A command whose records are refused ends though its input does not."""
+    make(folder, "site.db")
+    change(folder, "site.db", ["UPDATE meta SET version = 7"])
+    for words in [["ask", "site.db"], ["import", "site.db"]]:
+        with subprocess.Popen([PROGRAM, *words], stdin=subprocess.PIPE, stderr=subprocess.PIPE, cwd=folder) as program:
+            try:
+                status = program.wait(SECONDS)
+            except subprocess.TimeoutExpired:
+                program.kill()
+                status = None
+            same(f"{words}, its input open", (status, program.stderr.read()), (3, b"other-schema 7\n"))
+
+
 def words_not_understood(folder):
     for words in [["find", b"\xff.db", "1"], ["init", b"\xff.db", "0", "2", "1000"], ["list", "site.db", b"gal\xe4"], [b"\xff"]]:
         status, out, err = call(folder, words)
@@ -249,6 +296,8 @@ TRIALS = [
     other_records,
     locked_out,
     in_use,
+    not_plain_files,
+    input_still_open,
     words_not_understood,
 ]
 

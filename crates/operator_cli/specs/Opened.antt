@@ -19,7 +19,7 @@ use Rattle.sql_records.specs.declared.meta.Meta.{Meta}
 use Rattle.sql_records.specs.Migrating.{IsAsBefore, IsMigrated, IsLegalFirst, IsMigrateFault}
 use Rattle.sql_records.specs.Faults.{HasDiskCause, IsUndoneForMemory}
 use Rattle.sql_records.specs.Making.{IsInitFault}
-use Rattle.sql_records.specs.Held.{IsNew, MayLeaveIn, history_in}
+use Rattle.sql_records.specs.Held.{IsNew, LeavesSite, MayLeaveIn, history_in}
 use Rattle.sql_records.specs.Keeping.{LeavesOnly}
 use Rattle.sql_records.specs.Layout.{has_our_table, HasMeta, office_of}
 use Rattle.sql_records.specs.Lookups.{listed_in}
@@ -110,7 +110,7 @@ module _ {S : Type 0} (g : Ghosts S) (conn : Held S) where
     pub told : fault ≡ of_open_fault cause
     pub found : IsCause cause
 
-  -- the records were opened and are as they were, which a stop leaves, but their history is not legal, or memory was wanted for it
+  -- the records were opened and are as they were, which a stop leaves, of the same site, but their history is not legal, or memory was wanted for it
   pub record IsIllegal (after : Held S) (fault : StoreFault) : Type 0 where
     pub cause : ReplayFault
     pub told : fault ≡ of_replay_fault cause
@@ -118,6 +118,7 @@ module _ {S : Type 0} (g : Ghosts S) (conn : Held S) where
     pub settled : HasCleanDisk (state g after) → (state g after).in_transaction ≡ (state g conn).in_transaction
     pub rests : HasCleanDisk (state g after) → LeavesOnly (history_in (state g conn).now.trees) (MayLeaveIn (state g after))
     pub ours : HasCleanDisk (state g after) → (meta : Meta) × HasMeta meta (state g conn).now.trees
+    pub site : HasCleanDisk (state g after) → (meta : Meta) → HasMeta meta (state g conn).now.trees → LeavesSite (state g after) meta
     pub found : HasCleanDisk (state g after) → (meta : Meta) → HasMeta meta (state g conn).now.trees → IsReplayFault (office_of meta) (history_in (state g conn).now.trees) cause
 
   -- a connection that comes back showed the records of a site

@@ -5,7 +5,7 @@ ghost use Rattle.sqlite.specs.State.{HasCleanDisk};
 ghost use Rattle.sqlite.specs.Held.{state};
 ghost use Rattle.book_core.specs.Growing.{grow_decision};
 ghost use Rattle.sql_records.specs.Layout.{HasMeta, office_of};
-ghost use Rattle.sql_records.specs.Held.{MayLeaveIn, history_in};
+ghost use Rattle.sql_records.specs.Held.{LeavesSite, MayLeaveIn, history_in};
 ghost use Rattle.sql_records.specs.declared.meta.Meta.{Meta as Numbers};
 ghost use Rattle.operator_cli.specs.Exchanged.{HoldsOnly, IsGrowingEnd, IsGrowthTold, LeavesAsItWas, LeavesOneOf, behind_growth, told_of_growth};
 ghost use Rattle.operator_cli.specs.Opened.{FailsFor, FailsIfIllegal, FailsOpened, IsGrowEnd, IsLost, ShowedRecords};
@@ -41,6 +41,7 @@ fn grow<K: Keeper>(alloc: Global, book: &mut SiteBook<K>, sites: Sites) -> Resul
     ensures written { IfErr result (λ fault. fault ≢ WriteFailed) }
     ensures open { IfErr result (λ fault. fault ≢ NotStored → book.old.closed ≡ false → book.new.closed ≡ false) }
     ensures trusted { K.is_trusted book.new.keeper → K.is_trusted book.old.keeper }
+    ensures site { K.is_trusted book.new.keeper → (meta : Numbers) → K.is_of book.old.keeper meta → K.is_of book.new.keeper meta }
 {
     match book.grow(alloc, sites) {
         Ok(()) => Ok(Told::Grown),
@@ -73,6 +74,7 @@ fn write_grown<K: Keeper, W: Write>(
         (W.contents out.old) (W.contents out.new)) }
     ensures open { IfErr result (λ fault. fault ≢ NotStored → book.old.closed ≡ false → book.new.closed ≡ false) }
     ensures trusted { K.is_trusted book.new.keeper → K.is_trusted book.old.keeper }
+    ensures site { K.is_trusted book.new.keeper → (meta : Numbers) → K.is_of book.old.keeper meta → K.is_of book.new.keeper meta }
 {
     match grow(alloc, book, sites) {
         Ok(told) => tell(&told, out),
@@ -106,6 +108,8 @@ pub fn grow_store<S: Alter + Drop, W: Write, E: Write>(
         → (meta : Numbers) → HasMeta meta (state S.Store conn).now.trees
         → LeavesOneOf (history_in (state S.Store conn).now.trees)
         (behind_growth (office_of meta) (history_in (state S.Store conn).now.trees) sites) (MayLeaveIn (state S.Store after))) }
+    ensures site { IfSome result.1 (λ after. HasCleanDisk (state S.Store after)
+        → (meta : Numbers) → HasMeta meta (state S.Store conn).now.trees → LeavesSite (state S.Store after) meta) }
     ensures err { FaultTold (E.contents err.old) (E.contents err.new) result.0 }
     ensures cause { IfSome result.1 (λ after. FailsOpened S.Store conn (IsGrowEnd sites) (IsGrowthTold (state S.Store conn).now.trees sites) after
         (W.contents out.old) (W.contents out.new) (E.contents err.old) (E.contents err.new) result.0) }

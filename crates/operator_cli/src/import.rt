@@ -8,7 +8,7 @@ ghost use Rattle.sql_records.specs.declared.meta.Meta.{Meta as Numbers};
 ghost use Rattle.operator_cli.specs.Exchanged.{HoldsOnly, LeavesOneOf, IsTakeEnd, IsInputRead, IsInputEnd, IsInputTold, IsTakenOf, LeavesAsItWas, behind_bytes, behind_read, told_of_bytes, told_of_read};
 ghost use Rattle.delta_wire.specs.Grammar.{most_bytes};
 ghost use Rattle.delta_wire.specs.Wire.{message_of};
-ghost use Rattle.sql_records.specs.Held.{MayLeaveIn, history_in};
+ghost use Rattle.sql_records.specs.Held.{LeavesSite, MayLeaveIn, history_in};
 ghost use Rattle.operator_cli.specs.Told.{FaultTold, told_status};
 ghost use Rattle.operator_cli.specs.declared.status.Status.TheVariants.{Refused, Failed};
 ghost use Rattle.operator_cli.specs.declared.store_fault.StoreFault.TheVariants.{Memory as WantsMemory, Read as ReadFailed, Store as NotStored, Write as WriteFailed};
@@ -70,6 +70,7 @@ fn take_bytes<K: Keeper>(
     ensures unchanged { OnErr result (book.new.book.history ≡ book.old.book.history) }
     ensures open { IfErr result (λ fault. fault ≢ NotStored → book.old.closed ≡ false → book.new.closed ≡ false) }
     ensures trusted { K.is_trusted book.new.keeper → K.is_trusted book.old.keeper }
+    ensures site { K.is_trusted book.new.keeper → (meta : Numbers) → K.is_of book.old.keeper meta → K.is_of book.new.keeper meta }
 {
     let message = match read_message(alloc, bytes) {
         Ok(message) => message,
@@ -105,6 +106,7 @@ fn take_input<K: Keeper, R: Read + Drop>(
     ensures unchanged { OnErr result (book.new.book.history ≡ book.old.book.history) }
     ensures open { IfErr result (λ fault. fault ≢ NotStored → book.old.closed ≡ false → book.new.closed ≡ false) }
     ensures trusted { K.is_trusted book.new.keeper → K.is_trusted book.old.keeper }
+    ensures site { K.is_trusted book.new.keeper → (meta : Numbers) → K.is_of book.old.keeper meta → K.is_of book.new.keeper meta }
 {
     match read_input(alloc, input) {
         Ok(Some(bytes)) => take_bytes(alloc, book, bytes.as_slice()),
@@ -140,6 +142,7 @@ fn write_taken<K: Keeper, R: Read + Drop, W: Write>(
         (W.contents out.old) (W.contents out.new)) }
     ensures open { IfErr result (λ fault. fault ≢ NotStored → book.old.closed ≡ false → book.new.closed ≡ false) }
     ensures trusted { K.is_trusted book.new.keeper → K.is_trusted book.old.keeper }
+    ensures site { K.is_trusted book.new.keeper → (meta : Numbers) → K.is_of book.old.keeper meta → K.is_of book.new.keeper meta }
 {
     match take_input(alloc, book, input) {
         Ok(told) => tell(&told, out),
@@ -176,6 +179,8 @@ pub fn import_store<S: Alter + Drop, R: Read + Drop, W: Write, E: Write>(
         → (meta : Numbers) → HasMeta meta (state S.Store conn).now.trees
         → IfSome (R.remaining input) (λ bytes. LeavesOneOf (history_in (state S.Store conn).now.trees)
         (behind_bytes (office_of meta) (history_in (state S.Store conn).now.trees) bytes) (MayLeaveIn (state S.Store after)))) }
+    ensures site { IfSome result.1 (λ after. HasCleanDisk (state S.Store after)
+        → (meta : Numbers) → HasMeta meta (state S.Store conn).now.trees → LeavesSite (state S.Store after) meta) }
     ensures err { FaultTold (E.contents err.old) (E.contents err.new) result.0 }
     ensures cause { IfSome result.1 (λ after. FailsOpened S.Store conn (IsImportEnd (R.remaining input)) (IsInputTold (state S.Store conn).now.trees (R.remaining input)) after
         (W.contents out.old) (W.contents out.new) (E.contents err.old) (E.contents err.new) result.0) }

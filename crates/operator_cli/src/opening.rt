@@ -94,6 +94,7 @@ pub fn open_store<S: Alter + Drop, E: Write>(
         → kept_in S.Store book.keeper ≡ history_in (state S.Store conn).now.trees) }
     ensures book { IfOk result (λ book. IsTrusted S.Store book.keeper → IsBookOf (state S.Store conn).now.trees book) }
     ensures rests { IfOk result (λ book. IsTrusted S.Store book.keeper → LeavesOnly (kept_in S.Store book.keeper) (MayLeave S.Store book.keeper)) }
+    ensures site { IfOk result (λ book. IsTrusted S.Store book.keeper → (meta : Numbers) → HasMeta meta (state S.Store conn).now.trees → IsOf S.Store book.keeper meta) }
     ensures unclosed { IfOk result (λ book. book.closed ≡ false) }
     ensures silent { OnOk result (E.contents err.new ≡ E.contents err.old) }
     ensures fault { IfErr result (λ e. (e.0 ≡ Failed) × (fault : StoreFault) × AppendsFront (E.contents err.old) (E.contents err.new) (store_fault_line fault)

@@ -162,7 +162,7 @@ fn summed_up<K: Keeper + Drop, R: Read + Drop, V: Write + Drop, W: Write>(
 /// thread of a site or of its exchange that could not be started, and a writer that fails. The ends of all sites come back,
 /// in the order of the books, each with the visits that came to it and a book whose history goes on from the one that was
 /// handed in, with no more new requests than receipts were given (unless seats are out); none do where the sites could not
-/// be run: what was entered stays in their records.
+/// be run. What becomes of their records then no contract says; that the files keep what was entered is tested.
 pub fn serve_stores<
     T: Threads + Wait + Sync,
     K: Keeper + Drop + Send,

@@ -8,7 +8,7 @@ use Rattle.std.proofs.lemmas.List.Elements.{All-append, All-cons, All-head, All-
 use Rattle.link_queue.specs.End.{End, end_of}
 use Rattle.site_exchange.specs.declared.message.Message.{Message}
 use Rattle.site_exchange.specs.Exchange.{ack_for, receiver}
-use Rattle.session_server.specs.Exchanged.{IsSubsequence, Acknowledges, AnyGiven, AnyMessage, SentTo, SentMore, IsEndOf, Exchanged, Sent, Received, HasSent, HasReceived, outgoing, incoming}
+use Rattle.session_server.specs.Exchanged.{IsSubsequence, Acknowledges, AreTaken, IsTaken, AnyGiven, AnyMessage, SentTo, SentMore, IsEndOf, Exchanged, Sent, Received, HasSent, HasReceived, outgoing, incoming}
 use Rattle.session_server.specs.Mesh.{IsNewPeer, linkage_left, linkage_of}
 use Rattle.session_server.specs.Settled.{IsLeftOfNew}
 use Rattle.session_server.specs.declared.peer.Peer.{Peer}
@@ -44,34 +44,36 @@ associative (x ∷ xs) ys zs = ap (λ t. x ∷ t) (associative xs ys zs)
 one_more : {X : Type 0} (xs ys now now' : List X) (y : X) → now ≡ xs ++ ys → now' ≡ now ++ y ∷ [] → now' ≡ xs ++ (ys ++ y ∷ [])
 one_more xs ys now now' y p q = q ∙ ap (λ l. l ++ y ∷ []) p ∙ associative xs ys (y ∷ [])
 
-pub nothing_came : (Holds : Message → Type 0) (came sent : List Message) → Acknowledges Holds came sent 0 came sent
-nothing_came Holds came sent =
-    record { got = []; taken = []; put = []; more_came = sym (append-nil came); more_sent = sym (append-nil sent); among = tt; held = All-nil Holds; due = tt; counted = omega (arith) }
+pub nothing_came : (Holds Refuses : Message → Type 0) (came sent : List Message) → Acknowledges Holds Refuses came sent 0 came sent
+nothing_came Holds Refuses came sent =
+    record { got = []; taken = []; put = []; more_came = sym (append-nil came); more_sent = sym (append-nil sent); each = All-nil (IsTaken Holds Refuses); among = tt; held = All-nil Holds; due = tt; counted = omega (arith) }
 
 -- a message came that is held, and its acknowledgement was sent
-pub sent_for : (Holds : Message → Type 0) (came sent came1 sent1 came2 sent2 : List Message) (refused : ℕ) (m a : Message) → Acknowledges Holds came sent refused came1 sent1
-    → Some a ≡ ack_for m → Holds m → came2 ≡ came1 ++ m ∷ [] → sent2 ≡ sent1 ++ a ∷ [] → Acknowledges Holds came sent refused came2 sent2
-sent_for Holds came sent came1 sent1 came2 sent2 refused m a h is holds p q = record {
+pub sent_for : (Holds Refuses : Message → Type 0) (came sent came1 sent1 came2 sent2 : List Message) (refused : ℕ) (m a : Message) → Acknowledges Holds Refuses came sent refused came1 sent1
+    → Some a ≡ ack_for m → Holds m → came2 ≡ came1 ++ m ∷ [] → sent2 ≡ sent1 ++ a ∷ [] → Acknowledges Holds Refuses came sent refused came2 sent2
+sent_for Holds Refuses came sent came1 sent1 came2 sent2 refused m a h is holds p q = record {
   got = h.got ++ m ∷ [];
   taken = h.taken ++ m ∷ [];
   put = h.put ++ a ∷ [];
   more_came = one_more came h.got came1 came2 m h.more_came p;
   more_sent = one_more sent h.put sent1 sent2 a h.more_sent q;
+  each = All-push (IsTaken Holds Refuses) h.got m h.each (inl holds);
   among = subsequence_push h.taken h.got m h.among;
   held = All-push Holds h.taken m h.held holds;
   due = AllZip-push (λ message ack. ack_for message ≡ Some ack) h.taken h.put m a h.due (sym is);
   counted = omega (arith, h.counted, length_push h.put a, length_push h.got m);
 }
 
--- a message came, and nothing was sent for it; it may have been refused
-pub came_more : (Holds : Message → Type 0) (came sent came1 sent1 came2 sent2 : List Message) (refused refused2 : ℕ) (m : Message) → Acknowledges Holds came sent refused came1 sent1
-    → came2 ≡ came1 ++ m ∷ [] → sent2 ≡ sent1 → refused2 ≤ refused + 1 → Acknowledges Holds came sent refused2 came2 sent2
-came_more Holds came sent came1 sent1 came2 sent2 refused refused2 m h p q r = record {
+-- a message came and was taken or refused, and nothing was sent for it
+pub came_more : (Holds Refuses : Message → Type 0) (came sent came1 sent1 came2 sent2 : List Message) (refused refused2 : ℕ) (m : Message) → Acknowledges Holds Refuses came sent refused came1 sent1
+    → IsTaken Holds Refuses m → came2 ≡ came1 ++ m ∷ [] → sent2 ≡ sent1 → refused2 ≤ refused + 1 → Acknowledges Holds Refuses came sent refused2 came2 sent2
+came_more Holds Refuses came sent came1 sent1 came2 sent2 refused refused2 m h taken p q r = record {
   got = h.got ++ m ∷ [];
   taken = h.taken;
   put = h.put;
   more_came = one_more came h.got came1 came2 m h.more_came p;
   more_sent = q ∙ h.more_sent;
+  each = All-push (IsTaken Holds Refuses) h.got m h.each taken;
   among = subsequence_end h.taken h.got (m ∷ []) h.among;
   held = h.held;
   due = h.due;
@@ -79,11 +81,11 @@ came_more Holds came sent came1 sent1 came2 sent2 refused refused2 m h p q r = r
 }
 
 -- the acknowledgement was sent, or it came back
-pub sent_or_back : (Holds : Message → Type 0) (came sent came1 came2 : List Message) (tx tx2 : End) (refused : ℕ) (m a : Message) (result : Result (Unit {0}) Message) → Acknowledges Holds came sent refused came1 tx.messages
+pub sent_or_back : (Holds Refuses : Message → Type 0) (came sent came1 came2 : List Message) (tx tx2 : End) (refused : ℕ) (m a : Message) (result : Result (Unit {0}) Message) → Acknowledges Holds Refuses came sent refused came1 tx.messages
     → Some a ≡ ack_for m → Holds m → came2 ≡ came1 ++ m ∷ [] → MatchResult result (λ _. tx2 ≡ end_of tx.link (tx.messages ++ a ∷ [])) (λ back. (back ≡ a) × (tx2 ≡ tx))
-    → (tx2.link ≡ tx.link) × Acknowledges Holds came sent refused came2 tx2.messages
-sent_or_back Holds came sent came1 came2 tx tx2 refused m a (Ok done) h is holds p q = (ap (λ e. e.link) q, sent_for Holds came sent came1 tx.messages came2 tx2.messages refused m a h is holds p (ap (λ e. e.messages) q))
-sent_or_back Holds came sent came1 came2 tx tx2 refused m a (Err back) h is holds p q = (ap (λ e. e.link) q.1, came_more Holds came sent came1 tx.messages came2 tx2.messages refused refused m h p (ap (λ e. e.messages) q.1) (omega (arith)))
+    → (tx2.link ≡ tx.link) × Acknowledges Holds Refuses came sent refused came2 tx2.messages
+sent_or_back Holds Refuses came sent came1 came2 tx tx2 refused m a (Ok done) h is holds p q = (ap (λ e. e.link) q, sent_for Holds Refuses came sent came1 tx.messages came2 tx2.messages refused m a h is holds p (ap (λ e. e.messages) q))
+sent_or_back Holds Refuses came sent came1 came2 tx tx2 refused m a (Err back) h is holds p q = (ap (λ e. e.link) q.1, came_more Holds Refuses came sent came1 tx.messages came2 tx2.messages refused refused m h (inl holds) p (ap (λ e. e.messages) q.1) (omega (arith)))
 
 -- what holds of what is there, if anything is
 pub if_some : {X : Type 0} (P : Option X → Type 0) (o : Option X) → P o → IfSome o (λ x. P (Some x))
@@ -169,24 +171,24 @@ sent_from Gives most (x ∷ xs) (y ∷ ys) (e ∷ es) h k = (ended x y e h.0 k.0
     }
 
 -- the same by other names
-told : (Holds : Message → Type 0) (came sent : List Message) (n n2 : ℕ) (rx rx2 tx tx2 : End) → n2 ≡ n → rx2 ≡ rx → tx2 ≡ tx → Acknowledges Holds came sent n rx.messages tx.messages → Acknowledges Holds came sent n2 rx2.messages tx2.messages
-told Holds came sent n n2 rx rx2 tx tx2 a b c h =
-    subst (λ (m : ℕ). Acknowledges Holds came sent m rx2.messages tx2.messages) (sym a)
-    (subst (λ (r : End). Acknowledges Holds came sent n r.messages tx2.messages) (sym b)
-    (subst (λ (t : End). Acknowledges Holds came sent n rx.messages t.messages) (sym c) h))
+told : (Holds Refuses : Message → Type 0) (came sent : List Message) (n n2 : ℕ) (rx rx2 tx tx2 : End) → n2 ≡ n → rx2 ≡ rx → tx2 ≡ tx → Acknowledges Holds Refuses came sent n rx.messages tx.messages → Acknowledges Holds Refuses came sent n2 rx2.messages tx2.messages
+told Holds Refuses came sent n n2 rx rx2 tx tx2 a b c h =
+    subst (λ (m : ℕ). Acknowledges Holds Refuses came sent m rx2.messages tx2.messages) (sym a)
+    (subst (λ (r : End). Acknowledges Holds Refuses came sent n r.messages tx2.messages) (sym b)
+    (subst (λ (t : End). Acknowledges Holds Refuses came sent n rx.messages t.messages) (sym c) h))
 
-pub exchanged : (Holds : Message → Type 0) (Gives : ℕ → Message → Type 0) (rounds : ℕ) (ps : List Peer) (os : List OutgoingEnd) (is : List IncomingEnd) (es : List PeerEnd)
-    → AllZip (Sent Gives rounds) (map outgoing ps) os → AllZip (Received Holds) (map incoming ps) is → AllZip HasSent os es → AllZip HasReceived is es → AllZip (Exchanged Holds Gives rounds) ps es
-exchanged Holds Gives rounds [] [] [] [] s r hs hr = tt
-exchanged Holds Gives rounds [] [] [] (e ∷ es) s r hs hr = absurd hs
-exchanged Holds Gives rounds [] [] (i ∷ is) es s r hs hr = absurd r
-exchanged Holds Gives rounds [] (o ∷ os) is es s r hs hr = absurd s
-exchanged Holds Gives rounds (p ∷ ps) [] is es s r hs hr = absurd s
-exchanged Holds Gives rounds (p ∷ ps) (o ∷ os) [] es s r hs hr = absurd r
-exchanged Holds Gives rounds (p ∷ ps) (o ∷ os) (i ∷ is) [] s r hs hr = absurd hs
-exchanged Holds Gives rounds (p ∷ ps) (o ∷ os) (i ∷ is) (e ∷ es) s r hs hr = (one p o i e s.0 r.0 hs.0 hr.0, exchanged Holds Gives rounds ps os is es s.1 r.1 hs.1 hr.1)
+pub exchanged : (Holds Refuses : Message → Type 0) (Gives : ℕ → Message → Type 0) (rounds : ℕ) (ps : List Peer) (os : List OutgoingEnd) (is : List IncomingEnd) (es : List PeerEnd)
+    → AllZip (Sent Gives rounds) (map outgoing ps) os → AllZip (Received Holds Refuses) (map incoming ps) is → AllZip HasSent os es → AllZip HasReceived is es → AllZip (Exchanged Holds Refuses Gives rounds) ps es
+exchanged Holds Refuses Gives rounds [] [] [] [] s r hs hr = tt
+exchanged Holds Refuses Gives rounds [] [] [] (e ∷ es) s r hs hr = absurd hs
+exchanged Holds Refuses Gives rounds [] [] (i ∷ is) es s r hs hr = absurd r
+exchanged Holds Refuses Gives rounds [] (o ∷ os) is es s r hs hr = absurd s
+exchanged Holds Refuses Gives rounds (p ∷ ps) [] is es s r hs hr = absurd s
+exchanged Holds Refuses Gives rounds (p ∷ ps) (o ∷ os) [] es s r hs hr = absurd r
+exchanged Holds Refuses Gives rounds (p ∷ ps) (o ∷ os) (i ∷ is) [] s r hs hr = absurd hs
+exchanged Holds Refuses Gives rounds (p ∷ ps) (o ∷ os) (i ∷ is) (e ∷ es) s r hs hr = (one p o i e s.0 r.0 hs.0 hr.0, exchanged Holds Refuses Gives rounds ps os is es s.1 r.1 hs.1 hr.1)
   where
-    one : (p : Peer) (o : OutgoingEnd) (i : IncomingEnd) (e : PeerEnd) → Sent Gives rounds (outgoing p) o → Received Holds (incoming p) i → HasSent o e → HasReceived i e → Exchanged Holds Gives rounds p e
+    one : (p : Peer) (o : OutgoingEnd) (i : IncomingEnd) (e : PeerEnd) → Sent Gives rounds (outgoing p) o → Received Holds Refuses (incoming p) i → HasSent o e → HasReceived i e → Exchanged Holds Refuses Gives rounds p e
     one p o i e s r hs hr = record {
       to = hs.to ∙ s.to;
       delta_tx = ap (λ t. t.link) hs.delta_tx ∙ s.link;
@@ -194,16 +196,17 @@ exchanged Holds Gives rounds (p ∷ ps) (o ∷ os) (i ∷ is) (e ∷ es) s r hs 
       delta_rx = ap (λ t. t.link) hr.delta_rx ∙ r.delta_rx;
       ack_rx = ap (λ t. t.link) hr.ack_rx ∙ r.ack_rx;
       sent = subst (SentTo Gives p.to rounds p.delta_tx.messages) (sym (ap (λ (t : End). t.messages) hs.delta_tx)) s.put;
+      acks_taken = subst (λ (t : End). AreTaken Holds Refuses p.ack_rx.messages t.messages) (sym hr.ack_rx) r.acks_taken;
       acks_counted = omega (arith, r.acks_counted, hr.acks_refused, ap (λ (t : End). length t.messages) hr.ack_rx);
-      acknowledged = told _ _ _ _ _ _ _ _ _ hr.refused hr.delta_rx hr.ack_tx r.acknowledged;
+      acknowledged = told _ _ _ _ _ _ _ _ _ _ hr.refused hr.delta_rx hr.ack_tx r.acknowledged;
     }
 
--- the same, with nothing said of what is held and given
-pub any_held : (Holds : Message → Type 0) (Gives : ℕ → Message → Type 0) (rounds : ℕ) (ps : List Peer) (es : List PeerEnd) → AllZip (Exchanged Holds Gives rounds) ps es → AllZip (Exchanged AnyMessage AnyGiven rounds) ps es
-any_held Holds Gives rounds [] [] h = h
-any_held Holds Gives rounds [] (e ∷ es) h = h
-any_held Holds Gives rounds (p ∷ ps) [] h = h
-any_held Holds Gives rounds (p ∷ ps) (e ∷ es) h = (less p e h.0, any_held Holds Gives rounds ps es h.1)
+-- the same, with nothing said of what is held, refused and given
+pub any_held : (Holds Refuses : Message → Type 0) (Gives : ℕ → Message → Type 0) (rounds : ℕ) (ps : List Peer) (es : List PeerEnd) → AllZip (Exchanged Holds Refuses Gives rounds) ps es → AllZip (Exchanged AnyMessage AnyMessage AnyGiven rounds) ps es
+any_held Holds Refuses Gives rounds [] [] h = h
+any_held Holds Refuses Gives rounds [] (e ∷ es) h = h
+any_held Holds Refuses Gives rounds (p ∷ ps) [] h = h
+any_held Holds Refuses Gives rounds (p ∷ ps) (e ∷ es) h = (less p e h.0, any_held Holds Refuses Gives rounds ps es h.1)
   where
     all_any : (ms : List Message) → All Holds ms → All AnyMessage ms
     all_any [] a = All-nil AnyMessage
@@ -213,7 +216,11 @@ any_held Holds Gives rounds (p ∷ ps) (e ∷ es) h = (less p e h.0, any_held Ho
     all_given to [] = All-nil (AnyGiven to)
     all_given to (m ∷ ms) = All-cons (AnyGiven to) m ms tt (all_given to ms)
 
-    less : (p : Peer) (e : PeerEnd) → Exchanged Holds Gives rounds p e → Exchanged AnyMessage AnyGiven rounds p e
+    all_taken : (ms : List Message) → All (IsTaken AnyMessage AnyMessage) ms
+    all_taken [] = All-nil (IsTaken AnyMessage AnyMessage)
+    all_taken (m ∷ ms) = All-cons (IsTaken AnyMessage AnyMessage) m ms (inl tt) (all_taken ms)
+
+    less : (p : Peer) (e : PeerEnd) → Exchanged Holds Refuses Gives rounds p e → Exchanged AnyMessage AnyMessage AnyGiven rounds p e
     less p e h = record {
       to = h.to;
       delta_tx = h.delta_tx;
@@ -221,55 +228,56 @@ any_held Holds Gives rounds (p ∷ ps) (e ∷ es) h = (less p e h.0, any_held Ho
       delta_rx = h.delta_rx;
       ack_rx = h.ack_rx;
       sent = record { put = h.sent.put; more_sent = h.sent.more_sent; for_it = h.sent.for_it; given = all_given p.to h.sent.put; few = h.sent.few };
+      acks_taken = record { got = h.acks_taken.got; more_came = h.acks_taken.more_came; each = all_taken h.acks_taken.got };
       acks_counted = h.acks_counted;
       acknowledged =
           let a = h.acknowledged in
-          record { got = a.got; taken = a.taken; put = a.put; more_came = a.more_came; more_sent = a.more_sent; among = a.among; held = all_any a.taken a.held; due = a.due; counted = a.counted };
+          record { got = a.got; taken = a.taken; put = a.put; more_came = a.more_came; more_sent = a.more_sent; each = all_taken a.got; among = a.among; held = all_any a.taken a.held; due = a.due; counted = a.counted };
     }
 
 -- the same by other names
-pub exchanged_as : (n rounds : ℕ) (ps qs : List Peer) (es fs : List PeerEnd) → n ≡ rounds → ps ≡ qs → fs ≡ es → AllZip (Exchanged AnyMessage AnyGiven n) ps es → AllZip (Exchanged AnyMessage AnyGiven rounds) qs fs
-exchanged_as n rounds ps qs es fs same of by h = subst (λ l. AllZip (Exchanged AnyMessage AnyGiven rounds) qs l) (sym by) (subst (λ l. AllZip (Exchanged AnyMessage AnyGiven rounds) l es) of (subst (λ m. AllZip (Exchanged AnyMessage AnyGiven m) ps es) same h))
+pub exchanged_as : (n rounds : ℕ) (ps qs : List Peer) (es fs : List PeerEnd) → n ≡ rounds → ps ≡ qs → fs ≡ es → AllZip (Exchanged AnyMessage AnyMessage AnyGiven n) ps es → AllZip (Exchanged AnyMessage AnyMessage AnyGiven rounds) qs fs
+exchanged_as n rounds ps qs es fs same of by h = subst (λ l. AllZip (Exchanged AnyMessage AnyMessage AnyGiven rounds) qs l) (sym by) (subst (λ l. AllZip (Exchanged AnyMessage AnyMessage AnyGiven rounds) l es) of (subst (λ m. AllZip (Exchanged AnyMessage AnyMessage AnyGiven m) ps es) same h))
 
 -- one pair more at the ends of two lists
 pub paired : {A B : Type 0} (R : A → B → Type 0) (xs xs' : List A) (ys ys' : List B) (x : A) (y : B) → xs ≡ xs' ++ x ∷ [] → ys ≡ ys' ++ y ∷ [] → AllZip R xs' ys' → R x y → AllZip R xs ys
 paired R xs xs' ys ys' x y p q h r = subst (λ l. AllZip R l ys) (sym p) (subst (λ l. AllZip R (xs' ++ x ∷ []) l) (sym q) (all_zip_push R xs' ys' x y h r))
 
 -- the ends are of the links of what was handed in
-pub same_links : (rounds : ℕ) (ps : List Peer) (es : List PeerEnd) → AllZip (Exchanged AnyMessage AnyGiven rounds) ps es → map linkage_left es ≡ map linkage_of ps
+pub same_links : (rounds : ℕ) (ps : List Peer) (es : List PeerEnd) → AllZip (Exchanged AnyMessage AnyMessage AnyGiven rounds) ps es → map linkage_left es ≡ map linkage_of ps
 same_links rounds [] [] h = refl
 same_links rounds [] (e ∷ es) h = absurd h
 same_links rounds (p ∷ ps) [] h = absurd h
 same_links rounds (p ∷ ps) (e ∷ es) h = λ i. record { delta_tx = h.0.delta_tx i; ack_tx = h.0.ack_tx i; delta_rx = h.0.delta_rx i; ack_rx = h.0.ack_rx i } ∷ same_links rounds ps es h.1 i
 
 -- each site's ends are of its links
-pub rows_linked : {A B : Type 0} (rounds : ℕ) (peers : A → List Peer) (ends : B → List PeerEnd) (xs : List A) (ys : List B) → AllZip (λ x y. AllZip (Exchanged AnyMessage AnyGiven rounds) (peers x) (ends y)) xs ys → map (λ y. map linkage_left (ends y)) ys ≡ map (λ x. map linkage_of (peers x)) xs
+pub rows_linked : {A B : Type 0} (rounds : ℕ) (peers : A → List Peer) (ends : B → List PeerEnd) (xs : List A) (ys : List B) → AllZip (λ x y. AllZip (Exchanged AnyMessage AnyMessage AnyGiven rounds) (peers x) (ends y)) xs ys → map (λ y. map linkage_left (ends y)) ys ≡ map (λ x. map linkage_of (peers x)) xs
 rows_linked rounds peers ends [] [] h = refl
 rows_linked rounds peers ends [] (y ∷ ys) h = absurd h
 rows_linked rounds peers ends (x ∷ xs) [] h = absurd h
 rows_linked rounds peers ends (x ∷ xs) (y ∷ ys) h = λ i. same_links rounds (peers x) (ends y) h.0 i ∷ rows_linked rounds peers ends xs ys h.1 i
 
-same_names : (rounds : ℕ) (ps : List Peer) (es : List PeerEnd) → AllZip (Exchanged AnyMessage AnyGiven rounds) ps es → map (λ e. e.to) es ≡ map (λ p. p.to) ps
+same_names : (rounds : ℕ) (ps : List Peer) (es : List PeerEnd) → AllZip (Exchanged AnyMessage AnyMessage AnyGiven rounds) ps es → map (λ e. e.to) es ≡ map (λ p. p.to) ps
 same_names rounds [] [] h = refl
 same_names rounds [] (e ∷ es) h = absurd h
 same_names rounds (p ∷ ps) [] h = absurd h
 same_names rounds (p ∷ ps) (e ∷ es) h = λ i. h.0.to i ∷ same_names rounds ps es h.1 i
 
 -- and has the names that were handed in
-pub rows_named : {A B : Type 0} (rounds : ℕ) (peers : A → List Peer) (ends : B → List PeerEnd) (xs : List A) (ys : List B) → AllZip (λ x y. AllZip (Exchanged AnyMessage AnyGiven rounds) (peers x) (ends y)) xs ys → map (λ y. map (λ e. e.to) (ends y)) ys ≡ map (λ x. map (λ p. p.to) (peers x)) xs
+pub rows_named : {A B : Type 0} (rounds : ℕ) (peers : A → List Peer) (ends : B → List PeerEnd) (xs : List A) (ys : List B) → AllZip (λ x y. AllZip (Exchanged AnyMessage AnyMessage AnyGiven rounds) (peers x) (ends y)) xs ys → map (λ y. map (λ e. e.to) (ends y)) ys ≡ map (λ x. map (λ p. p.to) (peers x)) xs
 rows_named rounds peers ends [] [] h = refl
 rows_named rounds peers ends [] (y ∷ ys) h = absurd h
 rows_named rounds peers ends (x ∷ xs) [] h = absurd h
 rows_named rounds peers ends (x ∷ xs) (y ∷ ys) h = λ i. same_names rounds (peers x) (ends y) h.0 i ∷ rows_named rounds peers ends xs ys h.1 i
 
-left_of_new : (rounds : ℕ) (ps : List Peer) (es : List PeerEnd) → All IsNewPeer ps → AllZip (Exchanged AnyMessage AnyGiven rounds) ps es → All (IsLeftOfNew rounds) es
+left_of_new : (rounds : ℕ) (ps : List Peer) (es : List PeerEnd) → All IsNewPeer ps → AllZip (Exchanged AnyMessage AnyMessage AnyGiven rounds) ps es → All (IsLeftOfNew rounds) es
 left_of_new rounds [] [] n h = All-nil (IsLeftOfNew rounds)
 left_of_new rounds [] (e ∷ es) n h = absurd h
 left_of_new rounds (p ∷ ps) [] n h = absurd h
 left_of_new rounds (p ∷ ps) (e ∷ es) n h = All-cons (IsLeftOfNew rounds) e es (p, All-head IsNewPeer p ps n, h.0) (left_of_new rounds ps es (All-tail IsNewPeer p ps n) h.1)
 
 -- and each was left by an exchange of new links
-pub rows_left : {A B : Type 0} (rounds : ℕ) (peers : A → List Peer) (ends : B → List PeerEnd) (xs : List A) (ys : List B) → All (λ x. All IsNewPeer (peers x)) xs → AllZip (λ x y. AllZip (Exchanged AnyMessage AnyGiven rounds) (peers x) (ends y)) xs ys → All (λ row. All (IsLeftOfNew rounds) row) (map ends ys)
+pub rows_left : {A B : Type 0} (rounds : ℕ) (peers : A → List Peer) (ends : B → List PeerEnd) (xs : List A) (ys : List B) → All (λ x. All IsNewPeer (peers x)) xs → AllZip (λ x y. AllZip (Exchanged AnyMessage AnyMessage AnyGiven rounds) (peers x) (ends y)) xs ys → All (λ row. All (IsLeftOfNew rounds) row) (map ends ys)
 rows_left rounds peers ends [] [] n h = All-nil (λ row. All (IsLeftOfNew rounds) row)
 rows_left rounds peers ends [] (y ∷ ys) n h = absurd h
 rows_left rounds peers ends (x ∷ xs) [] n h = absurd h

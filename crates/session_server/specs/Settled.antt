@@ -86,7 +86,7 @@ pub record AreAcknowledged (sites : List ℕ) (links : List LinkEnd) : Type 0 wh
 
 -- an exchange for so many rounds left this end of links through which nothing had gone
 abbrev pub IsLeftOfNew : ℕ → PeerEnd → Type 0
-IsLeftOfNew rounds end = (peer : Peer) × IsNewPeer peer × Exchanged AnyMessage AnyGiven rounds peer end
+IsLeftOfNew rounds end = (peer : Peer) × IsNewPeer peer × Exchanged AnyMessage AnyMessage AnyGiven rounds peer end
 
 -- The links between these sites, each told of as its two ends tell it, which the exchanges of two sites for so many rounds left, each for the other by its number. What came out of each is a prefix of what was put into it.
 pub record AreLinksTold (rounds : ℕ) (sites : List ℕ) (links : List LinkEnd) : Type 0 where

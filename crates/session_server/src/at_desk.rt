@@ -1,6 +1,6 @@
 //! A seat at a desk as what answers a session.
 
-ghost use Rattle.std.specs.Prelude.{◌≡◌, ◌<◌, [], ◌∷◌, ◌++◌, length, vec_len, vec_capacity, IfErr, IfOk, MatchResult};
+ghost use Rattle.std.specs.Prelude.{◌≡◌, ◌<◌, [], ◌∷◌, ◌++◌, length, vec_len, vec_capacity, IfErr, MatchResult};
 ghost use Rattle.site_desk.specs.SiteView.{SiteInStep};
 ghost use Rattle.session_server.specs.SeatStep.{DeskStep, IsLookAt, ShowsNothing, WhyNotShown, AreTold, told_at};
 ghost use Rattle.desk_lines.specs.declared.answered.Answered.TheVariants.{Kept, Refused};

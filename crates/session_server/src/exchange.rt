@@ -2,7 +2,7 @@
 
 ghost use Rattle.std.specs.Prelude.{◌≡◌, ◌≤◌, [], map, vec_len, vec_capacity, IfOk};
 ghost use Rattle.std.specs.List.{AllZip};
-ghost use Rattle.session_server.specs.Exchanged.{Exchanged, HasReceived, HasSent, Received, Sent, given_at_desk, held_at_desk, incoming, outgoing};
+ghost use Rattle.session_server.specs.Exchanged.{Exchanged, HasReceived, HasSent, Received, Sent, given_at_desk, held_at_desk, incoming, outgoing, refused_at_desk};
 ghost use Rattle.site_desk.specs.SiteView.{SiteInStep};
 
 use crate::peer::{Peer, PeerEnd};
@@ -52,7 +52,7 @@ fn run<'s, E, R: Threads + Wait + Sync, S: Replica + Sync + 's>(
     requires room { (vec_len outs ≤ vec_capacity out_ends) × (vec_len ins ≤ vec_capacity in_ends) }
     requires empty { (out_ends.items ≡ []) × (in_ends.items ≡ []) }
     ensures sent { IfOk result (λ r. AllZip (Sent S.gives rounds) outs.items r.0.items) }
-    ensures received { IfOk result (λ r. AllZip (Received S.holds) ins.items r.1.items) }
+    ensures received { IfOk result (λ r. AllZip (Received S.holds S.refuses) ins.items r.1.items) }
     ensures len { IfOk result (λ r. (vec_len r.0 ≡ vec_len outs) × (vec_len r.1 ≡ vec_len ins)) }
 {
     let links_of = LinksOf {
@@ -140,10 +140,11 @@ fn zip(mut outs: Vec<OutgoingEnd>, mut ins: Vec<IncomingEnd>, ends: &mut Vec<Pee
 /// Exchanges messages with all peers: sends what is due to each for so many rounds, in one thread, and takes what comes, in
 /// two threads for each peer, until the links end. Each thread that is done ends the links that it sent on.
 ///
-/// It hands back the ends of the links that it was given, peer by peer. Each message that was sent to a peer is for it, and
-/// there are no more than rounds. What was sent back to a peer acknowledges, in their order, some of the messages that came from
-/// it, each of which is in an open book that may be the desk's; with those that were counted as refused they are no more than
-/// came.
+/// It hands back the ends of the links that it was given, peer by peer. Each message that was sent to a peer is for it, and was due
+/// to it from an open book that may be the desk's; there are no more than rounds. None that came was dropped: of each, an open
+/// book that may be the desk's has the delta, or a book that may be the desk's refuses the message, or might want memory for it.
+/// What was sent back to a peer acknowledges, in their order, some of those that came from it and are held so; with those that
+/// were counted as refused they are no more than came.
 pub fn exchange_all<T: Threads + Wait + Sync, K: Keeper + Send, L: Opens + Send + Sync>(
     rt: &T,
     alloc: Global,
@@ -151,7 +152,7 @@ pub fn exchange_all<T: Threads + Wait + Sync, K: Keeper + Send, L: Opens + Send 
     peers: Vec<Peer>,
     rounds: u64,
 ) -> Result<Vec<PeerEnd>, ExchangeFault>
-    ensures { IfOk result (λ r. AllZip (Exchanged (held_at_desk L.office L.began (SiteInStep K.failed K.is_trusted K.kept K.may_leave)) (given_at_desk L.office L.began (SiteInStep K.failed K.is_trusted K.kept K.may_leave)) rounds) peers.items r.items) }
+    ensures { IfOk result (λ r. AllZip (Exchanged (held_at_desk L.office L.began (SiteInStep K.failed K.is_trusted K.kept K.may_leave)) (refused_at_desk L.office L.began (SiteInStep K.failed K.is_trusted K.kept K.may_leave) K.failed) (given_at_desk L.office L.began (SiteInStep K.failed K.is_trusted K.kept K.may_leave)) rounds) peers.items r.items) }
 {
     exchange(rt, alloc, &DeskReplica { alloc, desk }, peers, rounds)
 }
@@ -164,7 +165,7 @@ fn exchange<T: Threads + Wait + Sync, S: Replica + Sync>(
     peers: Vec<Peer>,
     rounds: u64,
 ) -> Result<Vec<PeerEnd>, ExchangeFault>
-    ensures { IfOk result (λ r. AllZip (Exchanged S.holds S.gives rounds) peers.items r.items) }
+    ensures { IfOk result (λ r. AllZip (Exchanged S.holds S.refuses S.gives rounds) peers.items r.items) }
 {
     let count = peers.len();
     let mut ends = Vec::with_capacity(alloc, count)?;
@@ -191,7 +192,7 @@ fn in_threads<R: Threads + Wait + Sync, S: Replica + Sync>(
     requires room { (vec_len outs ≤ vec_capacity out_ends) × (vec_len ins ≤ vec_capacity in_ends) }
     requires empty { (out_ends.items ≡ []) × (in_ends.items ≡ []) }
     ensures sent { IfOk result (λ r. AllZip (Sent S.gives rounds) outs.items r.0.items) }
-    ensures received { IfOk result (λ r. AllZip (Received S.holds) ins.items r.1.items) }
+    ensures received { IfOk result (λ r. AllZip (Received S.holds S.refuses) ins.items r.1.items) }
     ensures len { IfOk result (λ r. (vec_len r.0 ≡ vec_len outs) × (vec_len r.1 ≡ vec_len ins)) }
 {
     thread::scope(
@@ -199,7 +200,7 @@ fn in_threads<R: Threads + Wait + Sync, S: Replica + Sync>(
         rt,
         move |scope| -> Result<(Vec<OutgoingEnd>, Vec<IncomingEnd>), ExchangeFault>
             requires { (vec_len outs ≤ vec_capacity out_ends) × (vec_len ins ≤ vec_capacity in_ends) × (out_ends.items ≡ []) × (in_ends.items ≡ []) }
-            ensures { IfOk result (λ r. AllZip (Sent S.gives rounds) outs.items r.0.items × AllZip (Received S.holds) ins.items r.1.items × (vec_len r.0 ≡ vec_len outs) × (vec_len r.1 ≡ vec_len ins)) }
+            ensures { IfOk result (λ r. AllZip (Sent S.gives rounds) outs.items r.0.items × AllZip (Received S.holds S.refuses) ins.items r.1.items × (vec_len r.0 ≡ vec_len outs) × (vec_len r.1 ≡ vec_len ins)) }
         { run(scope, rt, replica, outs, out_ends, ins, in_ends, rounds) },
     )
 }

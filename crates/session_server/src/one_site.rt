@@ -6,7 +6,7 @@ ghost use Rattle.site_desk.specs.declared.finish.FinishFault.TheVariants.{SeatsO
 ghost use Rattle.site_desk.specs.Moments.{IsLater};
 ghost use Rattle.site_desk.specs.Seats.{parts_of, shares_of};
 ghost use Rattle.site_desk.specs.SiteView.{SiteInStep};
-ghost use Rattle.session_server.specs.Exchanged.{AnyGiven, AnyMessage, Exchanged, given_at_desk, held_at_desk};
+ghost use Rattle.session_server.specs.Exchanged.{AnyGiven, AnyMessage, Exchanged, given_at_desk, held_at_desk, refused_at_desk};
 ghost use Rattle.session_server.specs.Finished.{IsCompared, IsLeftOf, given_since};
 
 use crate::exchange::{ExchangeFault, exchange_all};
@@ -52,7 +52,7 @@ pub(crate) fn run_site<
     ensures readers { IfOk result (λ left. map (λ e. e.reader_began.value) left.1.items ≡ map (λ v. v.reader) linked.site.sessions.items) }
     ensures writers { IfOk result (λ left. map (λ e. e.writer_began.value) left.1.items ≡ map (λ v. v.writer) linked.site.sessions.items) }
     ensures left { IfOk result (λ left. IsLeftOf linked.site.book.book left.0.book (All (λ e. IsSome e.writer) left.1.items) (flat_map (λ e. e.receipts.items) left.1.items) (flat_map (λ e. e.seen.items) left.1.items) left.2.0) }
-    ensures peers { IfOk result (λ left. AllZip (Exchanged AnyMessage AnyGiven rounds) linked.peers.items left.2.1.items) }
+    ensures peers { IfOk result (λ left. AllZip (Exchanged AnyMessage AnyMessage AnyGiven rounds) linked.peers.items left.2.1.items) }
 {
     let LinkedSite { site, peers } = linked;
     let Some(parts) = (site.sessions.len() as u64).checked_add(1) else {
@@ -87,7 +87,7 @@ fn at_desk<
     ensures readers { IfOk result (λ left. map (λ e. e.reader_began.value) left.1.items ≡ map (λ v. v.reader) site.sessions.items) }
     ensures writers { IfOk result (λ left. map (λ e. e.writer_began.value) left.1.items ≡ map (λ v. v.writer) site.sessions.items) }
     ensures left { IfOk result (λ left. IsLeftOf site.book.book left.0.book (All (λ e. IsSome e.writer) left.1.items) (flat_map (λ e. e.receipts.items) left.1.items) (flat_map (λ e. e.seen.items) left.1.items) left.2.0) }
-    ensures peers { IfOk result (λ left. AllZip (Exchanged AnyMessage AnyGiven rounds) peers.items left.2.1.items) }
+    ensures peers { IfOk result (λ left. AllZip (Exchanged AnyMessage AnyMessage AnyGiven rounds) peers.items left.2.1.items) }
 {
     let Site { book, sessions } = site;
     let (desk, seat) = Desk::<K, L>::new(book, blank);
@@ -172,7 +172,7 @@ fn at_once<
     ensures writers { IfOk result (λ r. IfOk r.0 (λ s. map (λ e. e.writer_began.value) s.0.items ≡ map (λ s. s.writer) sessions.items)) }
     ensures parts { IfOk result (λ r. IfOk r.0 (λ s. All (λ e. IsSome e.writer) s.0.items → parts_of s.1.items ≡ parts_of (map (λ s. s.seat) sessions.items))) }
     ensures shares { IfOk result (λ r. IfOk r.0 (λ s. shares_of s.1.items ≤ shares_of (map (λ s. s.seat) sessions.items) + given_since (length L.began) (flat_map (λ e. e.receipts.items) s.0.items))) }
-    ensures peers { IfOk result (λ r. IfOk r.1 (λ ends. AllZip (Exchanged (held_at_desk L.office L.began (SiteInStep K.failed K.is_trusted K.kept K.may_leave)) (given_at_desk L.office L.began (SiteInStep K.failed K.is_trusted K.kept K.may_leave)) rounds) peers.items ends.items)) }
+    ensures peers { IfOk result (λ r. IfOk r.1 (λ ends. AllZip (Exchanged (held_at_desk L.office L.began (SiteInStep K.failed K.is_trusted K.kept K.may_leave)) (refused_at_desk L.office L.began (SiteInStep K.failed K.is_trusted K.kept K.may_leave) K.failed) (given_at_desk L.office L.began (SiteInStep K.failed K.is_trusted K.kept K.may_leave)) rounds) peers.items ends.items)) }
 {
     let begun = Begun {
         sessions: Snapshot::of(&sessions),

@@ -2,7 +2,7 @@
 
 ghost use Rattle.std.specs.Prelude.{◌≡◌, ◌≤◌, ◌+◌, [], length, vec_len, vec_capacity, OnOk};
 ghost use Rattle.std.specs.List.{AllZip};
-ghost use Rattle.session_server.specs.Exchanged.{Acknowledges, Received};
+ghost use Rattle.session_server.specs.Exchanged.{Acknowledges, AreTaken, Received};
 
 use crate::exchange::ExchangeFault;
 use crate::replica::Replica;
@@ -37,17 +37,18 @@ struct DeltasOf<'s, S: Replica> {
 }
 
 impl<'s, S: Replica> Promise<(RxEnd, TxEnd, u64)> for DeltasOf<'s, S> {
-    ghost kept_by = { λ p r. (r.0.link ≡ p.rx.value.link) × (r.1.link ≡ p.tx.value.link) × Acknowledges S.holds p.rx.value.messages p.tx.value.messages r.2 r.0.messages r.1.messages };
+    ghost kept_by = { λ p r. (r.0.link ≡ p.rx.value.link) × (r.1.link ≡ p.tx.value.link) × Acknowledges S.holds S.refuses p.rx.value.messages p.tx.value.messages r.2 r.0.messages r.1.messages };
 }
 
-// The link that a receiver of acknowledgements was begun with.
+// The link that a receiver of acknowledgements was begun with, and its replica.
 #[derive(Drop)]
-struct AcksOf {
+struct AcksOf<'s, S: Replica> {
+    _replica: &'s S,
     rx: Snapshot<Rx>,
 }
 
-impl Promise<(RxEnd, u64)> for AcksOf {
-    ghost kept_by = { λ p r. (r.0.link ≡ p.rx.value.link) × (length p.rx.value.messages + r.1 ≤ length r.0.messages) };
+impl<'s, S: Replica> Promise<(RxEnd, u64)> for AcksOf<'s, S> {
+    ghost kept_by = { λ p r. (r.0.link ≡ p.rx.value.link) × AreTaken S.holds S.refuses p.rx.value.messages r.0.messages × (length p.rx.value.messages + r.1 ≤ length r.0.messages) };
 }
 
 // Receives deltas until the link ends, and acknowledges those that were taken. Then it ends the link back.
@@ -58,7 +59,7 @@ fn receive_deltas<S: Replica, R: Wait>(
     mut tx: Tx,
 ) -> (RxEnd, TxEnd, u64)
     ensures links { (result.0.link ≡ rx.link) × (result.1.link ≡ tx.link) }
-    ensures acknowledged { Acknowledges S.holds rx.messages tx.messages result.2 result.0.messages result.1.messages }
+    ensures acknowledged { Acknowledges S.holds S.refuses rx.messages tx.messages result.2 result.0.messages result.1.messages }
 {
     let mut refused: u64 = 0;
     for _ in rt.forever() {
@@ -79,6 +80,7 @@ fn receive_deltas<S: Replica, R: Wait>(
 // Receives acknowledgements until the link ends.
 fn receive_acks<S: Replica, R: Wait>(rt: &R, replica: &S, mut rx: Rx) -> (RxEnd, u64)
     ensures link { result.0.link ≡ rx.link }
+    ensures taken { AreTaken S.holds S.refuses rx.messages result.0.messages }
     ensures counted { length rx.messages + result.1 ≤ length result.0.messages }
 {
     let mut refused: u64 = 0;
@@ -103,7 +105,7 @@ pub(crate) fn receive_from<'s, E, R: Threads + Wait + Sync, S: Replica + Sync + 
 ) -> Result<(), ExchangeFault>
     requires empty { ends.old.items ≡ [] }
     requires room { vec_len peers ≤ vec_capacity ends.old }
-    ensures received { OnOk result (AllZip (Received S.holds) peers.items ends.new.items) }
+    ensures received { OnOk result (AllZip (Received S.holds S.refuses) peers.items ends.new.items) }
     ensures room { OnOk result ((vec_len ends.new ≡ vec_len peers) × (vec_capacity ends.new ≡ vec_capacity ends.old)) }
 {
     let Some(
@@ -122,6 +124,7 @@ pub(crate) fn receive_from<'s, E, R: Threads + Wait + Sync, S: Replica + Sync + 
         tx: Snapshot::of(&ack_tx),
     };
     let acks_of = AcksOf {
+        _replica: replica,
         rx: Snapshot::of(&ack_rx),
     };
     let Ok(deltas) = scope.spawn_with(

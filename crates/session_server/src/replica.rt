@@ -44,15 +44,12 @@ pub(crate) struct DeskReplica<'a, K: Keeper, L: Opens> {
 }
 
 impl<'a, K: Keeper, L: Opens> Replica for DeskReplica<'a, K, L> {
-    ghost use Rattle.std.specs.Prelude.{Err};
-    ghost use Rattle.site_exchange.specs.declared.message.TakeFault.{TakeFault};
-    ghost use Rattle.site_desk.specs.Moments.{AtOneMoment, Takes};
     ghost use Rattle.site_desk.specs.SiteView.{SiteInStep};
-    ghost use Rattle.session_server.specs.Exchanged.{given_at_desk, held_at_desk};
+    ghost use Rattle.session_server.specs.Exchanged.{given_at_desk, held_at_desk, refused_at_desk};
 
     ghost holds = { held_at_desk L.office L.began (SiteInStep K.failed K.is_trusted K.kept K.may_leave) };
 
-    ghost refuses = { λ message. (fault : TakeFault) × AtOneMoment L.office L.began (SiteInStep K.failed K.is_trusted K.kept K.may_leave) (Takes K.failed message (Err fault)) };
+    ghost refuses = { refused_at_desk L.office L.began (SiteInStep K.failed K.is_trusted K.kept K.may_leave) K.failed };
 
     ghost gives = { given_at_desk L.office L.began (SiteInStep K.failed K.is_trusted K.kept K.may_leave) };
 

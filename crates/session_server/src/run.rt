@@ -32,7 +32,7 @@ struct SiteOf<K: Keeper + Drop, R: Read + Drop, W: Write + Drop> {
 impl<K: Keeper + Drop, R: Read + Drop, W: Write + Drop> Promise<
     Result<Left<K, R, W>, ExchangeFault>,
 > for SiteOf<K, R, W> {
-    ghost kept_by = { λ p r. IfOk r (λ left. (map (λ e. e.id) left.1.items ≡ map (λ v. v.id) p.linked.value.site.sessions.items) × (map (λ e. e.reader_began.value) left.1.items ≡ map (λ v. v.reader) p.linked.value.site.sessions.items) × (map (λ e. e.writer_began.value) left.1.items ≡ map (λ v. v.writer) p.linked.value.site.sessions.items) × IsLeftOf p.linked.value.site.book.book left.0.book (All (λ e. IsSome e.writer) left.1.items) (flat_map (λ e. e.receipts.items) left.1.items) (flat_map (λ e. e.seen.items) left.1.items) left.2.0 × AllZip (Exchanged AnyMessage AnyGiven p.rounds) p.linked.value.peers.items left.2.1.items) };
+    ghost kept_by = { λ p r. IfOk r (λ left. (map (λ e. e.id) left.1.items ≡ map (λ v. v.id) p.linked.value.site.sessions.items) × (map (λ e. e.reader_began.value) left.1.items ≡ map (λ v. v.reader) p.linked.value.site.sessions.items) × (map (λ e. e.writer_began.value) left.1.items ≡ map (λ v. v.writer) p.linked.value.site.sessions.items) × IsLeftOf p.linked.value.site.book.book left.0.book (All (λ e. IsSome e.writer) left.1.items) (flat_map (λ e. e.receipts.items) left.1.items) (flat_map (λ e. e.seen.items) left.1.items) left.2.0 × AllZip (Exchanged AnyMessage AnyMessage AnyGiven p.rounds) p.linked.value.peers.items left.2.1.items) };
 }
 
 /// Runs all sites at once, each in a thread of its own, with a thread for each of its sessions and with links to all
@@ -41,7 +41,7 @@ impl<K: Keeper + Drop, R: Read + Drop, W: Write + Drop> Promise<
 /// The links hold as many messages as their capacity. The ends of sites come in the order in which they were handed in,
 /// each with the ends of its sessions and a book of its site and its limit, which counts the same sites and whose history goes on
 /// from the one that was handed in. What was found of its book is of all receipts and looks that its sessions were given.
-/// Seats are out only where a session's thread could not be started; unless they are, no more requests were newly entered
+/// Seats are out only where an end is without its writer; unless they are, no more requests were newly entered
 /// than receipts were given of entries behind the history that was handed in.
 ///
 /// The links come by the site that sends and then by the site that receives, one of deltas before one of
@@ -50,7 +50,7 @@ impl<K: Keeper + Drop, R: Read + Drop, W: Write + Drop> Promise<
 /// of the deltas of another than it got and did not refuse.
 ///
 /// The capacity is at least 1. `Memory`, or `NotStarted` where a thread of a site or of its exchange could not be started,
-/// drops the books; what was entered stays in their records.
+/// drops the books; what becomes of their keepers then no contract says (it is tested that the files keep what was entered).
 pub fn run_all<
     T: Threads + Wait + Sync,
     K: Keeper + Drop + Send,
@@ -81,7 +81,7 @@ pub fn run_all<
     let mut jobs = Vec::with_capacity(alloc, linked.len())?;
     begun(linked, rounds, &mut jobs);
     let run = |one: LinkedSite<K, R, W>| -> Result<Left<K, R, W>, ExchangeFault>
-        ensures { IfOk result (λ left. (map (λ e. e.id) left.1.items ≡ map (λ v. v.id) one.site.sessions.items) × (map (λ e. e.reader_began.value) left.1.items ≡ map (λ v. v.reader) one.site.sessions.items) × (map (λ e. e.writer_began.value) left.1.items ≡ map (λ v. v.writer) one.site.sessions.items) × IsLeftOf one.site.book.book left.0.book (All (λ e. IsSome e.writer) left.1.items) (flat_map (λ e. e.receipts.items) left.1.items) (flat_map (λ e. e.seen.items) left.1.items) left.2.0 × AllZip (Exchanged AnyMessage AnyGiven rounds) one.peers.items left.2.1.items) }
+        ensures { IfOk result (λ left. (map (λ e. e.id) left.1.items ≡ map (λ v. v.id) one.site.sessions.items) × (map (λ e. e.reader_began.value) left.1.items ≡ map (λ v. v.reader) one.site.sessions.items) × (map (λ e. e.writer_began.value) left.1.items ≡ map (λ v. v.writer) one.site.sessions.items) × IsLeftOf one.site.book.book left.0.book (All (λ e. IsSome e.writer) left.1.items) (flat_map (λ e. e.receipts.items) left.1.items) (flat_map (λ e. e.seen.items) left.1.items) left.2.0 × AllZip (Exchanged AnyMessage AnyMessage AnyGiven rounds) one.peers.items left.2.1.items) }
     { run_site(rt, alloc, one, rounds, gate) };
     let done = work_all(rt, alloc, jobs, &run)?;
     let mut ends = Vec::with_capacity(alloc, done.len())?;

@@ -155,3 +155,12 @@ returns-in-Ok-clause-silent g c =
 pub returns-in-Err-clause-silent : goal.returns-in-Err-clause-silent
 returns-in-Err-clause-silent g c =
     refused_silent g.S.Store c.args.conn c.in-Err.fault c.in-Err.conn c.in-Err.ensures.fault (g.W.Write.contents c.args.out.now) (g.W.Write.contents c.ended.new.out) (g.E.Write.contents c.args.err.now) (g.E.Write.contents c.ended.new.err) c.ended.result c.ended.ensures.kept c.ended.ensures.line c.ended.ensures.status IsTakenText
+
+pub returns-in-Ok-clause-site : goal.returns-in-Ok-clause-site
+returns-in-Ok-clause-site g c =
+    if_some_is _ _ _ c.close_book.ensures.back (λ clean meta has.
+    c.write_taken-came.ensures.site clean meta (c.in-Ok.ensures.site (c.write_taken-came.ensures.trusted clean) meta has))
+
+pub returns-in-Err-clause-site : goal.returns-in-Err-clause-site
+returns-in-Err-clause-site g c =
+    if_back c.in-Err.conn (IsRefused g.S.Store c.args.conn c.in-Err.fault) (λ after. IsIllegal g.S.Store c.args.conn after c.in-Err.fault) _ c.in-Err.ensures.fault (λ after found. found.site)

@@ -6,7 +6,8 @@ use Rattle.book_core.specs.declared.entry.Entry.{Entry}
 use Rattle.book_core.specs.Decision.{Office}
 use Rattle.book_core.specs.Legal.{IsLegal}
 use Rattle.book_core.specs.Replay.{IsReplayFault}
-use Rattle.sql_records.specs.Held.{IsOf, RecordsView, MayLeaveIn, history_in}
+use Rattle.sql_records.specs.declared.meta.Meta.{Meta}
+use Rattle.sql_records.specs.Held.{IsOf, LeavesSite, RecordsView, MayLeaveIn, history_in}
 use Rattle.sql_records.specs.Keeping.{LeavesOnly}
 use Rattle.sql_records.specs.Layout.{office_of}
 use Rattle.operator_cli.proofs.opening.open_book.Goals as goal
@@ -56,6 +57,9 @@ returns-in-Err-start-clause-fault g c =
           subst₂ (λ (list : List Entry) (h : Held g.row.S.Denot). LeavesOnly list (MayLeaveIn (state g.S.Store h)))
           (ap (λ store. history_in store.trees) (c.in-Ok.ensures.same trusted)) (sym back) (c.in-Ok.ensures.leaves trusted);
       ours = λ clean. (_, (c.in-Ok.ensures.holds (subst (λ (h : Held g.row.S.Denot). HasCleanDisk (state g.S.Store h)) back clean)).0.numbers);
+      site = λ clean meta has.
+          let trusted = subst (λ (h : Held g.row.S.Denot). HasCleanDisk (state g.S.Store h)) back clean in
+          subst₂ (λ (h : Held g.row.S.Denot) (m : Meta). LeavesSite (state g.S.Store h) m) (sym back) (c.in-Ok.ensures.given trusted meta has) (c.in-Ok.ensures.site trusted);
       found = λ clean meta has.
           let trusted = subst (λ (h : Held g.row.S.Denot). HasCleanDisk (state g.S.Store h)) back clean in
           subst₂ (λ (office : Office) (entries : List Entry). IsReplayFault office entries c.in-Err-start.fault)

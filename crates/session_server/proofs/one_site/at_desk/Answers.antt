@@ -8,7 +8,7 @@ use Rattle.site_desk.specs.Count.{asked_since}
 use Rattle.site_desk.specs.Moments.{IsLater}
 use Rattle.site_desk.specs.Seats.{Held, parts_of, shares_of}
 use Rattle.site_desk.specs.SiteView.{SiteInStep}
-use Rattle.session_server.specs.Exchanged.{given_at_desk, held_at_desk}
+use Rattle.session_server.specs.Exchanged.{given_at_desk, held_at_desk, refused_at_desk}
 use Rattle.session_server.specs.Finished.{given_since}
 use Rattle.session_server.proofs.Exchanges.{any_held}
 use Rattle.session_server.proofs.Sites.{entered_by, finished_by, seats_in}
@@ -38,4 +38,4 @@ returns-clause-left g c =
 pub returns-clause-peers : goal.returns-clause-peers
 returns-clause-peers g c =
     let in_step = SiteInStep g.K.Keeper.failed g.K.Keeper.is_trusted g.K.Keeper.kept g.K.Keeper.may_leave in
-    any_held (held_at_desk g.L.Opens.office g.L.Opens.began in_step) (given_at_desk g.L.Opens.office g.L.Opens.began in_step) c.args.rounds _ _ (search rules)
+    any_held (held_at_desk g.L.Opens.office g.L.Opens.began in_step) (refused_at_desk g.L.Opens.office g.L.Opens.began in_step g.K.Keeper.failed) (given_at_desk g.L.Opens.office g.L.Opens.began in_step) c.args.rounds _ _ (search rules)

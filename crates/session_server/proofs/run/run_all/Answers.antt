@@ -19,7 +19,7 @@ work_all-requires-clause-keeps g c κs within = λ k d lt left post.
     let at = with_first _ c.in_ok-linked.linked.items c.begun.new.jobs.items c.begun.ensures.begun k d lt in
     let same = at.1.1 ∙ sym at.1.0 in
     let job = slice_index_or c.begun.new.jobs.items k d in
-    let told : IfOk left (λ a. (map (λ e. e.id) a.1.items ≡ map (λ v. v.id) job.0.site.sessions.items) × (map (λ e. e.reader_began.value) a.1.items ≡ map (λ v. v.reader) job.0.site.sessions.items) × (map (λ e. e.writer_began.value) a.1.items ≡ map (λ v. v.writer) job.0.site.sessions.items) × IsLeftOf job.0.site.book.book a.0.book (All {X = SessionEnd g.row.R.Denot g.row.W.Denot g.R.Read g.W.Write} (λ e. IsSome e.writer) a.1.items) (flat_map {X = SessionEnd g.row.R.Denot g.row.W.Denot g.R.Read g.W.Write} (λ e. e.receipts.items) a.1.items) (flat_map {X = SessionEnd g.row.R.Denot g.row.W.Denot g.R.Read g.W.Write} (λ e. e.seen.items) a.1.items) a.2.0 × AllZip (Exchanged AnyMessage AnyGiven c.args.rounds) job.0.peers.items a.2.1.items) = search rules in
+    let told : IfOk left (λ a. (map (λ e. e.id) a.1.items ≡ map (λ v. v.id) job.0.site.sessions.items) × (map (λ e. e.reader_began.value) a.1.items ≡ map (λ v. v.reader) job.0.site.sessions.items) × (map (λ e. e.writer_began.value) a.1.items ≡ map (λ v. v.writer) job.0.site.sessions.items) × IsLeftOf job.0.site.book.book a.0.book (All {X = SessionEnd g.row.R.Denot g.row.W.Denot g.R.Read g.W.Write} (λ e. IsSome e.writer) a.1.items) (flat_map {X = SessionEnd g.row.R.Denot g.row.W.Denot g.R.Read g.W.Write} (λ e. e.receipts.items) a.1.items) (flat_map {X = SessionEnd g.row.R.Denot g.row.W.Denot g.R.Read g.W.Write} (λ e. e.seen.items) a.1.items) a.2.0 × AllZip (Exchanged AnyMessage AnyMessage AnyGiven c.args.rounds) job.0.peers.items a.2.1.items) = search rules in
     if_ok_then _ _ left (λ a h. (
       h.0 ∙ ap (λ l. map (λ v. v.id) l.site.sessions.items) (sym same),
       h.1 ∙ ap (λ l. map (λ v. v.reader) l.site.sessions.items) (sym same),
@@ -33,8 +33,8 @@ pub link_ends-requires : goal.link_ends-requires
 link_ends-requires g c =
     let linked = c.in_ok-linked.linked.items in
     let ends = c.gathered.new.peers.items in
-    let rows : AllZip (λ one with. AllZip (Exchanged AnyMessage AnyGiven c.args.rounds) one.peers.items with.items) linked ends =
-    through _ _ _ (λ one with. AllZip (Exchanged AnyMessage AnyGiven c.args.rounds) one.peers.items with.items) _ _ _ _
+    let rows : AllZip (λ one with. AllZip (Exchanged AnyMessage AnyMessage AnyGiven c.args.rounds) one.peers.items with.items) linked ends =
+    through _ _ _ (λ one with. AllZip (Exchanged AnyMessage AnyMessage AnyGiven c.args.rounds) one.peers.items with.items) _ _ _ _
     (λ one job left with r s t. exchanged_as _ _ _ _ _ _ r.2 (ap (λ l. l.peers.items) r.1) (ap (λ v. v.items) t) s.4)
     c.begun.ensures.begun c.in_ok-done.ensures c.gathered.ensures.peers in
     let links = rows_linked c.args.rounds (λ one. one.peers.items) (λ with. with.items) linked ends rows in
@@ -87,8 +87,8 @@ pub returns-clause-told : goal.returns-clause-told
 returns-clause-told g c =
     let linked = c.in_ok-linked.linked.items in
     let peers = c.gathered.new.peers.items in
-    let rows : AllZip (λ one with. AllZip (Exchanged AnyMessage AnyGiven c.args.rounds) one.peers.items with.items) linked peers =
-    through _ _ _ (λ one with. AllZip (Exchanged AnyMessage AnyGiven c.args.rounds) one.peers.items with.items) _ _ _ _
+    let rows : AllZip (λ one with. AllZip (Exchanged AnyMessage AnyMessage AnyGiven c.args.rounds) one.peers.items with.items) linked peers =
+    through _ _ _ (λ one with. AllZip (Exchanged AnyMessage AnyMessage AnyGiven c.args.rounds) one.peers.items with.items) _ _ _ _
     (λ one job left with r s t. exchanged_as _ _ _ _ _ _ r.2 (ap (λ l. l.peers.items) r.1) (ap (λ v. v.items) t) s.4)
     c.begun.ensures.begun c.in_ok-done.ensures c.gathered.ensures.peers in
     let new = rows_left c.args.rounds (λ one. one.peers.items) (λ with. with.items) linked peers c.in_ok-linked.ensures.new rows in
