@@ -8,6 +8,7 @@ Says what differs and ends with status 1 where anything does.
 
 import os
 import shutil
+import sqlite3
 import subprocess
 import sys
 
@@ -204,8 +205,9 @@ def locked_out(folder):
             ["CREATE TABLE a (n INTEGER)", "INSERT INTO a VALUES (1)", "ALTER TABLE a ADD COLUMN m INTEGER DEFAULT 7"],
             ["DROP TABLE a"],
         ),
-        ("virtual", ["CREATE VIRTUAL TABLE words USING fts5(text)"], ["DROP TABLE words"]),
     ]
+    if ("ENABLE_FTS5",) in sqlite3.connect(":memory:").execute("PRAGMA compile_options").fetchall():
+        changes.append(("virtual", ["CREATE VIRTUAL TABLE words USING fts5(text)"], ["DROP TABLE words"]))
     for name, made, dropped in changes:
         make(folder, name)
         ask(folder, name, ASKED)
@@ -240,7 +242,7 @@ def not_plain_files(folder):
     for words in commands("folder.db") + [["init", "folder.db", "0", "2", "1000"]]:
         same(f"a folder: {words}", call(folder, words, "quit\n"), (3, "", "disk\n"))
     same("made beside or in a folder", (os.listdir(folder), os.listdir(os.path.join(folder, "folder.db"))), (["folder.db"], []))
-    os.rmdir(os.path.join(folder, "folder.db"))
+    shutil.rmtree(os.path.join(folder, "folder.db"))
     make(folder, "site.db")
     ask(folder, "site.db", ASKED)
     os.link(os.path.join(folder, "site.db"), os.path.join(folder, "again.db"))
@@ -259,6 +261,7 @@ def not_plain_files(folder):
     refused(folder, "a journal to play back", commands("stoppedsite.db"), "disk")
     with opened(folder, "stoppedsite.db") as db:
         intact("played back", db)
+        same("played back: the notes", db.execute("SELECT count(*) FROM notes").fetchone(), (0,))
     same("played back: its journal", os.path.exists(os.path.join(folder, "stoppedsite.db-journal")), False)
     for name in ["site.db", "stoppedsite.db"]:
         ask(folder, name, [("sell 5 gala 2", "done"), ("left gala", "left 55")])
@@ -269,13 +272,15 @@ def input_still_open(folder):
     make(folder, "site.db")
     change(folder, "site.db", ["UPDATE meta SET version = 7"])
     for words in [["ask", "site.db"], ["import", "site.db"]]:
-        with subprocess.Popen([PROGRAM, *words], stdin=subprocess.PIPE, stderr=subprocess.PIPE, cwd=folder) as program:
+        pipes = {"stdin": subprocess.PIPE, "stdout": subprocess.PIPE, "stderr": subprocess.PIPE}
+        with subprocess.Popen([PROGRAM, *words], cwd=folder, **pipes) as program:
             try:
                 status = program.wait(SECONDS)
             except subprocess.TimeoutExpired:
                 program.kill()
                 status = None
-            same(f"{words}, its input open", (status, program.stderr.read()), (3, b"other-schema 7\n"))
+            told = status, program.stdout.read(), program.stderr.read()
+            same(f"{words}, its input open", told, (3, b"", b"other-schema 7\n"))
 
 
 def words_not_understood(folder):

@@ -8,7 +8,7 @@ use Rattle.std.proofs.lemmas.List.Elements.{All-append, All-cons, All-head, All-
 use Rattle.link_queue.specs.End.{End, end_of}
 use Rattle.site_exchange.specs.declared.message.Message.{Message}
 use Rattle.site_exchange.specs.Exchange.{ack_for, receiver}
-use Rattle.session_server.specs.Exchanged.{IsSubsequence, Acknowledges, AreTaken, IsTaken, AnyGiven, AnyMessage, SentTo, SentMore, IsEndOf, Exchanged, Sent, Received, HasSent, HasReceived, outgoing, incoming}
+use Rattle.session_server.specs.Exchanged.{IsSubsequence, Acknowledges, AreHeldOrRefused, IsHeldOrRefused, AnyGiven, AnyMessage, SentTo, SentMore, IsEndOf, Exchanged, Sent, Received, HasSent, HasReceived, outgoing, incoming}
 use Rattle.session_server.specs.Mesh.{IsNewPeer, linkage_left, linkage_of}
 use Rattle.session_server.specs.Settled.{IsLeftOfNew}
 use Rattle.session_server.specs.declared.peer.Peer.{Peer}
@@ -44,40 +44,48 @@ associative (x ∷ xs) ys zs = ap (λ t. x ∷ t) (associative xs ys zs)
 one_more : {X : Type 0} (xs ys now now' : List X) (y : X) → now ≡ xs ++ ys → now' ≡ now ++ y ∷ [] → now' ≡ xs ++ (ys ++ y ∷ [])
 one_more xs ys now now' y p q = q ∙ ap (λ l. l ++ y ∷ []) p ∙ associative xs ys (y ∷ [])
 
+-- no message more came
+none_met : (Holds Refuses : Message → Type 0) (came : List Message) → AreHeldOrRefused Holds Refuses came came
+none_met Holds Refuses came = record { got = []; more_came = sym (append-nil came); each = All-nil (IsHeldOrRefused Holds Refuses) }
+
+-- one message more came
+abbrev one_more_met : (Holds Refuses : Message → Type 0) (came came1 came2 : List Message) (m : Message) → AreHeldOrRefused Holds Refuses came came1 → IsHeldOrRefused Holds Refuses m → came2 ≡ came1 ++ m ∷ [] → AreHeldOrRefused Holds Refuses came came2
+one_more_met Holds Refuses came came1 came2 m h met p = record {
+  got = h.got ++ m ∷ [];
+  more_came = one_more came h.got came1 came2 m h.more_came p;
+  each = All-push (IsHeldOrRefused Holds Refuses) h.got m h.each met;
+}
+
 pub nothing_came : (Holds Refuses : Message → Type 0) (came sent : List Message) → Acknowledges Holds Refuses came sent 0 came sent
 nothing_came Holds Refuses came sent =
-    record { got = []; taken = []; put = []; more_came = sym (append-nil came); more_sent = sym (append-nil sent); each = All-nil (IsTaken Holds Refuses); among = tt; held = All-nil Holds; due = tt; counted = omega (arith) }
+    record { met = none_met Holds Refuses came; taken = []; put = []; more_sent = sym (append-nil sent); among = tt; held = All-nil Holds; due = tt; counted = omega (arith) }
 
 -- a message came that is held, and its acknowledgement was sent
 pub sent_for : (Holds Refuses : Message → Type 0) (came sent came1 sent1 came2 sent2 : List Message) (refused : ℕ) (m a : Message) → Acknowledges Holds Refuses came sent refused came1 sent1
     → Some a ≡ ack_for m → Holds m → came2 ≡ came1 ++ m ∷ [] → sent2 ≡ sent1 ++ a ∷ [] → Acknowledges Holds Refuses came sent refused came2 sent2
 sent_for Holds Refuses came sent came1 sent1 came2 sent2 refused m a h is holds p q = record {
-  got = h.got ++ m ∷ [];
+  met = one_more_met Holds Refuses came came1 came2 m h.met (inl holds) p;
   taken = h.taken ++ m ∷ [];
   put = h.put ++ a ∷ [];
-  more_came = one_more came h.got came1 came2 m h.more_came p;
   more_sent = one_more sent h.put sent1 sent2 a h.more_sent q;
-  each = All-push (IsTaken Holds Refuses) h.got m h.each (inl holds);
-  among = subsequence_push h.taken h.got m h.among;
+  among = subsequence_push h.taken h.met.got m h.among;
   held = All-push Holds h.taken m h.held holds;
   due = AllZip-push (λ message ack. ack_for message ≡ Some ack) h.taken h.put m a h.due (sym is);
-  counted = omega (arith, h.counted, length_push h.put a, length_push h.got m);
+  counted = omega (arith, h.counted, length_push h.put a, length_push h.met.got m);
 }
 
--- a message came and was taken or refused, and nothing was sent for it
+-- a message came that is held or refused, and nothing was sent for it
 pub came_more : (Holds Refuses : Message → Type 0) (came sent came1 sent1 came2 sent2 : List Message) (refused refused2 : ℕ) (m : Message) → Acknowledges Holds Refuses came sent refused came1 sent1
-    → IsTaken Holds Refuses m → came2 ≡ came1 ++ m ∷ [] → sent2 ≡ sent1 → refused2 ≤ refused + 1 → Acknowledges Holds Refuses came sent refused2 came2 sent2
-came_more Holds Refuses came sent came1 sent1 came2 sent2 refused refused2 m h taken p q r = record {
-  got = h.got ++ m ∷ [];
+    → IsHeldOrRefused Holds Refuses m → came2 ≡ came1 ++ m ∷ [] → sent2 ≡ sent1 → refused2 ≤ refused + 1 → Acknowledges Holds Refuses came sent refused2 came2 sent2
+came_more Holds Refuses came sent came1 sent1 came2 sent2 refused refused2 m h met p q r = record {
+  met = one_more_met Holds Refuses came came1 came2 m h.met met p;
   taken = h.taken;
   put = h.put;
-  more_came = one_more came h.got came1 came2 m h.more_came p;
   more_sent = q ∙ h.more_sent;
-  each = All-push (IsTaken Holds Refuses) h.got m h.each taken;
-  among = subsequence_end h.taken h.got (m ∷ []) h.among;
+  among = subsequence_end h.taken h.met.got (m ∷ []) h.among;
   held = h.held;
   due = h.due;
-  counted = omega (arith, h.counted, length_push h.got m, r);
+  counted = omega (arith, h.counted, length_push h.met.got m, r);
 }
 
 -- the acknowledgement was sent, or it came back
@@ -196,7 +204,7 @@ exchanged Holds Refuses Gives rounds (p ∷ ps) (o ∷ os) (i ∷ is) (e ∷ es)
       delta_rx = ap (λ t. t.link) hr.delta_rx ∙ r.delta_rx;
       ack_rx = ap (λ t. t.link) hr.ack_rx ∙ r.ack_rx;
       sent = subst (SentTo Gives p.to rounds p.delta_tx.messages) (sym (ap (λ (t : End). t.messages) hs.delta_tx)) s.put;
-      acks_taken = subst (λ (t : End). AreTaken Holds Refuses p.ack_rx.messages t.messages) (sym hr.ack_rx) r.acks_taken;
+      acks_met = subst (λ (t : End). AreHeldOrRefused Holds Refuses p.ack_rx.messages t.messages) (sym hr.ack_rx) r.acks_met;
       acks_counted = omega (arith, r.acks_counted, hr.acks_refused, ap (λ (t : End). length t.messages) hr.ack_rx);
       acknowledged = told _ _ _ _ _ _ _ _ _ _ hr.refused hr.delta_rx hr.ack_tx r.acknowledged;
     }
@@ -216,9 +224,12 @@ any_held Holds Refuses Gives rounds (p ∷ ps) (e ∷ es) h = (less p e h.0, any
     all_given to [] = All-nil (AnyGiven to)
     all_given to (m ∷ ms) = All-cons (AnyGiven to) m ms tt (all_given to ms)
 
-    all_taken : (ms : List Message) → All (IsTaken AnyMessage AnyMessage) ms
-    all_taken [] = All-nil (IsTaken AnyMessage AnyMessage)
-    all_taken (m ∷ ms) = All-cons (IsTaken AnyMessage AnyMessage) m ms (inl tt) (all_taken ms)
+    all_met : (ms : List Message) → All (IsHeldOrRefused AnyMessage AnyMessage) ms
+    all_met [] = All-nil (IsHeldOrRefused AnyMessage AnyMessage)
+    all_met (m ∷ ms) = All-cons (IsHeldOrRefused AnyMessage AnyMessage) m ms (inl tt) (all_met ms)
+
+    any_met : (came came_now : List Message) → AreHeldOrRefused Holds Refuses came came_now → AreHeldOrRefused AnyMessage AnyMessage came came_now
+    any_met came came_now h = record { got = h.got; more_came = h.more_came; each = all_met h.got }
 
     less : (p : Peer) (e : PeerEnd) → Exchanged Holds Refuses Gives rounds p e → Exchanged AnyMessage AnyMessage AnyGiven rounds p e
     less p e h = record {
@@ -228,11 +239,11 @@ any_held Holds Refuses Gives rounds (p ∷ ps) (e ∷ es) h = (less p e h.0, any
       delta_rx = h.delta_rx;
       ack_rx = h.ack_rx;
       sent = record { put = h.sent.put; more_sent = h.sent.more_sent; for_it = h.sent.for_it; given = all_given p.to h.sent.put; few = h.sent.few };
-      acks_taken = record { got = h.acks_taken.got; more_came = h.acks_taken.more_came; each = all_taken h.acks_taken.got };
+      acks_met = any_met _ _ h.acks_met;
       acks_counted = h.acks_counted;
       acknowledged =
           let a = h.acknowledged in
-          record { got = a.got; taken = a.taken; put = a.put; more_came = a.more_came; more_sent = a.more_sent; each = all_taken a.got; among = a.among; held = all_any a.taken a.held; due = a.due; counted = a.counted };
+          record { met = any_met _ _ a.met; taken = a.taken; put = a.put; more_sent = a.more_sent; among = a.among; held = all_any a.taken a.held; due = a.due; counted = a.counted };
     }
 
 -- the same by other names

@@ -200,8 +200,8 @@ left_within rounds end h =
       acknowledged = omega (
         arith,
         a.counted,
-        ap length a.more_came,
-        length-append peer.delta_rx.messages a.got,
+        ap length a.met.more_came,
+        length-append peer.delta_rx.messages a.met.got,
         ap length a.more_sent,
         length-append peer.ack_tx.messages a.put,
         ap length h.1.1,

@@ -21,29 +21,27 @@ IsSubsequence [] ys = Unit {0}
 IsSubsequence (x ∷ xs) [] = ⊥
 IsSubsequence (x ∷ xs) (y ∷ ys) = ((x ≡ y) × IsSubsequence xs ys) ⊎ IsSubsequence (x ∷ xs) ys
 
--- a message that came was taken and is held, or was refused
-abbrev pub IsTaken : (Message → Type 0) → (Message → Type 0) → Message → Type 0
-IsTaken Holds Refuses message = Holds message ⊎ Refuses message
+-- what a message brings is held, or it is refused
+abbrev pub IsHeldOrRefused : (Message → Type 0) → (Message → Type 0) → Message → Type 0
+IsHeldOrRefused Holds Refuses message = Holds message ⊎ Refuses message
 
--- Since there were these messages more came, and none of them was dropped.
-pub record AreTaken (Holds Refuses : Message → Type 0) (came came_now : List Message) : Type 0 where
+-- Since there were these messages more came, each of which is held or refused.
+pub record AreHeldOrRefused (Holds Refuses : Message → Type 0) (came came_now : List Message) : Type 0 where
   pub got : List Message
   pub more_came : came_now ≡ came ++ got
-  pub each : All (IsTaken Holds Refuses) got
+  pub each : All (IsHeldOrRefused Holds Refuses) got
 
--- Since there were these messages, more came, of which none was dropped, and more were sent: what was sent acknowledges, in their
--- order, some of those that came, each of which is held; and with those that were refused they are no more than came.
+-- Since there were these messages, more came, each held or refused, and more were sent: what was sent acknowledges, in their order,
+-- some of those that came, each of which is held; and with those that were counted as refused they are no more than came.
 pub record Acknowledges (Holds Refuses : Message → Type 0) (came sent : List Message) (refused : ℕ) (came_now sent_now : List Message) : Type 0 where
-  pub got : List Message
+  pub met : AreHeldOrRefused Holds Refuses came came_now
   pub taken : List Message
   pub put : List Message
-  pub more_came : came_now ≡ came ++ got
   pub more_sent : sent_now ≡ sent ++ put
-  pub each : All (IsTaken Holds Refuses) got
-  pub among : IsSubsequence taken got
+  pub among : IsSubsequence taken met.got
   pub held : All Holds taken
   pub due : AllZip (λ message ack. ack_for message ≡ Some ack) taken put
-  pub counted : length put + refused ≤ length got
+  pub counted : length put + refused ≤ length met.got
 
 -- where nothing is said of what is held or refused, and of what is given for a peer
 abbrev pub AnyMessage : Message → Type 0
@@ -73,7 +71,7 @@ pub record SentTo (Gives : ℕ → Message → Type 0) (to most : ℕ) (sent sen
   pub few : length put ≤ most
 
 -- The ends are those of the peer's links. What was sent was given for the peer, no more than a message for each round; what was
--- sent back acknowledges what came and is held, nothing that came was dropped, and no more acknowledgements were refused than came.
+-- sent back acknowledges what came and is held, what came is held or refused, and no more acknowledgements were refused than came.
 pub record Exchanged (Holds Refuses : Message → Type 0) (Gives : ℕ → Message → Type 0) (rounds : ℕ) (peer : Peer) (end : PeerEnd) : Type 0 where
   pub to : end.to ≡ peer.to
   pub delta_tx : end.delta_tx.link ≡ peer.delta_tx.link
@@ -81,7 +79,7 @@ pub record Exchanged (Holds Refuses : Message → Type 0) (Gives : ℕ → Messa
   pub delta_rx : end.delta_rx.link ≡ peer.delta_rx.link
   pub ack_rx : end.ack_rx.link ≡ peer.ack_rx.link
   pub sent : SentTo Gives peer.to rounds peer.delta_tx.messages end.delta_tx.messages
-  pub acks_taken : AreTaken Holds Refuses peer.ack_rx.messages end.ack_rx.messages
+  pub acks_met : AreHeldOrRefused Holds Refuses peer.ack_rx.messages end.ack_rx.messages
   pub acks_counted : length peer.ack_rx.messages + end.acks_refused ≤ length end.ack_rx.messages
   pub acknowledged : Acknowledges Holds Refuses peer.delta_rx.messages peer.ack_tx.messages end.deltas_refused end.delta_rx.messages end.ack_tx.messages
 
@@ -109,12 +107,12 @@ pub record Sent (Gives : ℕ → Message → Type 0) (most : ℕ) (out : Outgoin
   pub link : end.tx.link ≡ out.tx.link
   pub put : SentTo Gives out.to most out.tx.messages end.tx.messages
 
--- the ends of the links that were received on, where nothing was dropped, with what was acknowledged, all of it held
+-- the ends of the links that were received on, with what was acknowledged, all of it held; what came is held or refused
 pub record Received (Holds Refuses : Message → Type 0) (before : Incoming) (after : IncomingEnd) : Type 0 where
   pub delta_rx : after.delta_rx.link ≡ before.delta_rx.link
   pub ack_tx : after.ack_tx.link ≡ before.ack_tx.link
   pub ack_rx : after.ack_rx.link ≡ before.ack_rx.link
-  pub acks_taken : AreTaken Holds Refuses before.ack_rx.messages after.ack_rx.messages
+  pub acks_met : AreHeldOrRefused Holds Refuses before.ack_rx.messages after.ack_rx.messages
   pub acks_counted : length before.ack_rx.messages + after.acks_refused ≤ length after.ack_rx.messages
   pub acknowledged : Acknowledges Holds Refuses before.delta_rx.messages before.ack_tx.messages after.deltas_refused after.delta_rx.messages after.ack_tx.messages
 

@@ -141,8 +141,8 @@ fn zip(mut outs: Vec<OutgoingEnd>, mut ins: Vec<IncomingEnd>, ends: &mut Vec<Pee
 /// two threads for each peer, until the links end. Each thread that is done ends the links that it sent on.
 ///
 /// It hands back the ends of the links that it was given, peer by peer. Each message that was sent to a peer is for it, and was due
-/// to it from an open book that may be the desk's; there are no more than rounds. None that came was dropped: of each, an open
-/// book that may be the desk's has the delta, or a book that may be the desk's refuses the message, or might want memory for it.
+/// to it from an open book that may be the desk's; there are no more than rounds. Of each that came an open book that may be the
+/// desk's has the delta, if it brings one, or a book that may be the desk's refuses the message, or might want memory for it.
 /// What was sent back to a peer acknowledges, in their order, some of those that came from it and are held so; with those that
 /// were counted as refused they are no more than came.
 pub fn exchange_all<T: Threads + Wait + Sync, K: Keeper + Send, L: Opens + Send + Sync>(

@@ -2,7 +2,7 @@
 
 ghost use Rattle.std.specs.Prelude.{◌≡◌, ◌≤◌, ◌+◌, [], length, vec_len, vec_capacity, OnOk};
 ghost use Rattle.std.specs.List.{AllZip};
-ghost use Rattle.session_server.specs.Exchanged.{Acknowledges, AreTaken, Received};
+ghost use Rattle.session_server.specs.Exchanged.{Acknowledges, AreHeldOrRefused, Received};
 
 use crate::exchange::ExchangeFault;
 use crate::replica::Replica;
@@ -48,7 +48,7 @@ struct AcksOf<'s, S: Replica> {
 }
 
 impl<'s, S: Replica> Promise<(RxEnd, u64)> for AcksOf<'s, S> {
-    ghost kept_by = { λ p r. (r.0.link ≡ p.rx.value.link) × AreTaken S.holds S.refuses p.rx.value.messages r.0.messages × (length p.rx.value.messages + r.1 ≤ length r.0.messages) };
+    ghost kept_by = { λ p r. (r.0.link ≡ p.rx.value.link) × AreHeldOrRefused S.holds S.refuses p.rx.value.messages r.0.messages × (length p.rx.value.messages + r.1 ≤ length r.0.messages) };
 }
 
 // Receives deltas until the link ends, and acknowledges those that were taken. Then it ends the link back.
@@ -80,7 +80,7 @@ fn receive_deltas<S: Replica, R: Wait>(
 // Receives acknowledgements until the link ends.
 fn receive_acks<S: Replica, R: Wait>(rt: &R, replica: &S, mut rx: Rx) -> (RxEnd, u64)
     ensures link { result.0.link ≡ rx.link }
-    ensures taken { AreTaken S.holds S.refuses rx.messages result.0.messages }
+    ensures met { AreHeldOrRefused S.holds S.refuses rx.messages result.0.messages }
     ensures counted { length rx.messages + result.1 ≤ length result.0.messages }
 {
     let mut refused: u64 = 0;

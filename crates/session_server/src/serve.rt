@@ -144,8 +144,8 @@ fn not_started<R: Read + Drop, W: Write + Drop>(
 }
 
 /// Serves each session at the desk in a thread of its own, and waits for all of them. Their ends come in the order in
-/// which they were handed in, with a seat for each whose thread could be started; where all could, these have the parts that
-/// were handed in. Beyond the shares that the seats handed in had, no more was newly entered for them than they were given
+/// which they were handed in, with as many seats as ends have their writer; where all have it, these have the parts that were
+/// handed in. Beyond the shares that the seats handed in had, no more was newly entered for them than they were given
 /// receipts of entries behind the history with which the desk began.
 ///
 /// An error is want of memory, before any thread is started: nothing was asked, and sessions and seats are dropped.
