@@ -227,6 +227,34 @@ def locked_out(folder):
     ask(folder, "vacuumed", [("sell 5 gala 2", "done"), ("left gala", "left 55")])
 
 
+def made_anew(folder):
+    """Our tables, made anew by hand, are ours only by the same texts, in the same order, with no table before them."""
+    make(folder, "site.db")
+    ask(folder, "site.db", ASKED)
+    with opened(folder, "site.db") as db:
+        meta, entries = (text for (text,) in db.execute("SELECT sql FROM sqlite_schema WHERE type = 'table' ORDER BY rootpage"))
+        rows = {name: db.execute(f"SELECT * FROM {name}").fetchall() for name in ["meta", "entries"]}
+    checked = meta.replace("sites INTEGER NOT NULL", "sites INTEGER NOT NULL CHECK (sites > 0)")
+    changes = [
+        ("same", [meta, entries], True),
+        ("turned", [entries, meta], False),
+        ("checked", [checked, entries], False),
+        ("letters", [meta.replace("meta", "Meta"), entries], False),
+        ("behind", ["CREATE TABLE notes (text TEXT)", meta, entries], False),
+    ]
+    for name, made, is_ours in changes:
+        make(folder, name)
+        change(folder, name, ["DROP TABLE meta", "DROP TABLE entries", *made])
+        with opened(folder, name) as db:
+            for table, values in rows.items():
+                db.executemany(f"INSERT INTO {table} VALUES ({', '.join('?' * len(values[0]))})", values)
+        if is_ours:
+            ask(folder, name, [("sell 5 gala 2", "done"), ("left gala", "left 55")])
+        else:
+            for words in commands(name):
+                same(f"{name}: {words}", call(folder, words, "quit\n"), (3, "", "not-ours\n"))
+
+
 def in_use(folder):
     make(folder, "site.db")
     with opened(folder, "site.db") as db:
@@ -300,6 +328,7 @@ TRIALS = [
     damaged,
     other_records,
     locked_out,
+    made_anew,
     in_use,
     not_plain_files,
     input_still_open,
