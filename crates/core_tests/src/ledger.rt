@@ -1,4 +1,6 @@
 //! What is kept under numbers, and what refunds gave back; the expected values are worked out by hand.
+ghost use Rattle.std.specs.Prelude.{◌≡◌};
+
 use request_ledger::{Kept, Ledger, Reply, Request, RequestNumber, SaleState};
 use rights_lattice::{Amount, Event};
 use std::process::Abort;
@@ -32,29 +34,13 @@ fn refund_once_at_the_seller(rt: HostRuntime) {
     assert!(rt; ledger.sale(sale) == None);
     assert!(rt; ledger.len() == 0);
 
-    ledger.reserve().expect(&rt, "memory");
-    assert!(rt; ledger.kept(sale) == None);
-    let sell = Request::Sell {
-        event,
-        amount: seats,
-    };
-    ledger.keep(sale, 0, sell, Reply::Done);
-    let sold = SaleState {
-        event,
-        seats,
-        given_back: 0,
-    };
-    assert!(rt; ledger.sale(sale) == Some(sold));
+    keep_sale(&rt, &mut ledger, sale, event, seats);
+    assert!(rt; ledger.sale(sale) == Some(state(event, seats, 0)));
 
     ledger.reserve().expect(&rt, "memory");
     assert!(rt; ledger.kept(refund) == None);
     ledger.keep(refund, 1, Request::Refund { sale, part: None }, Reply::Done);
-    let given_back = SaleState {
-        event,
-        seats,
-        given_back: 3,
-    };
-    assert!(rt; ledger.sale(sale) == Some(given_back));
+    assert!(rt; ledger.sale(sale) == Some(state(event, seats, 3)));
     assert!(rt; ledger.sale(refund) == None);
     let kept = Kept {
         place: 1,
@@ -63,6 +49,23 @@ fn refund_once_at_the_seller(rt: HostRuntime) {
     };
     assert!(rt; ledger.kept(refund) == Some(kept));
     assert!(rt; ledger.len() == 2);
+}
+
+// Keeps a sale that was done, at the first place.
+fn keep_sale(
+    rt: &impl Abort,
+    ledger: &mut Ledger,
+    number: RequestNumber,
+    event: Event,
+    seats: Amount,
+) {
+    ledger.reserve().expect(rt, "memory");
+    assert!(rt; ledger.kept(number) == None);
+    let sell = Request::Sell {
+        event,
+        amount: seats,
+    };
+    ledger.keep(number, 0, sell, Reply::Done);
 }
 
 // Keeps a reply that is not done.
@@ -79,6 +82,17 @@ fn keep_refusal(
     ledger.keep(number, 0, request, reply);
 }
 
+// A sale of which so many seats were given back.
+fn state(event: Event, seats: Amount, given_back: u64) -> SaleState
+    ensures { result ≡ record { event = event; seats = seats; given_back = given_back } }
+{
+    SaleState {
+        event,
+        seats,
+        given_back,
+    }
+}
+
 #[test]
 fn refund_in_parts(rt: HostRuntime) {
     let event = Event::read(b"gala").expect(&rt, "a name");
@@ -87,21 +101,11 @@ fn refund_in_parts(rt: HostRuntime) {
     let four = Amount::of(4).expect(&rt, "an amount");
     let sale = RequestNumber::of(9).expect(&rt, "a number");
     let part = RequestNumber::of(10).expect(&rt, "a number");
+    let too_many = RequestNumber::of(11).expect(&rt, "a number");
     let rest = RequestNumber::of(12).expect(&rt, "a number");
     let mut ledger = Ledger::new(rt.alloc());
-    ledger.reserve().expect(&rt, "memory");
-    assert!(rt; ledger.kept(sale) == None);
-    let sell = Request::Sell {
-        event,
-        amount: seats,
-    };
-    ledger.keep(sale, 0, sell, Reply::Done);
-    let sold = SaleState {
-        event,
-        seats,
-        given_back: 0,
-    };
-    assert!(rt; ledger.sale(sale) == Some(sold));
+    keep_sale(&rt, &mut ledger, sale, event, seats);
+    assert!(rt; ledger.sale(sale) == Some(state(event, seats, 0)));
 
     ledger.reserve().expect(&rt, "memory");
     assert!(rt; ledger.kept(part) == None);
@@ -110,35 +114,19 @@ fn refund_in_parts(rt: HostRuntime) {
         part: Some(two),
     };
     ledger.keep(part, 1, request, Reply::Done);
-    let less = SaleState {
-        event,
-        seats,
-        given_back: 2,
-    };
-    assert!(rt; ledger.sale(sale) == Some(less));
+    assert!(rt; ledger.sale(sale) == Some(state(event, seats, 2)));
 
-    let number = RequestNumber::of(11).expect(&rt, "a number");
     let request = Request::Refund {
         sale,
         part: Some(four),
     };
     let refusal = Reply::TooMany { rest: 3 };
-    keep_refusal(&rt, &mut ledger, number, request, refusal);
-    let still = SaleState {
-        event,
-        seats,
-        given_back: 2,
-    };
-    assert!(rt; ledger.sale(sale) == Some(still));
+    keep_refusal(&rt, &mut ledger, too_many, request, refusal);
+    assert!(rt; ledger.sale(sale) == Some(state(event, seats, 2)));
 
     ledger.reserve().expect(&rt, "memory");
     assert!(rt; ledger.kept(rest) == None);
     let request = Request::Refund { sale, part: None };
     ledger.keep(rest, 3, request, Reply::Done);
-    let given_back = SaleState {
-        event,
-        seats,
-        given_back: 5,
-    };
-    assert!(rt; ledger.sale(sale) == Some(given_back));
+    assert!(rt; ledger.sale(sale) == Some(state(event, seats, 5)));
 }

@@ -31,6 +31,7 @@ fn first_break(bytes: &[u8]) -> Option<usize>
 }
 
 impl<'a> Lines<'a> {
+    /// The lines of the bytes; what is behind the last line break is a line too, and may be empty.
     pub fn new(bytes: &'a [u8]) -> Lines<'a>
         ensures lines { result ≡ slice_split is_line_break bytes.now }
         ensures few { length result < 2 ^ 63 + 1 }

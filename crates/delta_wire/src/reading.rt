@@ -157,8 +157,8 @@ fn delta_from_text(alloc: Global, bytes: &[u8]) -> Result<Delta, WireFault>
 
 /// The delta that the bytes spell: item lines alone, up to where the bytes end at the beginning of a line.
 ///
-/// A fault is the first from the top, and never `Trailing`; `Memory`, where a growth is refused, comes only where the
-/// first line is an item.
+/// A fault is the first from the top, and never `Trailing`; `Memory`, where room for what is read is refused, comes only
+/// where the first line is an item.
 pub fn read_delta(alloc: Global, bytes: &[u8]) -> Result<Delta, WireFault>
     // What is read is spelled so.
     ensures found { IfOk result (λ delta. IsDelta delta × (bytes.now ≡ delta_text delta)) }
@@ -175,8 +175,8 @@ pub fn read_delta(alloc: Global, bytes: &[u8]) -> Result<Delta, WireFault>
 
 /// The message that the bytes spell, read in one pass.
 ///
-/// A fault is the first from the top; `Memory`, where a growth is refused, comes only where the first line behind the
-/// head of a delta is an item.
+/// A fault is the first from the top; `Memory`, where room for what is read is refused, comes only where the first
+/// line behind the head of a delta is an item.
 pub fn read_message(alloc: Global, bytes: &[u8]) -> Result<Message, WireFault>
     // What is read is spelled so.
     ensures found { IfOk result (λ message. IsMessage message × (bytes.now ≡ message_text message)) }

@@ -19,7 +19,7 @@ use Rattle.desk_lines.specs.declared.answered.Answered.{Answered}
 use Rattle.desk_lines.specs.declared.answered.Answered.TheVariants.{Kept, LeftIs, TotalsAre, NotKnown, Refused, Unread}
 use Rattle.session_server.specs.declared.fault.Ended.{Ended}
 use Rattle.session_server.specs.declared.fault.TalkFault.{TalkFault}
-use Rattle.session_server.specs.SeatStep.{AreTold, DeskStep, Telling, Seated, SeatStep, IsLookAt, IsRaisedAt, ShowsNothing, WhyNotShown, WhyRefused, seated, with_receipt}
+use Rattle.session_server.specs.SeatStep.{MayBeTold, DeskStep, Telling, Seated, SeatStep, IsLookAt, IsRaisedAt, ShowsNothing, WhyNotShown, WhyRefused, seated, with_receipt}
 use Rattle.session_server.specs.Finished.{given_since}
 use Rattle.session_server.specs.Served.{Served}
 use Rattle.session_server.specs.Session.{Answers, Talked}
@@ -37,15 +37,15 @@ asked opening old new number request answer receipt seat is is_receipt is_seat p
     (answer.place, seat, is ∙ ap (with_receipt old seat) is_receipt, raised opening answer.place old.seat seat answer.fresh is_seat place)
 
 -- one receipt more, or one look more, that the desk may tell
-pub receipt_told : (t : Telling) (old new : Seated) (receipt : Receipt) → new.receipts ≡ old.receipts ++ receipt ∷ [] → new.looks ≡ old.looks → t.receipts receipt → AreTold t old → AreTold t new
+pub receipt_told : (t : Telling) (old new : Seated) (receipt : Receipt) → new.receipts ≡ old.receipts ++ receipt ∷ [] → new.looks ≡ old.looks → t.receipts receipt → MayBeTold t old → MayBeTold t new
 receipt_told t old new receipt more same is told =
     record { receipts = subst (All t.receipts) (sym more) (All-push t.receipts old.receipts receipt told.receipts is); looks = subst (All t.shows) (sym same) told.looks }
 
-pub look_told : (t : Telling) (old new : Seated) (seen : Seen) → new.receipts ≡ old.receipts → new.looks ≡ old.looks ++ seen ∷ [] → t.shows seen → AreTold t old → AreTold t new
+pub look_told : (t : Telling) (old new : Seated) (seen : Seen) → new.receipts ≡ old.receipts → new.looks ≡ old.looks ++ seen ∷ [] → t.shows seen → MayBeTold t old → MayBeTold t new
 look_told t old new seen same more is told =
     record { receipts = subst (All t.receipts) (sym same) told.receipts; looks = subst (All t.shows) (sym more) (All-push t.shows old.looks seen told.looks is) }
 
-still_told : (t : Telling) (old new : Seated) → new.receipts ≡ old.receipts → new.looks ≡ old.looks → AreTold t old → AreTold t new
+still_told : (t : Telling) (old new : Seated) → new.receipts ≡ old.receipts → new.looks ≡ old.looks → MayBeTold t old → MayBeTold t new
 still_told t old new same still told = record { receipts = subst (All t.receipts) (sym same) told.receipts; looks = subst (All t.shows) (sym still) told.looks }
 
 -- what holds of an error, if it is one
@@ -80,7 +80,7 @@ asked_at_desk t opening old new number request (Err fault) answered is more same
 }
 
 -- a look showed nothing
-pub left_nothing : (t : Telling) (opening : ℕ) (old new : Seated) (event : List ℕ) (answered : Answered) → ShowsNothing answered → new ≡ old → WhyNotShown t event answered → (AreTold t old → AreTold t new)
+pub left_nothing : (t : Telling) (opening : ℕ) (old new : Seated) (event : List ℕ) (answered : Answered) → ShowsNothing answered → new ≡ old → WhyNotShown t event answered → (MayBeTold t old → MayBeTold t new)
     → DeskStep t opening old (Left event) answered new
 left_nothing t opening old new event NotKnown none is why told = record { step = is; why = why; told = told }
 left_nothing t opening old new event (Refused fault) none is why told = record { step = (none, is); why = why; told = told }
@@ -89,7 +89,7 @@ left_nothing t opening old new event (LeftIs left) none is why told = absurd non
 left_nothing t opening old new event (TotalsAre totals) none is why told = absurd none
 left_nothing t opening old new event Unread none is why told = absurd none
 
-pub totals_nothing : (t : Telling) (opening : ℕ) (old new : Seated) (event : List ℕ) (answered : Answered) → ShowsNothing answered → new ≡ old → WhyNotShown t event answered → (AreTold t old → AreTold t new)
+pub totals_nothing : (t : Telling) (opening : ℕ) (old new : Seated) (event : List ℕ) (answered : Answered) → ShowsNothing answered → new ≡ old → WhyNotShown t event answered → (MayBeTold t old → MayBeTold t new)
     → DeskStep t opening old (Totals event) answered new
 totals_nothing t opening old new event NotKnown none is why told = record { step = is; why = why; told = told }
 totals_nothing t opening old new event (Refused fault) none is why told = record { step = (none, is); why = why; told = told }

@@ -84,7 +84,7 @@ told_at office began failed InStep = record {
 }
 
 -- each receipt and each look that the seat was given is one that its desk may tell
-pub record AreTold (t : Telling) (s : Seated) : Type 0 where
+pub record MayBeTold (t : Telling) (s : Seated) : Type 0 where
   pub receipts : All t.receipts s.receipts
   pub looks : All t.shows s.looks
 
@@ -105,4 +105,4 @@ WhyRefused t line answered = ⊤
 pub record DeskStep (t : Telling) (opening : ℕ) (old : Seated) (line : Line) (answered : Answered) (new : Seated) : Type 0 where
   pub step : SeatStep opening old line answered new
   pub why : WhyRefused t line answered
-  pub told : AreTold t old → AreTold t new
+  pub told : MayBeTold t old → MayBeTold t new

@@ -2,7 +2,7 @@
 
 ghost use Rattle.std.specs.Prelude.{◌≡◌, ◌<◌, [], ◌∷◌, ◌++◌, length, vec_len, vec_capacity, IfErr, MatchResult};
 ghost use Rattle.site_desk.specs.SiteView.{SiteInStep};
-ghost use Rattle.session_server.specs.SeatStep.{DeskStep, IsLookAt, ShowsNothing, WhyNotShown, AreTold, told_at};
+ghost use Rattle.session_server.specs.SeatStep.{DeskStep, IsLookAt, ShowsNothing, WhyNotShown, MayBeTold, told_at};
 ghost use Rattle.desk_lines.specs.declared.answered.Answered.TheVariants.{Kept, Refused};
 ghost use Rattle.desk_lines.specs.declared.line.Line.TheVariants.{Ask, Left, Totals as TotalsOf};
 
@@ -90,7 +90,7 @@ impl<'a, K: Keeper, L: Opens, G: Gate> AtDesk<'a, K, L, G> {
     // Looks at an event, or tells what is answered where nothing is shown.
     fn look<T: Wait>(&mut self, rt: &T, event: Event) -> Result<Seen, Answered>
         ensures shown { MatchResult result (λ seen. IsLookAt (length L.began) event self.old seen self.new) (λ answered. ShowsNothing answered × (self.new ≡ self.old)) }
-        ensures told { AreTold (told_at L.office L.began K.failed (SiteInStep K.failed K.is_trusted K.kept K.may_leave)) self.old → AreTold (told_at L.office L.began K.failed (SiteInStep K.failed K.is_trusted K.kept K.may_leave)) self.new }
+        ensures told { MayBeTold (told_at L.office L.began K.failed (SiteInStep K.failed K.is_trusted K.kept K.may_leave)) self.old → MayBeTold (told_at L.office L.began K.failed (SiteInStep K.failed K.is_trusted K.kept K.may_leave)) self.new }
         ensures why { IfErr result (WhyNotShown (told_at L.office L.began K.failed (SiteInStep K.failed K.is_trusted K.kept K.may_leave)) event) }
     {
         if self.looks.reserve(1).is_err() {

@@ -1,8 +1,8 @@
 //! The book of a site with the keeper of its history, and the desk at which sessions share it.
 //!
 //! An entry is kept before it is entered. Where it is not known to be kept, the book is closed until it is started
-//! again from what the keeper holds. A desk has the book behind one lock; each request, message and look is one step
-//! under it.
+//! again from what the keeper holds. A desk has the book behind one lock; what a request, a message or a look is
+//! answered fits the book at one moment under it.
 #![tactic(auto)]
 
 mod answer;

@@ -56,7 +56,7 @@ pub enum TakeFault {
     /// The history is as long as it may become.
     #[error("the history is full")]
     Full,
-    /// A growth was refused.
+    /// Room was wanted and refused.
     #[error("out of memory")]
     Memory,
     /// The book takes nothing more until it is started again from its records.
