@@ -90,7 +90,8 @@ impl<'a, K: Keeper, L: Opens, G: Gate> AtDesk<'a, K, L, G> {
     // Looks at an event, or tells what is answered where nothing is shown.
     fn look<T: Wait>(&mut self, rt: &T, event: Event) -> Result<Seen, Answered>
         ensures shown { MatchResult result (λ seen. IsLookAt (length L.began) event self.old seen self.new) (λ answered. ShowsNothing answered × (self.new ≡ self.old)) }
-        ensures told { MayBeTold (told_at L.office L.began K.failed (SiteInStep K.failed K.is_trusted K.kept K.may_leave)) self.old → MayBeTold (told_at L.office L.began K.failed (SiteInStep K.failed K.is_trusted K.kept K.may_leave)) self.new }
+        ensures told { MayBeTold (told_at L.office L.began K.failed (SiteInStep K.failed K.is_trusted K.kept K.may_leave)) self.old
+            → MayBeTold (told_at L.office L.began K.failed (SiteInStep K.failed K.is_trusted K.kept K.may_leave)) self.new }
         ensures why { IfErr result (WhyNotShown (told_at L.office L.began K.failed (SiteInStep K.failed K.is_trusted K.kept K.may_leave)) event) }
     {
         if self.looks.reserve(1).is_err() {

@@ -78,7 +78,8 @@ fn split(mut peers: Vec<Peer>, outs: &mut Vec<Outgoing>, ins: &mut Vec<Incoming>
     requires room { (vec_len peers ≤ vec_capacity outs.old) × (vec_len peers ≤ vec_capacity ins.old) }
     ensures outs { outs.new.items ≡ map outgoing peers.items }
     ensures ins { ins.new.items ≡ map incoming peers.items }
-    ensures room { (vec_len outs.new ≡ vec_len peers) × (vec_len ins.new ≡ vec_len peers) × (vec_capacity outs.new ≡ vec_capacity outs.old) × (vec_capacity ins.new ≡ vec_capacity ins.old) }
+    ensures room { (vec_len outs.new ≡ vec_len peers) × (vec_len ins.new ≡ vec_len peers)
+        × (vec_capacity outs.new ≡ vec_capacity outs.old) × (vec_capacity ins.new ≡ vec_capacity ins.old) }
 {
     let Some(
         Peer {
@@ -152,7 +153,11 @@ pub fn exchange_all<T: Threads + Wait + Sync, K: Keeper + Send, L: Opens + Send 
     peers: Vec<Peer>,
     rounds: u64,
 ) -> Result<Vec<PeerEnd>, ExchangeFault>
-    ensures { IfOk result (λ r. AllZip (Exchanged (held_at_desk L.office L.began (SiteInStep K.failed K.is_trusted K.kept K.may_leave)) (refused_at_desk L.office L.began (SiteInStep K.failed K.is_trusted K.kept K.may_leave) K.failed) (given_at_desk L.office L.began (SiteInStep K.failed K.is_trusted K.kept K.may_leave)) rounds) peers.items r.items) }
+    ensures { IfOk result (λ r. AllZip (Exchanged
+        (held_at_desk L.office L.began (SiteInStep K.failed K.is_trusted K.kept K.may_leave))
+        (refused_at_desk L.office L.began (SiteInStep K.failed K.is_trusted K.kept K.may_leave) K.failed)
+        (given_at_desk L.office L.began (SiteInStep K.failed K.is_trusted K.kept K.may_leave))
+        rounds) peers.items r.items) }
 {
     exchange(rt, alloc, &DeskReplica { alloc, desk }, peers, rounds)
 }
@@ -200,7 +205,8 @@ fn in_threads<R: Threads + Wait + Sync, S: Replica + Sync>(
         rt,
         move |scope| -> Result<(Vec<OutgoingEnd>, Vec<IncomingEnd>), ExchangeFault>
             requires { (vec_len outs ≤ vec_capacity out_ends) × (vec_len ins ≤ vec_capacity in_ends) × (out_ends.items ≡ []) × (in_ends.items ≡ []) }
-            ensures { IfOk result (λ r. AllZip (Sent S.gives rounds) outs.items r.0.items × AllZip (Received S.holds S.refuses) ins.items r.1.items × (vec_len r.0 ≡ vec_len outs) × (vec_len r.1 ≡ vec_len ins)) }
+            ensures { IfOk result (λ r. AllZip (Sent S.gives rounds) outs.items r.0.items
+                × AllZip (Received S.holds S.refuses) ins.items r.1.items × (vec_len r.0 ≡ vec_len outs) × (vec_len r.1 ≡ vec_len ins)) }
         { run(scope, rt, replica, outs, out_ends, ins, in_ends, rounds) },
     )
 }

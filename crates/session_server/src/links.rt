@@ -102,7 +102,9 @@ fn linked_with<K: Keeper + Drop, R: Read + Drop, W: Write + Drop>(
     requires { 0 < capacity }
     ensures sites { IfOk result (λ r. map (λ l. l.site) r.0.items ≡ map (λ l. l.site) earlier.items) }
     ensures came { IfOk result (λ r. CameTo (map (λ l. map linkage_of l.peers.items) earlier.items) (map (λ l. map linkage_of l.peers.items) r.0.items) (map linkage_of r.1.items)) }
-    ensures named { IfOk result (λ r. (map (λ l. map (λ p. p.to) l.peers.items) r.0.items ≡ each_with (map (λ l. map (λ p. p.to) l.peers.items) earlier.items) (map (λ l. me) earlier.items)) × (map (λ p. p.to) r.1.items ≡ map (λ l. l.site.book.book.office.me) earlier.items)) }
+    ensures named { IfOk result (λ r. (map (λ l. map (λ p. p.to) l.peers.items) r.0.items
+        ≡ each_with (map (λ l. map (λ p. p.to) l.peers.items) earlier.items) (map (λ l. me) earlier.items))
+        × (map (λ p. p.to) r.1.items ≡ map (λ l. l.site.book.book.office.me) earlier.items)) }
     ensures new { IfOk result (λ r. All IsNewPeer r.1.items × (All (λ l. All IsNewPeer l.peers.items) earlier.items → All (λ l. All IsNewPeer l.peers.items) r.0.items)) }
 {
     let mut linked = Vec::new(alloc);

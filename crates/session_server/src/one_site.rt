@@ -51,7 +51,9 @@ pub(crate) fn run_site<
     ensures ids { IfOk result (λ left. map (λ e. e.id) left.1.items ≡ map (λ v. v.id) linked.site.sessions.items) }
     ensures readers { IfOk result (λ left. map (λ e. e.reader_began.value) left.1.items ≡ map (λ v. v.reader) linked.site.sessions.items) }
     ensures writers { IfOk result (λ left. map (λ e. e.writer_began.value) left.1.items ≡ map (λ v. v.writer) linked.site.sessions.items) }
-    ensures left { IfOk result (λ left. IsLeftOf linked.site.book.book left.0.book (All (λ e. IsSome e.writer) left.1.items) (flat_map (λ e. e.receipts.items) left.1.items) (flat_map (λ e. e.seen.items) left.1.items) left.2.0) }
+    ensures left { IfOk result (λ left. IsLeftOf linked.site.book.book left.0.book
+        (All (λ e. IsSome e.writer) left.1.items)
+        (flat_map (λ e. e.receipts.items) left.1.items) (flat_map (λ e. e.seen.items) left.1.items) left.2.0) }
     ensures peers { IfOk result (λ left. AllZip (Exchanged AnyMessage AnyMessage AnyGiven rounds) linked.peers.items left.2.1.items) }
 {
     let LinkedSite { site, peers } = linked;
@@ -86,7 +88,9 @@ fn at_desk<
     ensures ids { IfOk result (λ left. map (λ e. e.id) left.1.items ≡ map (λ v. v.id) site.sessions.items) }
     ensures readers { IfOk result (λ left. map (λ e. e.reader_began.value) left.1.items ≡ map (λ v. v.reader) site.sessions.items) }
     ensures writers { IfOk result (λ left. map (λ e. e.writer_began.value) left.1.items ≡ map (λ v. v.writer) site.sessions.items) }
-    ensures left { IfOk result (λ left. IsLeftOf site.book.book left.0.book (All (λ e. IsSome e.writer) left.1.items) (flat_map (λ e. e.receipts.items) left.1.items) (flat_map (λ e. e.seen.items) left.1.items) left.2.0) }
+    ensures left { IfOk result (λ left. IsLeftOf site.book.book left.0.book
+        (All (λ e. IsSome e.writer) left.1.items)
+        (flat_map (λ e. e.receipts.items) left.1.items) (flat_map (λ e. e.seen.items) left.1.items) left.2.0) }
     ensures peers { IfOk result (λ left. AllZip (Exchanged AnyMessage AnyMessage AnyGiven rounds) peers.items left.2.1.items) }
 {
     let Site { book, sessions } = site;
@@ -107,7 +111,8 @@ fn finished<K: Keeper + Drop, R: Read + Drop, W: Write + Drop, L: Opens>(
     seat: Seat<L>,
     sessions: &Vec<SessionEnd<R, W>>,
 ) -> Result<(SiteBook<K>, Result<(), FinishFault>), AllocError>
-    ensures compared { IfOk result (λ r. IsCompared (length L.began) (shares_of seats.items + seat.count) r.0.book (flat_map (λ e. e.receipts.items) sessions.now.items) (flat_map (λ e. e.seen.items) sessions.now.items) r.1) }
+    ensures compared { IfOk result (λ r. IsCompared (length L.began) (shares_of seats.items + seat.count) r.0.book
+        (flat_map (λ e. e.receipts.items) sessions.now.items) (flat_map (λ e. e.seen.items) sessions.now.items) r.1) }
     ensures whole { parts_of seats.items + seat.parts ≡ L.parts → IfOk result (λ r. IfErr r.1 (λ fault. fault ≢ SeatsOut)) }
     ensures later { IfOk result (λ r. IsLater L.office L.began r.0.book) }
 {
@@ -141,7 +146,11 @@ struct Begun<R: Read + Drop, W: Write + Drop, L: Opens> {
 impl<R: Read + Drop, W: Write + Drop, L: Opens> Promise<
     Result<(Vec<SessionEnd<R, W>>, Vec<Seat<L>>), AllocError>,
 > for Begun<R, W, L> {
-    ghost kept_by = { λ p r. IfOk r (λ s. (map (λ e. e.id) s.0.items ≡ map (λ s. s.id) p.sessions.value.items) × (map (λ e. e.reader_began.value) s.0.items ≡ map (λ s. s.reader) p.sessions.value.items) × (map (λ e. e.writer_began.value) s.0.items ≡ map (λ s. s.writer) p.sessions.value.items) × (All (λ e. IsSome e.writer) s.0.items → parts_of s.1.items ≡ parts_of (map (λ s. s.seat) p.sessions.value.items)) × (shares_of s.1.items ≤ shares_of (map (λ s. s.seat) p.sessions.value.items) + given_since (length L.began) (flat_map (λ e. e.receipts.items) s.0.items))) };
+    ghost kept_by = { λ p r. IfOk r (λ s. (map (λ e. e.id) s.0.items ≡ map (λ s. s.id) p.sessions.value.items)
+        × (map (λ e. e.reader_began.value) s.0.items ≡ map (λ s. s.reader) p.sessions.value.items)
+        × (map (λ e. e.writer_began.value) s.0.items ≡ map (λ s. s.writer) p.sessions.value.items)
+        × (All (λ e. IsSome e.writer) s.0.items → parts_of s.1.items ≡ parts_of (map (λ s. s.seat) p.sessions.value.items))
+        × (shares_of s.1.items ≤ shares_of (map (λ s. s.seat) p.sessions.value.items) + given_since (length L.began) (flat_map (λ e. e.receipts.items) s.0.items))) };
 }
 
 // The sessions in a thread beside the exchange.
@@ -171,8 +180,13 @@ fn at_once<
     ensures readers { IfOk result (λ r. IfOk r.0 (λ s. map (λ e. e.reader_began.value) s.0.items ≡ map (λ s. s.reader) sessions.items)) }
     ensures writers { IfOk result (λ r. IfOk r.0 (λ s. map (λ e. e.writer_began.value) s.0.items ≡ map (λ s. s.writer) sessions.items)) }
     ensures parts { IfOk result (λ r. IfOk r.0 (λ s. All (λ e. IsSome e.writer) s.0.items → parts_of s.1.items ≡ parts_of (map (λ s. s.seat) sessions.items))) }
-    ensures shares { IfOk result (λ r. IfOk r.0 (λ s. shares_of s.1.items ≤ shares_of (map (λ s. s.seat) sessions.items) + given_since (length L.began) (flat_map (λ e. e.receipts.items) s.0.items))) }
-    ensures peers { IfOk result (λ r. IfOk r.1 (λ ends. AllZip (Exchanged (held_at_desk L.office L.began (SiteInStep K.failed K.is_trusted K.kept K.may_leave)) (refused_at_desk L.office L.began (SiteInStep K.failed K.is_trusted K.kept K.may_leave) K.failed) (given_at_desk L.office L.began (SiteInStep K.failed K.is_trusted K.kept K.may_leave)) rounds) peers.items ends.items)) }
+    ensures shares { IfOk result (λ r. IfOk r.0 (λ s. shares_of s.1.items
+        ≤ shares_of (map (λ s. s.seat) sessions.items) + given_since (length L.began) (flat_map (λ e. e.receipts.items) s.0.items))) }
+    ensures peers { IfOk result (λ r. IfOk r.1 (λ ends. AllZip (Exchanged
+        (held_at_desk L.office L.began (SiteInStep K.failed K.is_trusted K.kept K.may_leave))
+        (refused_at_desk L.office L.began (SiteInStep K.failed K.is_trusted K.kept K.may_leave) K.failed)
+        (given_at_desk L.office L.began (SiteInStep K.failed K.is_trusted K.kept K.may_leave))
+        rounds) peers.items ends.items)) }
 {
     let begun = Begun {
         sessions: Snapshot::of(&sessions),

@@ -37,7 +37,8 @@ struct DeltasOf<'s, S: Replica> {
 }
 
 impl<'s, S: Replica> Promise<(RxEnd, TxEnd, u64)> for DeltasOf<'s, S> {
-    ghost kept_by = { λ p r. (r.0.link ≡ p.rx.value.link) × (r.1.link ≡ p.tx.value.link) × Acknowledges S.holds S.refuses p.rx.value.messages p.tx.value.messages r.2 r.0.messages r.1.messages };
+    ghost kept_by = { λ p r. (r.0.link ≡ p.rx.value.link) × (r.1.link ≡ p.tx.value.link)
+        × Acknowledges S.holds S.refuses p.rx.value.messages p.tx.value.messages r.2 r.0.messages r.1.messages };
 }
 
 // The link that a receiver of acknowledgements was begun with, and its replica.
@@ -48,7 +49,8 @@ struct AcksOf<'s, S: Replica> {
 }
 
 impl<'s, S: Replica> Promise<(RxEnd, u64)> for AcksOf<'s, S> {
-    ghost kept_by = { λ p r. (r.0.link ≡ p.rx.value.link) × AreHeldOrRefused S.holds S.refuses p.rx.value.messages r.0.messages × (length p.rx.value.messages + r.1 ≤ length r.0.messages) };
+    ghost kept_by = { λ p r. (r.0.link ≡ p.rx.value.link) × AreHeldOrRefused S.holds S.refuses p.rx.value.messages r.0.messages
+        × (length p.rx.value.messages + r.1 ≤ length r.0.messages) };
 }
 
 // Receives deltas until the link ends, and acknowledges those that were taken. Then it ends the link back.

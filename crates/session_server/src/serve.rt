@@ -65,7 +65,9 @@ struct Begun<R: Read + Drop, W: Write + Drop, L: Opens> {
 
 impl<R: Read + Drop, W: Write + Drop, L: Opens> Promise<(SessionEnd<R, W>, Seat<L>)>
     for Begun<R, W, L> {
-    ghost kept_by = { λ p r. (r.0.id ≡ p.session.value.id) × (r.0.reader_began.value ≡ p.session.value.reader) × (r.0.writer_began.value ≡ p.session.value.writer) × (is_some r.0.writer ≡ true) × (r.1.parts ≡ p.session.value.seat.parts) × (r.1.count ≤ p.session.value.seat.count + given_since (length L.began) r.0.receipts.items) };
+    ghost kept_by = { λ p r. (r.0.id ≡ p.session.value.id) × (r.0.reader_began.value ≡ p.session.value.reader)
+        × (r.0.writer_began.value ≡ p.session.value.writer) × (is_some r.0.writer ≡ true) × (r.1.parts ≡ p.session.value.seat.parts)
+        × (r.1.count ≤ p.session.value.seat.count + given_since (length L.began) r.0.receipts.items) };
 }
 
 // Starts the last session, then the others, and then waits for it.
@@ -95,8 +97,10 @@ fn serve_from<
     ensures writers { map (λ e. e.writer_began.value) ends.new.items ≡ map (λ e. e.writer_began.value) ends.old.items ++ map (λ s. s.writer) sessions.items }
     ensures parts { All (λ e. IsSome e.writer) ends.new.items → parts_of seats.new.items ≡ parts_of seats.old.items + parts_of (map (λ s. s.seat) sessions.items) }
     ensures seats { length seats.new.items + count_by (λ e. is_some e.writer) ends.old.items ≡ length seats.old.items + count_by (λ e. is_some e.writer) ends.new.items }
-    ensures shares { shares_of seats.new.items + given_since (length L.began) (flat_map (λ e. e.receipts.items) ends.old.items) ≤ shares_of seats.old.items + shares_of (map (λ s. s.seat) sessions.items) + given_since (length L.began) (flat_map (λ e. e.receipts.items) ends.new.items) }
-    ensures room { (vec_len ends.new ≡ vec_len ends.old + vec_len sessions) × (vec_capacity ends.new ≡ vec_capacity ends.old) × (vec_len seats.new ≤ vec_len seats.old + vec_len sessions) × (vec_capacity seats.new ≡ vec_capacity seats.old) }
+    ensures shares { shares_of seats.new.items + given_since (length L.began) (flat_map (λ e. e.receipts.items) ends.old.items)
+        ≤ shares_of seats.old.items + shares_of (map (λ s. s.seat) sessions.items) + given_since (length L.began) (flat_map (λ e. e.receipts.items) ends.new.items) }
+    ensures room { (vec_len ends.new ≡ vec_len ends.old + vec_len sessions) × (vec_capacity ends.new ≡ vec_capacity ends.old)
+        × (vec_len seats.new ≤ vec_len seats.old + vec_len sessions) × (vec_capacity seats.new ≡ vec_capacity seats.old) }
 {
     let Some(session) = sessions.pop() else {
         return;
@@ -177,7 +181,12 @@ pub fn serve_all<
         rt,
         move |scope| -> (Vec<SessionEnd<R, W>>, Vec<Seat<L>>)
             requires { (vec_len ends + vec_len sessions ≤ vec_capacity ends) × (vec_len seats + vec_len sessions ≤ vec_capacity seats) × (ends.items ≡ []) × (seats.items ≡ []) }
-            ensures { (map (λ e. e.id) result.0.items ≡ map (λ s. s.id) sessions.items) × (map (λ e. e.reader_began.value) result.0.items ≡ map (λ s. s.reader) sessions.items) × (map (λ e. e.writer_began.value) result.0.items ≡ map (λ s. s.writer) sessions.items) × (All (λ e. IsSome e.writer) result.0.items → parts_of result.1.items ≡ parts_of (map (λ s. s.seat) sessions.items)) × (length result.1.items ≡ count_by (λ e. is_some e.writer) result.0.items) × (shares_of result.1.items ≤ shares_of (map (λ s. s.seat) sessions.items) + given_since (length L.began) (flat_map (λ e. e.receipts.items) result.0.items)) }
+            ensures { (map (λ e. e.id) result.0.items ≡ map (λ s. s.id) sessions.items)
+                × (map (λ e. e.reader_began.value) result.0.items ≡ map (λ s. s.reader) sessions.items)
+                × (map (λ e. e.writer_began.value) result.0.items ≡ map (λ s. s.writer) sessions.items)
+                × (All (λ e. IsSome e.writer) result.0.items → parts_of result.1.items ≡ parts_of (map (λ s. s.seat) sessions.items))
+                × (length result.1.items ≡ count_by (λ e. is_some e.writer) result.0.items)
+                × (shares_of result.1.items ≤ shares_of (map (λ s. s.seat) sessions.items) + given_since (length L.began) (flat_map (λ e. e.receipts.items) result.0.items)) }
         {
             serve_from(
                 scope, rt, alloc, desk, gate, sessions, &mut ends, &mut seats,

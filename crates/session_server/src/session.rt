@@ -30,5 +30,6 @@ pub struct SessionEnd<R: Read + Drop, W: Write + Drop> {
     pub ended: Result<Ended, TalkFault>,
     pub reader_began: Snapshot<R>,
     pub writer_began: Snapshot<W>,
-    ghost served: { ∥ MatchOption writer (IsNotStarted ended receipts.items seen.items) (λ w. Served (R.remaining reader_began.value) (W.contents writer_began.value) (W.contents w) ended receipts.items seen.items) ∥₁ },
+    ghost served: { ∥ MatchOption writer (IsNotStarted ended receipts.items seen.items)
+        (λ w. Served (R.remaining reader_began.value) (W.contents writer_began.value) (W.contents w) ended receipts.items seen.items) ∥₁ },
 }
