@@ -12,7 +12,7 @@ import shutil
 import subprocess
 import sys
 
-from trial import HERE, PROGRAM, call, same, try_each
+from trial import HERE, PROGRAM, call, free_port, same, try_each
 
 MOST_LINES = 1_000_000
 LONGEST_LINE = 200
@@ -60,6 +60,7 @@ def writing_fails(folder):
             (["list", "site.db", "gala"], b""),
             (["export", "site.db", "1"], b""),
             (["audit", "site.db", "other.db"], b""),
+            (["serve", str(free_port()), "0", "0", "site.db", "other.db"], b""),
             (["grow", "site.db", "3"], b""),
             (["import", "site.db"], NEWS),
             (["migrate", "old.db"], b""),
