@@ -26,7 +26,7 @@ pub enum ScriptAnswer {
     TotalsAre(ViewTotals),
     /// The site does not know the event.
     NotKnown,
-    /// The site is not there, or would send to itself.
+    /// A site that the line names is not there, or it would send to itself or to a site that it does not count.
     NoSuchSite,
     /// The message was never sent.
     NoSuchMessage,

@@ -36,7 +36,7 @@ left_answer w i event = looked w i event (LeftIs (left_at w i event))
 abbrev pub totals_answer : World → ℕ → List ℕ → ScriptAnswer
 totals_answer w i event = looked w i event (TotalsAre (totals_at w i event))
 
--- want of memory is no outcome, and is not answered
+-- want of memory is no outcome: what it is given here, nothing reads
 abbrev pub outcome_answer : Result Outcome WorldFault → ScriptAnswer
 outcome_answer (Ok o) = Made o
 outcome_answer (Err fault.NoSite) = NoSuchSite

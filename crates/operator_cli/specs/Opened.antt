@@ -21,9 +21,9 @@ use Rattle.sql_records.specs.Faults.{HasDiskCause, IsUndoneForMemory}
 use Rattle.sql_records.specs.Making.{IsInitFault}
 use Rattle.sql_records.specs.Held.{IsNew, LeavesSite, MayLeaveIn, history_in}
 use Rattle.sql_records.specs.Keeping.{LeavesOnly}
-use Rattle.sql_records.specs.Layout.{has_our_table, HasMeta, office_of}
+use Rattle.sql_records.specs.Layout.{has_our_table, HasMeta, IsOurs, office_of}
 use Rattle.sql_records.specs.Lookups.{listed_in}
-use Rattle.sql_records.specs.Opening.{IsOpenFault}
+use Rattle.sql_records.specs.Opening.{IsForeignCause, IsOpenFault}
 use Rattle.operator_cli.specs.Exchanged.{HoldsOnly, IsGrowingEnd, IsInputEnd, IsNextEnd, LeavesAsItWas, stored_site}
 use Rattle.operator_cli.specs.declared.store_fault.StoreFault.{StoreFault}
 use Rattle.operator_cli.specs.declared.store_fault.StoreFault.TheVariants as fault
@@ -104,11 +104,12 @@ module _ {S : Type 0} (g : Ghosts S) (conn : Held S) where
   IsCause cause = ((conn.in_transaction ≡ true) × (cause ≡ opening.Disk))
       ⊎ ((conn.in_transaction ≡ false) × ((after : Held S) × (HasCleanDisk (state g after) → HasCleanDisk (state g conn) × IsOpenFault (state g conn) (state g after) cause)))
 
-  -- the opening was refused, and the fault tells its cause
+  -- the opening was refused, and the fault tells its cause; where the tables are not ours, what looking at their `meta` showed
   pub record IsRefused (fault : StoreFault) : Type 0 where
     pub cause : OpenFault
     pub told : fault ≡ of_open_fault cause
     pub found : IsCause cause
+    pub foreign : ¬ IsOurs conn.schema → conn.in_transaction ≡ false → (after : Held S) × (HasCleanDisk (state g after) → IsForeignCause g conn cause)
 
   -- the records were opened and are as they were, which a stop leaves, of the same site, but their history is not legal, or memory was wanted for it
   pub record IsIllegal (after : Held S) (fault : StoreFault) : Type 0 where

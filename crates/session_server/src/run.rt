@@ -44,11 +44,11 @@ impl<K: Keeper + Drop, R: Read + Drop, W: Write + Drop> Promise<
 /// Runs all sites at once, each in a thread of its own, with a thread for each of its sessions and with links to all
 /// others, through which it sends what is due for so many rounds. It ends when each of them is done.
 ///
-/// The links hold as many messages as their capacity. The ends of sites come in the order in which they were handed in,
-/// each with the ends of its sessions and a book of its site and its limit, which counts the same sites and whose history goes on
-/// from the one that was handed in. What was found of its book is of all receipts and looks that its sessions were given.
-/// Seats are out only where an end is without its writer; unless they are, no more requests were newly entered
-/// than receipts were given of entries behind the history that was handed in.
+/// The links are made with this capacity (no contract shows it). The ends of sites come in the order in which they were
+/// handed in, each with the ends of its sessions and a book of its site and its limit, which counts the same sites and
+/// whose history goes on from the one that was handed in. What was found of its book is of all receipts and looks that
+/// its sessions were given. Seats are out only where an end is without its writer; unless they are, no more requests
+/// were newly entered than receipts were given of entries behind the history that was handed in.
 ///
 /// The links come by the site that sends and then by the site that receives, one of deltas before one of
 /// acknowledgements. Each tells what its two ends tell: what was got is a prefix of what was put, and of that the

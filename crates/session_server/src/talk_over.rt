@@ -85,8 +85,8 @@ fn talk_over<T: Wait, R: BufRead, W: Write, A: Answerer>(
 ///
 /// The buffer is made before anything is read, and `Memory` where there is none for it. `LineTooLong` and `TooLong`
 /// come at the first line that may not be there, behind the replies to all lines before it. Any failed read is `Read`
-/// and is not tried again. After `Write` the replies before the last line's went out, and a front of that one; nothing
-/// more is read, and what was answered stays entered.
+/// and is not tried again. After `Write` the replies before the last line's went out, and a front of that one; no
+/// later line is answered, and what was answered stays entered.
 pub fn talk<T: Wait, R: Read + Drop, W: Write, A: Answerer>(
     rt: &T,
     alloc: Global,

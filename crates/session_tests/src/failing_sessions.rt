@@ -11,6 +11,7 @@ use std::io::{ErrorKind, Read, Write};
 use std::marker::Brand;
 use std::process::Abort;
 use std::sync::Wait;
+use std::sync::atomic::{AtomicU64, Ordering};
 use std::sync::ledger::Blank;
 
 // A session at a desk with one seat: how it ends, and the book behind it.
@@ -164,6 +165,37 @@ fn sale_is_entered_though_its_reply_is_lost(rt: HostRuntime) {
     assert!(rt; came == Ok(Ended::EndOfInput));
     assert!(rt; out.as_slice() == b"done\n".as_slice());
     assert!(rt; len == 3);
+}
+
+// Gives its bytes at the first call, and notes whether there is another.
+#[derive(Drop)]
+struct Once<'a> {
+    bytes: &'static [u8],
+    is_read_again: &'a AtomicU64,
+}
+
+impl Read for Once<'_> {
+    fn read(&mut self, buf: &mut [u8]) -> io::Result<usize> {
+        if self.bytes.is_empty() {
+            self.is_read_again.store(1, Ordering::SeqCst);
+        }
+        self.bytes.read(buf)
+    }
+}
+
+// A session that waited for more here would keep its thread as long as its client keeps the connection.
+#[test]
+fn nothing_is_read_behind_a_failed_write(rt: HostRuntime) {
+    let is_read_again = AtomicU64::new(0);
+    let input = Once {
+        bytes: b"sell 10 gala 3\n",
+        is_read_again: &is_read_again,
+    };
+    let book = selling_book(&rt, rt.alloc());
+    let (came, len, _) = session(&rt, rt.alloc(), book, input, &mut Deaf);
+    assert!(rt; came == Err(TalkFault::Write));
+    assert!(rt; len == 3);
+    assert!(rt; is_read_again.load(Ordering::SeqCst) == 0);
 }
 
 // Gives the same byte without end.

@@ -236,6 +236,87 @@ fn a_closed_site_sends_and_takes_nothing(rt: HostRuntime) {
     assert!(rt; came == (2, 2, 0));
 }
 
+// The end of a link through which this message comes.
+fn link_with<R: Wait + Abort>(rt: &R, alloc: Global, message: Option<Message>) -> Rx {
+    let (mut tx, rx) = link(alloc, 2).expect(rt, "memory");
+    if let Some(message) = message {
+        assert!(rt; tx.send(rt, message).is_ok());
+    }
+    let _ = tx.end(rt);
+    rx
+}
+
+// The message of site 1 that is due to site 0, by which it knows an event of its own.
+fn sent_by_one(rt: &impl Abort, alloc: Global) -> Option<Message> {
+    let mut book = empty_book(rt, alloc, 1, 2, 10);
+    let announce = Request::Announce {
+        event: event(rt, b"expo"),
+    };
+    asked(rt, alloc, &mut book, 1, announce);
+    book.next(alloc, site(rt, 0)).expect(rt, "memory")
+}
+
+// Site 1, which is gone, and a delta that came from it before.
+fn gone_peer<R: Wait + Abort>(rt: &R, alloc: Global) -> Peer {
+    let (delta_tx, deltas) = link(alloc, 2).expect(rt, "memory");
+    let (ack_tx, acks) = link(alloc, 2).expect(rt, "memory");
+    let _ = deltas.end();
+    let _ = acks.end();
+    let came = sent_by_one(rt, alloc);
+    Peer {
+        to: site(rt, 1),
+        delta_tx,
+        ack_tx,
+        delta_rx: link_with(rt, alloc, came),
+        ack_rx: link_with(rt, alloc, None),
+    }
+}
+
+// A site exchanges for two rounds with such a peer: how many deltas and acknowledgements went to it, how many of its deltas
+// were refused, and whether one is still due to it.
+fn met_by_nobody<R: Threads + Wait + Abort + Sync, L: Opens + Send + Sync>(
+    rt: &R,
+    alloc: Global,
+    book: SiteBook<ListKeeper>,
+    blank: Blank,
+) -> (u64, u64, u64, bool)
+    requires name { blank.name ≡ L.name }
+    requires parts { blank.parts ≡ L.parts }
+    requires some { 0 < blank.parts }
+    requires began { L.began ≡ book.book.history }
+    requires office { L.office ≡ book.book.office }
+{
+    let (desk, _seat) = Desk::<ListKeeper, L>::new(book, blank);
+    let mut peers = Vec::new(alloc);
+    peers.push(gone_peer(rt, alloc)).expect(rt, "memory");
+    let mut ends = exchange_all(rt, alloc, &desk, peers, 2).expect(rt, "threads");
+    let end = ends.pop().expect(rt, "the peer");
+    let due = desk.next(rt, alloc, site(rt, 1)).expect(rt, "memory");
+    (
+        end.delta_tx.put(),
+        end.ack_tx.put(),
+        end.deltas_refused,
+        due.is_some(),
+    )
+}
+
+// The same at a desk that is made here.
+fn meets_nobody<R: Threads + Wait + Abort + Sync>(
+    rt: &R,
+    alloc: Global,
+    book: SiteBook<ListKeeper>,
+) -> (u64, u64, u64, bool) {
+    met_by_nobody::<R, Brand>(rt, alloc, book, Blank::new(1))
+}
+
+// A delta that comes back stays due, and one that was taken is not refused though its acknowledgement comes back.
+#[test]
+fn what_comes_back_stays_due(rt: HostRuntime) {
+    let alloc = rt.alloc();
+    let book = ceding_book(&rt, alloc, 2);
+    assert!(rt; meets_nobody(&rt, alloc, book) == (0, 0, 0, true));
+}
+
 // A site with no session.
 fn quiet(book: SiteBook<ListKeeper>, alloc: Global) -> Site<ListKeeper, &'static [u8], Vec<u8>> {
     Site {

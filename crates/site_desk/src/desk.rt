@@ -138,7 +138,8 @@ impl<K: Keeper, L: Opens> Desk<K, L> {
         ensures counted { IfOk result (λ book. shares_of seats.items ≡ asked_since (length L.began) book.book.history) }
         ensures receipts { IfOk result (λ book. All (StandsIn book.book.history) receipts.now) }
         ensures looks { IfOk result (λ book. All (WasSeen book.book.office book.book.history) looks.now) }
-        ensures fault { IfErr result (λ e. FindsFirst e.0.book.office e.0.book.history (asked_since (length L.began) e.0.book.history) (shares_of seats.items) receipts.now looks.now e.1) }
+        ensures fault { IfErr result (λ e. FindsFirst e.0.book.office e.0.book.history
+            (asked_since (length L.began) e.0.book.history) (shares_of seats.items) receipts.now looks.now e.1) }
         ensures whole { parts_of seats.items ≡ L.parts → IfErr result (λ e. e.1 ≢ FinishFault.SeatsOut) }
 
         // What the book kept, whenever the lock was free.

@@ -170,7 +170,8 @@ impl EventCells {
 
     fn raise(&mut self, cell: &Cell, value: u64)
         requires { value ≤ greatest_value }
-        ensures { (other : TheCell) → IsCellOf max_sites other → value_in_table self.new other ≡ max (value_in_table self.old other) (if same_cell other cell.now then value else 0) }
+        ensures { (other : TheCell) → IsCellOf max_sites other
+            → value_in_table self.new other ≡ max (value_in_table self.old other) (if same_cell other cell.now then value else 0) }
     {
         let place = offset(cell);
         self.values[place] = self.values[place].max(value);

@@ -32,16 +32,19 @@ pub(crate) fn join<K: Keeper>(
     ensures office { book.new.office ≡ book.old.office }
     ensures taken { IfOk result (IsTaken (verdict_of (join_decision book.old.office book.old.history peer delta)) (Some ack)) }
     ensures entered { OnOk result (book.new.history ≡ extended (entry_of_join book.old.office book.old.history peer delta) book.old.history) }
-    ensures fault { IfErr result (IsTakeFault false (verdict_of (join_decision book.old.office book.old.history peer delta)) (verdict_of (join_decision book.old.office book.old.history peer delta) ≡ Joins) (K.failed keeper.old) (K.failed keeper.new)) }
+    ensures fault { IfErr result (IsTakeFault false (verdict_of (join_decision book.old.office book.old.history peer delta))
+        (verdict_of (join_decision book.old.office book.old.history peer delta) ≡ Joins) (K.failed keeper.old) (K.failed keeper.new)) }
     ensures unchanged { OnErr result (book.new.history ≡ book.old.history) }
     ensures untouched { IfErr result (λ fault. fault ≢ TakeFault.Store → keeper.new ≡ keeper.old) }
     ensures again { OnOk result (verdict_of (join_decision book.old.office book.old.history peer delta) ≢ Joins → keeper.new ≡ keeper.old) }
     ensures still { verdict_of (join_decision book.old.office book.old.history peer delta) ≢ Joins → book.new ≡ book.old }
     ensures sound { OnOk result (K.failed keeper.new ≡ 0) }
     ensures same { OnOk result (K.is_trusted keeper.new → book.new.history ≡ K.kept keeper.new) }
-    ensures kept { OnOk result (verdict_of (join_decision book.old.office book.old.history peer delta) ≡ Joins → K.is_trusted keeper.new → Keeps book.new.history (K.kept keeper.new) (K.may_leave keeper.new)) }
+    ensures kept { OnOk result (verdict_of (join_decision book.old.office book.old.history peer delta) ≡ Joins → K.is_trusted keeper.new
+        → Keeps book.new.history (K.kept keeper.new) (K.may_leave keeper.new)) }
     ensures rests { OnOk result (K.is_trusted keeper.new → LeavesOnly book.new.history (K.may_leave keeper.new)) }
-    ensures stopped { result ≡ Err TakeFault.Store → K.is_trusted keeper.new → LeavesEither book.old.history (entry_of_join book.old.office book.old.history peer delta) (K.may_leave keeper.new) }
+    ensures stopped { result ≡ Err TakeFault.Store → K.is_trusted keeper.new
+        → LeavesEither book.old.history (entry_of_join book.old.office book.old.history peer delta) (K.may_leave keeper.new) }
     ensures site { K.is_trusted keeper.new → (meta : Numbers) → K.is_of keeper.old meta → K.is_of keeper.new meta }
     ensures trusted { K.is_trusted keeper.new → K.is_trusted keeper.old }
     ensures own_row { (event : List ℕ) (cell : Cell) → owner_of cell ≡ book.old.office.me → cell_in book.new event cell ≡ cell_in book.old event cell }

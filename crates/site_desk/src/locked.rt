@@ -157,7 +157,8 @@ impl<K: Keeper, L: Opens> Locked<K, L> {
         ensures taken { IfOk result (IsTaken (verdict_in self.old.book message) (ack_for message)) }
         ensures changed { OnOk result (site_of self.new ≡ site_after (verdict_in self.old.book message) message (site_of self.old)) }
         ensures closed { (result ≡ Err TakeFault.Closed) ↔ (self.old.closed ≡ true) }
-        ensures fault { IfErr result (IsTakeFault self.old.closed (verdict_in self.old.book message) (MayTake (verdict_in self.old.book message) (site_of self.old) message) (K.failed self.old.keeper) (K.failed self.new.keeper)) }
+        ensures fault { IfErr result (IsTakeFault self.old.closed (verdict_in self.old.book message)
+            (MayTake (verdict_in self.old.book message) (site_of self.old) message) (K.failed self.old.keeper) (K.failed self.new.keeper)) }
         ensures unchanged { OnErr result (site_of self.new ≡ site_of self.old) }
         ensures untouched { IfErr result (λ fault. fault ≢ TakeFault.Store → self.new.keeper ≡ self.old.keeper) }
         ensures closes { (self.new.closed ≡ true) ↔ ((self.old.closed ≡ true) ⊎ (result ≡ Err TakeFault.Store)) }
@@ -194,7 +195,8 @@ impl<K: Keeper, L: Opens> Locked<K, L> {
         ensures counted { OnOk result (shares_of seats.items ≡ asked_since (length L.began) self.book.history) }
         ensures receipts { OnOk result (All (StandsIn self.book.history) receipts.now) }
         ensures looks { OnOk result (All (WasSeen self.book.office self.book.history) looks.now) }
-        ensures fault { IfErr result (λ e. FindsFirst self.book.office self.book.history (asked_since (length L.began) self.book.history) (shares_of seats.items) receipts.now looks.now e.1) }
+        ensures fault { IfErr result (λ e. FindsFirst self.book.office self.book.history
+            (asked_since (length L.began) self.book.history) (shares_of seats.items) receipts.now looks.now e.1) }
         ensures whole { parts_of seats.items ≡ L.parts → shares_of seats.items ≡ asked_since (length L.began) self.book.history }
 
         // What the types of the book and its keeper keep.

@@ -52,7 +52,8 @@ impl<K: Keeper> Model for SiteBook<K> {
 
     ghost view = { λ s. record { book = s.book; acked = s.exchange.acked; keeper = s.keeper; closed = s.is_closed } };
 
-    ghost invariant = { λ s. IsInStep s.is_closed (K.failed s.keeper) (K.is_trusted s.keeper) (K.kept s.keeper) (K.may_leave s.keeper) s.exchange.acked s.book × IsExchangeOf s.book.office s.book.history s.exchange };
+    ghost invariant = { λ s. IsInStep s.is_closed (K.failed s.keeper) (K.is_trusted s.keeper) (K.kept s.keeper) (K.may_leave s.keeper) s.exchange.acked s.book
+        × IsExchangeOf s.book.office s.book.history s.exchange };
 }
 
 impl<K: Keeper> SiteBook<K> {
@@ -158,7 +159,8 @@ impl<K: Keeper> SiteBook<K> {
         // What the keeper holds, and what a stop may leave of it.
         ensures again { IfOk result (λ a. a.fresh ≡ false → self.new.keeper ≡ self.old.keeper) }
         ensures kept { IfOk result (λ a. a.fresh ≡ true → K.is_trusted self.new.keeper → Keeps self.new.book.history (K.kept self.new.keeper) (K.may_leave self.new.keeper)) }
-        ensures stopped { result ≡ Err AskFault.Store → K.is_trusted self.new.keeper → LeavesEither self.old.book.history (entry_in self.old.book number request.now) (K.may_leave self.new.keeper) }
+        ensures stopped { result ≡ Err AskFault.Store → K.is_trusted self.new.keeper
+            → LeavesEither self.old.book.history (entry_in self.old.book number request.now) (K.may_leave self.new.keeper) }
         ensures stored { self.new.closed ≡ false → K.is_trusted self.new.keeper → self.new.book.history ≡ K.kept self.new.keeper }
         ensures rests { self.new.closed ≡ false → K.is_trusted self.new.keeper → LeavesOnly self.new.book.history (K.may_leave self.new.keeper) }
         ensures site { K.is_trusted self.new.keeper → (meta : Numbers) → K.is_of self.old.keeper meta → K.is_of self.new.keeper meta }
@@ -187,7 +189,8 @@ impl<K: Keeper> SiteBook<K> {
 
         // When each error comes, and what it leaves.
         ensures closed { (result ≡ Err TakeFault.Closed) ↔ (self.old.closed ≡ true) }
-        ensures fault { IfErr result (IsTakeFault self.old.closed (verdict_in self.old.book message) (MayTake (verdict_in self.old.book message) (site_of self.old) message) (K.failed self.old.keeper) (K.failed self.new.keeper)) }
+        ensures fault { IfErr result (IsTakeFault self.old.closed (verdict_in self.old.book message)
+            (MayTake (verdict_in self.old.book message) (site_of self.old) message) (K.failed self.old.keeper) (K.failed self.new.keeper)) }
         ensures unchanged { OnErr result (site_of self.new ≡ site_of self.old) }
         ensures untouched { IfErr result (λ fault. fault ≢ TakeFault.Store → self.new.keeper ≡ self.old.keeper) }
         ensures closes { (self.new.closed ≡ true) ↔ ((self.old.closed ≡ true) ⊎ (result ≡ Err TakeFault.Store)) }
@@ -197,8 +200,10 @@ impl<K: Keeper> SiteBook<K> {
 
         // What the keeper holds, and what a stop may leave of it.
         ensures again { OnOk result (verdict_in self.old.book message ≢ Joins → self.new.keeper ≡ self.old.keeper) }
-        ensures kept { OnOk result (verdict_in self.old.book message ≡ Joins → K.is_trusted self.new.keeper → Keeps self.new.book.history (K.kept self.new.keeper) (K.may_leave self.new.keeper)) }
-        ensures stopped { result ≡ Err TakeFault.Store → K.is_trusted self.new.keeper → LeavesEither self.old.book.history (entry_of_take self.old.book.office self.old.book.history message) (K.may_leave self.new.keeper) }
+        ensures kept { OnOk result (verdict_in self.old.book message ≡ Joins → K.is_trusted self.new.keeper
+            → Keeps self.new.book.history (K.kept self.new.keeper) (K.may_leave self.new.keeper)) }
+        ensures stopped { result ≡ Err TakeFault.Store → K.is_trusted self.new.keeper
+            → LeavesEither self.old.book.history (entry_of_take self.old.book.office self.old.book.history message) (K.may_leave self.new.keeper) }
         ensures stored { self.new.closed ≡ false → K.is_trusted self.new.keeper → self.new.book.history ≡ K.kept self.new.keeper }
         ensures rests { self.new.closed ≡ false → K.is_trusted self.new.keeper → LeavesOnly self.new.book.history (K.may_leave self.new.keeper) }
         ensures site { K.is_trusted self.new.keeper → (meta : Numbers) → K.is_of self.old.keeper meta → K.is_of self.new.keeper meta }
@@ -254,7 +259,8 @@ impl<K: Keeper> SiteBook<K> {
 
         // What the keeper holds, and what a stop may leave of it.
         ensures kept { OnOk result (K.is_trusted self.new.keeper → Keeps self.new.book.history (K.kept self.new.keeper) (K.may_leave self.new.keeper)) }
-        ensures stopped { result ≡ Err GrowFault.Store → K.is_trusted self.new.keeper → LeavesEither self.old.book.history (growth_in self.old.book sites) (K.may_leave self.new.keeper) }
+        ensures stopped { result ≡ Err GrowFault.Store → K.is_trusted self.new.keeper
+            → LeavesEither self.old.book.history (growth_in self.old.book sites) (K.may_leave self.new.keeper) }
         ensures stored { self.new.closed ≡ false → K.is_trusted self.new.keeper → self.new.book.history ≡ K.kept self.new.keeper }
         ensures rests { self.new.closed ≡ false → K.is_trusted self.new.keeper → LeavesOnly self.new.book.history (K.may_leave self.new.keeper) }
         ensures site { K.is_trusted self.new.keeper → (meta : Numbers) → K.is_of self.old.keeper meta → K.is_of self.new.keeper meta }

@@ -40,6 +40,7 @@ returns-in-Err-clause-fault g c = record {
     | inl busy ↦ inl (busy, (let is = c.in-Err.ensures.busy busy in cc))
     | inr free ↦ inr (free, c.in-Err.ensures.fault free)
   ];
+  foreign = c.in-Err.ensures.version;
 }
 
 pub returns-in-Err-start-clause-fault : goal.returns-in-Err-start-clause-fault
