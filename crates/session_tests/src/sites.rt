@@ -4,14 +4,14 @@
 
 ghost use Rattle.std.specs.Prelude.{◌≡◌, ◌<◌};
 
-use crate::books::{empty_book, failing_book};
+use crate::books::{empty_book, failing_book, header};
 use crate::values::{event, gala, number, seats, site};
 use book_core::Limit;
 use link_queue::{Rx, link};
 use local_rights::Totals;
 use request_ledger::{Reply, Request};
 use rights_lattice::{Event, SiteId, Sites};
-use session_server::{LinkEnd, Peer, Site, SiteEnd, Visit, exchange_all, run_all};
+use session_server::{LinkEnd, Peer, PeerEnd, Site, SiteEnd, Visit, exchange_all, run_all};
 use site_desk::{Desk, Gate, NoGate, Opens, Place, SiteBook};
 use site_exchange::{Message, Upto};
 use sql_records::{ListKeeper, Meta};
@@ -246,14 +246,15 @@ fn link_with<R: Wait + Abort>(rt: &R, alloc: Global, message: Option<Message>) -
     rx
 }
 
-// The message of site 1 that is due to site 0, by which it knows an event of its own.
-fn sent_by_one(rt: &impl Abort, alloc: Global) -> Option<Message> {
+// The delta of site 1 that is due to site 0, by which it knows an event of its own.
+fn sent_by_one(rt: &impl Abort, alloc: Global) -> Message {
     let mut book = empty_book(rt, alloc, 1, 2, 10);
     let announce = Request::Announce {
         event: event(rt, b"expo"),
     };
     asked(rt, alloc, &mut book, 1, announce);
-    book.next(alloc, site(rt, 0)).expect(rt, "memory")
+    let due = book.next(alloc, site(rt, 0)).expect(rt, "memory");
+    due.expect(rt, "a delta")
 }
 
 // Site 1, which is gone, and a delta that came from it before.
@@ -267,19 +268,28 @@ fn gone_peer<R: Wait + Abort>(rt: &R, alloc: Global) -> Peer {
         to: site(rt, 1),
         delta_tx,
         ack_tx,
-        delta_rx: link_with(rt, alloc, came),
+        delta_rx: link_with(rt, alloc, Some(came)),
         ack_rx: link_with(rt, alloc, None),
     }
 }
 
-// A site exchanges for two rounds with such a peer: how many deltas and acknowledgements went to it, how many of its deltas
-// were refused, and whether one is still due to it.
+// What site 1 may sell once it takes what is due to it, and how many entries that is up to.
+fn known_by_one(rt: &impl Abort, alloc: Global, due: Message) -> (u64, u64) {
+    let upto = header(&due).2;
+    let mut one = empty_book(rt, alloc, 1, 2, 10);
+    assert!(rt; one.take(due).is_ok());
+    let seen = one.look(gala(rt)).expect(rt, "what came back");
+    (seen.left, upto)
+}
+
+// Site 0, which ceded, exchanges for two rounds with such a peer: what it sent and got, what it refused, and what is due
+// to the peer then.
 fn met_by_nobody<R: Threads + Wait + Abort + Sync, L: Opens + Send + Sync>(
     rt: &R,
     alloc: Global,
     book: SiteBook<ListKeeper>,
     blank: Blank,
-) -> (u64, u64, u64, bool)
+) -> (PeerEnd, Message)
     requires name { blank.name ≡ L.name }
     requires parts { blank.parts ≡ L.parts }
     requires some { 0 < blank.parts }
@@ -292,12 +302,7 @@ fn met_by_nobody<R: Threads + Wait + Abort + Sync, L: Opens + Send + Sync>(
     let mut ends = exchange_all(rt, alloc, &desk, peers, 2).expect(rt, "threads");
     let end = ends.pop().expect(rt, "the peer");
     let due = desk.next(rt, alloc, site(rt, 1)).expect(rt, "memory");
-    (
-        end.delta_tx.put(),
-        end.ack_tx.put(),
-        end.deltas_refused,
-        due.is_some(),
-    )
+    (end, due.expect(rt, "a delta"))
 }
 
 // The same at a desk that is made here.
@@ -305,16 +310,20 @@ fn meets_nobody<R: Threads + Wait + Abort + Sync>(
     rt: &R,
     alloc: Global,
     book: SiteBook<ListKeeper>,
-) -> (u64, u64, u64, bool) {
+) -> (PeerEnd, Message) {
     met_by_nobody::<R, Brand>(rt, alloc, book, Blank::new(1))
 }
 
-// A delta that comes back stays due, and one that was taken is not refused though its acknowledgement comes back.
+// Each entry of a delta that comes back stays due, whatever came meanwhile; and a delta that was taken is not refused
+// though its acknowledgement comes back.
 #[test]
-fn what_comes_back_stays_due(rt: HostRuntime) {
+fn a_delta_that_comes_back_stays_due(rt: HostRuntime) {
     let alloc = rt.alloc();
     let book = ceding_book(&rt, alloc, 2);
-    assert!(rt; meets_nobody(&rt, alloc, book) == (0, 0, 0, true));
+    let (end, due) = meets_nobody(&rt, alloc, book);
+    assert!(rt; (end.delta_tx.put(), end.ack_tx.put()) == (0, 0));
+    assert!(rt; (end.delta_rx.got(), end.deltas_refused) == (1, 0));
+    assert!(rt; known_by_one(&rt, alloc, due) == (40, 4));
 }
 
 // A site with no session.
