@@ -1,4 +1,4 @@
--- The state of one item, the least delta (JPDC 2018).
+-- The state of one item, a delta (JPDC 2018).
 use Rattle.rights_lattice.specs.Cells.{raise, all_zero}
 use Rattle.rights_lattice.specs.State.{State, no_names, with_name}
 use Rattle.delta_mutators.specs.declared.delta.Item.{Item}

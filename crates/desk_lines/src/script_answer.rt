@@ -26,7 +26,8 @@ pub enum ScriptAnswer {
     TotalsAre(ViewTotals),
     /// The site does not know the event.
     NotKnown,
-    /// A site that the line names is not there, or it would send to itself or to a site that it does not count.
+    /// The site of the line, or the peer of its send, is not there, or it would send to itself or to a site that it does
+    /// not count. A cession to a site that is not there is refused with a reply.
     NoSuchSite,
     /// The message was never sent.
     NoSuchMessage,

@@ -246,7 +246,7 @@ fn link_with<R: Wait + Abort>(rt: &R, alloc: Global, message: Option<Message>) -
     rx
 }
 
-// The delta of site 1 that is due to site 0, by which it knows an event of its own.
+// The delta of site 1 that is due to site 0: an event that site 1 announced.
 fn sent_by_one(rt: &impl Abort, alloc: Global) -> Message {
     let mut book = empty_book(rt, alloc, 1, 2, 10);
     let announce = Request::Announce {

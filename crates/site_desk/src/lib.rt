@@ -2,7 +2,7 @@
 //!
 //! An entry is kept before it is entered. Where it is not known to be kept, the book is closed until it is started
 //! again from what the keeper holds. A desk has the book behind one lock; what a request, a message or a look is
-//! answered fits, by its contract, a book that may stand behind it at that moment.
+//! answered fits, by its contract, a book that may stand behind it.
 #![tactic(auto)]
 
 mod answer;

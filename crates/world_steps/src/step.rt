@@ -92,7 +92,8 @@ pub enum Outcome {
 /// Why a step was not made.
 #[derive(Clone, Copy, PartialEq, Eq, Debug, Error)]
 pub enum WorldFault {
-    /// A site that the step names is not there, or it would send to itself or to a site that it does not count.
+    /// The site of the step, or the peer of its send, is not there, or it would send to itself or to a site that it does
+    /// not count. A cession to a site that is not there is refused by the site that cedes.
     #[error("no such site")]
     NoSite,
     /// No message with this index was ever sent.
@@ -100,7 +101,7 @@ pub enum WorldFault {
     NoMessage,
     /// Memory was refused. `World::step` tells it only of a new request, a send where something is due, a delivery where
     /// an acknowledgement is due or one is taken that raises a number, a growth, and a stop that stores a new entry;
-    /// `World::run` of any step that is not refused otherwise, since it makes room for the answer first.
+    /// `World::run` of any step whose sites and message are there, since it makes room for the answer first.
     #[error("out of memory")]
     Memory,
 }

@@ -68,8 +68,8 @@ impl World {
         let _ = &self.sites;
     }
 
-    /// Makes one step. An error changes nothing: `NoSite` where a site that the step names is not there, or would send
-    /// to itself or to a site that it does not count, `NoMessage` where a message that it names was never sent, and
+    /// Makes one step. An error changes nothing: `NoSite` where the site of the step, or the peer of its send, is not there,
+    /// or it would send to itself or to a site that it does not count, `NoMessage` where a message that it names was never sent, and
     /// `Memory` where neither is so and memory was refused, in that order.
     pub fn step(&mut self, alloc: Global, step: Step) -> Result<Outcome, WorldFault>
         ensures outcome { IfOk result (λ o. outcome self.old step ≡ Ok o) }
