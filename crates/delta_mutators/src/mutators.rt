@@ -1,4 +1,4 @@
-//! The mark of one operation: to join the state of the mark alone is to apply the operation.
+//! The mark of one operation, or the name that it announces: to join a state of that alone is to apply the operation.
 ghost use Rattle.std.specs.Prelude.{◌≡◌, ◌≢◌, ◌+◌, ◌<◌, ◌↔◌, IfOk, IsErr};
 ghost use Rattle.rights_lattice.specs.declared.cell.Cell.TheVariants.{Gave, Used, Back};
 ghost use Rattle.rights_lattice.specs.Cells.{greatest_value, value_at};

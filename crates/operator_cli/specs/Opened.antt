@@ -104,7 +104,7 @@ module _ {S : Type 0} (g : Ghosts S) (conn : Held S) where
   IsCause cause = ((conn.in_transaction ≡ true) × (cause ≡ opening.Disk))
       ⊎ ((conn.in_transaction ≡ false) × ((after : Held S) × (HasCleanDisk (state g after) → HasCleanDisk (state g conn) × IsOpenFault (state g conn) (state g after) cause)))
 
-  -- the opening was refused, and the fault tells its cause; outside a transaction, where the tables are not ours, what the select on `meta` showed, or what its error is told as
+  -- the opening was refused, and the fault tells its cause; where no transaction was open and the tables are not ours, the cause is what the select on `meta` showed, or what its error is told as
   pub record IsRefused (fault : StoreFault) : Type 0 where
     pub cause : OpenFault
     pub told : fault ≡ of_open_fault cause

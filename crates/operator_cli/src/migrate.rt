@@ -100,10 +100,10 @@ fn write_migrated<S: Alter, W: Write>(
 /// are of the second already, with status 1.
 ///
 /// Each other refusal is told on `err`, with status 3 and nothing printed: `not-ours`, `other-schema V`, `damaged K`,
-/// `memory` and `disk`; and `write` where the word is not written. A connection that is still open then shows the
-/// records as they were, save where `migrated` could not be written; behind `disk` or `memory` the file may have either
-/// version. `migrated` leaves the numbers under the new version and the rows of the entries. A stop leaves the database
-/// as it was, or migrated.
+/// `memory` and `disk`; and `write` where the word is not written, of which a front may be printed. A connection that is
+/// still open then shows the records as they were, save where `migrated` could not be written; behind `disk` or `memory`
+/// the file may have either version. `migrated` leaves the numbers under the new version and the rows of the entries. A
+/// stop leaves the database as it was, or migrated.
 pub fn migrate_store<S: Alter, W: Write, E: Write>(
     alloc: Global,
     conn: &mut Connection<S>,

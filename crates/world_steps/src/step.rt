@@ -101,7 +101,7 @@ pub enum WorldFault {
     NoMessage,
     /// Memory was refused. `World::step` tells it only of a new request, a send where something is due, a delivery where
     /// an acknowledgement is due or one is taken that raises a number, a growth, and a stop that stores a new entry;
-    /// `World::run` of any step whose sites and message are there, since it makes room for the answer first.
+    /// `World::run` of any step that is due neither `NoSite` nor `NoMessage`, since it makes room for the answer first.
     #[error("out of memory")]
     Memory,
 }

@@ -69,8 +69,8 @@ impl World {
     }
 
     /// Makes one step. An error changes nothing: `NoSite` where the site of the step, or the peer of its send, is not there,
-    /// or it would send to itself or to a site that it does not count, `NoMessage` where a message that it names was never sent, and
-    /// `Memory` where neither is so and memory was refused, in that order.
+    /// or it would send to itself or to a site that it does not count, `NoMessage` where a message that the step names was
+    /// never sent, and `Memory` where neither is so and memory was refused, in that order.
     pub fn step(&mut self, alloc: Global, step: Step) -> Result<Outcome, WorldFault>
         ensures outcome { IfOk result (λ o. outcome self.old step ≡ Ok o) }
         ensures fault { IfErr result (IsDue self.old step) }
