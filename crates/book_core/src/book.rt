@@ -159,7 +159,8 @@ impl Book {
         self.rights.left(event)
     }
 
-    /// What all sites released, sold and took back of an event, and the seats that are open, by this site's view.
+    /// What all sites released, sold and took back of an event, and the seats that are open, by this site's view; no open
+    /// seats are told where the view is no position.
     pub fn totals(&self, event: Event) -> ViewTotals
         ensures view { result ≡ view_in (state_of self.now.history).cells event }
         ensures position { IsSome result.open_seats ↔ IsPosition (state_of self.now.history).cells event }

@@ -10,7 +10,7 @@ use std::alloc::{AllocError, Global};
 /// One entry of a site's history: a request that was decided, a delta of a peer that was joined, or more sites.
 #[derive(Debug, Drop)]
 pub enum Entry {
-    /// A request with its reply; the delta is empty unless the reply is `Done`.
+    /// A request with its reply; in a legal history the delta is empty unless the reply is `Done`.
     Asked {
         number: RequestNumber,
         request: Request,

@@ -11,15 +11,16 @@ pub fn legal_histories_never_oversell()
     ensures sales { SalesAreReturnedWithinTheirSeats }
 {}
 
-/// Each request number of a legal history has one entry, which is what is kept under it.
+/// Each request number of a legal history has one entry, which is what is kept under it; and the history is as long as
+/// its limit at most.
 pub fn legal_histories_keep_numbers_once()
     ensures kept { EachReplyIsKept }
     ensures once { NumbersAreKeptOnce }
     ensures within_limit { HistoryIsWithinLimit }
 {}
 
-/// Over a history whose refunds name no part of their sales a refund decides as if there were no parts: a sale is
-/// given back with all of its seats, and once.
+/// Over a history whose refunds name no part of their sales a refund that names none either, of a sale of one seat at
+/// least, decides as if there were no parts: a sale is given back with all of its seats, and once.
 pub fn histories_without_parts_refund_whole_sales()
     ensures { SalesAreRefundedWholeOnce }
 {}

@@ -8,7 +8,7 @@ use rights_lattice::Mark;
 use std::marker::Model;
 use thiserror::Error;
 
-/// An entry that may follow the book's history, and that the book has room for.
+/// An entry that may follow the history of the book that planned it, and that this book had room for then.
 #[derive(Debug, Drop)]
 pub struct Planned {
     pub(crate) entry: Entry,
@@ -63,6 +63,7 @@ pub enum PlanFault {
     /// The history is as long as it may become.
     #[error("the history is full")]
     Full,
+    /// Memory was refused to a new entry. The book shows what it showed, and may have more room.
     #[error("out of memory")]
     Memory,
 }
@@ -99,6 +100,7 @@ pub enum JoinFault {
     /// The history is as long as it may become.
     #[error("the history is full")]
     Full,
+    /// Memory was refused to a delta that joins. The book shows what it showed, and may have more room.
     #[error("out of memory")]
     Memory,
 }
@@ -115,19 +117,21 @@ pub enum GrowFault {
     /// The history is as long as it may become.
     #[error("the history is full")]
     Full,
+    /// Memory was refused to a growth. The book shows what it showed, and may have more room.
     #[error("out of memory")]
     Memory,
-    /// The keeper failed.
+    /// The keeper failed: the growth is not known to be kept, and the book is closed.
     #[error("the entry could not be stored")]
     Store,
 }
 
-/// Why a list of entries is no history of a book.
+/// Why no book was made of a list of entries.
 #[derive(Clone, Copy, PartialEq, Eq, Debug, Error)]
 pub enum ReplayFault {
     /// The entry at this place, from 0, is the first that may not follow those before it.
     #[error("the entry at place {place} is not legal")]
     IllegalAt { place: usize },
+    /// Memory was refused to an entry that may follow those before it.
     #[error("out of memory")]
     Memory,
 }

@@ -37,14 +37,14 @@ impl Model for Pending {
 }
 
 impl Pending {
-    /// Nothing is acknowledged, and nothing was added. It takes no memory.
+    /// Nothing is acknowledged, and nothing was added. It wants no memory.
     pub fn new(alloc: Global) -> Pending
         ensures { result ≡ record { from = 0; upto = 0; delta = bottom } }
     {
         Pending::behind(alloc, 0)
     }
 
-    /// The first `n` entries are acknowledged, and nothing was added behind them. It takes no memory.
+    /// The first `n` entries are acknowledged, and nothing was added behind them. It wants no memory.
     pub fn behind(alloc: Global, n: usize) -> Pending
         ensures { result ≡ record { from = n; upto = n; delta = bottom } }
     {
@@ -74,8 +74,8 @@ impl Pending {
         Ok(())
     }
 
-    /// Joins all entries of the history that were not added. They are joined by halves first, so that a long history
-    /// costs a logarithm more than its length. An error leaves it as it was.
+    /// Joins all entries of the history that were not added. They are joined by halves first, so that each delta is walked
+    /// over about as often as their number can be halved. An error leaves it as it was.
     pub fn catch_up(&mut self, alloc: Global, book: &Book) -> Result<(), AllocError>
         requires { IsPendingOf book.now.history self.old }
         ensures added { OnOk result (self.new ≡ record { from = self.old.from; upto = length book.now.history; delta = interval book.now.history self.old.from (length book.now.history) }) }
@@ -93,7 +93,7 @@ impl Pending {
     }
 
     /// Takes an acknowledgement of the first `n` entries: it begins there, or where it began if that is further, and
-    /// ends where it ended unless that is before. An error leaves it as it was.
+    /// ends where it ended, or there if that is further. An error leaves it as it was.
     pub fn acked(&mut self, alloc: Global, book: &Book, n: usize) -> Result<(), AllocError>
         requires within { n ≤ length book.now.history }
         requires pending { IsPendingOf book.now.history self.old }

@@ -14,7 +14,7 @@ use std::marker::Model;
 pub enum Item {
     /// The event becomes known.
     Name(Event),
-    /// The cell rises to the mark's value.
+    /// The cell rises to the mark's value, where it is below it.
     Cell(Mark),
 }
 

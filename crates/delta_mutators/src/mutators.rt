@@ -16,7 +16,7 @@ pub struct CellFull;
 
 /// The mark of a release of `amount` seats.
 ///
-/// `CellFull` where the site's released seats would exceed `GREATEST_VALUE`.
+/// `CellFull` where the seats of the event that the site released would exceed `GREATEST_VALUE`.
 pub fn release(rights: &Rights, me: SiteId, event: Event, amount: Amount) -> Result<Mark, CellFull>
     ensures mark { IfOk result (λ mark. mark ≡ mark_plus rights.now.cells event (Gave me me) amount) }
     ensures full { IsErr result ↔ (greatest_value < value_at rights.now.cells event (Gave me me) + amount) }
@@ -26,7 +26,7 @@ pub fn release(rights: &Rights, me: SiteId, event: Event, amount: Amount) -> Res
 
 /// The mark of a sale of `amount` seats.
 ///
-/// `CellFull` where the site's sold seats would exceed `GREATEST_VALUE`.
+/// `CellFull` where the seats of the event that the site sold would exceed `GREATEST_VALUE`.
 pub fn sale(rights: &Rights, me: SiteId, event: Event, amount: Amount) -> Result<Mark, CellFull>
     ensures mark { IfOk result (λ mark. mark ≡ mark_plus rights.now.cells event (Used me) amount) }
     ensures full { IsErr result ↔ (greatest_value < value_at rights.now.cells event (Used me) + amount) }
@@ -36,7 +36,7 @@ pub fn sale(rights: &Rights, me: SiteId, event: Event, amount: Amount) -> Result
 
 /// The mark of a refund of `amount` seats.
 ///
-/// `CellFull` where the seats that the site took back would exceed `GREATEST_VALUE`.
+/// `CellFull` where the seats of the event that the site took back would exceed `GREATEST_VALUE`.
 pub fn refund(rights: &Rights, me: SiteId, event: Event, amount: Amount) -> Result<Mark, CellFull>
     ensures mark { IfOk result (λ mark. mark ≡ mark_plus rights.now.cells event (Back me) amount) }
     ensures full { IsErr result ↔ (greatest_value < value_at rights.now.cells event (Back me) + amount) }
@@ -46,7 +46,7 @@ pub fn refund(rights: &Rights, me: SiteId, event: Event, amount: Amount) -> Resu
 
 /// The mark of a cession of `amount` rights to another site.
 ///
-/// `CellFull` where the rights given to that site would exceed `GREATEST_VALUE`.
+/// `CellFull` where the rights of the event that the site gave to that other would exceed `GREATEST_VALUE`.
 pub fn cession(
     rights: &Rights,
     me: SiteId,

@@ -1,11 +1,11 @@
-//! Why a text is none of a message or a delta.
+//! Why a text is not read as a message or a delta.
 ghost use Rattle.std.specs.Prelude.{◌≡◌};
 ghost use Rattle.delta_wire.specs.declared.fault.WireFault.TheVariants.{Memory};
 
 use std::alloc::AllocError;
 use thiserror::Error;
 
-/// The first fault of a text from the top. Lines count from 1.
+/// The first fault of a text from the top, or that memory was refused. Lines count from 1.
 #[derive(Clone, Copy, Debug, PartialEq, Eq, Error)]
 pub enum WireFault {
     /// No line feed follows the place where the next line begins.

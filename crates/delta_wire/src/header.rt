@@ -12,7 +12,9 @@ use site_exchange::Upto;
 /// The first word of a header.
 #[derive(Clone, Copy, Debug, PartialEq, Eq)]
 pub enum Purpose {
+    /// The message brings a delta.
     Delta,
+    /// The message acknowledges.
     Ack,
 }
 
@@ -55,7 +57,7 @@ fn upto_at(words: &mut Words<'_>) -> Option<Upto>
     Some(upto)
 }
 
-/// The header that a line spells.
+/// The header that a line spells, if it spells one.
 #[tactic(auto, unfolding(crate::specs::Reading::header_of_words))]
 pub fn header_of(line: &[u8]) -> Option<Header>
     ensures { result ≡ header_of line.now }

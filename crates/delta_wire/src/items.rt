@@ -11,9 +11,13 @@ use rights_lattice::{Cell, Event, Mark};
 /// The first word of an item's line.
 #[derive(Clone, Copy, Debug, PartialEq, Eq)]
 pub enum ItemKind {
+    /// The name of an event.
     Name,
+    /// What a site released, or gave to another.
     Gave,
+    /// What a site sold.
     Used,
+    /// What a site took back.
     Back,
 }
 
@@ -110,7 +114,7 @@ fn after_kind(kind: ItemKind, words: &mut Words<'_>) -> Option<Item>
     }
 }
 
-/// The item that a line spells.
+/// The item that a line spells, if it spells one.
 #[tactic(auto, unfolding(crate::specs::Reading::item_of_words))]
 pub fn item_of(line: &[u8]) -> Option<Item>
     ensures { result ≡ item_of line.now }

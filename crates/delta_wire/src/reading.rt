@@ -164,16 +164,16 @@ pub fn read_delta(alloc: Global, bytes: &[u8]) -> Result<Delta, WireFault>
     ensures found { IfOk result (λ delta. IsDelta delta × (bytes.now ≡ delta_text delta)) }
     // What is spelled so is read, unless memory runs out.
     ensures only { (delta : State) → IsDelta delta → bytes.now ≡ delta_text delta → Gives result (Ok delta) }
-    // Which fault it is: the first from the top.
+    // Which fault it is, unless memory runs out: the first from the top.
     ensures exact { Gives result (delta_from_text bytes.now) }
     ensures never_trailing { IfErr result (λ fault. fault ≢ Trailing) }
-    // Memory is wanted for an item alone.
+    // `Memory` comes only where the first line is an item.
     ensures memory { result ≡ Err Memory → BeginsWithItem (slice_split is_line_break bytes.now) }
 {
     delta_from_text(alloc, bytes)
 }
 
-/// The message that the bytes spell, read in one pass.
+/// The message that the bytes spell.
 ///
 /// A fault is the first from the top; `Memory`, where room for what is read is refused, comes only where the first
 /// line behind the head of a delta is an item.
@@ -182,9 +182,9 @@ pub fn read_message(alloc: Global, bytes: &[u8]) -> Result<Message, WireFault>
     ensures found { IfOk result (λ message. IsMessage message × (bytes.now ≡ message_text message)) }
     // What is spelled so is read, unless memory runs out.
     ensures only { (message : Message) → IsMessage message → bytes.now ≡ message_text message → Gives result (Ok message) }
-    // Which fault it is: the first from the top.
+    // Which fault it is, unless memory runs out: the first from the top.
     ensures exact { Gives result (message_of bytes.now) }
-    // Memory is wanted for an item of a delta alone.
+    // `Memory` comes only where the first line behind the head of a delta is an item.
     ensures memory { result ≡ Err Memory → BeginsWithDelta (slice_split is_line_break bytes.now) }
 {
     message_of(alloc, bytes)

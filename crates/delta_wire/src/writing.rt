@@ -64,7 +64,7 @@ fn write_body<W: Write>(delta: &Delta, out: &mut W) -> Result<(), WriteFault>
 /// After a fault a front of the text is written.
 pub fn write_message<W: Write>(message: &Message, out: &mut W) -> Result<(), WriteFault>
     ensures text { Writes (W.contents out.old) (W.contents out.new) result (message_text message.now) }
-    // So what was written is read back.
+    // So what was written is read back, unless memory runs out.
     ensures fits { OnOk result (IsMessage message.now) }
 {
     match message {
@@ -86,12 +86,13 @@ pub fn write_message<W: Write>(message: &Message, out: &mut W) -> Result<(), Wri
     }
 }
 
-/// The text of a delta: its item lines, without a header and without `end`.
+/// The text of a delta: its item lines, without a header and without `end`. Memory may be refused, and then the delta
+/// has an item.
 pub fn delta_text(alloc: Global, delta: &Delta) -> Result<String, AllocError>
     ensures text { IfOk result (λ text. string_bytes text ≡ delta_text delta.now) }
-    // So what was written is read back.
+    // So what was written is read back, unless memory runs out.
     ensures fits { OnOk result (IsDelta delta.now) }
-    // The text of a delta without items wants no memory.
+    // Memory is refused only to the text of a delta that has an item.
     ensures memory { OnErr result (0 < length (names_in_order delta.now.names) + length (marks_of delta.now.cells)) }
 {
     let mut bytes = Vec::new(alloc);

@@ -24,7 +24,7 @@ pub enum Answered {
     TotalsAre(ViewTotals),
     /// The site does not know the event.
     NotKnown,
-    /// The request is not answered, and neither is a look at a closed book.
+    /// The request is not answered, or a look: at a closed book, or where memory was refused.
     Refused(AskFault),
     /// The line is none of a session's.
     Unread,

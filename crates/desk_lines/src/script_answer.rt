@@ -27,7 +27,7 @@ pub enum ScriptAnswer {
     /// The site does not know the event.
     NotKnown,
     /// The site of the line, or the peer of its send, is not there, or it would send to itself or to a site that it does
-    /// not count. A cession to a site that is not there is refused by the site that cedes.
+    /// not count. A cession to a site that is not there is not this: the site that cedes answers it.
     NoSuchSite,
     /// The message was never sent.
     NoSuchMessage,

@@ -14,7 +14,7 @@ use world_steps::{Input, Step};
 // The greatest index of a message that a line can name.
 const GREATEST_INDEX: u64 = 1_000_000_000;
 
-// The word at the head of a line that is to no site alone.
+// The word at the head of a line that begins with a command in place of a site's number.
 #[derive(Clone, Copy, Debug, PartialEq, Eq)]
 enum Command {
     Send,

@@ -56,7 +56,8 @@ fn line_of(bytes: &[u8]) -> Option<ScriptLine>
     }
 }
 
-/// Reads a line of a script behind its first, without its line break.
+/// Reads a line of a script behind those that give the count of sites and the limit, without its line break;
+/// `BadLine` where it is none.
 pub fn read_step(bytes: &[u8]) -> Result<ScriptLine, BadLine>
     // What is read is spelled so.
     ensures found { IfOk result (λ l. IsScriptLine l × (bytes.now ≡ script_text l)) }

@@ -67,7 +67,7 @@ fn session_line_of(bytes: &[u8]) -> Option<Line>
     asked_in(&mut Words::new(bytes))
 }
 
-/// Reads a line of a session, without its line break.
+/// Reads a line of a session, without its line break; `BadLine` where it is none.
 pub fn read_line(bytes: &[u8]) -> Result<Line, BadLine>
     // What is read is spelled so.
     ensures found { IfOk result (λ l. IsSessionLine l × (bytes.now ≡ session_text l)) }

@@ -33,7 +33,6 @@ fn second_append_fails_and_shuts(rt: HostRuntime) {
 }
 
 fn delta(rt: &impl Abort, alloc: Global, text: &[u8]) -> Delta {
-    assert!(rt; text.len() <= 1000);
     read_delta(alloc, text).expect(rt, "a delta")
 }
 

@@ -22,7 +22,6 @@ fn is_written(rt: &(impl Abort + AllocGlobal), message: Option<&Message>, wanted
     let mut text = Vec::new(rt.alloc());
     let message = message.expect(rt, "a message");
     write_message(message, &mut text).expect(rt, "memory");
-    assert!(rt; text.len() <= 1000);
     assert!(rt; text.as_slice() == wanted);
     let read = read_message(rt.alloc(), text.as_slice()).expect(rt, "a message");
     let mut again = Vec::new(rt.alloc());

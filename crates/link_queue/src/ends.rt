@@ -70,8 +70,8 @@ impl Model for Rx {
     ghost invariant = { λ r. IsSeatAt (receives_on r.receiver) r.pass × (seen r.pass ≡ know false true [] (seen r.pass).got) × (r.count ≡ length (seen r.pass).got) };
 }
 
-/// The two ends of a new link, through which nothing went. It holds as many messages as its capacity, which is at least 1;
-/// who sends to a full link waits.
+/// The two ends of a new link, through which nothing went, or an error where memory was refused. It has room for as many
+/// messages as its capacity, which is at least 1; who sends to a full link waits.
 pub fn link(alloc: Global, capacity: usize) -> Result<(Tx, Rx), AllocError>
     requires { 0 < capacity }
     ensures { IfOk result (λ r. (r.0 ≡ end_of r.1.link []) × (r.1 ≡ rx_state r.0.link [] false)) }
@@ -107,8 +107,8 @@ pub struct Settled {
 }
 
 impl Tx {
-    /// Puts a message behind the others, and waits for room. Where the receiver is gone, or 2^63 messages were put, the
-    /// message is handed back and nothing is put.
+    /// Puts a message behind the others, and waits for room, after more than 2^61 messages perhaps for ever. Where the
+    /// receiver is gone, or 2^63 messages were put, the message is handed back and nothing is put.
     pub fn send<R: Wait>(&mut self, rt: &R, message: Message) -> Result<(), Message>
         ensures { MatchResult result (λ _. self.new ≡ end_of self.old.link (self.old.messages ++ message ∷ [])) (λ back. (back ≡ message) × (self.new ≡ self.old)) }
     {
@@ -130,7 +130,7 @@ impl Tx {
         }
     }
 
-    /// Ends the link: the receiver is told so behind the messages that were put. It waits for room.
+    /// Ends the link: a receiver that is not gone is told so behind the messages that were put. It waits for room.
     pub fn end<R: Wait>(self, rt: &R) -> TxEnd
         ensures { result ≡ self }
     {

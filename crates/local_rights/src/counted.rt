@@ -22,7 +22,7 @@ use std::marker::Model;
 pub struct Counted {
     me: SiteId,
     rights: Rights,
-    /// The seats that the site may still sell, for each event that has a cell.
+    /// The seats that the site may still sell, for each event with a cell that is not 0.
     left: IndexMap<Event, u64>,
     /// For how many more cells room was reserved.
     room: usize,
@@ -103,7 +103,8 @@ impl Counted {
         self.left.get(&event).copied().unwrap_or(0)
     }
 
-    /// Makes room for `more` cells that are 0 now. An error leaves the cells as they were.
+    /// Makes room for `more` cells that are 0 now, and needs none where it is there. An error leaves the cells and the
+    /// count of sites as they were, and no less room.
     pub fn reserve(&mut self, more: usize) -> Result<(), AllocError>
         ensures ok { OnOk result (more ≤ self.new.room) }
         ensures succeeds { more ≤ self.old.room → IsOk result }

@@ -66,7 +66,7 @@ pub fn totals(rights: &Rights, event: Event) -> Totals
 }
 
 /// The value of the bounded counter: what was released and taken back, less what was sold.
-/// It is negative where more was sold than released, as in a state that no run of the sites reaches.
+/// It is negative where more was sold than was released and taken back, as after a forged delta.
 pub fn paper_value(rights: &Rights, event: Event) -> i64
     ensures { result ≡ paper_value rights.now.cells event }
 {

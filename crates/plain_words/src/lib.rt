@@ -1,6 +1,6 @@
 //! Plain text, read a line at a time and a word at a time, and written as far as a writer takes it.
 //!
-//! A line ends with byte 10 and has at most 200 bytes; its words stand one space apart; a number is
+//! A line ends with byte 10 or with the input, and has at most 200 bytes; its words stand one space apart; a number is
 //! decimal, without a sign and without leading zeros.
 #![tactic(auto)]
 

@@ -15,7 +15,7 @@ pub type LineBytes = ArrayVec<u8, LONGEST_LINE>;
 /// Why no line was read.
 #[derive(Clone, Copy, Debug, PartialEq, Eq, Error)]
 pub enum LineFault {
-    /// The reader failed.
+    /// The reader failed, or was interrupted.
     #[error("the reader failed")]
     Read,
     /// The line has more than 200 bytes.
@@ -70,7 +70,7 @@ pub fn next_line<R: BufRead>(reader: &mut R, line: &mut LineBytes) -> Result<boo
     }
 }
 
-/// Whether another line begins. It takes the first byte of that line.
+/// Whether another line begins. It takes the first byte of that line, and nothing where there is none or at a fault.
 pub fn has_more<R: BufRead>(reader: &mut R) -> Result<bool, ReadFault>
     ensures { MoreGives (R.remaining reader.old) (R.remaining reader.new) result }
 {

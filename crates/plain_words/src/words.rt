@@ -9,7 +9,7 @@ use std::marker::Model;
 
 /// The words that are left of a line.
 ///
-/// Between two spaces that touch, and at a space at either end, stands a word of no bytes.
+/// Between two spaces that touch, at a space at either end, and on a line of no bytes, stands a word of no bytes.
 #[derive(Drop)]
 pub struct Words<'a> {
     // None behind the last word.

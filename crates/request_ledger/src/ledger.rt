@@ -82,7 +82,7 @@ impl Ledger {
         Ok(())
     }
 
-    /// Keeps the request and its reply under a number that is new, for good.
+    /// Keeps the request, its reply and its place under a number that is new, for good.
     pub fn keep(&mut self, number: RequestNumber, place: usize, request: Request, reply: Reply)
         requires new { kept_under self.old.entries number ≡ None }
         requires room { 1 ≤ self.old.room }

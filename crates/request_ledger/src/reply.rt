@@ -11,10 +11,11 @@ use rights_lattice::{Amount, Event};
 /// The decision on a request.
 #[derive(Clone, Copy, PartialEq, Eq, Debug)]
 pub enum Reply {
+    /// What was asked is done.
     Done,
-    /// The event was announced before.
+    /// The name of the event is known at this site already.
     Known,
-    /// The event was never announced.
+    /// The name of the event is not known at this site.
     Unknown,
     /// More seats than the `left` rights of this site.
     Short { left: u64 },

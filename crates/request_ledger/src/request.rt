@@ -6,7 +6,7 @@ use crate::number::RequestNumber;
 use crate::verb::Verb;
 use rights_lattice::{Amount, Event, SiteId};
 
-/// A request to one site, which decides it from its own rights.
+/// A request to one site, which decides it from what it knows itself.
 #[derive(Clone, Copy, PartialEq, Eq, Debug)]
 pub enum Request {
     /// Makes the name of an event known.

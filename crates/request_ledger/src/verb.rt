@@ -8,10 +8,15 @@ ghost use Rattle.request_ledger.specs.Words.{verb_word, verb_of};
 /// What a request asks.
 #[derive(Clone, Copy, PartialEq, Eq, Debug)]
 pub enum Verb {
+    /// To make the name of an event known.
     Announce,
+    /// To add seats to what the site may sell.
     Release,
+    /// To sell seats.
     Sell,
+    /// To give back a part of a sale, or what is left of it.
     Refund,
+    /// To hand rights to another site.
     Cede,
 }
 
@@ -24,7 +29,7 @@ const VERBS: [Verb; 5] = [
 ];
 
 impl Verb {
-    /// The first word of the line that asks it, of at most 8 bytes.
+    /// The first word of a session's line that asks it, of at most 8 bytes.
     pub fn word(self) -> &'static [u8]
         ensures word { result.now ≡ verb_word self }
         ensures short { length result.now ≤ 8 }

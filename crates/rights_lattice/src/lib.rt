@@ -1,8 +1,9 @@
 //! Events, sites, cells, and the state of rights as a join semilattice.
 //!
-//! A cell is an entry of the rights matrix of an escrow bounded counter (Balegas et al., SRDS 2015);
-//! what a site takes back in refunds is our own. States are ordered cell by cell and joined to the
-//! greater of each cell, as state-based replicated data are (INRIA RR-7506).
+//! A cell is an entry of the rights matrix or of the consumed rights of an escrow bounded counter (Balegas
+//! et al., SRDS 2015); what a site takes back in refunds is our own. States are ordered cell by cell and name
+//! by name, and joined to the greater of each cell and the names of both, as state-based replicated data are
+//! (INRIA RR-7506).
 #![tactic(auto)]
 
 pub mod amount;

@@ -79,7 +79,8 @@ impl Rights {
         self.values.get(&(event, cell)).copied().unwrap_or(0)
     }
 
-    /// Makes room for `more` cells that are 0 now. An error leaves the cells as they were.
+    /// Makes room for `more` cells that are 0 now, and needs none where it is there. An error leaves the cells and the
+    /// count of sites as they were, and no less room.
     pub fn reserve(&mut self, more: usize) -> Result<(), AllocError>
         ensures ok { OnOk result (more ≤ self.new.room) }
         ensures succeeds { more ≤ self.old.room → IsOk result }

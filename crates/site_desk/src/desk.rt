@@ -122,13 +122,14 @@ impl<K: Keeper, L: Opens> Desk<K, L> {
         self.lock.lock(rt).next(alloc, to)
     }
 
-    /// Gives the book back, and compares its history with what the sessions were given. It waits for nobody and takes no
+    /// Gives the book back, and compares its history with what the sessions were given. It waits for nobody and wants no
     /// memory.
     ///
-    /// The first of these is the fault: the seats do not have all that was newly entered; a receipt is not the entry that
-    /// it names; a look does not show what the entries that it names say. The book comes back with a fault too: it is of the
-    /// site that the desk was made for, counts the same sites, is in step with its keeper, and its history goes on from the
-    /// one that it had then. Each look costs a walk over the entries that it names.
+    /// The first of these is the fault: the seats do not have all requests that were newly entered; a receipt is not the
+    /// entry that it names; a look names more entries than there are, or ones that do not name its event, or does not show
+    /// what they say of it. The book comes back with a fault too: it is of the site that the desk was made for, counts the
+    /// same sites, is in step with its keeper, and its history goes on from the one that it had then. Each look costs a walk
+    /// over the entries that it names.
     pub fn finish(
         self,
         seats: Vec<Seat<L>>,

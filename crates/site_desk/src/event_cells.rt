@@ -83,7 +83,8 @@ impl EventCells {
         gained.saturating_sub(spent)
     }
 
-    /// What a look shows of the event: the seats that all sites released, sold and took back, and those that are open.
+    /// What a look shows of the event: the seats that all sites released, sold and took back, and, where no site spent more
+    /// than it gained, those that are open.
     pub fn view(&self) -> ViewTotals
         ensures { (X : Cells) (event : List ℕ) → Shows self.now X event → result ≡ view_in X event }
     {

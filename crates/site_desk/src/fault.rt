@@ -14,6 +14,7 @@ pub enum AskFault {
     /// The history is as long as it may become.
     #[error("the history is full")]
     Full,
+    /// Room was wanted and refused.
     #[error("out of memory")]
     Memory,
     /// The entry is not known to be kept, and the book is closed.
@@ -21,14 +22,16 @@ pub enum AskFault {
     Store,
 }
 
-/// Why no message is given.
+/// Why it is not answered which message is due, if any. None changes the history or what was acknowledged.
 #[derive(Clone, Copy, PartialEq, Eq, Debug, Error)]
 pub enum NextFault {
+    /// The book takes nothing more until it is started again from what was kept.
     #[error("the book is closed")]
     Closed,
     /// The site is not another one of those that the book counts so far.
     #[error("there is no such other site")]
     NoSite,
+    /// Room was wanted and refused.
     #[error("out of memory")]
     Memory,
 }
@@ -47,6 +50,7 @@ impl From<AllocError> for NextFault {
 /// Why nothing is shown of an event.
 #[derive(Clone, Copy, PartialEq, Eq, Debug, Error)]
 pub enum LookFault {
+    /// The book takes nothing more until it is started again from what was kept.
     #[error("the book is closed")]
     Closed,
     /// The event was announced neither here nor in a delta that was joined.

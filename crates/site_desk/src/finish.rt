@@ -15,13 +15,14 @@ use thiserror::Error;
 /// Why a desk's book is not what its sessions were given, or not known to be. Places are counted from 0.
 #[derive(Clone, Copy, PartialEq, Eq, Debug, Error)]
 pub enum FinishFault {
-    /// The seats handed in do not have all that was entered.
+    /// The seats handed in do not have all requests that were newly entered.
     #[error("seats are out")]
     SeatsOut,
     /// The receipt at this place is the first that is not the entry that it names.
     #[error("receipt {at} is not in the history")]
     Stranger { at: usize },
-    /// The look at this place is the first that does not show what the entries that it names say.
+    /// The look at this place is the first that names more entries than there are, or ones that do not name its event,
+    /// or that does not show what they say of it.
     #[error("look {at} is not of the history")]
     StrangerSeen { at: usize },
 }

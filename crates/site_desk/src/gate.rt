@@ -16,6 +16,7 @@ pub enum Place {
 /// What a thread passes at each place. It promises nothing, and may wait: at `Inside` for nothing that needs the same
 /// desk.
 pub trait Gate {
+    /// Passes this place.
     fn pass<R: Wait>(&self, rt: &R, place: Place);
 }
 

@@ -184,7 +184,8 @@ impl<K: Keeper, L: Opens> Locked<K, L> {
         self.book.next(alloc, to)
     }
 
-    /// The book, where the seats have all that was entered, and each receipt and look is of its history.
+    /// The book, where the seats have all requests that were newly entered, and each receipt and look is of its history.
+    /// With a fault it comes back as well.
     pub fn finish(
         self,
         seats: Vec<Seat<L>>,

@@ -26,7 +26,8 @@ impl Opens for Brand {
 
 /// A session's place at the desk of `L`: how many requests were newly entered for it, and its parts of the count.
 ///
-/// Seats with all parts have, added up, all that was newly entered. A seat that is let go takes its share with it.
+/// Seats with all parts have, added up, all requests that were newly entered. A seat that is let go takes its share with
+/// it.
 #[derive(Drop)]
 pub struct Seat<L: Opens> {
     pub(crate) share: Share<L>,

@@ -33,7 +33,7 @@ use std::marker::Model;
 
 /// The book of a site, what its peers have acknowledged, and the keeper of its history.
 ///
-/// At every moment it is closed, or its history is what the keeper holds, as far as the keeper is to be trusted.
+/// Between its calls it is closed, or its history is what the keeper holds, as far as the keeper is to be trusted.
 #[derive(Drop)]
 pub struct SiteBook<K: Keeper> {
     book: Book,
@@ -59,7 +59,8 @@ impl<K: Keeper> Model for SiteBook<K> {
 impl<K: Keeper> SiteBook<K> {
     /// The open book of the entries that a keeper holds. Nothing counts as acknowledged by any peer.
     ///
-    /// `IllegalAt` where an entry may not follow those before it. An error gives the keeper back as it was.
+    /// `IllegalAt` where an entry may not follow those before it, and `Memory` where memory was refused before that was
+    /// found. An error gives the keeper back as it was.
     #[tactic(auto, using(crate::proofs::Acknowledged::none_acknowledged))]
     pub fn start(
         alloc: Global,
@@ -178,8 +179,10 @@ impl<K: Keeper> SiteBook<K> {
 
     /// Takes a peer's message: joins its delta where it holds something new, or notes what it acknowledges.
     ///
-    /// No message changes a cell of the own row, forged ones too. Errors are as for a request; a delta that holds nothing
-    /// new wants no memory, and neither does an acknowledgement of no more than was acknowledged.
+    /// No message changes a cell of the own row, forged ones too. One that is refused for what it says (`NotForMe`,
+    /// `UnknownSite`, `StrayAck`, `ForeignRow`) or since the history is full changes nothing; what other errors leave is as
+    /// for a request. A delta that holds nothing new wants no memory, and neither does an acknowledgement of no more than
+    /// was acknowledged.
     #[tactic(auto, using(crate::proofs::Growth::sites_taken))]
     pub fn take(&mut self, message: Message) -> Result<Taken, TakeFault>
         ensures office { self.new.book.office ≡ self.old.book.office }
@@ -241,8 +244,8 @@ impl<K: Keeper> SiteBook<K> {
 
     /// Counts so many sites from here on: the growth is kept and then entered. It changes no cell.
     ///
-    /// `NotMore` where the count is not above the count so far. Other errors are as for a request; neither `NotMore` nor
-    /// a full history wants memory.
+    /// `NotMore` where the book is open and the count is not above the count so far. Other errors are as for a request;
+    /// neither `NotMore` nor a full history wants memory.
     pub fn grow(&mut self, alloc: Global, sites: Sites) -> Result<(), GrowFault>
         ensures office { self.new.book.office ≡ self.old.book.office }
         ensures growth { OnOk result (growth_in self.old.book sites ≡ Some (Grown sites)) }
@@ -280,6 +283,9 @@ impl<K: Keeper> SiteBook<K> {
     }
 
     /// The message that is due to a peer, and none where it has acknowledged all, which wants no memory.
+    ///
+    /// `Closed` where the book is closed, and else `NoSite` where the site is not another one of those that it counts so
+    /// far. No error changes the history, what was acknowledged or the keeper.
     pub fn next(&mut self, alloc: Global, to: SiteId) -> Result<Option<Message>, NextFault>
         ensures message { IfOk result (λ message. message ≡ next self.old.book.office.me (site_of self.old) to) }
         ensures closed { (result ≡ Err NextFault.Closed) ↔ (self.old.closed ≡ true) }
@@ -297,6 +303,8 @@ impl<K: Keeper> SiteBook<K> {
     }
 
     /// What the history shows of an event that it knows.
+    ///
+    /// `Closed` where the book is closed, and else `Unknown` where the history does not know the event.
     pub fn look(&self, event: Event) -> Result<Seen, LookFault>
         ensures seen { IfOk result (IsSeenAt self.now.book.office self.now.book.history event) }
         ensures at { IfOk result (λ seen. seen.at ≡ length self.now.book.history) }

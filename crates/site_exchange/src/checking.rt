@@ -5,7 +5,8 @@ ghost use Rattle.site_exchange.specs.Exchange.{ack_for, check, IsDeltaMessage};
 use crate::message::{CheckFault, Message};
 use book_core::Book;
 
-/// Whether a message is for this book to take, by its header alone.
+/// Whether a message is looked at: it is to this book, from another site that the book counts, and acknowledges no more
+/// than there is. What a delta holds is not read.
 pub fn check(book: &Book, message: &Message) -> Result<(), CheckFault>
     ensures { MatchResult result (λ _. check book.now.office book.now.history message.now ≡ None) (λ fault. check book.now.office book.now.history message.now ≡ Some fault) }
 {

@@ -24,7 +24,7 @@ pub struct Exchange {
     /// Each of them but the own one is a peer.
     sites: Sites,
     acked: [u64; SITE_NUMBERS],
-    /// Of the peers with the lowest numbers, as far as messages were asked for.
+    /// Of the sites with the lowest numbers, the own one too, as far as messages were due.
     pendings: Vec<Pending>,
 }
 
@@ -41,7 +41,7 @@ impl Model for Exchange {
 }
 
 impl Exchange {
-    /// An exchange of so many sites: nothing counts as acknowledged by any peer. It takes no memory.
+    /// An exchange of so many sites: nothing counts as acknowledged by any peer. It wants no memory.
     #[tactic(auto, unfolding(rights_lattice::specs::Sums::max_sites))]
     pub fn fresh(alloc: Global, sites: Sites) -> Exchange
         ensures { result ≡ record { sites = sites; acked = zeros; pendings = [] } }
@@ -55,7 +55,7 @@ impl Exchange {
     }
 
     /// Counts so many sites, and no fewer than before. What peers have acknowledged stays, and so does what is pending.
-    /// It takes no memory.
+    /// It wants no memory.
     pub fn grow(&mut self, sites: Sites)
         requires not_fewer { self.old.sites ≤ sites }
         ensures { self.new ≡ record self.old { sites = sites } }
@@ -102,8 +102,8 @@ impl Exchange {
     }
 
     /// The message that is due to a peer: the delta-interval from what it has acknowledged to the end of the
-    /// history, and none where it has acknowledged all, which takes no memory and changes nothing. What is pending is
-    /// kept, so that no entry that was added is added again.
+    /// history, and none where it has acknowledged all, which wants no memory and changes nothing. What was added for
+    /// a peer stays added.
     ///
     /// An error leaves the acknowledged numbers, and all messages given later, as they would have been.
     pub fn next(
@@ -146,7 +146,7 @@ impl Exchange {
     }
 }
 
-// What is pending for a peer, if anything, begins behind its first `n` entries.
+// What is pending for a peer, if anything, begins behind the first `n` entries, or where it began if that is further.
 fn forget(
     alloc: Global,
     pendings: &mut Vec<Pending>,
@@ -169,7 +169,8 @@ fn forget(
     Ok(())
 }
 
-// Has a pending delta for each peer up to this one: nothing is added behind what it has acknowledged.
+// Has a pending delta for each number up to this one, the own one too. Where one is made, nothing is added behind what
+// is acknowledged.
 fn reach(
     alloc: Global,
     pendings: &mut Vec<Pending>,

@@ -16,7 +16,7 @@ pub enum Message {
         upto: Upto,
         delta: Delta,
     },
-    /// That `by` has what `to` did up to this length of the history of `to`.
+    /// That `by` has the deltas of the entries of `to` up to this length of its history.
     Ack {
         by: SiteId,
         to: SiteId,
@@ -38,7 +38,7 @@ pub enum CheckFault {
     StrayAck { len: usize },
 }
 
-/// Why a message is not taken. A refused message changes nothing.
+/// Why a message is not taken. All but `Store` change nothing, though behind `Memory` there may be more room.
 #[derive(Clone, Copy, PartialEq, Eq, Debug, Error)]
 pub enum TakeFault {
     /// It is to another site, or from this one.
@@ -62,7 +62,7 @@ pub enum TakeFault {
     /// The book takes nothing more until it is started again from its records.
     #[error("the book is closed")]
     Closed,
-    /// The records failed.
+    /// The entry is not known to be kept, and the book is closed.
     #[error("the records failed")]
     Store,
 }

@@ -42,8 +42,8 @@ impl From<AllocError> for AuditFault {
 ///
 /// The k-th book is that of site k. `NotWhole` where a book is of another site, or counts more sites than there are
 /// books; else `Ahead` where a book shows more of a row than the book of its owner does, with the least such viewer and
-/// then the least owner; and `Memory` last. An empty list of books is whole, and gives an empty list. What messages the
-/// books took does not matter: no more is outstanding than was released wherever this is Ok.
+/// then the least owner; and `Memory` last. An empty list of books is whole, and has no names to list. What messages
+/// the books took does not matter: no more is outstanding than was released wherever this is Ok.
 pub fn audit(alloc: Global, books: &[&Book]) -> Result<Vec<(Event, Totals)>, AuditFault>
     ensures not_whole { (result ≡ Err AuditFault.NotWhole) ↔ (IsWhole (books_of books.now) → ⊥) }
     ensures ahead { (v o : ℕ) → result ≡ Err (AuditFault.Ahead v o)

@@ -125,17 +125,18 @@ pub fn add_sites(nodes: &mut Vec<Node>, alloc: Global, sites: Sites, limit: Limi
 /// What a site does with a message.
 #[derive(Clone, Copy, PartialEq, Eq, Debug)]
 pub enum Judged {
-    /// The delta is joined.
+    /// The delta is joined, where memory suffices.
     Joined,
     /// The site has all of the delta.
     NothingNew,
-    /// The acknowledgement is taken.
+    /// The acknowledgement is taken, where memory suffices.
     Acked,
     /// Nothing changes.
     Refused(TakeFault),
 }
 
-/// Plans a request at a site, and enters it where it is new.
+/// Plans a request at a site, and enters it where an entry is planned. An error is `Memory`, and leaves the history and
+/// what is acknowledged.
 pub fn ask(
     node: &mut Node,
     alloc: Global,
@@ -178,7 +179,8 @@ pub fn judge(book: &Book, message: &Message) -> Judged
     }
 }
 
-/// Takes a message at a site: joins its delta or takes its acknowledgement, as the site judges it.
+/// Takes a message at a site: joins its delta or takes its acknowledgement, as the site judges it. An error leaves the
+/// history and what is acknowledged.
 pub fn take(node: &mut Node, alloc: Global, message: &Message) -> Result<(), AllocError>
     ensures office { node.new.book.office ≡ node.old.book.office }
     ensures changed { OnOk result (site_of node.new ≡ site_after (verdict node.old.book.office node.old.book.history message.now) message.now (site_of node.old)) }
@@ -213,7 +215,8 @@ fn join(book: &mut Book, alloc: Global, peer: SiteId, delta: &Delta) -> Result<(
 }
 
 /// Stops a site in the midst of a request or of taking a message and starts it anew: the entry that the input adds is
-/// in its history where it was stored, and nothing counts as acknowledged.
+/// in its history where it was stored, and nothing counts as acknowledged. An error leaves the history and what is
+/// acknowledged.
 pub fn stop(
     node: &mut Node,
     alloc: Global,

@@ -52,8 +52,8 @@ pub enum Step {
         input: Input,
         stored: bool,
     },
-    /// Has a site count more sites. Those that are not there yet are added, each empty, with that count and with the
-    /// limit of the site that grew.
+    /// Has a site count so many sites, where they are more than before and its history is not full. Those that are not
+    /// there yet are then added, each empty, with that count and with the limit of the site that grew.
     Grow {
         site: SiteId,
         sites: Sites,
@@ -93,7 +93,7 @@ pub enum Outcome {
 #[derive(Clone, Copy, PartialEq, Eq, Debug, Error)]
 pub enum WorldFault {
     /// The site of the step, or the peer of its send, is not there, or it would send to itself or to a site that it does
-    /// not count. A cession to a site that is not there is refused by the site that cedes.
+    /// not count. A cession to a site that is not there is not this: the site that cedes answers it.
     #[error("no such site")]
     NoSite,
     /// No message with this index was ever sent.

@@ -163,7 +163,7 @@ impl World {
         stop(node, alloc, &self.sent, &input, stored)
     }
 
-    // Stops a site in the midst of a growth: it has grown where that was stored.
+    // Stops a site in the midst of a growth: it has grown where the count is taken and that was stored.
     fn stop_growth(
         &mut self,
         alloc: Global,
@@ -314,8 +314,9 @@ impl World {
 }
 
 impl World {
-    /// Makes steps in turn, and tells what each was answered. At the first that is not made it stops: each step
-    /// before it was made, and it is named by its place in the list, from 0, with its own fault.
+    /// Makes steps in turn, and tells what each was answered. At the first that is not made it stops: each step before
+    /// it was made, and their answers are not given. It is named by its place in the list, from 0, with a fault that
+    /// is due it: `Memory` also where there was no room for its answer.
     pub fn run(
         &mut self,
         alloc: Global,
@@ -346,7 +347,7 @@ impl World {
     }
 
     /// What all sites released, sold and took back of an event: the sums over the flat list of the requests that
-    /// were done, which no site holds.
+    /// were done.
     pub fn totals(&self, event: Event) -> Totals
         ensures totals { result ≡ totals_of self.now event }
         ensures never_oversold { outstanding event (all_operations self.now) ≤ released event (all_operations self.now) }

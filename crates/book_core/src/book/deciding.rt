@@ -18,8 +18,8 @@ use std::alloc::{AllocError, Global};
 impl Book {
     /// What a request under its number leads to: the reply that is kept under it, or a new entry.
     ///
-    /// The book shows what it showed in every case, loses no room, and has all the room that a new entry takes.
-    /// Under a kept number and on a full history it makes no room.
+    /// The book shows what it showed and loses no room in every case. Where a new entry is planned it has all the room
+    /// that this takes. Under a kept number and on a full history it makes no room.
     pub fn plan(
         &mut self,
         alloc: Global,
@@ -32,7 +32,7 @@ impl Book {
         ensures still { LeavesRoom
             (decision self.old.office self.old.history number request.now) self.old self.new }
 
-        // A refusal is an entry without a delta: it takes no memory where the book has room for one entry.
+        // A refusal is an entry without a delta: it wants no memory where the book has room for one entry and one number.
         ensures memory { result ≡ Err PlanFault.Memory
             → IsFreshRefusal (decision self.old.office self.old.history number request.now)
             → 1 ≤ self.old.room.entries → 1 ≤ self.old.room.numbers → ⊥ }

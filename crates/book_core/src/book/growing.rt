@@ -14,10 +14,11 @@ use rights_lattice::Sites;
 use std::alloc::Global;
 
 impl Book {
-    /// What a count of sites leads to: a new entry, where it is more than the count so far.
+    /// What a count of sites leads to: a new entry, where it is more than the count so far, the history is not full and
+    /// memory suffices.
     ///
-    /// The book shows what it showed in every case, loses no room, and has all the room that the new entry takes.
-    /// It makes no room but for a growth.
+    /// The book shows what it showed and loses no room in every case. Where the new entry is planned it has all the room
+    /// that this takes. It makes no room but for a growth.
     pub fn plan_grow(&mut self, alloc: Global, sites: Sites) -> Result<Planned, GrowFault>
         ensures unchanged { self.new ≡ record self.old { room = self.new.room } }
         ensures plan { IfOk result (IsGrowPlan self.new sites) }

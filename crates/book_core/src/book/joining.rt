@@ -19,10 +19,10 @@ use delta_mutators::Delta;
 use rights_lattice::{Cell, Event, Mark, Rights, SiteId, Sites, owner};
 
 impl Book {
-    /// What a peer's delta leads to: nothing, where the state has all of it, or a new entry.
+    /// What a peer's delta leads to, where it is not refused: nothing, where the state has all of it, or a new entry.
     ///
-    /// The book shows what it showed in every case, loses no room, and has all the room that a new entry takes.
-    /// It makes no room but for a delta that is joined. A refusal gives the delta back.
+    /// The book shows what it showed and loses no room in every case. Where a new entry is planned it has all the room
+    /// that this takes. It makes no room but for a delta that joins. A refusal gives the delta back.
     pub fn plan_join(&mut self, peer: SiteId, delta: Delta) -> Result<JoinPlan, (Delta, JoinFault)>
         ensures unchanged { self.new ≡ record self.old { room = self.new.room } }
         ensures plan { IfOk result (IsJoinPlan self.new peer delta) }

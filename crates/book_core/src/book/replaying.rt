@@ -17,7 +17,7 @@ use rights_lattice::{Event, Mark, SiteId, Sites};
 use std::alloc::Global;
 
 impl Book {
-    /// The book with this history.
+    /// The book with this history. An error drops the entries.
     ///
     /// `IllegalAt` where an entry may not follow those before it; it names the place of the first, from 0. `Memory`
     /// where room was wanting for an entry that may follow; what stands behind it was not looked at.
