@@ -32,8 +32,8 @@ fn status_of(came: Result<Ended, TalkFault>) -> Result<Status, StoreFault>
 /// its reply, what the site shows of an event, or `bad-line`; `memory`, `store` and `closed` are
 /// answers too.
 ///
-/// The records are opened before anything is read. What ends the session early is told on `err`,
-/// with status 3, and what was answered stays entered. The connection comes back unless its
+/// The records are opened before anything is read. Why they are not, and nothing is answered then, or what ends the
+/// session early is told on `err`, with status 3; what was answered stays entered. The connection comes back unless its
 /// records were refused.
 pub fn ask_store<T: Wait, S: Alter + Drop, R: Read + Drop, W: Write, E: Write>(
     rt: &T,

@@ -38,7 +38,8 @@ fn write_sums<W: Write>(sums: &[(Event, Totals)], out: &mut W) -> Result<Status,
     Ok(Status::Done)
 }
 
-/// Prints a line for each event with the sums over all books, or why they are not summed up.
+/// Prints a line for each event with the sums over all books, or why they are not summed up. Behind want of memory nothing
+/// is printed.
 pub(crate) fn print_audit<W: Write>(
     alloc: Global,
     books: &[&Book],
@@ -101,7 +102,7 @@ pub fn audit_stores<K: Keeper, W: Write, E: Write>(
     ended(came, out, err)
 }
 
-// What telling `not-whole` came to, where the books are not those of all sites.
+// What telling `not-whole` came to, where the books are not those of all sites; or want of memory to look at them.
 fn refused_parts<K: Keeper, W: Write>(
     alloc: Global,
     sites: &[SiteBook<K>],

@@ -52,8 +52,8 @@ pub(crate) fn tell_fault<E: Write>(fault: StoreFault, err: &mut E) -> Status
     Status::Failed
 }
 
-/// The end of a command over the book of a site: its status, and the connection, which comes back.
-/// Unless the book is closed, the connection holds its history, and a stop leaves that.
+/// The end of a command over the book of a site: its status, and the connection, which comes back. A fault is told on
+/// `err`, as `ended` does. Unless the book is closed, the connection holds its history, and a stop leaves that.
 pub(crate) fn close_book<S: Alter + Drop, W: Write, E: Write>(
     came: Result<Status, StoreFault>,
     book: SiteBook<Records<S>>,
@@ -74,7 +74,7 @@ pub(crate) fn close_book<S: Alter + Drop, W: Write, E: Write>(
     (ended(came, out, err), Some(conn))
 }
 
-/// The status of a command that came to this. A fault is told on `err`.
+/// The status of a command that came to this. A fault, also one of the last flush, is told on `err`, with status 3.
 pub(crate) fn ended<W: Write, E: Write>(
     came: Result<Status, StoreFault>,
     out: &mut W,

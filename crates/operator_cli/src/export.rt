@@ -56,8 +56,8 @@ fn write_next<K: Keeper, W: Write>(
 /// Prints the message to a peer that has acknowledged nothing; `nothing` where the history is
 /// empty, or `no-site` where `to` is no other site of the records, with status 1.
 ///
-/// A fault is told on `err`, with status 3. The connection comes back unless its records were
-/// refused.
+/// A fault is told on `err`, with status 3; nothing is printed then, but a front where the text could not be written. The
+/// connection comes back unless its records were refused.
 pub fn export_store<S: Alter + Drop, W: Write, E: Write>(
     alloc: Global,
     conn: Connection<S>,

@@ -10,14 +10,19 @@ use thiserror::Error;
 /// What ends a script early.
 #[derive(Clone, Copy, Debug, PartialEq, Eq, Error)]
 pub enum ScriptFault {
+    /// The reader failed, or was interrupted.
     #[error("the reader failed")]
     Read,
+    /// The writer failed.
     #[error("the writer failed")]
     Write,
+    /// A line has more than 200 bytes.
     #[error("a line is longer than 200 bytes")]
     LineTooLong,
+    /// There are more than 1,000,000 lines.
     #[error("there are more than 1,000,000 lines")]
     TooManyLines,
+    /// Memory was refused.
     #[error("out of memory")]
     Memory,
 }

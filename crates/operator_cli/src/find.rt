@@ -69,8 +69,8 @@ fn write_found<S: Alter, W: Write>(
 /// Prints the place and the reply that are kept under a number; `none` where nothing is, with
 /// status 1.
 ///
-/// A fault is told on `err`, with status 3. The connection comes back unless its records were
-/// refused.
+/// A fault is told on `err`, with status 3; nothing is printed then, but a front where the text could not be written. The
+/// connection comes back unless its records were refused.
 pub fn find_store<S: Alter + Drop, W: Write, E: Write>(
     alloc: Global,
     conn: Connection<S>,

@@ -85,8 +85,9 @@ fn write_grown<K: Keeper, W: Write>(
 /// Has the site count so many sites from here on, and prints `grown`; or `not-more` where that is no more than it counts,
 /// or `history-full`, with status 1, which change nothing. It changes no cell.
 ///
-/// A fault is told on `err`, with status 3, and a stop then leaves what the records held, or that with the growth at its
-/// end. The connection comes back unless its records were refused.
+/// A fault is told on `err`, with status 3; nothing is printed then, but a front where the word could not be written. The
+/// connection comes back unless its records were refused, and a stop then leaves what they held, or that with the growth
+/// at its end.
 pub fn grow_store<S: Alter + Drop, W: Write, E: Write>(
     alloc: Global,
     conn: Connection<S>,

@@ -153,9 +153,9 @@ fn write_taken<K: Keeper, R: Read + Drop, W: Write>(
 /// Takes the one message that the input is, and prints `joined`, `nothing-new` or `acked`; what is
 /// no message, and what is refused, is told with status 1 and changes nothing.
 ///
-/// A fault is told on `err`, with status 3, and a stop then leaves what the records held, or that
-/// with what the message brought at its end. The connection comes back unless its records were
-/// refused.
+/// A fault is told on `err`, with status 3; nothing is printed then, but a front where the word could not be written. The
+/// connection comes back unless its records were refused, and a stop then leaves what they held, or that with what the
+/// message brought at its end.
 pub fn import_store<S: Alter + Drop, R: Read + Drop, W: Write, E: Write>(
     alloc: Global,
     conn: Connection<S>,

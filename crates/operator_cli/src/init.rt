@@ -96,8 +96,8 @@ fn write_made<S: Alter, W: Write>(
     }
 }
 
-/// Makes the records of a site with no entries, and prints `done`; or `already-there` where a table
-/// of ours is there, or `no-site` where `me` is not below `sites`, with status 1.
+/// Makes the records of a site with no entries, and prints `done`; or `no-site` where `me` is not below `sites`, or else
+/// `already-there` where a table or view has the name of one of ours, with status 1.
 ///
 /// `memory` and `disk` are told on `err`, with status 3 and nothing printed, only where records may be made: what an open
 /// connection has committed is then what it had, but a stop may leave the new records. `write` is told where the word is

@@ -74,8 +74,8 @@ fn write_listed<S: Alter, W: Write>(
 /// Prints a line for each request that names the event, by place: the place, the session line and
 /// the reply; `none` where there is none, also for a word that is no event name, with status 1.
 ///
-/// A fault is told on `err`, with status 3. The connection comes back unless its records were
-/// refused.
+/// A fault is told on `err`, with status 3; nothing is printed then, but a front where the text could not be written. The
+/// connection comes back unless its records were refused.
 pub fn list_store<S: Alter + Drop, W: Write, E: Write>(
     alloc: Global,
     conn: Connection<S>,

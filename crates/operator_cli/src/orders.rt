@@ -94,9 +94,11 @@ pub enum Order<'a> {
 /// Why the words give no command.
 #[derive(Debug, Drop, thiserror::Error)]
 pub enum WordsFault {
-    /// The words are no command, and the text says why; or they ask for help, and the text is it.
+    /// The words are no command, or ask for help. Where a value does not fit, the text names the first such; no clause
+    /// says what it is else.
     #[error("{text}")]
     NotUnderstood { text: String },
+    /// Memory was refused.
     #[error("memory")]
     Memory,
 }
@@ -394,7 +396,7 @@ fn misfit_told(alloc: Global, misfit: Misfit) -> WordsFault
 
 /// Reads the words that the program is called with, of which the first is its name.
 ///
-/// Numbers are decimal, without a sign and without leading zeros.
+/// Numbers are decimal, without a sign and without leading zeros. `Memory` may come for any words.
 pub fn read_words<'a>(alloc: Global, words: &'a [&'a str]) -> Result<Order<'a>, WordsFault>
     ensures understood { OnOk result (AreUnderstood (map (λ w. w.now) words.now)) }
     ensures order { IfOk result (λ order. order_in (subcommand_of boxoffice (map (λ w. w.now) words.now)) ≡ Some (said_by order)) }

@@ -47,7 +47,7 @@ fn unvisited<K: Keeper + Drop, R: Read + Drop, W: Write + Drop>(
     Ok(sites)
 }
 
-// Has each visit come to the site whose number is its place modulo the count of sites.
+// Has each visit come to the site whose place is the visit's own modulo the count of sites.
 fn deal<K: Keeper + Drop, R: Read + Drop, W: Write + Drop>(
     visits: Vec<Visit<R, W>>,
     sites: &mut Vec<Site<K, R, W>>,
@@ -154,15 +154,17 @@ fn summed_up<K: Keeper + Drop, R: Read + Drop, V: Write + Drop, W: Write>(
 /// Runs the sites of these books at once, with the visits and with links among them, and then prints a line for each event
 /// that a site knows, with what all sites released, sold and took back of it, as an audit does.
 ///
-/// The visit at each place, from 0, comes to the site whose number is the place modulo the count of books, where there is
+/// The visit at each place, from 0, comes to the site of the book at this place modulo the count of books, where there is
 /// one. Each site sends what is due to each other for so many rounds, over links that hold 16 messages. A session's own
-/// fault changes nothing here, nor does a thread that a session could not have. Once all sites have come to their end, the
-/// first of them whose sessions were not given what its history holds, or whose book is closed, is told on `err`, with
-/// status 3, and nothing is printed: `seats-out`, `stranger K`, `stranger-seen K` or `closed S`. So are want of memory, a
-/// thread of a site or of its exchange that could not be started, and a writer that fails. The ends of all sites come back,
-/// in the order of the books, each with the visits that came to it and a book whose history goes on from the one that was
-/// handed in, with no more new requests than receipts were given (unless seats are out); none do where the sites could not
-/// be run. What becomes of their records then no contract says; that the files keep what was entered is tested.
+/// fault changes nothing here; one that could not have a thread has an end without its writer, and only then may seats be
+/// out. Once all sites have come to their end, the first of them whose sessions were not given what its history holds, or
+/// whose book is closed, is told on `err`, with status 3, and nothing is printed: `seats-out`, `stranger K`,
+/// `stranger-seen K` or `closed S`. So are want of memory and a thread of a site or of its exchange that could not be
+/// started; and a writer that fails, behind which a front may be printed. The ends of all sites come back, in the order of
+/// the books, each with the visits that came to it and a book whose history goes on from the one that was handed in, with
+/// no more new requests than receipts were given (unless seats are out); none do where the sites could not be run, or where
+/// there was no memory to gather their ends. What becomes of their records then no contract says; that the files keep what
+/// was entered is tested.
 pub fn serve_stores<
     T: Threads + Wait + Sync,
     K: Keeper + Drop + Send,

@@ -12,7 +12,7 @@ pub enum Status {
     Refused,
     /// 2: the words of the program are no command.
     NotUnderstood,
-    /// 3: the command ended early, for a cause that standard error names.
+    /// 3: the command ended early, or its output failed, for a cause that standard error names if it can be written.
     Failed,
 }
 

@@ -22,7 +22,9 @@ pub(crate) enum StoreFault {
     OtherSchema { version: i64 },
     /// The entry at this place is missing, unreadable or none that may stand there.
     Damaged { place: u64 },
+    /// The database could not be read or written, or holds something else, or a transaction is open.
     Disk,
+    /// Memory was refused.
     Memory,
     /// An entry could not be stored.
     Store,

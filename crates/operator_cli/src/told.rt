@@ -33,7 +33,7 @@ pub(crate) enum Told {
     NothingNew,
     /// The message was an acknowledgement.
     Acked,
-    /// The file holds records already.
+    /// A table or view has the name of one of ours already.
     AlreadyThere,
     /// The site is not there, or would send to itself.
     NoSite,
@@ -114,7 +114,8 @@ fn told_status(told: &Told) -> Status
     }
 }
 
-/// Writes the line of what is told, and answers the status that goes with it.
+/// Writes the line of what is told, and answers the status that goes with it; `Write` where it could not, with a front of
+/// the line.
 pub(crate) fn tell<W: Write>(told: &Told, out: &mut W) -> Result<Status, StoreFault>
     ensures written { Writes (W.contents out.old) (W.contents out.new) result (told_line told.now) }
     ensures status { IfOk result (λ status. status ≡ told_status told.now) }
@@ -128,7 +129,7 @@ pub(crate) fn tell<W: Write>(told: &Told, out: &mut W) -> Result<Status, StoreFa
     }
 }
 
-/// What an input that is no message comes to.
+/// What an input that was not read as a message comes to.
 pub(crate) fn ended_by_wire(fault: WireFault) -> Result<Told, StoreFault>
     ensures { result ≡ ended_by_wire fault }
 {

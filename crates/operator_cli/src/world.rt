@@ -163,11 +163,11 @@ fn read_start<R: BufRead>(reader: &mut R) -> Result<Option<Sites>, ScriptFault>
     Ok(read_sites(line.as_slice()))
 }
 
-/// Runs a script: the reply line of each line and the lines of totals go to `out`. True where its
-/// first line gives the count of sites, and else `bad-line` is all that goes there.
+/// Runs a script: the reply line of each line behind the first, but for a second one that gives the limit, and the lines of
+/// totals go to `out`. True where its first line gives the count of sites, and else `bad-line` is all that goes there.
 ///
-/// A fault ends it early. What was answered before stays written, and no line of totals is, but a front of them
-/// where they could not be written.
+/// A fault ends it early. Where reading ended it, the replies to the lines before are written, and no line of totals;
+/// behind `Write` and `Memory` a front of what the script prints is.
 pub fn run_script<R: BufRead, W: Write>(
     alloc: Global,
     reader: &mut R,
@@ -228,7 +228,8 @@ fn tell<E: Write>(came: Result<bool, ScriptFault>, err: &mut E) -> Status
 /// Runs a script, and tells by its status how it ended; where it ended early the line that names the
 /// cause goes to `err`.
 ///
-/// `out` gets many short writes, and is flushed before the status is told.
+/// `out` gets many short writes, and is flushed before the status is told, unless there was no memory for the buffer of
+/// the reader; a flush that fails is `write`. No clause shows the flush.
 pub fn world_script<R: Read + Drop, W: Write, E: Write>(
     alloc: Global,
     reader: R,

@@ -110,9 +110,10 @@ fn make<S: Alter>(conn: &mut Connection<S>, meta: Meta) -> Result<(), Error>
 impl<S: Alter> Records<S> {
     /// Makes the records of a site that has no entry yet, in an empty database, in one transaction.
     ///
-    /// A stop leaves the database as it was or the new records, and so does an error; `AlreadyThere`, where a table
-    /// or view has the name of one of ours, leaves it. `Disk` too where the database holds anything else, or a transaction
-    /// is open, which leaves both; else it and `Memory` are what a statement or the commit was answered with.
+    /// A stop leaves what it could leave before or the new records, also behind an error; `AlreadyThere`, where a table or
+    /// view has the name of one of ours, leaves the database as it was. `Disk` too where the database holds anything else,
+    /// or a transaction is open, which leaves both; else it and `Memory` are what a statement or the commit was answered
+    /// with.
     pub fn init(
         conn: &mut Connection<S>,
         me: SiteId,

@@ -12,9 +12,11 @@ pub enum InitFault {
     /// The database has a table or view with the name of one of ours.
     #[error("the database has a table of records")]
     AlreadyThere,
+    /// Memory was refused.
     #[error("out of memory")]
     Memory,
-    /// The database could not be written, or holds something else. It is as it was, or has the new records.
+    /// The database could not be written, or holds something else, or a transaction is open. It is as it was, or has the
+    /// new records.
     #[error("the database could not be written")]
     Disk,
 }
@@ -31,9 +33,10 @@ pub enum OpenFault {
     /// The least place, below the number of rows, that has no row or whose row does not read as an entry.
     #[error("the entry {place} is damaged")]
     Damaged { place: u64 },
+    /// Memory was refused.
     #[error("out of memory")]
     Memory,
-    /// The database could not be read.
+    /// The database could not be read, or a transaction is open.
     #[error("the database could not be read")]
     Disk,
 }
@@ -54,9 +57,10 @@ pub enum MigrateFault {
     /// version; or, where each does, the first whose entry may not follow those before it.
     #[error("the entry {place} is damaged")]
     Damaged { place: u64 },
+    /// Memory was refused.
     #[error("out of memory")]
     Memory,
-    /// The database could not be read or written.
+    /// The database could not be read or written, or a transaction is open.
     #[error("the database could not be written")]
     Disk,
 }

@@ -13,12 +13,13 @@ use thiserror::Error;
 /// Why an entry is not known to be kept.
 #[derive(Clone, Copy, Debug, PartialEq, Eq, Error)]
 pub enum KeepFault {
+    /// Memory was refused. Whether the entry is kept is known once the store is opened again.
     #[error("out of memory")]
     Memory,
-    /// The store could not be written. Whether it has the entry is known once it is opened again.
+    /// The store could not be written, or has no room for the entry. Whether it has it is known once it is opened again.
     #[error("the store could not be written")]
     Disk,
-    /// An earlier append failed.
+    /// An earlier call failed: an append, or a look-up in records.
     #[error("an earlier append failed")]
     Shut,
 }
@@ -63,8 +64,8 @@ pub trait Keeper {
     /// Nothing else has written the store, and it has returned what was written.
     ghost is_trusted: { Self → Type 0 };
 
-    /// Adds the entry at the end. After an error a stop leaves the list with the entry or without, and the keeper
-    /// is shut: each later append answers `Shut` and changes nothing.
+    /// Adds the entry at the end. After the first error a stop leaves the list with the entry or without, and the keeper is
+    /// shut: each later append answers `Shut` and changes nothing.
     fn append(&mut self, entry: &Entry) -> Result<(), KeepFault>
         ensures kept { OnOk result (is_trusted self.new → Keeps (kept self.old ++ entry.now ∷ []) (kept self.new) (may_leave self.new)) }
         ensures stopped { failed self.old ≡ 0 → OnErr result (is_trusted self.new → LeavesWithOrWithout (kept self.old) entry.now (may_leave self.new)) }
@@ -80,6 +81,6 @@ pub trait Keeper {
         ensures counted { result ≡ failed self.now }
         ensures rest { result ≡ 0 → is_trusted self.now → LeavesOnly (kept self.now) (may_leave self.now) };
 
-    // A stop leaves something, also once the keeper is shut.
+    /// A stop leaves something, also once the keeper is shut.
     ghost survives: { (k : Self) → is_trusted k → ∥ ((left : Option (List Entered)) × may_leave k left) ∥₁ };
 }

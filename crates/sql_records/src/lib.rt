@@ -1,7 +1,7 @@
 //! What a site's history is stored in.
 //!
-//! A keeper holds a list of entries that grows at its end. From the first append that fails on it is shut, and
-//! the history is opened again from what was stored.
+//! A keeper holds a list of entries that grows at its end. From the first call that fails on it is shut, and the history
+//! is opened again from what was stored.
 #![tactic(auto)]
 
 mod columns;

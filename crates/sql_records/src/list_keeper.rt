@@ -15,7 +15,7 @@ struct Failing {
     is_stored: bool,
 }
 
-/// A list in memory, whose appends fail where a test says so.
+/// A list in memory, whose appends fail where a test says so, or for want of memory.
 #[derive(Drop)]
 pub struct ListKeeper {
     alloc: Global,
@@ -54,8 +54,8 @@ impl ListKeeper {
         }
     }
 
-    /// The append with this number, counted from 1 from now on, answers `Disk`, and its entry is kept where
-    /// `is_stored`. The number 0 stands for the next append too.
+    /// The append with this number, counted from 1 from now on, answers `Disk`, and its entry is kept where `is_stored`; or
+    /// `Memory`, where there is none to keep it, and it is not kept. The number 0 stands for the next append too.
     pub fn fail_at(&mut self, append: u64, is_stored: bool)
         ensures { self.new ≡ record self.old { failing = Some (record { append = append; is_stored = is_stored }) } }
     {

@@ -27,9 +27,11 @@ pub enum FindFault {
     /// An earlier call failed.
     #[error("an earlier call failed")]
     Shut,
-    /// The row at this place does not read as a request: something else has written the store.
+    /// The row at this place, or at 0 where it tells none, does not read as a request: the store does not return what was
+    /// written to it.
     #[error("the row at place {place} is damaged")]
     Damaged { place: u64 },
+    /// Memory was refused.
     #[error("out of memory")]
     Memory,
     /// The store could not be read.

@@ -117,10 +117,11 @@ impl<S: Alter> Records<S> {
     /// Makes the records of a site in the first version records of the second, in one transaction. The numbers and the
     /// entries are as they were.
     ///
-    /// A stop leaves what was there, or the numbers under the new version and the rows of the entries; an error leaves what was
-    /// there to a connection that is still open. The faults come in the order of their names, `Memory` and `Disk` at the
-    /// call that fails: `Nothing` where the version is the second already, whatever else the records hold. `Disk` too where
-    /// a transaction is open, which changes nothing.
+    /// A stop leaves what was there, or the numbers under the new version and the rows of the entries; an error leaves what
+    /// was there to a connection that is still open. The tables are looked at first (`NotOurs`), then the version
+    /// (`OtherSchema`, `Nothing`), the numbers (`NotOurs`) and the entries (`Damaged`); `Memory` and `Disk` come at the call
+    /// that fails. So it is `Nothing` where the version is the second already, whatever else the records hold. `Disk` too
+    /// where a transaction is open, which changes nothing.
     pub fn migrate(alloc: Global, conn: &mut Connection<S>) -> Result<(), MigrateFault>
         ensures busy { conn.old.in_transaction ≡ true → (result ≡ Err MigrateFault.Disk) × (conn.new ≡ conn.old) }
         ensures schema { OnOk result (IsOurs conn.old.schema) }

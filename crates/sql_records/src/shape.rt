@@ -313,7 +313,7 @@ fn keeps_our_name(views: &[View]) -> bool
     views.iter().any(|v| is_our_name(&v.name))
 }
 
-/// Whether a table has the name of one of ours, in either case.
+/// Whether a table or view has the name of one of ours, in either case.
 pub fn has_our_table(schema: &Schema) -> bool
     ensures { result ≡ has_our_table schema.now }
 {

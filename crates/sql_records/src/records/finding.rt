@@ -158,7 +158,7 @@ fn all_of(alloc: Global, rows: &[Row]) -> Result<Vec<Listed>, FindFault>
 }
 
 impl<S: Alter> Records<S> {
-    /// The place and the reply of the request that is kept under this number.
+    /// The place and the reply of the request that is kept under this number, if there is one.
     ///
     /// After an error but `Shut` the records are shut; `Shut` changes nothing. `Damaged` comes only where the store
     /// does not return what was written to it.
