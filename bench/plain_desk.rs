@@ -1,15 +1,18 @@
-// The sales of crates/desk_bench once more, as a plain, unproved program over Rust's standard library alone: what the
-// figures for desks are ratios to. One Mutex lies round a HashMap and a Vec; with `kept`, each entry is first copied to
-// a second Vec, as the list in memory keeps what the book of a desk then enters.
+// What the built site_trial does with sessions at one desk, once more, as a plain, unproved program over Rust's standard
+// library alone: what the figures for desks are ratios to. One Mutex lies round a HashMap and a Vec; with `kept`, each entry
+// is first copied to a second Vec, as the list in memory keeps what the book of a desk then enters.
 //
-// usage: plain_desk THREADS SALES [timed [kept]]
+// usage: plain_desk [kept] < INPUT
+//
+// INPUT is what site_trial is given: a byte that parts the pieces, `!` with a site's number, a count of sites and a limit,
+// `?` with the lines of a session, and last `=` with those of several, each behind a `|`. It knows the lines `announce`,
+// `release` and `sell`. The replies come session by session, each with how many receipts it was given.
 use std::collections::{HashMap, HashSet};
+use std::io::{self, Read, Write};
 use std::sync::Mutex;
 use std::thread;
-use std::time::Instant;
 
 const MOST: u64 = 1_000_000_000_000;
-const LIMIT: usize = 1_000_000;
 const SITES: usize = 2;
 
 #[derive(Clone, Copy, PartialEq, Eq, Hash)]
@@ -93,6 +96,7 @@ impl Cells {
 #[derive(Default)]
 struct Book {
     me: usize,
+    limit: usize,
     kept: HashMap<u64, usize>,
     history: Vec<Entry>,
     list: Option<Vec<Entry>>,
@@ -137,7 +141,7 @@ impl Book {
             let Entry { request: kept, reply, .. } = self.history[place];
             return (kept == request).then_some((Receipt { number, request, reply, place }, false));
         }
-        if self.history.len() >= LIMIT {
+        if self.history.len() >= self.limit {
             return None;
         }
         let (reply, delta) = self.decide(request);
@@ -175,48 +179,109 @@ fn raised(event: Event, cell: Cell, old: u64, amount: u64) -> (Reply, Delta) {
     (Reply::Done, Delta { marks, names: Vec::new() })
 }
 
-// Sells under each of the numbers: how many sales were done, and how many were new.
-fn sell_each(desk: &Mutex<Book>, first: u64, last: u64, sale: Request) -> (u64, u64) {
-    let (mut done, mut new) = (0, 0);
-    for number in first..last {
-        let answer = desk.lock().unwrap().ask(number, sale);
-        if let Some((receipt, fresh)) = answer {
-            done += u64::from(receipt.reply == Reply::Done);
-            new += u64::from(fresh);
-        }
-    }
-    (done, new)
+// A number without leading zeros, from 1 on.
+fn number(word: &str) -> Option<u64> {
+    let is_spelled = word.bytes().all(|byte| byte.is_ascii_digit()) && !word.starts_with('0');
+    if is_spelled { word.parse().ok().filter(|number| *number <= MOST) } else { None }
 }
 
-fn main() {
-    let words: Vec<String> = std::env::args().skip(1).collect();
-    let (threads, sales): (u64, u64) = (words[0].parse().unwrap(), words[1].parse().unwrap());
-    let mut event = Event { name: [0; 32], len: 4 };
-    event.name[..4].copy_from_slice(b"gala");
-    let list = words.get(3).map(|_| Vec::new());
-    let mut book = Book { list, ..Book::default() };
-    let (first, _) = book.ask(1, Request::Announce { event }).unwrap();
-    let (second, _) = book.ask(2, Request::Release { event, amount: threads * sales }).unwrap();
-    assert!(book.has(&first) && book.has(&second));
+// The name of an event: 1 to 32 small letters, digits and dashes.
+fn event(word: &str) -> Option<Event> {
+    let is_of_name = |byte: u8| byte.is_ascii_lowercase() || byte.is_ascii_digit() || byte == b'-';
+    if word.is_empty() || word.len() > 32 || !word.bytes().all(is_of_name) {
+        return None;
+    }
+    let mut name = [0; 32];
+    name[..word.len()].copy_from_slice(word.as_bytes());
+    Some(Event { name, len: word.len() as u8 })
+}
+
+// The request that a line asks, under its number.
+fn request(line: &str) -> Option<(u64, Request)> {
+    let mut words = line.split(' ');
+    let (verb, asked, event) = (words.next()?, number(words.next()?)?, event(words.next()?)?);
+    let request = match verb {
+        "announce" => Request::Announce { event },
+        "release" => Request::Release { event, amount: number(words.next()?)? },
+        "sell" => Request::Sell { event, amount: number(words.next()?)? },
+        _ => return None,
+    };
+    words.next().is_none().then_some((asked, request))
+}
+
+fn put_reply(reply: Reply, replies: &mut Vec<u8>) -> io::Result<()> {
+    match reply {
+        Reply::Done => writeln!(replies, "done"),
+        Reply::Known => writeln!(replies, "known"),
+        Reply::Unknown => writeln!(replies, "unknown"),
+        Reply::Short { left } => writeln!(replies, "short {left}"),
+        Reply::CellFull => writeln!(replies, "cell-full"),
+    }
+}
+
+// What a session wrote, what it was given, and how much of that was new.
+#[derive(Default)]
+struct Served {
+    replies: Vec<u8>,
+    receipts: Vec<Receipt>,
+    new: u64,
+}
+
+// Answers each line of a session.
+fn serve(desk: &Mutex<Book>, lines: &str) -> io::Result<Served> {
+    let mut served = Served::default();
+    for line in lines.lines() {
+        let Some((number, request)) = request(line) else {
+            writeln!(served.replies, "bad-line")?;
+            continue;
+        };
+        let answer = desk.lock().unwrap().ask(number, request);
+        let Some((receipt, is_new)) = answer else {
+            writeln!(served.replies, "refused")?;
+            continue;
+        };
+        put_reply(receipt.reply, &mut served.replies)?;
+        served.receipts.push(receipt);
+        served.new += u64::from(is_new);
+    }
+    Ok(served)
+}
+
+// Serves each session in a thread of its own, and holds what they were given against the history.
+fn serve_all(book: Book, sessions: &str, out: &mut Vec<u8>) -> io::Result<()> {
     let before = book.asked;
-    let began = Instant::now();
     let desk = Mutex::new(book);
     let shared = &desk;
-    let ends: Vec<(u64, u64)> = thread::scope(|scope| {
-        let sale = Request::Sell { event, amount: 1 };
-        let start = |k| scope.spawn(move || sell_each(shared, 3 + k * sales, 3 + (k + 1) * sales, sale));
-        let all: Vec<_> = (0..threads).map(start).collect();
-        all.into_iter().map(|thread| thread.join().unwrap()).collect()
-    });
+    let ends: Vec<Served> = thread::scope(|scope| {
+        let all: Vec<_> = sessions.split('|').map(|lines| scope.spawn(move || serve(shared, lines))).collect();
+        all.into_iter().map(|thread| thread.join().unwrap()).collect::<io::Result<_>>()
+    })?;
     let book = desk.into_inner().unwrap();
-    let done: u64 = ends.iter().map(|end| end.0).sum();
-    let new: u64 = ends.iter().map(|end| end.1).sum();
-    assert!(new == book.asked - before);
-    let took = began.elapsed();
-    let marks: usize = book.history.iter().map(|entry| entry.delta.marks.len()).sum();
-    assert!(marks as u64 == done + 1);
-    if words.len() > 2 {
-        eprintln!("{}", took.as_micros());
+    for end in &ends {
+        out.extend_from_slice(&end.replies);
+        writeln!(out, "receipts {} looks 0", end.receipts.len())?;
     }
-    println!("{} done, {} entries, {} left", done, book.history.len(), book.cells[&event].left(book.me));
+    let new: u64 = ends.iter().map(|end| end.new).sum();
+    let is_whole = new == book.asked - before && ends.iter().all(|end| end.receipts.iter().all(|receipt| book.has(receipt)));
+    writeln!(out, "{}", if is_whole { "whole" } else { "strangers" })
+}
+
+fn main() -> io::Result<()> {
+    let list = std::env::args().nth(1).map(|_| Vec::new());
+    let mut input = String::new();
+    io::stdin().read_to_string(&mut input)?;
+    let mut pieces = input[1..].split(&input[..1]);
+    let office: Vec<usize> = pieces.next().unwrap()[1..].split(' ').map(|word| word.parse().unwrap()).collect();
+    let mut book = Book { me: office[0], limit: office[2], list, ..Book::default() };
+    let mut out = Vec::new();
+    for piece in pieces {
+        if let Some(sessions) = piece.strip_prefix('=') {
+            serve_all(book, sessions, &mut out)?;
+            break;
+        }
+        let desk = Mutex::new(book);
+        out.extend_from_slice(&serve(&desk, &piece[1..])?.replies);
+        book = desk.into_inner().unwrap();
+    }
+    io::stdout().write_all(&out)
 }

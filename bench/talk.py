@@ -1,12 +1,12 @@
 #!/usr/bin/env python3
-"""Times a session over memory beside the same lines as a script.
+"""Times a session over a list in memory beside the same lines as a script.
 
-usage: talk.py TALK_BENCH BOXOFFICE
+usage: talk.py SITE_TRIAL BOXOFFICE
 
-TALK_BENCH is the built talk_bench, which answers a session from memory to memory: with no keeper behind its book but
-one that keeps nothing, as the book of a site in a script has none, and over a list, to which each entry is copied.
-BOXOFFICE is the built boxoffice, whose `world` runs the same lines as a script of one site. Both start, read their input, and end;
-the cost of a line is that of 400,000 lines less that of 40,000. They run in turn, and each time is the best of five.
+SITE_TRIAL is the built site_trial, which answers a session from memory to memory, over a list to which each entry is
+copied. BOXOFFICE is the built boxoffice, whose `world` runs the same lines as a script of one site, and keeps no list.
+Both start, read their input, and end; the cost of a line is that of 400,000 lines less that of 40,000. They run in turn,
+and each time is the best of five.
 """
 import subprocess
 import sys
@@ -32,16 +32,15 @@ def timed(words, given, replies):
 def main(words):
     if len(words) != 2:
         sys.exit(__doc__)
-    talk, listed, world = [words[0]], [words[0], 'list'], [words[1], 'world']
     times = {}
     for _ in range(5):
         for count in (FEW, MANY):
-            for name, program, given in (('session', talk, lines(count, '')), ('listed', listed, lines(count, '')), ('script', world, b'sites 1\n' + lines(count, '0 '))):
+            session, script = b'#!0 1 1000000#?' + lines(count, ''), b'sites 1\n' + lines(count, '0 ')
+            for name, program, given in (('session', words[:1], session), ('script', [words[1], 'world'], script)):
                 took = timed(program, given, count)
                 times[name, count] = min(took, times.get((name, count), took))
-    cost = {name: (times[name, MANY] - times[name, FEW]) / (MANY - FEW) for name in ('session', 'listed', 'script')}
-    for name in ('session', 'listed'):
-        print('a line: %s %.0f ns, script %.0f ns, ratio of rates %.2f' % (name, cost[name] * 1e9, cost['script'] * 1e9, cost['script'] / cost[name]))
+    session, script = ((times[name, MANY] - times[name, FEW]) / (MANY - FEW) for name in ('session', 'script'))
+    print('a line: session %.0f ns, script %.0f ns, ratio of rates %.2f' % (session * 1e9, script * 1e9, script / session))
 
 
 main(sys.argv[1:])

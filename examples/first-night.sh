@@ -1,8 +1,9 @@
-#!/bin/sh
-# Two box offices for one night, from a script: the program as it stands in its sources, run at once and UNPROVED.
-# What is proved is built by scripts/build; this shows some three minutes after the checkout what there is to prove.
+#!/usr/bin/env bash
+# Two box offices for one night, from a script, by the program UNPROVED: what there is to prove, some minutes after the checkout.
 set -eu
 here=$(cd "$(dirname "$0")" && pwd)
-cd "$here/../crates/boxoffice"
-echo 'Compiling the program, unproved (one to three minutes) ..' >&2
-rt try -- world < "$here/first-night.script"
+work=$(mktemp -d "${TMPDIR:-/tmp}/first-night.XXXXXX")
+trap 'rm -rf "$work"' EXIT
+"$here/unproved.sh" "$here/first-night.script" "$work/replies"
+# Each line of the script with its reply. The first has none, and the totals answer the end.
+{ echo; cat "$work/replies"; } | paste -d '\t' "$here/first-night.script" - | expand -t 26 | sed 's/ *$//'

@@ -1,18 +1,29 @@
 #!/usr/bin/env bash
-# Builds the program, which proves it first; two box offices then sell from records of their own, cede by file, are looked
-# through, and sell at once behind one port (7000, or that of PORT). Their files stay in the folder that is named at the end.
+# Two box offices sell from records of their own, cede by file, are looked through, and sell at once behind one port (7000, or that
+# of PORT). Their files stay in the folder that is named at the end.
 #
-# usage: two-offices.sh [PROGRAM]     PROGRAM is a boxoffice that was built before
+# usage: two-offices.sh                 builds the program, which proves it first
+#        two-offices.sh --unproved      compiles it in some minutes, and proves nothing
+#        two-offices.sh PROGRAM         takes a boxoffice that is there
 set -eu
 port=${PORT:-7000}
 here=$(cd "$(dirname "$0")" && pwd)
-if [ $# -gt 0 ]; then
-    boxoffice=$(realpath "$1")
-else
+folder=$(mktemp -d "${TMPDIR:-/tmp}/two-offices.XXXXXX")
+case ${1:-} in
+'')
     "$here/../scripts/build"
     boxoffice="$here/../crates/boxoffice/out/boxoffice"
-fi
-folder=$(mktemp -d "${TMPDIR:-/tmp}/two-offices.XXXXXX")
+    ;;
+--unproved)
+    # A script that takes long enough for the program to be kept.
+    (echo 'sites 1' && yes '0 left gala' | head -n 100000) > "$folder/script"
+    "$here/unproved.sh" "$folder/script" "$folder/replies" "$folder/boxoffice"
+    boxoffice="$folder/boxoffice"
+    ;;
+*)
+    boxoffice=$(realpath "$1")
+    ;;
+esac
 cd "$folder"
 
 # Shows a command and runs it; what it refuses is part of the story.
@@ -35,7 +46,8 @@ session north.db north.lines
 echo '$ boxoffice export north.db 1 > to-south'
 "$boxoffice" export north.db 1 > to-south
 cat to-south
-show import south.db < to-south
+echo '$ boxoffice import south.db < to-south'
+"$boxoffice" import south.db < to-south
 printf '%s\n' 'sell 1 gala 40' 'sell 2 gala 1' 'left gala' > south.lines
 session south.db south.lines
 show list north.db gala
@@ -46,7 +58,7 @@ show audit north.db south.db
 
 # Connects, once somebody listens, as the descriptor of this number.
 connect() {
-    for _ in $(seq 100); do
+    for _ in $(seq 300); do
         if eval "exec $1<>/dev/tcp/127.0.0.1/$port" 2> /dev/null; then return; fi
         sleep 0.1
     done

@@ -8,12 +8,19 @@ Says what differs and ends with status 1 where anything does.
 
 import os
 import sys
+import tempfile
 
 from trial import FORGED, call, change, make_sites, opened, same, try_each
 
 # What each site asks, in this order, with what is delivered between.
 NORTH = ["announce 1 gala", "release 2 gala 100", "cede 3 gala 40 1", "sell 4 gala 7", "sell 5 gala 5", "refund 7 4 2", "refund 6 4"]
 SOUTH = ["sell 1 gala 30", "sell 2 gala 11", "announce 3 expo", "release 4 expo 9", "sell 5 expo 2", "refund 6 1"]
+
+# The disk is not what is tried here.
+tempfile.tempdir = "/dev/shm" if os.path.isdir("/dev/shm") else None
+# How many files an audit may have, and how many `serve`.
+MOST_FILES = 64
+MOST_SERVED = 16
 
 
 def asked(folder, file, lines):
@@ -67,8 +74,8 @@ def refusals(folder, both):
     same("no such file", call(folder, ["audit", "north.db", "west.db"]), (3, "", "not-ours\n"))
     same("no west.db is made", os.path.exists(os.path.join(folder, "west.db")), False)
     same("no file", call(folder, ["audit"])[:2], (2, ""))
-    same("65 files", call(folder, ["audit"] + ["north.db"] * 65)[:2], (2, ""))
-    same("17 files to serve", call(folder, ["serve", "7394", "0", "0"] + ["north.db"] * 17)[:2], (2, ""))
+    same("65 files", call(folder, ["audit"] + ["north.db"] * (MOST_FILES + 1))[:2], (2, ""))
+    same("17 files to serve", call(folder, ["serve", "7394", "0", "0"] + ["north.db"] * (MOST_SERVED + 1))[:2], (2, ""))
     same("a forged message", call(folder, ["import", "south.db"], FORGED), (0, "joined\n", ""))
     same("a view above its owner", call(folder, both), (1, "ahead 1 0\n", ""))
     change(folder, "north.db", ["UPDATE entries SET amount = 8 WHERE pos = 4"])
@@ -79,4 +86,17 @@ def sums_and_refusals(folder):
     refusals(folder, two_sites(folder))
 
 
-sys.exit(try_each([sums_and_refusals], "audit of files: 0 differ", "audit of files: {} differ"))
+def many_sites(folder):
+    """More sites than may be served, and as many as there may be, each with an event of its own: one less is not whole."""
+    for count in [MOST_SERVED + 1, MOST_FILES]:
+        files = [f"{count}-{site}.db" for site in range(count)]
+        make_sites(folder, files)
+        for site, file in enumerate(files):
+            asked(folder, file, [f"announce 1 event-{site}", f"release 2 event-{site} {site + 9}", f"sell 3 event-{site} {site + 1}"])
+        wanted = summed(folder, files)
+        same(f"the lines of {count} sites", len(wanted.splitlines()), count)
+        same(f"the audit of {count} sites", call(folder, ["audit", *files]), (0, wanted, ""))
+        same(f"a site less than {count}", call(folder, ["audit", *files[:-1]]), (1, "not-whole\n", ""))
+
+
+sys.exit(try_each([sums_and_refusals, many_sites], "audit of files: 0 differ", "audit of files: {} differ"))

@@ -12,7 +12,7 @@ import sqlite3
 import subprocess
 import sys
 
-from trial import PROGRAM, SECONDS, call, change, intact, opened, same, try_each
+from trial import PROGRAM, SECONDS, call, change, free_port, intact, opened, same, try_each
 
 # Each request of a first evening with its reply.
 ASKED = [
@@ -51,7 +51,14 @@ def make(folder, file, site=0):
 
 
 def commands(file):
-    return [["ask", file], ["find", file, "1"], ["list", file, "gala"], ["export", file, "1"], ["import", file]]
+    """The commands that open a site's file and read its history."""
+    lookups = [["ask", file], ["find", file, "1"], ["list", file, "gala"], ["export", file, "1"], ["import", file]]
+    return [*lookups, ["grow", file, "3"], ["audit", file], ["serve", str(free_port()), "0", "0", file]]
+
+
+def all_commands(file):
+    """Those, and the one that reads no history of a file of this schema. Only `init` makes a file."""
+    return [*commands(file), ["migrate", file]]
 
 
 def tree(folder):
@@ -103,24 +110,24 @@ def tended(folder):
 
 
 def too_short(folder):
-    refused(folder, "a missing file", commands("missing"), "not-ours")
+    refused(folder, "a missing file", all_commands("missing"), "not-ours")
     for name, content in [("empty", b""), ("one", b"x")]:
         with open(os.path.join(folder, name), "wb") as file:
             file.write(content)
-        refused(folder, f"a file of {len(content)} bytes", commands(name), "not-ours")
+        refused(folder, f"a file of {len(content)} bytes", all_commands(name), "not-ours")
     make(folder, "empty")
     ask(folder, "empty", ASKED)
 
 
 def link_to_nothing(folder):
     os.symlink("nowhere.db", os.path.join(folder, "link.db"))
-    refused(folder, "a link to no file", commands("link.db"), "not-ours")
+    refused(folder, "a link to no file", all_commands("link.db"), "not-ours")
     refused(folder, "a link to no file", [["init", "link.db", "0", "2", "1000"]], "disk")
 
 
 def paths_as_they_stand(folder):
     for name in [":memory:", "file:x", "file:x?mode=memory"]:
-        refused(folder, name, commands(name), "not-ours")
+        refused(folder, name, all_commands(name), "not-ours")
         make(folder, name)
         ask(folder, name, ASKED)
         same(f"{name}: find", run(folder, ["find", name, "4"]), "3 done\n")
@@ -136,10 +143,10 @@ def no_database(folder):
     for name, content in texts:
         with open(os.path.join(folder, name), "wb") as file:
             file.write(content)
-        refused(folder, name, commands(name) + [["init", name, "0", "2", "1000"]], "not-ours")
+        refused(folder, name, all_commands(name) + [["init", name, "0", "2", "1000"]], "not-ours")
     change(folder, "other.db", ["CREATE TABLE seats (number INTEGER)", "INSERT INTO seats VALUES (7)"])
     before = tree(folder)
-    for words in commands("other.db"):
+    for words in all_commands("other.db"):
         same(f"a database of others: {words}", call(folder, words, "quit\n"), (3, "", "not-ours\n"))
         after = tree(folder)
         log = after.pop("other.db-wal")
@@ -267,7 +274,7 @@ def in_use(folder):
 def not_plain_files(folder):
     """A folder, and a file of two names, are told as `disk`, and so is a file whose journal C SQLite has to play back first."""
     os.mkdir(os.path.join(folder, "folder.db"))
-    for words in commands("folder.db") + [["init", "folder.db", "0", "2", "1000"]]:
+    for words in all_commands("folder.db") + [["init", "folder.db", "0", "2", "1000"]]:
         same(f"a folder: {words}", call(folder, words, "quit\n"), (3, "", "disk\n"))
     same("made beside or in a folder", (os.listdir(folder), os.listdir(os.path.join(folder, "folder.db"))), (["folder.db"], []))
     shutil.rmtree(os.path.join(folder, "folder.db"))
@@ -275,7 +282,7 @@ def not_plain_files(folder):
     ask(folder, "site.db", ASKED)
     os.link(os.path.join(folder, "site.db"), os.path.join(folder, "again.db"))
     for name in ["site.db", "again.db"]:
-        refused(folder, "a second name", commands(name), "disk")
+        refused(folder, "a second name", all_commands(name), "disk")
     os.remove(os.path.join(folder, "again.db"))
     with opened(folder, "site.db") as db:
         db.execute("PRAGMA journal_mode = DELETE")
@@ -286,7 +293,7 @@ def not_plain_files(folder):
         for name in ["site.db", "site.db-journal"]:
             shutil.copyfile(os.path.join(folder, name), os.path.join(folder, "stopped" + name))
         db.execute("ROLLBACK")
-    refused(folder, "a journal to play back", commands("stoppedsite.db"), "disk")
+    refused(folder, "a journal to play back", all_commands("stoppedsite.db"), "disk")
     with opened(folder, "stoppedsite.db") as db:
         intact("played back", db)
         same("played back: the notes", db.execute("SELECT count(*) FROM notes").fetchone(), (0,))

@@ -1,14 +1,14 @@
 #!/usr/bin/env python3
-"""Runs the built program, and tests that bear it, with one request for memory refused: the first, the second, and so on
+"""Runs the built program, and a site in memory, with one request for memory refused: the first, the second, and so on
 until nothing is refused.
 
-Usage: tests/growth_refused.py [PROGRAM [TESTS]] [--full]
-    (PROGRAM: crates/boxoffice/out/boxoffice; TESTS: crates/session_tests/out/session_tests_tests, where `rt ci` and `rt test` leave it)
+Usage: tests/growth_refused.py [PROGRAM [TRIAL]] [--full]
+    (PROGRAM: crates/boxoffice/out/boxoffice; TRIAL: crates/site_trial/out/site_trial)
 
-A script ends with all that it prints, or with a front of it and `memory`. The tests judge themselves. The C library's
-malloc is called through a library of a few lines, which a C compiler makes here: `cc`, or the one that `rt` builds with.
-Of two sessions of `serve` one request of many is refused, by `--full` each of them. Says what differs and ends with status
-1 where anything does.
+A script ends with all that it prints, or with a front of it and `memory`. What a site is told it answers or refuses, and then
+answers as if it had not been told before. Sessions at one desk are answered, refused or broken off, and have a receipt or a
+look for each answer. Of two sessions of `serve` one request of many is refused, by `--full` each of them. Prints what
+differs, and ends with status 1 where anything does.
 """
 
 import concurrent.futures
@@ -17,39 +17,20 @@ import os
 import re
 import shutil
 import socket
-import subprocess
 import sys
 import time
 
 FULL = "--full" in sys.argv
 sys.argv = [word for word in sys.argv if not word.startswith("--")]
 
+from refuser import begun, ended, make_refuser
 from trial import HERE, PROGRAM, SECONDS, call, free_port, same, try_each
 
-TESTS = os.path.abspath(
-    sys.argv[2] if len(sys.argv) > 2 else os.path.join(HERE, "..", "crates", "session_tests", "out", "session_tests_tests")
+TRIAL = os.path.abspath(
+    sys.argv[2] if len(sys.argv) > 2 else os.path.join(HERE, "..", "crates", "site_trial", "out", "site_trial")
 )
-# The modules whose tests may be refused memory anywhere.
-MODULES = ("growth::", "refused_memory::")
 # More requests than any of the runs makes.
 MANY = 100_000
-REFUSER = r"""
-extern void *__libc_malloc(unsigned long), *__libc_calloc(unsigned long, unsigned long), *__libc_realloc(void *, unsigned long);
-extern char *getenv(const char *);
-extern int *__errno_location(void);
-extern long strtol(const char *, char **, int), write(int, const void *, unsigned long);
-static long asked, refused = -1;
-static int is_refused(void) {
-    if (refused < 0) refused = strtol(getenv("REFUSED"), 0, 10);
-    if (__atomic_add_fetch(&asked, 1, __ATOMIC_SEQ_CST) != refused) return 0;
-    write(strtol(getenv("REFUSALS"), 0, 10), "x", 1);
-    *__errno_location() = 12; /* ENOMEM, which the C library asks for where it starts a thread */
-    return 1;
-}
-void *malloc(unsigned long size) { return is_refused() ? 0 : __libc_malloc(size); }
-void *calloc(unsigned long count, unsigned long size) { return is_refused() ? 0 : __libc_calloc(count, size); }
-void *realloc(void *block, unsigned long size) { return is_refused() ? 0 : __libc_realloc(block, size); }
-"""
 SELLING = b"sites 1\n0 announce 1 gala\n0 release 2 gala 100\n0 sell 3 gala 3\n"
 SOLD = b"done\ndone\ndone\ngala released 100 sold 3 refunded 0 outstanding 3\n"
 CEDING = (
@@ -83,50 +64,6 @@ SERVE_WORDS = [b"memory\n", b"disk\n", b"not-started\n", b"accept\n", b"bind\n",
 STEP = 1 if FULL else 41
 
 
-def compiler():
-    """A C compiler, with what else it has to be told."""
-    if shutil.which("cc"):
-        return ["cc"]
-    page = subprocess.run(["rt", "doc"], capture_output=True, check=True).stdout.decode().strip()
-    return [os.path.join(os.path.dirname(page), "toolchain", "bin", "clang"), "-fuse-ld=lld", "-nostdlib"]
-
-
-def make_refuser(folder):
-    refuser = os.path.join(folder, "refuser.so")
-    words = [*compiler(), "-w", "-O1", "-fPIC", "-shared", "-x", "c", "-o", refuser, "-"]
-    subprocess.run(words, input=REFUSER.encode(), check=True)
-    return refuser
-
-
-def begun(refuser, number, words, folder):
-    """The run in which the request with this number is refused, and where it is told that it was."""
-    told, teller = os.pipe()
-    try:
-        program = subprocess.Popen(
-            words,
-            stdin=subprocess.PIPE,
-            stdout=subprocess.PIPE,
-            stderr=subprocess.PIPE,
-            cwd=folder,
-            pass_fds=(teller,),
-            env={"LD_PRELOAD": refuser, "REFUSED": str(number), "REFUSALS": str(teller)},
-        )
-    finally:
-        os.close(teller)
-    return program, told
-
-
-def ended(program, told, given=b""):
-    """Whether the request came and was refused, and the status, standard output and standard error."""
-    try:
-        out, err = program.communicate(given, timeout=SECONDS)
-    finally:
-        program.kill()
-        with os.fdopen(told, "rb") as refusals:
-            was_refused = refusals.read() != b""
-    return was_refused, (program.returncode, out, err)
-
-
 def refuse_each(what, run, step=1):
     """Runs with each request refused, or with one of so many, until none is; `run` judges, and tells whether it was."""
     for number in range(1, MANY, step):
@@ -151,19 +88,94 @@ def scripts(folder):
         refuse_each(what, run)
 
 
-def tests(folder):
+# What a site is told, and what it answers: one site cedes, and the other sells what was ceded.
+ZERO = [
+    ("?announce 1 gala\n", "done\n"),
+    ("?release 2 gala 100\n", "done\n"),
+    ("?cede 3 gala 40 1\n", "done\n"),
+    ("?sell 4 gala 61\n", "short 60\n"),
+    (">1", "delta 0 1 4\nname gala\ngave gala 0 0 100\ngave gala 0 1 40\nend\n"),
+    ("<ack 1 0 4\nend\n", "acked\n"),
+    ("?left gala\n", "left 60\n"),
+]
+ONE = [
+    ("?sell 1 gala 40\n", "unknown\n"),
+    ("<" + ZERO[4][1], "joined ack 1 0 4\nend\n"),
+    ("?sell 2 gala 40\n", "done\n"),
+    ("?sell 3 gala 1\n", "short 0\n"),
+    ("?left gala\n", "left 0\n"),
+    (">0", "delta 1 0 4\nname gala\ngave gala 0 0 100\ngave gala 0 1 40\nused gala 1 40\nend\n"),
+]
+# How a site refuses what it is told for want of memory.
+REFUSED = ["memory\n", "store\n", "refused\n", "ended badly\n"]
+
+
+def told(refuser, folder, number, pieces):
+    """Whether the request was refused, and how the site ended that was told these pieces, and what it wrote."""
+    given = "".join("\0" + piece for piece in pieces)
+    was_refused, (status, out, err) = ended(*begun(refuser, number, [TRIAL], folder), given.encode())
+    return was_refused, (status, err), out.decode()
+
+
+def cut(text, fronts):
+    """The front that the text begins with, if there is one, and what stands behind it."""
+    front = next((front for front in fronts if text.startswith(front)), "")
+    return front, text[len(front) :]
+
+
+def books(folder):
+    """Each piece is told twice, with a new start between, so that the second finds what the first left: all or nothing."""
     refuser = make_refuser(folder)
-    listed = subprocess.run([TESTS, "--list"], capture_output=True, timeout=SECONDS, check=True).stdout.decode()
-    names = [line.removesuffix(": test") for line in listed.splitlines() if line.startswith(MODULES)]
-    same("tests that may be refused memory", len(names) > 0, True)
-    for name in names:
+    for me, rows in [(0, ZERO), (1, ONE)]:
+        pieces = [f"!{me} 2 1000", *(piece for said, _ in rows for piece in (said, "~", said))]
 
         def run(which, number):
-            was_refused, (status, _, err) = ended(*begun(refuser, number, [TESTS, name], folder))
-            same(which, (status, err), (0, b""))
+            was_refused, end, rest = told(refuser, folder, number, pieces)
+            if was_refused and end[0] == 1 and rest == "":
+                return True  # There was no book yet.
+            refusals = 0
+            for said, answer in rows:
+                first, rest = cut(rest, [answer, *REFUSED])
+                wanted = answer.replace("joined", "nothing-new") if first == answer else answer
+                second, rest = cut(rest, [wanted, *REFUSED])
+                same(f"{which}: {said!r}", "" not in (first, second), True)
+                refusals += (first != answer) + (second != wanted)
+            same(which, (end, rest, refusals <= was_refused), ((0, b""), "", True))
             return was_refused
 
-        refuse_each(name, run)
+        refuse_each(f"the book of site {me}", run)
+
+
+def may_write(own, other):
+    """What a session that sells so many of 100 seats may write at a desk, and be given, where another sells so many."""
+    done = rf"left ({100 - own}|{100 - own - other})\nreceipts 1 looks 1|(memory|closed)\nreceipts 1 looks 0|ended badly\nreceipts 1 looks 1"
+    refused = rf"memory\nleft (100|{100 - other})\nreceipts 0 looks 1|(store|closed)\nclosed\nreceipts 0 looks 0"
+    return rf"(done\n({done})|{refused}|ended badly\nreceipts [01] looks 0)\n"
+
+
+def at_once(folder):
+    """Sessions sell at one desk, and the same is asked twice again behind a new start: each sale is entered once."""
+    refuser = make_refuser(folder)
+    lines = [text.decode() for text in SESSIONS]
+    for what, sessions, replies, again, last in [
+        ("a session at a desk", lines[:1], may_write(3, 0), "done\nleft 97\n", "done\nleft 97\n"),
+        ("two sessions at a desk", lines, may_write(3, 4) + may_write(4, 3), "done\nleft 9[37]\ndone\nleft 93\n", "done\nleft 93\n" * 2),
+    ]:
+        asked = "?" + "".join(sessions)
+        pieces = ["!0 2 1000", "?announce 1 gala\nrelease 2 gala 100\n", "=" + "|".join(sessions), "~", asked, asked]
+
+        def run(which, number):
+            was_refused, end, text = told(refuser, folder, number, pieces)
+            if was_refused and (end[0] == 1 or not text.startswith("done\ndone\n")):
+                return True  # There was no desk, or no seat to sell.
+            came = re.match(rf"done\ndone\n{replies}whole\n", text)
+            same(f"{which}: {text!r}", (end, came is not None), ((0, b""), True))
+            rest = text[came.end() :] if came else ""
+            is_sold = re.match(again, rest) is not None, rest.endswith(last)
+            same(f"{which}: asked again {rest!r}", any(is_sold) if was_refused else all(is_sold), True)
+            return was_refused
+
+        refuse_each(what, run)
 
 
 def talked(program, port, lines):
@@ -215,4 +227,4 @@ def sessions(folder):
     refuse_each("two sessions", lambda which, number: served(refuser, folder, which, number), STEP)
 
 
-sys.exit(try_each([scripts, tests, sessions], "no answer stands in the place of a refusal"))
+sys.exit(try_each([scripts, books, at_once, sessions], "no answer stands in the place of a refusal"))

@@ -18,6 +18,7 @@ FILE = "site.db"
 TOTALS = "gala released 5 sold 5 refunded 5 outstanding 0\n"
 ROWS = "SELECT pos, peer, number, verb, event, amount, target, reply, rest, delta FROM entries ORDER BY pos"
 META = "SELECT one, kind, version, me, sites, bound FROM meta"
+SCHEMA = "SELECT type, name, tbl_name, sql FROM sqlite_schema ORDER BY name"
 HISTORY = [
     (0, None, 1, "announce", "gala", None, None, "done", None, "name gala\n"),
     (1, None, 2, "release", "gala", 5, None, "done", None, "gave gala 0 0 5\n"),
@@ -104,6 +105,21 @@ def made_anew(folder):
     holds(folder, "no entry", 2, [])
 
 
+def beside_others(folder):
+    """What others made in the file stays as it was."""
+    made = ["CREATE TABLE notes (text TEXT)", "INSERT INTO notes VALUES ('the gala is on the first night')"]
+    place(folder, [*made, "CREATE INDEX report ON entries(event, verb)", "CREATE VIEW sales AS SELECT event FROM entries"])
+    with opened(folder, FILE) as db:
+        before = db.execute(SCHEMA).fetchall()
+    migrate(folder, "beside others", (0, "migrated\n", ""))
+    holds(folder, "beside others", 2, HISTORY)
+    with opened(folder, FILE) as db:
+        behind = db.execute(SCHEMA).fetchall()
+        notes = db.execute("SELECT * FROM notes").fetchall() if behind == before else []
+    same("the schema beside others", behind, before)
+    same("the notes", notes, [("the gala is on the first night",)])
+
+
 def other_versions(folder):
     for version in [7, 3, 0, -1]:
         place(folder, [f"UPDATE meta SET version = {version}"])
@@ -158,6 +174,6 @@ def in_use(folder):
     migrate(folder, "behind it", (0, "migrated\n", ""))
 
 
-TRIALS = [raised, refused_before, made_anew, other_versions, none_of_ours, damaged, in_use]
+TRIALS = [raised, refused_before, made_anew, beside_others, other_versions, none_of_ours, damaged, in_use]
 
 sys.exit(try_each(TRIALS, "files of the first schema are raised, and others are refused"))

@@ -16,7 +16,8 @@ import sys
 import threading
 import time
 
-from trial import FORGED, PROGRAM, SECONDS, call, free_port, intact, make_sites, opened, same, try_each
+from serving import Caller, ended, started
+from trial import FORGED, SECONDS, call, free_port, intact, make_sites, opened, same, try_each
 
 CALLERS = 8
 SALES = 20
@@ -36,54 +37,6 @@ def offices(folder):
     asked = call(folder, ["ask", "north.db"], "".join(line + "\n" for line in NORTH))
     same("ask north.db", asked, (0, "done\n" * len(NORTH), ""))
     return files
-
-
-def started(folder, port, sessions, rounds, files):
-    return subprocess.Popen(
-        [PROGRAM, "serve", str(port), str(sessions), str(rounds), *files],
-        stdin=subprocess.DEVNULL,
-        stdout=subprocess.PIPE,
-        stderr=subprocess.PIPE,
-        cwd=folder,
-    )
-
-
-def ended(serving):
-    """What it came to; a program that does not end is ended, so that it holds no file."""
-    try:
-        out, err = serving.communicate(timeout=SECONDS)
-    finally:
-        serving.kill()
-    return serving.returncode, out.decode(), err.decode()
-
-
-def connected(port):
-    """A connection, once the program listens."""
-    end = time.monotonic() + SECONDS
-    while True:
-        try:
-            return socket.create_connection(("127.0.0.1", port), timeout=SECONDS)
-        except OSError:
-            if time.monotonic() > end:
-                raise
-            time.sleep(0.01)
-
-
-class Caller:
-    """A session over a connection: each line is sent once the reply to the one before was read."""
-
-    def __init__(self, port):
-        self.stream = connected(port)
-        self.lines = self.stream.makefile("r")
-
-    def ask(self, line):
-        self.stream.sendall(line.encode() + b"\n")
-        return self.lines.readline().rstrip("\n")
-
-    def quit(self):
-        """Whether the connection ends after `quit` with no reply, while other sessions go on."""
-        self.stream.sendall(b"quit\n")
-        return self.lines.read() == ""
 
 
 def sell(number, caller, replies):
@@ -153,8 +106,7 @@ def bad_sessions(folder, files, line):
     long, gone, other = Caller(port), Caller(port), Caller(port)
     same("a line too long ends its session", long.ask("a" * 201), "")
     same("a caller that goes away", gone.ask("sell 6000 gala 1"), "short 0")
-    gone.stream.close()
-    gone.lines.close()
+    gone.go_away()
     same("another session beside them", other.ask("sell 6001 gala 1"), "short 0")
     same("it is let go", other.quit(), True)
     same("the end of bad sessions", ended(serving), (0, line, ""))
@@ -212,6 +164,49 @@ def refusals(folder, files, line):
     same("no session", no_session, (0, line, ""))
 
 
+def at_once(callers, lines):
+    """The replies to each caller's lines, asked in threads."""
+    replies = [None] * len(callers)
+
+    def ask(place):
+        replies[place] = [callers[place].ask(line) for line in lines[place]]
+
+    threads = [threading.Thread(target=ask, args=(place,)) for place in range(len(callers))]
+    for thread in threads:
+        thread.start()
+    for thread in threads:
+        thread.join()
+    return replies
+
+
+def two_at_one_site(folder):
+    """Two connections come to one site, and each sells and looks, with no gate between them."""
+    make_sites(folder, ["only.db"])
+    asked = call(folder, ["ask", "only.db"], "announce 1 gala\nrelease 2 gala 100\n")
+    same("ask only.db", asked, (0, "done\ndone\n", ""))
+    port = free_port()
+    serving = started(folder, port, 2, 0, ["only.db"])
+    callers = [Caller(port), Caller(port)]
+    first, second = at_once(callers, [["sell 10 gala 3", "left gala"], ["sell 20 gala 4", "left gala"]])
+    same("the first of two at one site", first in (["done", "left 97"], ["done", "left 93"]), True)
+    same("the second of two at one site", second in (["done", "left 96"], ["done", "left 93"]), True)
+    same("both are let go", [caller.quit() for caller in callers], [True, True])
+    same("the end of two at one site", ended(serving), (0, "gala released 100 sold 7 refunded 0 outstanding 7\n", ""))
+    same("what only.db has kept", kept(folder, "only.db"), {10: "done", 20: "done"})
+
+
+def three_sites(folder):
+    """Each site is sent its own message in one round."""
+    files = ["a.db", "b.db", "c.db"]
+    make_sites(folder, files)
+    lines = ["announce 1 gala", "release 2 gala 100", "cede 3 gala 40 1", "cede 4 gala 20 2"]
+    same("ask a.db", call(folder, ["ask", files[0]], "".join(line + "\n" for line in lines))[:2], (0, "done\n" * 4))
+    served = call(folder, ["serve", str(free_port()), "0", "1", *files])
+    same("three sites", served, (0, "gala released 100 sold 0 refunded 0 outstanding 0\n", ""))
+    for file, left in zip(files, ["left 40\n", "left 40\n", "left 20\n"]):
+        same(f"what {file} has left", call(folder, ["ask", file], "left gala\n"), (0, left, ""))
+
+
 def all_at_two_sites(folder):
     files = offices(folder)
     sell_at_once(folder, files)
@@ -222,4 +217,4 @@ def all_at_two_sites(folder):
     forged(folder, files)
 
 
-sys.exit(try_each([all_at_two_sites], "serve at once: 0 differ", "serve at once: {} differ"))
+sys.exit(try_each([two_at_one_site, three_sites, all_at_two_sites], "serve at once: 0 differ", "serve at once: {} differ"))

@@ -26,6 +26,7 @@ TYPED = [
     ("sell 3 gala 61", "done"),
     ("sell 3 gala 60", "reused"),
     ("sell", "bad-line"),
+    ("sell 6 gala 1\r", "bad-line"),
     ("left gala", "left 39"),
     ("refund 5 3", "done"),
     ("totals gala", "totals released 100 sold 61 refunded 61 open 100"),

@@ -1,4 +1,17 @@
-//! The book of one site: its history, the decisions on requests, and what peers' deltas and greater counts of sites lead to.
+//! The book of one site: its history, the decisions on requests, and what peers' deltas and greater counts of sites
+//! lead to.
+//!
+//! A caller plans, stores and applies: `plan` decides on a request, `plan_join` on a peer's delta, `plan_grow` on a
+//! count of sites. None of them changes what the book shows. `enter` applies the planned entry and cannot fail.
+//! `replay` makes the book of a list of entries, or the index of the first entry that cannot follow those before it.
+//!
+//! Guaranteed by the type: cells and names are the join of the deltas in the history, and the history is legal. `laws`
+//! say what follows: own rights are not negative, no sale is given back beyond its seats, each request number has one
+//! kept reply. A delta that raises a cell of the book's own row is refused, forged or not.
+//!
+//! The state is a bounded counter (SRDS 2015); refunds, growth and request numbers are our own.
+//!
+//! Lemmas for callers: `BookLaws`, `Deltas`, `Growths`, `Histories`, `NameLaws`, `Next`, `Refunds`, `Rows`.
 #![tactic(auto)]
 
 pub mod book;

@@ -1,10 +1,18 @@
 //! The program `boxoffice`: box offices at several sites that sell the same seats.
+//!
+//! A thin main: it reads the arguments, opens and closes files as databases, takes connections, and hands all of it to
+//! `operator_cli`, whose commands run over any store. `Shelf` is where databases are opened and closed; `files.rt` and
+//! `connections.rt` have the file's checks and the ends of connections.
+//!
+//! Guaranteed: the connection that a command gets shows the database that the file and its log held, whatever they
+//! held at first, or an empty one where they held none. Not proved, but tested on the built program: that the right
+//! streams, files and arguments are passed on, and what closing leaves of the files.
 #![tactic(auto)]
 
 mod connections;
 mod files;
 
-use crate::connections::{Caller, visits};
+use crate::connections::visits;
 use crate::files::{Files, close, open_or_make, open_there};
 use book_core::Limit;
 use operator_cli::{
@@ -17,8 +25,10 @@ use rights_lattice::{SiteId, Sites};
 use session_server::{SiteEnd, Visit, listen};
 use site_desk::SiteBook;
 use sql_records::Records;
-use sqlite::Alter;
+use sqlite::{Alter, Connection};
+use sqlite_disk::Disk;
 use sqlite_std_file::{Start, Unknown};
+use sqlite_store::FileStore;
 use std::alloc::{AllocError, Global};
 use std::env;
 use std::io::{BufWriter, ErrorKind, Read, Stdout, Write};
@@ -26,6 +36,19 @@ use std::net::{Net, TcpListener, TcpStream};
 use std::process::ExitCode;
 use std::sync::Wait;
 use std::thread::Threads;
+
+/// Where databases are opened and closed, each by a connection. The commands run over any, whatever store it stands in, so
+/// that no proof of a command speaks of files.
+trait Shelf<C> {
+    /// Opens a database that is there. A fault is told.
+    fn open_there(&self, rt: &HostRuntime, path: &str) -> Result<C, Status>;
+
+    /// Opens a database, or makes it. A fault is told.
+    fn open_or_make(&self, rt: &HostRuntime, path: &str) -> Result<C, Status>;
+
+    /// The status of a command that came to this and gave its connection back, which is closed unless it failed.
+    fn close(&self, rt: &HostRuntime, came: (Status, Option<C>)) -> Status;
+}
 
 /// What a file and its log are taken to hold as the program opens them, whichever file it is.
 trait Begins {
@@ -42,6 +65,23 @@ impl Begins for Unread {
 
     fn first(&self) -> Unknown {
         Unknown
+    }
+}
+
+/// Files by their paths.
+struct ByPath<B>(B);
+
+impl<F: Start, B: Begins<First = F>> Shelf<Connection<Files<F>>> for ByPath<B> {
+    fn open_there(&self, rt: &HostRuntime, path: &str) -> Result<Connection<Files<F>>, Status> {
+        open_there(rt, path, self.0.first())
+    }
+
+    fn open_or_make(&self, rt: &HostRuntime, path: &str) -> Result<Connection<Files<F>>, Status> {
+        open_or_make(rt, path, self.0.first())
+    }
+
+    fn close(&self, rt: &HostRuntime, came: (Status, Option<Connection<Files<F>>>)) -> Status {
+        close(rt, came)
     }
 }
 
@@ -67,48 +107,52 @@ fn run_world(rt: &HostRuntime) -> Result<Status, Status> {
     Ok(world_script(rt.alloc(), rt.stdin(), &mut out, &mut rt.stderr()))
 }
 
-fn run_init<S: Start>(
+fn run_init<S: Alter + Drop, H: Shelf<Connection<S>>>(
     rt: &HostRuntime,
     file: &str,
     me: SiteId,
     sites: Sites,
     limit: Limit,
-    start: S,
+    shelf: &H,
 ) -> Result<Status, Status> {
     let mut out = rt.stdout();
     let mut err = rt.stderr();
     if me.number() >= sites.count() {
         return Ok(refuse_site(&mut out, &mut err));
     }
-    let mut conn = open_or_make(rt, file, start)?;
+    let mut conn = shelf.open_or_make(rt, file)?;
     let status = init_store(&mut conn, me, sites, limit, &mut out, &mut err);
-    Ok(close(rt, (status, Some(conn))))
+    Ok(shelf.close(rt, (status, Some(conn))))
 }
 
-fn run_migrate<S: Start>(rt: &HostRuntime, file: &str, start: S) -> Result<Status, Status> {
-    let mut conn = open_there(rt, file, start)?;
+fn run_migrate<S: Alter + Drop, H: Shelf<Connection<S>>>(
+    rt: &HostRuntime,
+    file: &str,
+    shelf: &H,
+) -> Result<Status, Status> {
+    let mut conn = shelf.open_there(rt, file)?;
     let status = migrate_store(rt.alloc(), &mut conn, &mut rt.stdout(), &mut rt.stderr());
-    Ok(close(rt, (status, Some(conn))))
+    Ok(shelf.close(rt, (status, Some(conn))))
 }
 
-fn run_grow<S: Start>(
+fn run_grow<S: Alter + Drop, H: Shelf<Connection<S>>>(
     rt: &HostRuntime,
     file: &str,
     sites: Sites,
-    start: S,
+    shelf: &H,
 ) -> Result<Status, Status> {
-    let conn = open_there(rt, file, start)?;
+    let conn = shelf.open_there(rt, file)?;
     let came = grow_store(rt.alloc(), conn, sites, &mut rt.stdout(), &mut rt.stderr());
-    Ok(close(rt, came))
+    Ok(shelf.close(rt, came))
 }
 
-fn run_ask<S: Start>(
+fn run_ask<S: Alter + Drop, H: Shelf<Connection<S>>>(
     rt: &HostRuntime,
     waiter: &impl Wait,
     file: &str,
-    start: S,
+    shelf: &H,
 ) -> Result<Status, Status> {
-    let conn = open_there(rt, file, start)?;
+    let conn = shelf.open_there(rt, file)?;
     let came = ask_store(
         waiter,
         rt.alloc(),
@@ -117,46 +161,50 @@ fn run_ask<S: Start>(
         &mut rt.stdout(),
         &mut rt.stderr(),
     );
-    Ok(close(rt, came))
+    Ok(shelf.close(rt, came))
 }
 
-fn run_find<S: Start>(
+fn run_find<S: Alter + Drop, H: Shelf<Connection<S>>>(
     rt: &HostRuntime,
     file: &str,
     number: RequestNumber,
-    start: S,
+    shelf: &H,
 ) -> Result<Status, Status> {
-    let conn = open_there(rt, file, start)?;
+    let conn = shelf.open_there(rt, file)?;
     let came = find_store(rt.alloc(), conn, number, &mut rt.stdout(), &mut rt.stderr());
-    Ok(close(rt, came))
+    Ok(shelf.close(rt, came))
 }
 
-fn run_list<S: Start>(
+fn run_list<S: Alter + Drop, H: Shelf<Connection<S>>>(
     rt: &HostRuntime,
     file: &str,
     event: &str,
-    start: S,
+    shelf: &H,
 ) -> Result<Status, Status> {
     let mut out = buffered(rt)?;
-    let conn = open_there(rt, file, start)?;
+    let conn = shelf.open_there(rt, file)?;
     let came = list_store(rt.alloc(), conn, event, &mut out, &mut rt.stderr());
-    Ok(close(rt, came))
+    Ok(shelf.close(rt, came))
 }
 
-fn run_export<S: Start>(
+fn run_export<S: Alter + Drop, H: Shelf<Connection<S>>>(
     rt: &HostRuntime,
     file: &str,
     to: SiteId,
-    start: S,
+    shelf: &H,
 ) -> Result<Status, Status> {
     let mut out = buffered(rt)?;
-    let conn = open_there(rt, file, start)?;
+    let conn = shelf.open_there(rt, file)?;
     let came = export_store(rt.alloc(), conn, to, &mut out, &mut rt.stderr());
-    Ok(close(rt, came))
+    Ok(shelf.close(rt, came))
 }
 
-fn run_import<S: Start>(rt: &HostRuntime, file: &str, start: S) -> Result<Status, Status> {
-    let conn = open_there(rt, file, start)?;
+fn run_import<S: Alter + Drop, H: Shelf<Connection<S>>>(
+    rt: &HostRuntime,
+    file: &str,
+    shelf: &H,
+) -> Result<Status, Status> {
+    let conn = shelf.open_there(rt, file)?;
     let came = import_store(
         rt.alloc(),
         conn,
@@ -164,81 +212,88 @@ fn run_import<S: Start>(rt: &HostRuntime, file: &str, start: S) -> Result<Status
         &mut rt.stdout(),
         &mut rt.stderr(),
     );
-    Ok(close(rt, came))
+    Ok(shelf.close(rt, came))
 }
 
 // The book of a file's records.
-fn open_site<S: Start>(
+fn open_site<S: Alter + Drop, H: Shelf<Connection<S>>>(
     rt: &HostRuntime,
     file: &str,
-    start: S,
-) -> Result<SiteBook<Records<Files<S>>>, Status> {
-    let conn = open_there(rt, file, start)?;
+    shelf: &H,
+) -> Result<SiteBook<Records<S>>, Status> {
+    let conn = shelf.open_there(rt, file)?;
     match open_store(rt.alloc(), conn, &mut rt.stderr()) {
         Ok(site) => Ok(site),
-        Err(came) => Err(close(rt, came)),
+        Err(came) => Err(shelf.close(rt, came)),
+    }
+}
+
+fn keep<T: Drop>(rt: &HostRuntime, kept: &mut Vec<T>, one: T) -> Result<(), Status> {
+    match kept.push(one) {
+        Ok(()) => Ok(()),
+        Err(_) => Err(out_of_memory(rt)),
     }
 }
 
 // The book of each file's records, put behind those before it.
-fn open_all<S: Start>(
+fn open_all<S: Alter + Drop, H: Shelf<Connection<S>>>(
     rt: &HostRuntime,
     files: &FileNames<'_>,
-    start: &impl Begins<First = S>,
-    sites: &mut Vec<SiteBook<Records<Files<S>>>>,
+    shelf: &H,
+    sites: &mut Vec<SiteBook<Records<S>>>,
 ) -> Result<(), Status> {
     for file in files.as_slice() {
-        let site = open_site(rt, file, start.first())?;
-        if sites.push(site).is_err() {
-            return Err(out_of_memory(rt));
-        }
+        let site = open_site(rt, file, shelf)?;
+        keep(rt, sites, site)?;
     }
     Ok(())
 }
 
 // The status of a command that came to this over a file among others, which is closed unless it failed.
-fn close_site<S: Start>(
+fn close_site<S: Alter + Drop, H: Shelf<Connection<S>>>(
     rt: &HostRuntime,
+    shelf: &H,
     status: Status,
-    site: SiteBook<Records<Files<S>>>,
+    site: SiteBook<Records<S>>,
 ) -> Status {
-    close(rt, (status, Some(site.into_keeper().close())))
+    shelf.close(rt, (status, Some(site.into_keeper().close())))
 }
 
-fn close_all<S: Start>(
+fn close_all<S: Alter + Drop, H: Shelf<Connection<S>>>(
     rt: &HostRuntime,
+    shelf: &H,
     mut status: Status,
-    sites: Vec<SiteBook<Records<Files<S>>>>,
+    sites: Vec<SiteBook<Records<S>>>,
 ) -> Status {
     for site in sites {
-        status = close_site(rt, status, site);
+        status = close_site(rt, shelf, status, site);
     }
     status
 }
 
-fn run_audit<S: Start>(
+fn run_audit<S: Alter + Drop, H: Shelf<Connection<S>>>(
     rt: &HostRuntime,
     files: &FileNames<'_>,
-    start: &impl Begins<First = S>,
+    shelf: &H,
 ) -> Result<Status, Status> {
     let mut out = buffered(rt)?;
     let mut sites = Vec::new(rt.alloc());
-    let status = match open_all(rt, files, start, &mut sites) {
+    let status = match open_all(rt, files, shelf, &mut sites) {
         Ok(()) => audit_stores(rt.alloc(), sites.as_slice(), &mut out, &mut rt.stderr()),
         Err(status) => status,
     };
-    Ok(close_all(rt, status, sites))
+    Ok(close_all(rt, shelf, status, sites))
 }
 
 // All sites are opened, and are known to be all.
-fn open_whole<S: Start>(
+fn open_whole<S: Alter + Drop, H: Shelf<Connection<S>>>(
     rt: &HostRuntime,
     files: &FileNames<'_>,
-    start: &impl Begins<First = S>,
-    sites: &mut Vec<SiteBook<Records<Files<S>>>>,
+    shelf: &H,
+    sites: &mut Vec<SiteBook<Records<S>>>,
     out: &mut BufWriter<Stdout>,
 ) -> Result<(), Status> {
-    open_all(rt, files, start, sites)?;
+    open_all(rt, files, shelf, sites)?;
     match refuse_parts(rt.alloc(), sites.as_slice(), out, &mut rt.stderr()) {
         Some(status) => Err(status),
         None => Ok(()),
@@ -258,88 +313,102 @@ fn callers(
     }
 }
 
-// The ends of these sites once they have run with their callers, whatever their records stand in.
-fn served<'a, S: Alter + Drop + Send>(
-    rt: &HostRuntime,
+// The ends of these sites once they have run with their visits, whatever their records stand in and whoever visits.
+fn served<
+    S: Alter + Drop + Send,
+    R: Read + Drop + Send,
+    V: Write + Drop + Send,
+    W: Write,
+    E: Write,
+>(
+    alloc: Global,
     host: &(impl Threads + Wait + Sync),
     sites: Vec<SiteBook<Records<S>>>,
-    visits: Vec<Visit<Caller<'a>, &'a TcpStream>>,
+    visits: Vec<Visit<R, V>>,
     rounds: u64,
-    out: &mut BufWriter<Stdout>,
-) -> (
-    Status,
-    Option<Vec<SiteEnd<Records<S>, Caller<'a>, &'a TcpStream>>>,
-) {
-    serve_stores(
-        host,
-        rt.alloc(),
-        sites,
-        visits,
-        rounds,
-        out,
-        &mut rt.stderr(),
-    )
+    out: &mut W,
+    err: &mut E,
+) -> (Status, Option<Vec<SiteEnd<Records<S>, R, V>>>) {
+    serve_stores(host, alloc, sites, visits, rounds, out, err)
 }
 
-fn close_ends<S: Start, R: Read + Drop, V: Write + Drop>(
+fn close_ends<S: Alter + Drop, H: Shelf<Connection<S>>, R: Read + Drop, V: Write + Drop>(
     rt: &HostRuntime,
+    shelf: &H,
     mut status: Status,
-    ends: Vec<SiteEnd<Records<Files<S>>, R, V>>,
+    ends: Vec<SiteEnd<Records<S>, R, V>>,
 ) -> Status {
     for SiteEnd { book, .. } in ends {
-        status = close_site(rt, status, book);
+        status = close_site(rt, shelf, status, book);
     }
     status
 }
 
 // Runs the sites, whose callers are there, and closes their files unless that failed.
-fn serve_callers<S: Start + Send>(
+fn serve_callers<S: Alter + Drop + Send, H: Shelf<Connection<S>>>(
     rt: &HostRuntime,
     host: &(impl Threads + Wait + Sync),
-    sites: Vec<SiteBook<Records<Files<S>>>>,
+    shelf: &H,
+    sites: Vec<SiteBook<Records<S>>>,
     streams: &[TcpStream],
     rounds: u64,
     out: &mut BufWriter<Stdout>,
 ) -> Status {
     let Ok(visits) = visits(rt.alloc(), streams) else {
-        return close_all(rt, out_of_memory(rt), sites);
+        return close_all(rt, shelf, out_of_memory(rt), sites);
     };
-    match served(rt, host, sites, visits, rounds, out) {
-        (status, Some(ends)) => close_ends(rt, status, ends),
+    match served(
+        rt.alloc(),
+        host,
+        sites,
+        visits,
+        rounds,
+        out,
+        &mut rt.stderr(),
+    ) {
+        (status, Some(ends)) => close_ends(rt, shelf, status, ends),
         (status, None) => status,
     }
 }
 
 // Nobody can connect before all sites are open.
-fn run_serve<S: Start + Send>(
+fn run_serve<S: Alter + Drop + Send, H: Shelf<Connection<S>>>(
     rt: &HostRuntime,
     host: &(impl Threads + Wait + Sync + Net<Listener = TcpListener, Stream = TcpStream>),
     files: &FileNames<'_>,
     port: u16,
     sessions: usize,
     rounds: u64,
-    start: &impl Begins<First = S>,
+    shelf: &H,
 ) -> Result<Status, Status> {
     let mut out = buffered(rt)?;
     let mut sites = Vec::new(rt.alloc());
-    if let Err(status) = open_whole(rt, files, start, &mut sites, &mut out) {
-        return Ok(close_all(rt, status, sites));
+    if let Err(status) = open_whole(rt, files, shelf, &mut sites, &mut out) {
+        return Ok(close_all(rt, shelf, status, sites));
     }
     match callers(rt, host, port, sessions) {
         Ok(streams) => {
-            let status = serve_callers(rt, host, sites, streams.as_slice(), rounds, &mut out);
+            let status = serve_callers(
+                rt,
+                host,
+                shelf,
+                sites,
+                streams.as_slice(),
+                rounds,
+                &mut out,
+            );
             Ok(status)
         }
-        Err(status) => Ok(close_all(rt, status, sites)),
+        Err(status) => Ok(close_all(rt, shelf, status, sites)),
     }
 }
 
 // An error is the status of a command that could not begin, and whose fault was told.
-fn run_order<S: Start + Send>(
+fn run_order<S: Alter + Drop + Send, H: Shelf<Connection<S>>>(
     rt: &HostRuntime,
     host: &(impl Threads + Wait + Sync + Net<Listener = TcpListener, Stream = TcpStream>),
     order: Order<'_>,
-    start: &impl Begins<First = S>,
+    shelf: &H,
 ) -> Result<Status, Status> {
     match order {
         Order::World => run_world(rt),
@@ -348,32 +417,32 @@ fn run_order<S: Start + Send>(
             me,
             sites,
             limit,
-        } => run_init(rt, file, me, sites, limit, start.first()),
-        Order::Migrate { file } => run_migrate(rt, file, start.first()),
-        Order::Grow { file, sites } => run_grow(rt, file, sites, start.first()),
-        Order::Ask { file } => run_ask(rt, host, file, start.first()),
-        Order::Find { file, number } => run_find(rt, file, number, start.first()),
-        Order::List { file, event } => run_list(rt, file, event, start.first()),
-        Order::Export { file, to } => run_export(rt, file, to, start.first()),
-        Order::Import { file } => run_import(rt, file, start.first()),
-        Order::Audit { files } => run_audit(rt, &files, start),
+        } => run_init(rt, file, me, sites, limit, shelf),
+        Order::Migrate { file } => run_migrate(rt, file, shelf),
+        Order::Grow { file, sites } => run_grow(rt, file, sites, shelf),
+        Order::Ask { file } => run_ask(rt, host, file, shelf),
+        Order::Find { file, number } => run_find(rt, file, number, shelf),
+        Order::List { file, event } => run_list(rt, file, event, shelf),
+        Order::Export { file, to } => run_export(rt, file, to, shelf),
+        Order::Import { file } => run_import(rt, file, shelf),
+        Order::Audit { files } => run_audit(rt, &files, shelf),
         Order::Serve {
             port,
             sessions,
             rounds,
             files,
-        } => run_serve(rt, host, &files, port, sessions, rounds, start),
+        } => run_serve(rt, host, &files, port, sessions, rounds, shelf),
     }
 }
 
-fn run<S: Start + Send>(
+fn run<S: Alter + Drop + Send, H: Shelf<Connection<S>>>(
     rt: &HostRuntime,
     host: &(impl Threads + Wait + Sync + Net<Listener = TcpListener, Stream = TcpStream>),
     words: &[&str],
-    start: &impl Begins<First = S>,
+    shelf: &H,
 ) -> Status {
     match read_words(rt.alloc(), words) {
-        Ok(order) => match run_order(rt, host, order, start) {
+        Ok(order) => match run_order(rt, host, order, shelf) {
             Ok(status) | Err(status) => status,
         },
         Err(WordsFault::NotUnderstood { text }) => {
@@ -388,20 +457,38 @@ fn texts(alloc: Global, words: &[String]) -> Result<Vec<&str>, AllocError> {
     words.iter().map(|word| word.as_str()).collect(alloc)
 }
 
-fn started<S: Start + Send>(
+fn started<S: Alter + Drop + Send, H: Shelf<Connection<S>>>(
     rt: &HostRuntime,
     host: &(impl Threads + Wait + Sync + Net<Listener = TcpListener, Stream = TcpStream>),
-    start: &impl Begins<First = S>,
+    shelf: &H,
 ) -> std::io::Result<Status> {
     let words: Vec<String> = env::args(rt)?.collect(rt.alloc())?;
     let texts = texts(rt.alloc(), &words)?;
-    Ok(run(rt, host, texts.as_slice(), start))
+    Ok(run(rt, host, texts.as_slice(), shelf))
+}
+
+// The same over files, whatever they stand on.
+fn started_over<D: Disk + Drop + Send, H: Shelf<Connection<FileStore<D>>>>(
+    rt: &HostRuntime,
+    host: &(impl Threads + Wait + Sync + Net<Listener = TcpListener, Stream = TcpStream>),
+    shelf: &H,
+) -> std::io::Result<Status> {
+    started(rt, host, shelf)
+}
+
+// The same over files of this machine.
+fn started_by_path<F: Start + Send, B: Begins<First = F>>(
+    rt: &HostRuntime,
+    host: &(impl Threads + Wait + Sync + Net<Listener = TcpListener, Stream = TcpStream>),
+    files: &ByPath<B>,
+) -> std::io::Result<Status> {
+    started_over(rt, host, files)
 }
 
 // What the files hold is nobody's to know here, so the rest is proved for any first contents. Only here is the runtime
 // a handle that may wait, start threads and take connections.
 fn main(rt: HostRuntime) -> ExitCode {
-    let status = match started(&rt, &rt, &Unread) {
+    let status = match started_by_path(&rt, &rt, &ByPath(Unread)) {
         Ok(status) => status,
         Err(error) => match error.kind() {
             ErrorKind::OutOfMemory => out_of_memory(&rt),

@@ -1,4 +1,13 @@
 //! Delta-intervals of a site's history (Almeida et al., JPDC 2018).
+//!
+//! `interval` joins the deltas of the entries from one length of a history to another. `Pending` holds such an
+//! interval for one peer: it grows with the history (`catch_up`), and begins again at what the peer acknowledges
+//! (`acked`).
+//!
+//! Guaranteed: `add`, `catch_up` and `acked` keep it the join of the deltas of just the entries that it spans, as
+//! `interval` is; an error leaves it as it was.
+//!
+//! Lemmas for callers: `PendingLaws`.
 #![tactic(auto)]
 
 pub mod intervals;

@@ -1,8 +1,16 @@
 //! Deltas, and the mark that one operation makes or the name that it announces.
 //!
-//! An operation's mutator gives its mark or its name; to join the delta of that alone is to apply the operation
-//! (Almeida et al., JPDC 2018). No clause says that it is the least such state. The operations are those of an
-//! escrow bounded counter (SRDS 2015); announced names are a grow-only set (RR-7506), and refunds are our own.
+//! A delta is a sorted list of names and of marks (a cell with its new value), the part of a state that a message
+//! carries. `announce`, `release`, `sale`, `cession` and `refund` give the item of an operation, or `CellFull` where a
+//! cell would pass its maximum. `Delta` is made empty, from an item, by a join, or item by item.
+//!
+//! Guaranteed: each call is its definition; `laws::applying_is_joining` says that applying an operation to a state is
+//! joining the delta of its item (Almeida et al., JPDC 2018). That the delta is the least such state is not proved.
+//!
+//! The operations are those of an escrow bounded counter (SRDS 2015); announced names are a grow-only set (RR-7506),
+//! and refunds are our own.
+//!
+//! Lemmas for callers: `EndLaws`.
 #![tactic(auto)]
 
 pub mod delta;

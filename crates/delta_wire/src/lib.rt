@@ -1,8 +1,15 @@
 //! The text of messages and of deltas.
 //!
-//! A message is a header line, `delta S T U` or `ack S T U` for a message from site S to site T up to length U,
-//! then for a delta its items, one a line, then the line `end`. An item is `name E`, `gave E S T V`, `used E S V`
-//! or `back E S V`: names rise, then marks rise. Each line ends with a line feed, and words stand one space apart.
+//! A message is a header line, `delta S T U` or `ack S T U` for a message from site S to site T up to length U, then
+//! for a delta its items, one a line, then the line `end`. Items are `name E`, then `gave E S T V`, `used E S V` and
+//! `back E S V`, sorted. Each line ends with a line feed, and words are one space apart.
+//!
+//! A caller reads with `read_message` and `read_delta`, and writes with `write_message` and `delta_text`.
+//!
+//! Guaranteed: a text is read exactly where it is the text of a message, and as that message; a text that is none
+//! gives its first fault. `laws` say that no two messages share a text, and that none is a prefix of another's.
+//!
+//! Lemmas for callers: `FieldLaws`, `Names`, `Texts`.
 #![tactic(auto)]
 
 mod fault;

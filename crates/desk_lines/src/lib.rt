@@ -1,7 +1,15 @@
 //! The lines of sessions and scripts, and the lines that answer them.
 //!
-//! Each line that can be read has one text, and each such text is of one line. A line is read
-//! without its line break; a line that answers is written with it.
+//! `read_line` reads a session line, `read_step`, `read_sites` and `read_limit` the lines of a script, each without
+//! its line break. `reply_line` and `write_answer` write the line that answers, with it. `request_line` writes the
+//! session line that asks a request.
+//!
+//! Guaranteed: each line that can be read has one text, and each such text is of one line
+//! (`laws::lines_are_read_exactly`); after a failed write a prefix of the reply is written.
+//!
+//! The texts of replies are in `texts.rt`; their words are those of `request_ledger`.
+//!
+//! Lemmas for callers: `ReadingLaws`.
 #![tactic(auto)]
 
 mod answered;

@@ -1,7 +1,15 @@
 //! The rights of a site, and what all sites released, sold and took back.
 //!
-//! Rights and the counter's value are those of the bounded counter (Balegas et al., SRDS 2015);
-//! what a site takes back in refunds is our own.
+//! A site may sell what it released, was given and took back, less what it gave away and sold. `left` computes that
+//! from the cells; `Counted` holds it beside them for one site, event by event, so that a look-up sums nothing.
+//! `totals` and `open_seats` are the sums of a view: `open_seats` is `None` where some site's rights are negative in
+//! it.
+//!
+//! Guaranteed: the rights that `Counted` holds are those of its cells and are never negative; `left` requires that.
+//! `laws::rights_are_a_bounded_counter` equates them with the local rights of SRDS 2015, plus what was taken back (our
+//! own), and `laws::open_seats_are_the_counters` equates open seats with the counter's value.
+//!
+//! Lemmas for callers: `KeptLaws`, `PositionLaws`, `Sums`, `Within`.
 #![tactic(auto)]
 
 pub mod counted;

@@ -10,10 +10,11 @@ use Rattle.sql_records.specs.Held.{RecordsView, IsOf, IsTrusted, LeavesSite, May
 use Rattle.sql_records.specs.Layout.{HasMeta}
 use Rattle.site_desk.specs.declared.fault.AskFault.TheVariants as ask
 use Rattle.sql_records.specs.Keeping.{LeavesEither}
+use Rattle.site_desk.specs.Calls.{Keeping}
 use Rattle.site_desk.specs.SiteView.{SiteView, entry_in}
 use Rattle.desk_lines.specs.declared.line.Line.TheVariants.{Ask}
 use Rattle.desk_lines.specs.declared.answered.Answered.TheVariants.{Refused}
-use Rattle.session_server.specs.BookStep.{BookStep, Keeping}
+use Rattle.session_server.specs.BookStep.{BookStep}
 use Rattle.session_server.specs.Session.{Talked, WasAnswered}
 use Rattle.session_server.specs.declared.fault.Ended.{Ended}
 use Rattle.session_server.specs.declared.fault.TalkFault.{TalkFault}

@@ -1,4 +1,15 @@
 //! The commands of the program `boxoffice`, over any reader and writers.
+//!
+//! `read_words` reads the arguments as an `Order`. Each command is one function over a connection to any store, a
+//! reader and writers, and returns its `Status`: `init_store`, `migrate_store`, `grow_store`, `ask_store`,
+//! `export_store`, `import_store`, `find_store`, `list_store`, `audit_stores`, `serve_stores`; `world_script` runs a
+//! script.
+//!
+//! Guaranteed: what is printed is defined by the input and by the entries that the store held (`specs/Script.antt`,
+//! `specs/Audited.antt` and others), and after a fault at most a prefix of it; a command with status 1 changes no
+//! entry, and of commands over one site's records the contracts say what a crash leaves.
+//! `laws::totals_are_not_oversold` says that no script prints totals with more outstanding than released. What a
+//! contract says of bytes read or written it says where it knows them, as of a slice and a `Vec`.
 #![tactic(auto)]
 
 mod answering;

@@ -1,7 +1,15 @@
 //! Plain text, read a line at a time and a word at a time, and written as far as a writer takes it.
 //!
-//! A line ends with byte 10 or with the input, and has at most 200 bytes; its words stand one space apart; a number is
+//! A line ends with byte 10 or with the input, and has at most 200 bytes. Its words are one space apart. A number is
 //! decimal, without a sign and without leading zeros.
+//!
+//! A caller reads lines with `next_line`, words with `Words`, numbers with `read_number` and `number_at`. It builds
+//! short texts with `put`, `put_number`, `word` and `numbered`, and writes them with `write_bytes`.
+//!
+//! Guaranteed: reading is exact, each call returning what stands in the input or the fault that it has; after a failed
+//! write a prefix of the text is written, and nothing else.
+//!
+//! Lemmas for callers: `LineLaws`, `NumberLaws`, `TextLaws`, `WordLaws`, `WriteLaws`.
 #![tactic(auto)]
 
 mod lines;

@@ -1,9 +1,19 @@
 //! Events, sites, cells, and the state of rights as a join semilattice.
 //!
-//! A cell is an entry of the rights matrix or of the consumed rights of an escrow bounded counter (Balegas
-//! et al., SRDS 2015); what a site takes back in refunds is our own. States are ordered cell by cell and name
-//! by name, and joined to the greater of each cell and the names of both, as state-based replicated data are
-//! (INRIA RR-7506).
+//! A cell is one number of an event: seats that a site released or ceded to another (`Gave`), sold (`Used`) or took
+//! back (`Back`). It belongs to the row of one site, and only increases. `Rights` maps cells to values; an absent cell
+//! is 0. `Event`, `SiteId`, `Sites` and `Amount` are made by calls that return a value exactly where the input is in
+//! range.
+//!
+//! Guaranteed: `get`, `raise`, `join` and the tests of order are the definitions of `specs/Cells.antt`. The join takes
+//! the larger value of each cell, and is the least upper bound (`laws`). `merge_marks` and `merge_names` join two
+//! sorted lists.
+//!
+//! The matrix is that of an escrow bounded counter (Balegas et al., SRDS 2015); order and join are those of
+//! state-based replicated data (INRIA RR-7506). What a site takes back in refunds is our own.
+//!
+//! Lemmas for callers: `CellLaws`, `EventLaws`, `MarkLaws`, `MergeLaws`, `MissingLaws`, `OrLaws`, `RightsLaws`,
+//! `SpotLaws`, `StateLaws`, `TableLaws`, `TestLaws`.
 #![tactic(auto)]
 
 pub mod amount;

@@ -10,6 +10,7 @@ use Rattle.site_desk.specs.declared.answer.Answer.{Answer}
 use Rattle.site_desk.specs.declared.fault.AskFault.{AskFault}
 use Rattle.site_desk.specs.declared.fault.AskFault.TheVariants as ask
 use Rattle.sql_records.specs.Keeping.{LeavesEither}
+use Rattle.site_desk.specs.Calls.{AskCall, Keeping}
 use Rattle.site_desk.specs.SiteView.{SiteView, entry_in}
 use Rattle.desk_lines.specs.declared.line.Line.{Line}
 use Rattle.desk_lines.specs.declared.line.Line.TheVariants.{Ask, Left, Totals, Quit}
@@ -18,7 +19,7 @@ use Rattle.desk_lines.specs.declared.answered.Answered.TheVariants.{Refused}
 use Rattle.desk_lines.specs.Reading.{session_line_of}
 use Rattle.session_server.specs.declared.fault.Ended.{Ended}
 use Rattle.session_server.specs.declared.fault.TalkFault.{TalkFault}
-use Rattle.session_server.specs.BookStep.{BookStep, Comes, IsLeftAt, Keeping, answered_of}
+use Rattle.session_server.specs.BookStep.{BookStep, IsLeftAt, answered_of}
 use Rattle.session_server.specs.Session.{Answers, Chain, Talked, WasAnswered}
 use Rattle.session_server.proofs.Sessions.{chain_keeps}
 
@@ -38,7 +39,7 @@ unshut a b is unclosed shut = let bad : true ≡ false = sym shut ∙ ap (λ (s 
 
 module _ {K : Type 0} (k : Keeping K) where
   -- of all lines a request alone changes the book
-  step_keeps : (P : SiteView K → Type 0) → ((a b : SiteView K) (number : ℕ) (request : Request) (came : Result Answer AskFault) → Comes k a b number request came → P a → P b)
+  step_keeps : (P : SiteView K → Type 0) → ((a b : SiteView K) (number : ℕ) (request : Request) (came : Result Answer AskFault) → AskCall k a b number request came → P a → P b)
       → (a : SiteView K) (o : Option Line) (answered : Answered) (b : SiteView K) → Answers (BookStep k) a o answered b → P a → P b
   step_keeps P asked a (Some (Ask number request)) answered b h p = asked a b number request h.0 h.1 p
   step_keeps P asked a (Some (Left event)) answered b h p = subst P (sym h.0) p
@@ -50,15 +51,15 @@ module _ {K : Type 0} (k : Keeping K) where
   IsShutBy number request s = (s.closed ≡ true) × IsLeftAt k s number request
 
   -- no request changes what a stop leaves of a book that is closed
-  came_left : (number : ℕ) (request : Request) (a b : SiteView K) (n : ℕ) (r : Request) (came : Result Answer AskFault) → Comes k a b n r came
+  came_left : (number : ℕ) (request : Request) (a b : SiteView K) (n : ℕ) (r : Request) (came : Result Answer AskFault) → AskCall k a b n r came
       → IsShutBy number request a → IsShutBy number request b
   came_left number request a b n r came h left =
-      let refused = h.shut.1 left.0 in
-      let history = ap (λ (s : SitePart). s.history) (on_err came _ ask.Closed h.unchanged refused) in
-      let keeper = if_err came _ ask.Closed h.untouched refused (λ e. cc) in (
-        h.closes.1 (inl left.0),
+      let refused = h.call.shut.1 left.0 in
+      let history = ap (λ (s : SitePart). s.history) (on_err came _ ask.Closed h.call.unchanged refused) in
+      let keeper = if_err came _ ask.Closed h.call.untouched refused (λ e. cc) in (
+        h.call.closes.1 (inl left.0),
         (λ trusted.
-            subst₂ (λ (o : Office) (l : List Entry). LeavesEither l (entry_of_ask o l number request) (k.may_leave b.keeper)) (sym h.office) (sym history)
+            subst₂ (λ (o : Office) (l : List Entry). LeavesEither l (entry_of_ask o l number request) (k.may_leave b.keeper)) (sym h.call.office) (sym history)
             (subst (λ x. LeavesEither a.book.history (entry_in a.book number request) (k.may_leave x)) (sym keeper) (left.1 (subst k.is_trusted keeper trusted)))),
       )
 
@@ -66,17 +67,17 @@ module _ {K : Type 0} (k : Keeping K) where
   abbrev Shuts : SiteView K → Option Line → Answered → Type 0
   Shuts b o answered = (number : ℕ) × (request : Request) × (o ≡ Some (Ask number request)) × (answered ≡ Refused ask.Store) × IsLeftAt k b number request
 
-  came_shut : (a b : SiteView K) (number : ℕ) (request : Request) (answered : Answered) (came : Result Answer AskFault) → Comes k a b number request came → answered ≡ answered_of came
+  came_shut : (a b : SiteView K) (number : ℕ) (request : Request) (answered : Answered) (came : Result Answer AskFault) → AskCall k a b number request came → answered ≡ answered_of came
       → a.closed ≡ false → b.closed ≡ true → Shuts b (Some (Ask number request)) answered
-  came_shut a b number request answered came h is unclosed shut = elim (h.closes.0 shut) [
+  came_shut a b number request answered came h is unclosed shut = elim (h.call.closes.0 shut) [
     | inl was ↦ (let bad : true ≡ false = sym was ∙ unclosed in cc)
     | inr store ↦ (
-        let history = ap (λ (s : SitePart). s.history) (on_err came _ ask.Store h.unchanged store) in (
+        let history = ap (λ (s : SitePart). s.history) (on_err came _ ask.Store h.call.unchanged store) in (
           number,
           request,
           refl,
           is ∙ ap answered_of store,
-          (λ trusted. subst₂ (λ (o : Office) (l : List Entry). LeavesEither l (entry_of_ask o l number request) (k.may_leave b.keeper)) (sym h.office) (sym history) (h.stopped store trusted)),
+          (λ trusted. subst₂ (λ (o : Office) (l : List Entry). LeavesEither l (entry_of_ask o l number request) (k.may_leave b.keeper)) (sym h.call.office) (sym history) (h.call.stopped store trusted)),
         ))
   ]
 
@@ -104,12 +105,12 @@ module _ {K : Type 0} (k : Keeping K) where
 
   module _ (input old new : Option (List ℕ)) (a b : SiteView K) (r : Result Ended TalkFault) (t : Talked (BookStep k) input old new a b r) where
     -- what a request keeps, a session keeps
-    pub talked_keeps : (P : SiteView K → Type 0) → ((a b : SiteView K) (number : ℕ) (request : Request) (came : Result Answer AskFault) → Comes k a b number request came → P a → P b) → P a → P b
+    pub talked_keeps : (P : SiteView K → Type 0) → ((a b : SiteView K) (number : ℕ) (request : Request) (came : Result Answer AskFault) → AskCall k a b number request came → P a → P b) → P a → P b
     talked_keeps P asked = chain_keeps (BookStep k) P (step_keeps P asked) a t.lines t.answers b t.chain
 
     -- its keeper is to be trusted behind it only where it was before
     pub talked_trusted : k.is_trusted b.keeper → k.is_trusted a.keeper
-    talked_trusted = talked_keeps (λ s. k.is_trusted s.keeper → k.is_trusted a.keeper) (λ c d number request came h was trusted. was (h.trusted trusted)) (λ trusted. trusted)
+    talked_trusted = talked_keeps (λ s. k.is_trusted s.keeper → k.is_trusted a.keeper) (λ c d number request came h was trusted. was (h.call.trusted trusted)) (λ trusted. trusted)
 
     -- what closes it is a line that is answered `store`
     pub talked_shut : a.closed ≡ false → b.closed ≡ true → (number : ℕ) × (request : Request) × WasAnswered t.lines t.answers (Ask number request) (Refused ask.Store) × IsLeftAt k b number request
@@ -117,4 +118,4 @@ module _ {K : Type 0} (k : Keeping K) where
 
     -- a stop leaves records of the same site
     pub talked_site : (meta : Meta) → (k.is_trusted a.keeper → k.is_of a.keeper meta) → k.is_trusted b.keeper → k.is_of b.keeper meta
-    talked_site meta = talked_keeps (λ s. k.is_trusted s.keeper → k.is_of s.keeper meta) (λ c d number request came h was trusted. h.site trusted meta (was (h.trusted trusted)))
+    talked_site meta = talked_keeps (λ s. k.is_trusted s.keeper → k.is_of s.keeper meta) (λ c d number request came h was trusted. h.call.site trusted meta (was (h.call.trusted trusted)))

@@ -9,6 +9,16 @@ use Rattle.session_server.specs.Mesh.{each_with, rows_of, AreInTurn}
 pub mapped_push : {A B : Type 0} (f : A → B) (xs ys : List A) (y : A) → xs ≡ ys ++ y ∷ [] → map f xs ≡ map f ys ++ f y ∷ []
 mapped_push f xs ys y e = ap (map f) e ∙ map-append f ys (y ∷ [])
 
+associative : {X : Type 0} (xs ys zs : List X) → (xs ++ ys) ++ zs ≡ xs ++ (ys ++ zs)
+associative [] ys zs = refl
+associative (x ∷ xs) ys zs = ap (λ t. x ∷ t) (associative xs ys zs)
+
+-- one more on both sides, where what came is told of what went in
+pub mapped_more : {A B X : Type 0} (f : A → X) (g : B → X) (old mid new : List A) (xs ys : List B) (a : A) (b : B) → new ≡ mid ++ a ∷ [] → ys ≡ xs ++ b ∷ [] → f a ≡ g b → map f mid ≡ map f old ++ map g xs
+    → map f new ≡ map f old ++ map g ys
+mapped_more f g old mid new xs ys a b p q same h =
+    mapped_push f new mid a p ∙ (λ k. h k ++ same k ∷ []) ∙ associative (map f old) (map g xs) (g b ∷ []) ∙ ap (λ l. map f old ++ l) (sym (mapped_push g ys xs b q))
+
 pub mapped_at : {A B : Type 0} (f : A → B) (xs : List A) (k : ℕ) (x : A) (d : B) → k < length xs → x ≡ get_or xs k x → f x ≡ get_or (map f xs) k d
 mapped_at f [] k x d lt e = absurd (omega (arith, lt))
 mapped_at f (y ∷ xs) zero x d lt e = ap f e

@@ -1,5 +1,5 @@
 -- What an exchange leaves of the links to a peer. (That a replica acknowledges what it joined: JPDC 2018; the links: our own.)
-use Rattle.std.specs.Prelude.{◌≡◌, ℕ, ◌+◌, ◌≤◌, All, List, [], ◌∷◌, ◌++◌, length, Some, Ok, Err, ◌⊎◌}
+use Rattle.std.specs.Prelude.{◌≡◌, ℕ, ◌+◌, ◌≤◌, false, All, List, [], ◌∷◌, ◌++◌, length, Some, Ok, Err, ◌⊎◌}
 use Rattle.std.specs.List.{AllZip}
 use Rattle.book_core.specs.declared.entry.Entry.{Entry}
 use Rattle.book_core.specs.Decision.{Office}
@@ -85,7 +85,7 @@ pub record Exchanged (Holds Refuses : Message → Type 0) (Gives : ℕ → Messa
 
 -- what goes to a peer, and what comes from it
 abbrev pub outgoing : Peer → Outgoing
-outgoing peer = record { to = peer.to; tx = peer.delta_tx }
+outgoing peer = record { to = peer.to; tx = peer.delta_tx; is_gone = false }
 
 abbrev pub incoming : Peer → Incoming
 incoming peer = record { delta_rx = peer.delta_rx; ack_tx = peer.ack_tx; ack_rx = peer.ack_rx }

@@ -1,6 +1,7 @@
 //! The book of a site as what answers a session.
 
 ghost use Rattle.std.specs.Prelude.{◌≡◌};
+ghost use Rattle.site_desk.specs.Calls.{keeping};
 ghost use Rattle.session_server.specs.BookStep.{AnswersAsk, answered_of, look_answer, not_shown, shown_left, shown_totals};
 
 use crate::answerer::Answerer;
@@ -47,7 +48,8 @@ impl<K: Keeper> AtBook<K> {
     }
 
     fn ask(&mut self, number: RequestNumber, request: &Request) -> Answered
-        ensures { AnswersAsk (record { failed = K.failed; is_trusted = K.is_trusted; kept = K.kept; may_leave = K.may_leave; is_of = K.is_of }) self.old self.new number request.now result }
+        ensures { AnswersAsk (keeping K.failed K.is_trusted K.kept K.may_leave K.is_of)
+            self.old self.new number request.now result }
     {
         let came = self.book.ask(self.alloc, number, request);
         answered_of(came)
@@ -73,9 +75,10 @@ impl<K: Keeper> AtBook<K> {
 }
 
 impl<K: Keeper> Answerer for AtBook<K> {
+    ghost use Rattle.site_desk.specs.Calls.{keeping};
     ghost use Rattle.session_server.specs.BookStep.{BookStep};
 
-    ghost step = { BookStep (record { failed = K.failed; is_trusted = K.is_trusted; kept = K.kept; may_leave = K.may_leave; is_of = K.is_of }) };
+    ghost step = { BookStep (keeping K.failed K.is_trusted K.kept K.may_leave K.is_of) };
 
     fn answer<T: Wait>(&mut self, _rt: &T, line: &Line) -> Answered {
         match line {

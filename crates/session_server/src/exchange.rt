@@ -94,7 +94,11 @@ fn split(mut peers: Vec<Peer>, outs: &mut Vec<Outgoing>, ins: &mut Vec<Incoming>
         return;
     };
     split(peers, outs, ins);
-    outs.push_reserved(Outgoing { to, tx: delta_tx });
+    outs.push_reserved(Outgoing {
+        to,
+        tx: delta_tx,
+        is_gone: false,
+    });
     ins.push_reserved(Incoming {
         delta_rx,
         ack_tx,

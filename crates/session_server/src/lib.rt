@@ -1,4 +1,15 @@
 //! Sessions: lines in, reply lines out, one by one or each in a thread of its own; and sites that run at once.
+//!
+//! `talk` answers the lines of a reader by an `Answerer`: `AtBook` (the book of a site) or `AtDesk` (a seat at a
+//! desk). `serve_all` gives each session a thread. `exchange_all` sends and receives over links. `run_all` runs
+//! several sites, each with its sessions and its links to all others. `listen` takes connections of this machine.
+//!
+//! Guaranteed: what a session's writer gets is exactly the reply lines of the answers, in order, up to a failed write,
+//! and a session in a thread has one receipt or look for each line that was answered with one. Of each link what was
+//! got is a prefix of what was put, and each site's book extends the history that was handed in. Who answers whom
+//! first, and that a call which waits returns, is not proved.
+//!
+//! Lemmas for callers: `Books`, `Sessions`, `Sites`.
 #![tactic(auto)]
 
 mod answerer;

@@ -11,11 +11,12 @@ use std::snapshot::Snapshot;
 use std::sync::Wait;
 use std::thread::Promise;
 
-// What goes to a peer.
+// What goes to a peer. Once its receiver is gone nothing more is made for it.
 #[derive(Drop)]
 pub(crate) struct Outgoing {
     pub(crate) to: SiteId,
     pub(crate) tx: Tx,
+    pub(crate) is_gone: bool,
 }
 
 #[derive(Drop)]
@@ -76,12 +77,15 @@ fn send_round<S: Replica, R: Wait>(rt: &R, replica: &S, outs: &mut Vec<Outgoing>
     }
 }
 
-// Sends what is next for one peer. A message that comes back is due again in the next round.
+// Sends what is next for one peer, unless its receiver is gone. A message that comes back stays due.
 fn send_next<S: Replica, R: Wait>(rt: &R, replica: &S, out: &mut Outgoing)
     ensures { SentMore S.gives 1 out.old out.new }
 {
+    if out.is_gone {
+        return;
+    }
     if let Some(message) = replica.next(rt, out.to) {
-        let _ = out.tx.send(rt, message);
+        out.is_gone = out.tx.send(rt, message).is_err();
     }
 }
 
@@ -92,7 +96,7 @@ fn end_from<R: Wait>(rt: &R, mut outs: Vec<Outgoing>, ends: &mut Vec<OutgoingEnd
     ensures ended { AllZip IsEndOf outs.items ends.new.items }
     ensures room { (vec_len ends.new ≡ vec_len outs) × (vec_capacity ends.new ≡ vec_capacity ends.old) }
 {
-    let Some(Outgoing { to, tx }) = outs.pop() else {
+    let Some(Outgoing { to, tx, is_gone: _ }) = outs.pop() else {
         return;
     };
     end_from(rt, outs, ends);

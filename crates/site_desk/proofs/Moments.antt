@@ -29,11 +29,13 @@ use Rattle.site_desk.specs.declared.fault.LookFault.TheVariants as look_fault
 use Rattle.site_desk.specs.declared.fault.NextFault.{NextFault}
 use Rattle.site_desk.specs.declared.fault.NextFault.TheVariants as next_fault
 use Rattle.site_desk.specs.declared.receipt.Receipt.{Receipt}
-use Rattle.site_desk.specs.Answers.{IsAnswer, IsAskFault, IsSeenAt, IsTaken, IsTakeFault, is_peer}
-use Rattle.site_desk.specs.Finish.{StandsIn}
+use Rattle.site_desk.specs.Answers.{IsAnswer, IsAskFault, IsTaken, IsTakeFault, is_peer}
+use Rattle.site_desk.specs.Looks.{IsSeenAt}
+use Rattle.site_desk.specs.Calls.{AskCall, Keeping, TakeCall, answer_in}
+use Rattle.site_desk.specs.Finish.{StandsIn, receipt_of}
 use Rattle.site_desk.specs.Moments.{AtOneMoment, HasDelta, HoldsDelta, HoldsReceipt, IsAtDesk, Looks, Replies, Sends, Takes}
 use Rattle.site_desk.specs.SiteView.{SiteView, decision_in, entry_in, site_of, verdict_in}
-use Rattle.site_desk.proofs.Receipts.{receipt_of, stands_then}
+use Rattle.site_desk.proofs.Receipts.{stands_then}
 use Rattle.site_desk.proofs.Sent.{none_sent}
 
 apart : {T E : Type 0} (x : T) (e : E) → ◌≡◌ {A = Result T E} (Ok x) (Err e) → ⊥
@@ -67,17 +69,15 @@ take_failed closed verdict Wants before after take_fault.Memory is = is
 take_failed closed verdict Wants before after take_fault.Closed is = is
 take_failed closed verdict Wants before after take_fault.Store is = (is.0, is.1, is.2, refl)
 
-pub replies : {K : Type 0} (failed : K → ℕ) (s : SiteView K) (number : ℕ) (request : Request) (after : ℕ) (result : Result (Answer × Receipt) AskFault)
-    → ((result ≡ Err ask_fault.Closed) ↔ (s.closed ≡ true)) → IfOk result (λ r. IsAnswer (decision_in s.book number request) (length s.book.history) r.0)
-    → IfErr result (IsAskFault s.closed (decision_in s.book number request) (failed s.keeper) after) → Replies failed number request result s
-replies failed s number request after (Ok given) closed answer fault = (open_if_ok given ask_fault.Closed s.closed closed, answer)
-replies failed s number request after (Err refused) closed answer fault = ask_failed s.closed (decision_in s.book number request) (failed s.keeper) after refused fault
+pub replies : {K : Type 0} {k : Keeping K} (old new : SiteView K) (number : ℕ) (request : Request) (result : Result (Answer × Receipt) AskFault)
+    → AskCall k old new number request (answer_in result) → Replies k.failed number request result old
+replies old new number request (Ok given) is = (open_if_ok given.0 ask_fault.Closed old.closed is.call.shut, is.answer)
+replies {K} {k} old new number request (Err refused) is = ask_failed old.closed (decision_in old.book number request) (k.failed old.keeper) (k.failed new.keeper) refused is.fault
 
-pub takes : {K : Type 0} (failed : K → ℕ) (s : SiteView K) (message : Message) (after : ℕ) (result : Result Taken TakeFault)
-    → ((result ≡ Err take_fault.Closed) ↔ (s.closed ≡ true)) → IfOk result (IsTaken (verdict_in s.book message) (ack_for message))
-    → IfErr result (IsTakeFault s.closed (verdict_in s.book message) (MayTake (verdict_in s.book message) (site_of s) message) (failed s.keeper) after) → Takes failed message result s
-takes failed s message after (Ok given) closed taken fault = (open_if_ok given take_fault.Closed s.closed closed, taken)
-takes failed s message after (Err refused) closed taken fault = take_failed s.closed (verdict_in s.book message) (MayTake (verdict_in s.book message) (site_of s) message) (failed s.keeper) after refused fault
+pub takes : {K : Type 0} {k : Keeping K} (old new : SiteView K) (message : Message) (result : Result Taken TakeFault) → TakeCall k old new message result → Takes k.failed message result old
+takes old new message (Ok given) is = (open_if_ok given take_fault.Closed old.closed is.call.shut, is.taken)
+takes {K} {k} old new message (Err refused) is =
+    take_failed old.closed (verdict_in old.book message) (MayTake (verdict_in old.book message) (site_of old) message) (k.failed old.keeper) (k.failed new.keeper) refused is.fault
 
 pub looks : {K : Type 0} (s : SiteView K) (event : List ℕ) (result : Result Seen LookFault)
     → ((result ≡ Err look_fault.Closed) ↔ (s.closed ≡ true)) → ((result ≡ Err look_fault.Unknown) ↔ ((s.closed ≡ false) × (knows (state_of s.book.history).names event ≡ false)))
@@ -141,32 +141,31 @@ still_open {T} {E} x fault old true is both = absurd (by_cause (both.0 refl))
     by_cause (inl shut) = let both : true ≡ false = sym shut ∙ is in cc
     by_cause (inr failed) = apart x fault failed
 
-pub held : {K : Type 0} {office : Office} {began : List Entry} {InStep : SiteView K → Type 0} (old new : SiteView K) (message : Message) (result : Result Taken TakeFault)
-    → ((result ≡ Err take_fault.Closed) ↔ (old.closed ≡ true)) → IfOk result (IsTaken (verdict_in old.book message) (ack_for message))
-    → OnOk result (site_of new ≡ site_after (verdict_in old.book message) message (site_of old)) → ((new.closed ≡ true) ↔ ((old.closed ≡ true) ⊎ (result ≡ Err take_fault.Store)))
-    → IsAtDesk office began InStep new → IfOk result (λ _. AtOneMoment office began InStep (HoldsDelta message))
-held old new message (Ok given) closed is changed closes stays = record {
-  site = new;
-  at_desk = stays;
-  holds = (still_open given take_fault.Store old.closed new.closed (open_if_ok given take_fault.Closed old.closed closed) closes, has_delta given old.book.office message (site_of old) (site_of new) is changed);
-}
-held old new message (Err fault) closed is changed closes stays = tt
-
--- what was answered stands in the book as it was then
-pub stands : {K : Type 0} {office : Office} {began : List Entry} {InStep : SiteView K → Type 0} (old new : SiteView K) (number : ℕ) (request : Request) (result : Result (Answer × Receipt) AskFault)
-    → ((result ≡ Err ask_fault.Closed) ↔ (old.closed ≡ true)) → IfOk result (λ r. IsAnswer (decision_in old.book number request) (length old.book.history) r.0)
-    → OnOk result (site_of new ≡ with_entry (entry_in old.book number request) (site_of old)) → IfOk result (λ r. r.1 ≡ receipt_of number request r.0)
-    → ((new.closed ≡ true) ↔ ((old.closed ≡ true) ⊎ (result ≡ Err ask_fault.Store))) → IsAtDesk office began InStep new
-    → IfOk result (λ r. AtOneMoment office began InStep (HoldsReceipt r.1))
-stands old new number request (Ok given) closed is entered receipt closes stays = record {
+pub held : {K : Type 0} {k : Keeping K} {office : Office} {began : List Entry} {InStep : SiteView K → Type 0} (old new : SiteView K) (message : Message) (result : Result Taken TakeFault)
+    → TakeCall k old new message result → IsAtDesk office began InStep new → IfOk result (λ _. AtOneMoment office began InStep (HoldsDelta message))
+held old new message (Ok given) is stays = record {
   site = new;
   at_desk = stays;
   holds = (
-    still_open given ask_fault.Store old.closed new.closed (open_if_ok given ask_fault.Closed old.closed closed) closes,
-    subst (StandsIn new.book.history) (sym receipt) (stands_then (decision_in old.book number request) old.book.office old.book.history new.book.history number request given.0 refl is (ap (λ (s : SitePart). s.history) entered)),
+    still_open given take_fault.Store old.closed new.closed (open_if_ok given take_fault.Closed old.closed is.call.shut) is.call.closes,
+    has_delta given old.book.office message (site_of old) (site_of new) is.taken is.call.made,
   );
 }
-stands old new number request (Err fault) closed is entered receipt closes stays = tt
+held old new message (Err fault) is stays = tt
+
+-- what was answered stands in the book as it was then
+pub stands : {K : Type 0} {k : Keeping K} {office : Office} {began : List Entry} {InStep : SiteView K → Type 0} (old new : SiteView K) (number : ℕ) (request : Request) (result : Result (Answer × Receipt) AskFault)
+    → AskCall k old new number request (answer_in result) → IfOk result (λ r. r.1 ≡ receipt_of number request r.0) → IsAtDesk office began InStep new
+    → IfOk result (λ r. AtOneMoment office began InStep (HoldsReceipt r.1))
+stands old new number request (Ok given) is receipt stays = record {
+  site = new;
+  at_desk = stays;
+  holds = (
+    still_open given.0 ask_fault.Store old.closed new.closed (open_if_ok given.0 ask_fault.Closed old.closed is.call.shut) is.call.closes,
+    subst (StandsIn new.book.history) (sym receipt) (stands_then (decision_in old.book number request) old.book.office old.book.history new.book.history number request given.0 refl is.answer (ap (λ (s : SitePart). s.history) is.call.made)),
+  );
+}
+stands old new number request (Err fault) is receipt stays = tt
 
 -- a store that failed has closed the book
 pub shut : {K T E : Type 0} {office : Office} {began : List Entry} {InStep : SiteView K → Type 0} (old new : SiteView K) (result : Result T E) (store : E)

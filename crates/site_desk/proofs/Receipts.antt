@@ -2,7 +2,7 @@
 use Rattle.std.proofs.Common.{◌≡◌, ℕ, suc, ◌+◌, Bool, true, false, cond, ◌&&◌, List, [], ◌∷◌, ◌++◌, length, Option, Some, None, slice_get, refl, sym, ap, subst, ◌∙◌, arith}
 use Rattle.std.specs.Prelude.{nat_eq}
 use Rattle.std.specs.Option.{option_eq}
-use Rattle.std.proofs.lemmas.Bool.{eqb-true}
+use Rattle.std.proofs.lemmas.Bool.{eqb-true, true≢false}
 use Rattle.rights_lattice.specs.State.{State}
 use Rattle.rights_lattice.specs.Cell.{same_event}
 use Rattle.rights_lattice.proofs.SpotLaws.{same_event_is}
@@ -20,7 +20,7 @@ use Rattle.site_exchange.specs.Taking.{extended}
 use Rattle.site_desk.specs.declared.answer.Answer.{Answer}
 use Rattle.site_desk.specs.declared.receipt.Receipt.{Receipt}
 use Rattle.site_desk.specs.Answers.{IsAnswer}
-use Rattle.site_desk.specs.Finish.{StandsIn}
+use Rattle.site_desk.specs.Finish.{StandsIn, receipt_of}
 
 both : (a b : Bool) → (a && b) ≡ true → (a ≡ true) × (b ≡ true)
 both true true is = (refl, refl)
@@ -43,7 +43,7 @@ is_request (Cede e t n) (Cede f u m) is =
     let w = both (same_event e f && nat_eq t u) (nat_eq n m) is in
     let v = both (same_event e f) (nat_eq t u) w.0 in
     λ i. Cede (same_event_is e f v.0 i) (eqb-true t u v.1 i) (eqb-true n m w.1 i)
-is_request _ _ is = cc
+is_request _ _ is = absurd (true≢false (sym is))
 
 -- the entry at this many places behind the first is what is kept under the number
 abbrev IsThere : ℕ → List Entry → ℕ → Kept → Type 0
@@ -65,9 +65,6 @@ there place [] number k is = cc
 there place (Joined peer delta ∷ h) number k is = behind place h (Joined peer delta) number k (there (place + 1) h number k is)
 there place (Grown sites ∷ h) number k is = behind place h (Grown sites) number k (there (place + 1) h number k is)
 there place (Asked n request reply delta ∷ h) number k is = there_if (nat_eq n number) place n request reply delta h number k refl is (there (place + 1) h number k)
-
-abbrev pub receipt_of : ℕ → Request → Answer → Receipt
-receipt_of number request a = record { number = number; request = request; reply = a.reply; place = a.place }
 
 -- a kept reply stands where it is kept
 stands_again : (history : List Entry) (number : ℕ) (request : Request) (k : Kept) (a : Answer) → kept history number ≡ Some k → same_request k.request request ≡ true

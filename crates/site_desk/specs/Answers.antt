@@ -1,14 +1,12 @@
 -- What a site's book answers over its keeper, and why it does not. (Our own.)
-use Rattle.std.specs.Prelude.{◌≡◌, ℕ, Bool, true, false, not, ◌&&◌, ◌==◌, nat_lt, List, take, Option, Some, None, IsSome}
-use Rattle.local_rights.specs.OpenSeats.{view_in}
+use Rattle.std.specs.Prelude.{◌≡◌, ℕ, Bool, true, false, not, ◌&&◌, ◌==◌, nat_lt, List, Option, Some, None, IsSome}
 use Rattle.book_core.specs.declared.entry.Entry.{Entry}
 use Rattle.book_core.specs.Decision as decided
 use Rattle.book_core.specs.declared.plan.GrowFault.{GrowFault}
 use Rattle.book_core.specs.declared.plan.GrowFault.TheVariants as grow_fault
-use Rattle.book_core.specs.Decision.{Decision, Office, own_left, sites_of}
+use Rattle.book_core.specs.Decision.{Decision, Office, sites_of}
 use Rattle.book_core.specs.Growing as grow
 use Rattle.book_core.specs.Growing.{GrowDecision}
-use Rattle.book_core.specs.History.{state_of}
 use Rattle.book_core.specs.Plans.{IsFresh}
 use Rattle.site_exchange.specs.declared.message.Message.{Message}
 use Rattle.site_exchange.specs.declared.message.TakeFault.{TakeFault}
@@ -16,13 +14,10 @@ use Rattle.site_exchange.specs.declared.message.TakeFault.TheVariants as take_fa
 use Rattle.site_exchange.specs.Exchange as exchange
 use Rattle.site_exchange.specs.Exchange.{Verdict}
 use Rattle.site_desk.specs.declared.answer.Answer.{Answer}
-use Rattle.site_desk.specs.declared.answer.Seen.{Seen}
 use Rattle.site_desk.specs.declared.answer.Taken.{Taken}
 use Rattle.site_desk.specs.declared.answer.Taken.TheVariants as taken
 use Rattle.site_desk.specs.declared.fault.AskFault.{AskFault}
 use Rattle.site_desk.specs.declared.fault.AskFault.TheVariants as ask_fault
-use Rattle.site_desk.specs.declared.fault.LookFault.{LookFault}
-use Rattle.site_desk.specs.declared.fault.LookFault.TheVariants as look_fault
 use Rattle.site_desk.specs.declared.fault.NextFault.{NextFault}
 use Rattle.site_desk.specs.declared.fault.NextFault.TheVariants as next_fault
 
@@ -69,11 +64,6 @@ IsGrowFault closed decision before after grow_fault.Full = (closed ≡ false) ×
 IsGrowFault closed decision before after grow_fault.Memory = (closed ≡ false) × (decision ≡ grow.Grows)
 IsGrowFault closed decision before after grow_fault.Store = (closed ≡ false) × (decision ≡ grow.Grows) × (before ≡ 0) × (after ≡ 1)
 
--- why a look shows nothing, of a book that is closed or not and an event that is known or not
-abbrev pub IsLookFault : Bool → Bool → LookFault → Type 0
-IsLookFault closed known look_fault.Closed = closed ≡ true
-IsLookFault closed known look_fault.Unknown = (closed ≡ false) × (known ≡ false)
-
 -- why no message is given to a site that is a peer or not, where this one is due
 abbrev pub IsNextFault : Bool → Bool → Option Message → NextFault → Type 0
 IsNextFault closed peer due next_fault.Closed = closed ≡ true
@@ -83,9 +73,3 @@ IsNextFault closed peer due next_fault.Memory = (closed ≡ false) × (peer ≡ 
 -- the site is another one of those that the book counts so far
 abbrev pub is_peer : Office → List Entry → ℕ → Bool
 is_peer office history to = nat_lt to (sites_of office history) && not (to == office.me)
-
--- what a look shows of an event, by the first entries of a history
-pub record IsSeenAt (office : Office) (history : List Entry) (asked : List ℕ) (seen : Seen) : Type 0 where
-  pub event : seen.event ≡ asked
-  pub left : seen.left ≡ own_left office (take seen.at history) asked
-  pub totals : seen.totals ≡ view_in (state_of (take seen.at history)).cells asked

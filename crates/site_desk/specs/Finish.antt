@@ -5,16 +5,22 @@ use Rattle.book_core.specs.declared.entry.Entry.{Entry}
 use Rattle.book_core.specs.declared.entry.Entry.TheVariants.{Asked}
 use Rattle.book_core.specs.Decision.{Office}
 use Rattle.book_core.specs.History.{state_of}
+use Rattle.request_ledger.specs.declared.request.Request.{Request}
+use Rattle.site_desk.specs.declared.answer.Answer.{Answer}
 use Rattle.site_desk.specs.declared.answer.Seen.{Seen}
 use Rattle.site_desk.specs.declared.finish.FinishFault.{FinishFault}
 use Rattle.site_desk.specs.declared.finish.FinishFault.TheVariants.{SeatsOut, Stranger, StrangerSeen}
 use Rattle.site_desk.specs.declared.receipt.Receipt.{Receipt}
-use Rattle.site_desk.specs.Answers.{IsSeenAt}
+use Rattle.site_desk.specs.Looks.{IsSeenAt}
 use Rattle.site_desk.specs.SiteView.{SiteView}
 
 -- the element at n is the first of which the fact does not hold
 abbrev pub FirstNot : {X : Type 0} → (X → Type 0) → List X → ℕ → Type 0
 FirstNot {X} P xs n = All P (take n xs) × ((x : X) × (slice_get xs n ≡ Some x) × ¬ P x)
+
+-- the receipt of an answer to a request under its number
+abbrev pub receipt_of : ℕ → Request → Answer → Receipt
+receipt_of number request answer = record { number = number; request = request; reply = answer.reply; place = answer.place }
 
 -- the entry at the receipt's place is its request, under its number and with its reply
 abbrev pub StandsIn : List Entry → Receipt → Type 0

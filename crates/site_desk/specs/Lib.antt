@@ -1,7 +1,11 @@
 pub mod Answers
+pub mod Calls
 pub mod Count
 pub mod EventCells
 pub mod Finish
+pub mod Looks
 pub mod Moments
 pub mod Seats
 pub mod SiteView
+pub mod Storing
+pub mod Walk

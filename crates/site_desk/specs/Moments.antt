@@ -19,7 +19,8 @@ use Rattle.site_desk.specs.declared.fault.AskFault.{AskFault}
 use Rattle.site_desk.specs.declared.fault.LookFault.{LookFault}
 use Rattle.site_desk.specs.declared.fault.NextFault.{NextFault}
 use Rattle.site_desk.specs.declared.receipt.Receipt.{Receipt}
-use Rattle.site_desk.specs.Answers.{IsAnswer, IsAskFault, IsLookFault, IsNextFault, IsSeenAt, IsTaken, IsTakeFault, is_peer}
+use Rattle.site_desk.specs.Answers.{IsAnswer, IsAskFault, IsNextFault, IsTaken, IsTakeFault, is_peer}
+use Rattle.site_desk.specs.Looks.{IsLookFault, IsSeenAt}
 use Rattle.site_desk.specs.Finish.{StandsIn}
 use Rattle.site_desk.specs.SiteView.{SiteView, decision_in, site_of, verdict_in}
 

@@ -1,10 +1,9 @@
 //! Requests at an open book.
-ghost use Rattle.std.specs.Prelude.{◌≡◌, ◌≢◌, false, true, length, IfOk, IfErr, OnOk, OnErr, Err};
+ghost use Rattle.std.specs.Prelude.{◌≡◌, ◌≢◌, false, length, IfOk, IfErr};
 ghost use Rattle.book_core.specs.OwnRow.{HasOwnRights};
-ghost use Rattle.site_exchange.specs.Taking.{extended};
-ghost use Rattle.sql_records.specs.Keeping.{Keeps, LeavesEither, LeavesOnly};
-ghost use Rattle.sql_records.specs.declared.meta.Meta.{Meta as Numbers};
 ghost use Rattle.site_desk.specs.Answers.{IsAnswer, IsAskFault};
+ghost use Rattle.site_desk.specs.Calls.{keeping};
+ghost use Rattle.site_desk.specs.Storing.{Enters, IsStoredBy};
 ghost use Rattle.site_desk.specs.SiteView.{decision_in, entry_in};
 
 use crate::answer::Answer;
@@ -23,24 +22,19 @@ pub(crate) fn answer<K: Keeper>(
     number: RequestNumber,
     request: &Request,
 ) -> Result<Answer, AskFault>
-    requires sound { K.failed keeper.old ≡ 0 }
-    requires same { K.is_trusted keeper.old → book.old.history ≡ K.kept keeper.old }
-    requires rests { K.is_trusted keeper.old → LeavesOnly book.old.history (K.may_leave keeper.old) }
-    ensures office { book.new.office ≡ book.old.office }
-    ensures answer { IfOk result (IsAnswer (decision_in book.old number request.now) (length book.old.history)) }
-    ensures entered { OnOk result (book.new.history ≡ extended (entry_in book.old number request.now) book.old.history) }
-    ensures fault { IfErr result (IsAskFault false (decision_in book.old number request.now) (K.failed keeper.old) (K.failed keeper.new)) }
-    ensures unchanged { OnErr result (book.new.history ≡ book.old.history) }
-    ensures untouched { IfErr result (λ fault. fault ≢ AskFault.Store → keeper.new ≡ keeper.old) }
-    ensures again { IfOk result (λ a. a.fresh ≡ false → keeper.new ≡ keeper.old) }
-    ensures still { IfOk result (λ a. a.fresh ≡ false → book.new ≡ book.old) }
-    ensures refused { IfErr result (λ fault. fault ≢ AskFault.Memory → fault ≢ AskFault.Store → book.new ≡ book.old) }
-    ensures sound { OnOk result (K.failed keeper.new ≡ 0) }
-    ensures kept { IfOk result (λ a. a.fresh ≡ true → K.is_trusted keeper.new → Keeps book.new.history (K.kept keeper.new) (K.may_leave keeper.new)) }
-    ensures rests { OnOk result (K.is_trusted keeper.new → LeavesOnly book.new.history (K.may_leave keeper.new)) }
-    ensures stopped { result ≡ Err AskFault.Store → K.is_trusted keeper.new → LeavesEither book.old.history (entry_in book.old number request.now) (K.may_leave keeper.new) }
-    ensures site { K.is_trusted keeper.new → (meta : Numbers) → K.is_of keeper.old meta → K.is_of keeper.new meta }
-    ensures trusted { K.is_trusted keeper.new → K.is_trusted keeper.old }
+    requires { IsStoredBy (keeping K.failed K.is_trusted K.kept K.may_leave K.is_of)
+        keeper.old book.old.history }
+    ensures enters { Enters (keeping K.failed K.is_trusted K.kept K.may_leave K.is_of)
+        book.old book.new keeper.old keeper.new
+        (entry_in book.old number request.now) AskFault.Store result }
+    ensures answer { IfOk result
+        (IsAnswer (decision_in book.old number request.now) (length book.old.history)) }
+    ensures fault { IfErr result (IsAskFault false (decision_in book.old number request.now)
+        (K.failed keeper.old) (K.failed keeper.new)) }
+    ensures again { IfOk result
+        (λ a. a.fresh ≡ false → (book.new ≡ book.old) × (keeper.new ≡ keeper.old)) }
+    ensures refused { IfErr result
+        (λ fault. fault ≢ AskFault.Memory → fault ≢ AskFault.Store → book.new ≡ book.old) }
     ensures has_rights { HasOwnRights book.new }
 {
     match book.plan(alloc, number, request) {

@@ -3,7 +3,7 @@ ghost use Rattle.std.specs.Prelude.{◌≡◌, ◌≢◌, ◌+◌, ◌<◌, ◌�
 ghost use Rattle.site_exchange.specs.Exchange.{ack_for, receiver};
 ghost use Rattle.site_desk.specs.Answers.{ack_of};
 ghost use Rattle.site_desk.specs.Count.{asked_since};
-ghost use Rattle.site_desk.specs.Finish.{FindsFirst, StandsIn, WasSeen, handed_back};
+ghost use Rattle.site_desk.specs.Finish.{FindsFirst, StandsIn, WasSeen, handed_back, receipt_of};
 ghost use Rattle.site_desk.specs.Moments.{AtOneMoment, HoldsDelta, HoldsReceipt, IsAtDesk, Looks, Replies, Sends, Takes};
 ghost use Rattle.site_desk.specs.Seats.{held, parts_of, shares_of};
 ghost use Rattle.site_desk.specs.SiteView.{SiteInStep, SiteView};
@@ -63,13 +63,18 @@ impl<K: Keeper, L: Opens> Desk<K, L> {
         number: RequestNumber,
         request: &Request,
     ) -> Result<(Answer, Receipt), AskFault>
-        ensures receipt { IfOk result (λ r. r.1 ≡ record { number = number; request = request.now; reply = r.0.reply; place = r.0.place }) }
-        ensures share { IfOk result (λ r. seat.new ≡ held seat.old.parts (if r.0.fresh then seat.old.count + 1 else seat.old.count)) }
+        ensures receipt { IfOk result (λ r. r.1 ≡ receipt_of number request.now r.0) }
+        ensures share { IfOk result (λ r. seat.new ≡ held seat.old.parts (if r.0.fresh then
+            seat.old.count + 1 else seat.old.count)) }
         ensures kept { OnErr result (seat.new ≡ seat.old) }
-        ensures place { IfOk result (λ r. r.0.fresh ≡ true → length L.began + seat.old.count ≤ r.0.place) }
-        ensures answered { AtOneMoment L.office L.began (SiteInStep K.failed K.is_trusted K.kept K.may_leave) (Replies K.failed number request.now result) }
-        ensures stands { IfOk result (λ r. AtOneMoment L.office L.began (SiteInStep K.failed K.is_trusted K.kept K.may_leave) (HoldsReceipt r.1)) }
-        ensures shut { result ≡ Err AskFault.Store → AtOneMoment L.office L.began (SiteInStep K.failed K.is_trusted K.kept K.may_leave) (λ (s : SiteView K). s.closed ≡ true) }
+        ensures place { IfOk result (λ r. r.0.fresh ≡ true → length L.began + seat.old.count ≤
+            r.0.place) }
+        ensures answered { AtOneMoment L.office L.began (SiteInStep K.failed K.is_trusted K.kept
+            K.may_leave) (Replies K.failed number request.now result) }
+        ensures stands { IfOk result (λ r. AtOneMoment L.office L.began (SiteInStep K.failed
+            K.is_trusted K.kept K.may_leave) (HoldsReceipt r.1)) }
+        ensures shut { result ≡ Err AskFault.Store → AtOneMoment L.office L.began (SiteInStep
+            K.failed K.is_trusted K.kept K.may_leave) (λ (s : SiteView K). s.closed ≡ true) }
     {
         let mut locked = self.lock.lock(rt);
         let site = locked.site();
@@ -84,7 +89,8 @@ impl<K: Keeper, L: Opens> Desk<K, L> {
     pub fn look<R: Wait>(&self, rt: &R, seat: &Seat<L>, event: Event) -> Result<Seen, LookFault>
         ensures event { IfOk result (λ seen. seen.event ≡ event) }
         ensures at { IfOk result (λ seen. length L.began + seat.now.count ≤ seen.at) }
-        ensures seen { AtOneMoment L.office L.began (SiteInStep K.failed K.is_trusted K.kept K.may_leave) (Looks event result) }
+        ensures seen { AtOneMoment L.office L.began (SiteInStep K.failed K.is_trusted K.kept
+            K.may_leave) (Looks event result) }
     {
         for _ in rt.forever() {
             let locked = self.lock.lock(rt);
@@ -101,9 +107,12 @@ impl<K: Keeper, L: Opens> Desk<K, L> {
     #[tactic(auto, using(crate::proofs::Sent::ack_taken))]
     pub fn take<R: Wait>(&self, rt: &R, message: Message) -> Result<Taken, TakeFault>
         ensures ack { IfOk result (λ taken. ack_of taken ≡ ack_for message) }
-        ensures taken { AtOneMoment L.office L.began (SiteInStep K.failed K.is_trusted K.kept K.may_leave) (Takes K.failed message result) }
-        ensures held { IfOk result (λ _. AtOneMoment L.office L.began (SiteInStep K.failed K.is_trusted K.kept K.may_leave) (HoldsDelta message)) }
-        ensures shut { result ≡ Err TakeFault.Store → AtOneMoment L.office L.began (SiteInStep K.failed K.is_trusted K.kept K.may_leave) (λ (s : SiteView K). s.closed ≡ true) }
+        ensures taken { AtOneMoment L.office L.began (SiteInStep K.failed K.is_trusted K.kept
+            K.may_leave) (Takes K.failed message result) }
+        ensures held { IfOk result (λ _. AtOneMoment L.office L.began (SiteInStep K.failed
+            K.is_trusted K.kept K.may_leave) (HoldsDelta message)) }
+        ensures shut { result ≡ Err TakeFault.Store → AtOneMoment L.office L.began (SiteInStep
+            K.failed K.is_trusted K.kept K.may_leave) (λ (s : SiteView K). s.closed ≡ true) }
     {
         self.lock.lock(rt).take(message)
     }
@@ -117,7 +126,8 @@ impl<K: Keeper, L: Opens> Desk<K, L> {
         to: SiteId,
     ) -> Result<Option<Message>, NextFault>
         ensures to { IfOk result (λ message. IfSome message (λ m. receiver m ≡ to)) }
-        ensures due { AtOneMoment L.office L.began (SiteInStep K.failed K.is_trusted K.kept K.may_leave) (Sends to result) }
+        ensures due { AtOneMoment L.office L.began (SiteInStep K.failed K.is_trusted K.kept
+            K.may_leave) (Sends to result) }
     {
         self.lock.lock(rt).next(alloc, to)
     }
@@ -136,15 +146,19 @@ impl<K: Keeper, L: Opens> Desk<K, L> {
         receipts: &[Receipt],
         looks: &[Seen],
     ) -> Result<SiteBook<K>, (SiteBook<K>, FinishFault)>
-        ensures counted { IfOk result (λ book. shares_of seats.items ≡ asked_since (length L.began) book.book.history) }
+        ensures counted { IfOk result (λ book. shares_of seats.items ≡ asked_since (length L.began)
+            book.book.history) }
         ensures receipts { IfOk result (λ book. All (StandsIn book.book.history) receipts.now) }
-        ensures looks { IfOk result (λ book. All (WasSeen book.book.office book.book.history) looks.now) }
-        ensures fault { IfErr result (λ e. FindsFirst e.0.book.office e.0.book.history
-            (asked_since (length L.began) e.0.book.history) (shares_of seats.items) receipts.now looks.now e.1) }
-        ensures whole { parts_of seats.items ≡ L.parts → IfErr result (λ e. e.1 ≢ FinishFault.SeatsOut) }
+        ensures looks { IfOk result (λ book. All (WasSeen book.book.office book.book.history)
+            looks.now) }
+        ensures fault { IfErr result (λ e. FindsFirst e.0.book.office e.0.book.history (asked_since
+            (length L.began) e.0.book.history) (shares_of seats.items) receipts.now looks.now e.1) }
+        ensures whole { parts_of seats.items ≡ L.parts → IfErr result (λ e. e.1 ≢
+            FinishFault.SeatsOut) }
 
         // What the book kept, whenever the lock was free.
-        ensures at_desk { IsAtDesk L.office L.began (SiteInStep K.failed K.is_trusted K.kept K.may_leave) (handed_back result) }
+        ensures at_desk { IsAtDesk L.office L.began (SiteInStep K.failed K.is_trusted K.kept
+            K.may_leave) (handed_back result) }
     {
         self.lock.into_inner().finish(seats, receipts, looks)
     }

@@ -1,19 +1,15 @@
 //! The cells of one event, without memory.
-ghost use Rattle.std.specs.Prelude.{◌≡◌, ℕ, List, length, take, ◌*◌, ◌<◌, ◌≤◌, ◌↔◌, max, true, if◌then◌else◌, IfSome, IsSome};
-ghost use Rattle.std.specs.List.{list_any};
+ghost use Rattle.std.specs.Prelude.{◌≡◌, ℕ, List, ◌*◌, ◌<◌, ◌≤◌, max, if◌then◌else◌};
 ghost use Rattle.rights_lattice.specs.declared.cell.Cell.{Cell as TheCell};
-ghost use Rattle.rights_lattice.specs.Cell.{same_cell, same_event};
+ghost use Rattle.rights_lattice.specs.Cell.{same_cell};
 ghost use Rattle.rights_lattice.specs.Cells.{Cells, greatest, greatest_value};
 ghost use Rattle.rights_lattice.specs.Limits.{site_numbers};
 ghost use Rattle.rights_lattice.specs.RightsView.{IsCellOf};
 ghost use Rattle.rights_lattice.specs.Sums.{max_sites};
-ghost use Rattle.rights_lattice.specs.State.{knows};
-ghost use Rattle.book_core.specs.History.{state_of};
 ghost use Rattle.local_rights.specs.OpenSeats.{is_position, view_in};
 ghost use Rattle.local_rights.specs.Rights.{gained, spent, left_of, released_in, sold_in, refunded_in};
 ghost use Rattle.site_desk.specs.EventCells.{offset_of, value_in_table, Shows};
 
-use book_core::Book;
 use local_rights::{Totals, ViewTotals};
 use rights_lattice::{Cell, Event, Mark, SITE_NUMBERS, SiteId};
 use std::marker::Model;
@@ -46,27 +42,10 @@ impl EventCells {
         EventCells { values: [0; CELLS] }
     }
 
-    /// The cells of an event by the first `at` entries of a history, and `None` where none of them names it.
-    pub fn by_first(book: &Book, at: usize, event: &Event) -> Option<EventCells>
-        requires { at ≤ length book.now.history }
-        ensures named { IsSome result ↔ (knows (state_of (take at book.now.history)).names event.now ≡ true) }
-        ensures cells { IfSome result (λ cells. Shows cells (state_of (take at book.now.history)).cells event.now) }
-    {
-        let mut cells = EventCells::new();
-        let mut is_named = false;
-        for place in 0..at {
-            if let Some(entry) = book.entry(place) {
-                let delta = entry.delta();
-                is_named |= has(delta.names(), event);
-                cells.raise_all(event, delta.marks());
-            }
-        }
-        if is_named { Some(cells) } else { None }
-    }
-
     /// Raises the cells of an event to the greatest value that the marks say.
     pub fn raise_all(&mut self, event: &Event, marks: &[Mark])
-        ensures { (cell : TheCell) → IsCellOf max_sites cell → value_in_table self.new cell ≡ max (value_in_table self.old cell) (greatest marks.now event.now cell) }
+        ensures { (cell : TheCell) → IsCellOf max_sites cell → value_in_table self.new cell ≡ max
+            (value_in_table self.old cell) (greatest marks.now event.now cell) }
     {
         for mark in marks {
             if mark.event == *event {
@@ -77,7 +56,8 @@ impl EventCells {
 
     /// The seats that the site may still sell.
     pub fn left(&self, me: SiteId) -> u64
-        ensures { (X : Cells) (event : List ℕ) → Shows self.now X event → result ≡ left_of X event me }
+        ensures { (X : Cells) (event : List ℕ) → Shows self.now X event → result ≡ left_of X event
+            me }
     {
         let (gained, spent) = self.gained_and_spent(me);
         gained.saturating_sub(spent)
@@ -108,7 +88,8 @@ impl EventCells {
 
     // Whether no site spent more than it gained.
     fn is_position(&self) -> bool
-        ensures { (X : Cells) (event : List ℕ) → Shows self.now X event → result ≡ is_position X event }
+        ensures { (X : Cells) (event : List ℕ) → Shows self.now X event → result ≡ is_position X
+            event }
     {
         for number in 0..SITE_NUMBERS as u64 {
             let (gained, spent) = self.gained_and_spent(site(number));
@@ -121,8 +102,10 @@ impl EventCells {
 
     // What the site released, got from other sites and took back, and what it gave to them and sold.
     fn gained_and_spent(&self, me: SiteId) -> (u64, u64)
-        ensures gained { (X : Cells) (event : List ℕ) → Shows self.now X event → result.0 ≡ gained X event me }
-        ensures spent { (X : Cells) (event : List ℕ) → Shows self.now X event → result.1 ≡ spent X event me }
+        ensures gained { (X : Cells) (event : List ℕ) → Shows self.now X event → result.0 ≡ gained X
+            event me }
+        ensures spent { (X : Cells) (event : List ℕ) → Shows self.now X event → result.1 ≡ spent X
+            event me }
     {
         let mut gained = self.get(&Cell::Gave { by: me, to: me });
         gained += self.get(&Cell::Back { by: me });
@@ -139,9 +122,12 @@ impl EventCells {
 
     // The seats that all sites released, sold and took back.
     fn totals(&self) -> Totals
-        ensures released { (X : Cells) (event : List ℕ) → Shows self.now X event → result.released ≡ released_in X event }
-        ensures sold { (X : Cells) (event : List ℕ) → Shows self.now X event → result.sold ≡ sold_in X event }
-        ensures refunded { (X : Cells) (event : List ℕ) → Shows self.now X event → result.refunded ≡ refunded_in X event }
+        ensures released { (X : Cells) (event : List ℕ) → Shows self.now X event → result.released ≡
+            released_in X event }
+        ensures sold { (X : Cells) (event : List ℕ) → Shows self.now X event → result.sold ≡ sold_in
+            X event }
+        ensures refunded { (X : Cells) (event : List ℕ) → Shows self.now X event → result.refunded ≡
+            refunded_in X event }
         ensures released_bound { result.released ≤ greatest_value * site_numbers }
         ensures refunded_bound { result.refunded ≤ greatest_value * site_numbers }
     {
@@ -171,19 +157,12 @@ impl EventCells {
 
     fn raise(&mut self, cell: &Cell, value: u64)
         requires { value ≤ greatest_value }
-        ensures { (other : TheCell) → IsCellOf max_sites other
-            → value_in_table self.new other ≡ max (value_in_table self.old other) (if same_cell other cell.now then value else 0) }
+        ensures { (other : TheCell) → IsCellOf max_sites other → value_in_table self.new other ≡ max
+            (value_in_table self.old other) (if same_cell other cell.now then value else 0) }
     {
         let place = offset(cell);
         self.values[place] = self.values[place].max(value);
     }
-}
-
-// Whether the event is among the names.
-fn has(names: &[Event], event: &Event) -> bool
-    ensures { result ≡ list_any (same_event event.now) names.now }
-{
-    names.iter().any(|name| event == name)
 }
 
 // Where the number of a cell is: row by row what each gave, then what each sold, then what came back.

@@ -2,11 +2,12 @@
 ghost use Rattle.std.specs.Prelude.{◌≡◌, ◌<◌, ◌^◌, ◌↔◌, All, IsTrue, MatchOption};
 ghost use Rattle.site_desk.specs.Finish.{FirstNot, StandsIn, WasSeen};
 ghost use Rattle.site_desk.specs.Seats.{parts_of, shares_of};
+ghost use Rattle.site_desk.specs.Walk.{IsWalked};
 
 use crate::answer::Seen;
-use crate::event_cells::EventCells;
 use crate::receipt::Receipt;
 use crate::seat::{Opens, Seat};
+use crate::walk::Walk;
 use book_core::{Book, Entry};
 use request_ledger::{Reply, Request};
 use std::sync::ledger::{Book as Tally, Share};
@@ -49,7 +50,8 @@ pub(crate) fn gather<L: Opens>(tally: &mut Tally<L>, nothing: Share<L>, seats: V
 
 // The first receipt that is not the entry that it names.
 pub(crate) fn first_stranger(book: &Book, receipts: &[Receipt]) -> Option<usize>
-    ensures { MatchOption result (All (StandsIn book.now.history) receipts.now) (λ k. FirstNot (StandsIn book.now.history) receipts.now k) }
+    ensures { MatchOption result (All (StandsIn book.now.history) receipts.now) (λ k. FirstNot
+        (StandsIn book.now.history) receipts.now k) }
 {
     for (at, receipt) in receipts.iter().enumerate() {
         if !stands_in(book, receipt) {
@@ -59,12 +61,18 @@ pub(crate) fn first_stranger(book: &Book, receipts: &[Receipt]) -> Option<usize>
     None
 }
 
-// The first look that does not show what the entries that it names say.
+// The first look that does not show what the entries that it names say. Each goes on from the entries of the one before
+// where it is of the same event and names no fewer.
 pub(crate) fn first_stranger_seen(book: &Book, looks: &[Seen]) -> Option<usize>
-    ensures { MatchOption result (All (WasSeen book.now.office book.now.history) looks.now) (λ k. FirstNot (WasSeen book.now.office book.now.history) looks.now k) }
+    ensures { MatchOption result (All (WasSeen book.now.office book.now.history) looks.now) (λ k.
+        FirstNot (WasSeen book.now.office book.now.history) looks.now k) }
 {
+    let Some(first) = looks.first() else {
+        return None;
+    };
+    let mut walk = Walk::new(first.event);
     for (at, seen) in looks.iter().enumerate() {
-        if !was_seen(book, seen) {
+        if !was_seen(book, &mut walk, seen) {
             return Some(at);
         }
     }
@@ -105,14 +113,17 @@ fn is_same_reply(reply: &Reply, other: &Reply) -> bool
 }
 
 // Whether the look shows what the first entries that it names say of its event.
-fn was_seen(book: &Book, seen: &Seen) -> bool
-    ensures { IsTrue result ↔ WasSeen book.now.office book.now.history seen.now }
+fn was_seen(book: &Book, walk: &mut Walk, seen: &Seen) -> bool
+    requires { IsWalked book.now.history walk.old }
+    ensures walked { IsWalked book.now.history walk.new }
+    ensures seen { IsTrue result ↔ WasSeen book.now.office book.now.history seen.now }
 {
     if seen.at > book.len() {
         return false;
     }
-    match EventCells::by_first(book, seen.at, &seen.event) {
-        Some(cells) => seen.left == cells.left(book.me()) && seen.totals == cells.view(),
-        None => false,
+    if walk.event != seen.event || walk.at > seen.at {
+        *walk = Walk::new(seen.event);
     }
+    walk.go_on(book, seen.at);
+    walk.is_named && seen.left == walk.cells.left(book.me()) && seen.totals == walk.cells.view()
 }

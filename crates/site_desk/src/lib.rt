@@ -1,8 +1,14 @@
 //! The book of a site with the keeper of its history, and the desk at which sessions share it.
 //!
-//! An entry is kept before it is entered. Where it is not known to be kept, the book is closed until it is started
-//! again from what the keeper holds. A desk has the book behind one lock; what a request, a message or a look is
-//! answered fits, by its contract, a book that may stand behind it.
+//! `SiteBook` stores an entry before it applies it: `ask` a request, `take` a message, `grow` a count of sites. Where
+//! an entry is not known to be stored the book is closed until it is started again from what the store holds. `Desk`
+//! is that book behind one `Mutex`, with a count of new entries in which each `Seat` has a share; `finish` gives the
+//! book back.
+//!
+//! Guaranteed: an open book's history is what its store holds, as far as that is trusted, and a crash leaves just
+//! that. A call at a desk is answered as some admissible book would: legal, of this site, extending the initial
+//! history, and consistent with its store; which one it was, no contract says. `finish` returns the first receipt or
+//! look that the history does not hold.
 #![tactic(auto)]
 
 mod answer;
@@ -19,6 +25,7 @@ mod receipt;
 mod seat;
 mod site_book;
 mod storing;
+mod walk;
 
 pub use answer::{Answer, Seen, Taken};
 pub use desk::Desk;

@@ -1,14 +1,15 @@
 //! What lies under a desk's lock.
-ghost use Rattle.std.specs.Prelude.{◌≡◌, ◌≢◌, ◌↔◌, ◌⊎◌, All, Err, IsSome, ◌+◌, ◌<◌, ◌≤◌, true, false, length, IsTrue, IfOk, IfErr, OnErr, OnOk, if◌then◌else◌};
+ghost use Rattle.std.specs.Prelude.{◌≡◌, ◌↔◌, All, Err, IsSome, ◌+◌, ◌<◌, ◌≤◌, true, false, length, IsTrue, IfOk, IfErr, OnErr, OnOk, if◌then◌else◌};
 ghost use Rattle.rights_lattice.specs.State.{knows};
 ghost use Rattle.book_core.specs.History.{state_of};
-ghost use Rattle.site_exchange.specs.Exchange.{ack_for, next};
-ghost use Rattle.site_exchange.specs.Taking.{MayTake, site_after, with_entry};
-ghost use Rattle.site_desk.specs.Answers.{IsAnswer, IsAskFault, IsSeenAt, IsTakeFault, IsTaken, is_peer};
-ghost use Rattle.site_desk.specs.SiteView.{SiteInStep, decision_in, entry_in, site_of, verdict_in};
+ghost use Rattle.site_exchange.specs.Exchange.{next};
+ghost use Rattle.site_desk.specs.Answers.{is_peer};
+ghost use Rattle.site_desk.specs.Looks.{IsSeenAt};
+ghost use Rattle.site_desk.specs.Calls.{AskCall, TakeCall, answer_in, keeping};
+ghost use Rattle.site_desk.specs.SiteView.{SiteInStep, site_of};
 ghost use Rattle.site_desk.specs.Count.{asked_since};
 ghost use Rattle.site_desk.specs.Moments.{IsAtDesk};
-ghost use Rattle.site_desk.specs.Finish.{FindsFirst, StandsIn, WasSeen, handed_back};
+ghost use Rattle.site_desk.specs.Finish.{FindsFirst, StandsIn, WasSeen, handed_back, receipt_of};
 ghost use Rattle.site_desk.specs.Seats.{held, parts_of, shares_of};
 
 use crate::answer::{Answer, Seen, Taken};
@@ -83,20 +84,18 @@ impl<K: Keeper, L: Opens> Locked<K, L> {
         number: RequestNumber,
         request: &Request,
     ) -> Result<(Answer, Receipt), AskFault>
-        ensures at_desk { IsAtDesk L.office L.began (SiteInStep K.failed K.is_trusted K.kept K.may_leave) self.old }
-        ensures stays { IsAtDesk L.office L.began (SiteInStep K.failed K.is_trusted K.kept K.may_leave) self.new }
-        ensures office { self.new.book.office ≡ self.old.book.office }
-        ensures answer { IfOk result (λ r. IsAnswer (decision_in self.old.book number request.now) (length self.old.book.history) r.0) }
-        ensures entered { OnOk result (site_of self.new ≡ with_entry (entry_in self.old.book number request.now) (site_of self.old)) }
-        ensures closed { (result ≡ Err AskFault.Closed) ↔ (self.old.closed ≡ true) }
-        ensures fault { IfErr result (IsAskFault self.old.closed (decision_in self.old.book number request.now) (K.failed self.old.keeper) (K.failed self.new.keeper)) }
-        ensures unchanged { OnErr result (site_of self.new ≡ site_of self.old) }
-        ensures untouched { IfErr result (λ fault. fault ≢ AskFault.Store → self.new.keeper ≡ self.old.keeper) }
-        ensures closes { (self.new.closed ≡ true) ↔ ((self.old.closed ≡ true) ⊎ (result ≡ Err AskFault.Store)) }
-        ensures receipt { IfOk result (λ r. r.1 ≡ record { number = number; request = request.now; reply = r.0.reply; place = r.0.place }) }
-        ensures share { IfOk result (λ r. seat.new ≡ held seat.old.parts (if r.0.fresh then seat.old.count + 1 else seat.old.count)) }
+        ensures at_desk { IsAtDesk L.office L.began
+            (SiteInStep K.failed K.is_trusted K.kept K.may_leave) self.old }
+        ensures stays { IsAtDesk L.office L.began
+            (SiteInStep K.failed K.is_trusted K.kept K.may_leave) self.new }
+        ensures asked { AskCall (keeping K.failed K.is_trusted K.kept K.may_leave K.is_of)
+            self.old self.new number request.now (answer_in result) }
+        ensures receipt { IfOk result (λ r. r.1 ≡ receipt_of number request.now r.0) }
+        ensures share { IfOk result (λ r. seat.new
+            ≡ held seat.old.parts (if r.0.fresh then seat.old.count + 1 else seat.old.count)) }
         ensures kept { OnErr result (seat.new ≡ seat.old) }
-        ensures place { IfOk result (λ r. r.0.fresh ≡ true → length L.began + seat.old.count ≤ r.0.place) }
+        ensures place { IfOk result
+            (λ r. r.0.fresh ≡ true → length L.began + seat.old.count ≤ r.0.place) }
     {
         // What the book says of its history, before and after.
         let _before = self.book.book();
@@ -130,7 +129,8 @@ impl<K: Keeper, L: Opens> Locked<K, L> {
     /// Whether the history has so many requests that were newly entered.
     #[tactic(auto, using(crate::proofs::Growth::asked_since_below))]
     pub fn shows(&self, count: u64) -> bool
-        ensures counted { IsTrue result ↔ (count ≤ asked_since (length L.began) self.now.book.history) }
+        ensures counted { IsTrue result ↔ (count ≤ asked_since (length L.began)
+            self.now.book.history) }
         ensures within { IsTrue result → length L.began + count ≤ length self.now.book.history }
     {
         count <= self.total
@@ -138,11 +138,13 @@ impl<K: Keeper, L: Opens> Locked<K, L> {
 
     /// What the history shows of an event that it knows.
     pub fn look(&self, event: Event) -> Result<Seen, LookFault>
-        ensures at_desk { IsAtDesk L.office L.began (SiteInStep K.failed K.is_trusted K.kept K.may_leave) self.now }
+        ensures at_desk { IsAtDesk L.office L.began (SiteInStep K.failed K.is_trusted K.kept
+            K.may_leave) self.now }
         ensures seen { IfOk result (IsSeenAt self.now.book.office self.now.book.history event) }
         ensures at { IfOk result (λ seen. seen.at ≡ length self.now.book.history) }
         ensures closed { (result ≡ Err LookFault.Closed) ↔ (self.now.closed ≡ true) }
-        ensures unknown { (result ≡ Err LookFault.Unknown) ↔ ((self.now.closed ≡ false) × (knows (state_of self.now.book.history).names event ≡ false)) }
+        ensures unknown { (result ≡ Err LookFault.Unknown) ↔ ((self.now.closed ≡ false) × (knows
+            (state_of self.now.book.history).names event ≡ false)) }
     {
         // What the book says of its history.
         let _book = self.book.book();
@@ -151,17 +153,12 @@ impl<K: Keeper, L: Opens> Locked<K, L> {
 
     /// Takes a peer's message.
     pub fn take(&mut self, message: Message) -> Result<Taken, TakeFault>
-        ensures at_desk { IsAtDesk L.office L.began (SiteInStep K.failed K.is_trusted K.kept K.may_leave) self.old }
-        ensures stays { IsAtDesk L.office L.began (SiteInStep K.failed K.is_trusted K.kept K.may_leave) self.new }
-        ensures office { self.new.book.office ≡ self.old.book.office }
-        ensures taken { IfOk result (IsTaken (verdict_in self.old.book message) (ack_for message)) }
-        ensures changed { OnOk result (site_of self.new ≡ site_after (verdict_in self.old.book message) message (site_of self.old)) }
-        ensures closed { (result ≡ Err TakeFault.Closed) ↔ (self.old.closed ≡ true) }
-        ensures fault { IfErr result (IsTakeFault self.old.closed (verdict_in self.old.book message)
-            (MayTake (verdict_in self.old.book message) (site_of self.old) message) (K.failed self.old.keeper) (K.failed self.new.keeper)) }
-        ensures unchanged { OnErr result (site_of self.new ≡ site_of self.old) }
-        ensures untouched { IfErr result (λ fault. fault ≢ TakeFault.Store → self.new.keeper ≡ self.old.keeper) }
-        ensures closes { (self.new.closed ≡ true) ↔ ((self.old.closed ≡ true) ⊎ (result ≡ Err TakeFault.Store)) }
+        ensures at_desk { IsAtDesk L.office L.began
+            (SiteInStep K.failed K.is_trusted K.kept K.may_leave) self.old }
+        ensures stays { IsAtDesk L.office L.began
+            (SiteInStep K.failed K.is_trusted K.kept K.may_leave) self.new }
+        ensures took { TakeCall (keeping K.failed K.is_trusted K.kept K.may_leave K.is_of)
+            self.old self.new message result }
     {
         // What the book says of its history, before and after.
         let _before = self.book.book();
@@ -172,11 +169,15 @@ impl<K: Keeper, L: Opens> Locked<K, L> {
 
     /// The message that is due to a peer.
     pub fn next(&mut self, alloc: Global, to: SiteId) -> Result<Option<Message>, NextFault>
-        ensures at_desk { IsAtDesk L.office L.began (SiteInStep K.failed K.is_trusted K.kept K.may_leave) self.old }
-        ensures message { IfOk result (λ message. message ≡ next self.old.book.office.me (site_of self.old) to) }
+        ensures at_desk { IsAtDesk L.office L.began (SiteInStep K.failed K.is_trusted K.kept
+            K.may_leave) self.old }
+        ensures message { IfOk result (λ message. message ≡ next self.old.book.office.me (site_of
+            self.old) to) }
         ensures closed { (result ≡ Err NextFault.Closed) ↔ (self.old.closed ≡ true) }
-        ensures no_site { (result ≡ Err NextFault.NoSite) ↔ ((self.old.closed ≡ false) × (is_peer self.old.book.office self.old.book.history to ≡ false)) }
-        ensures memory { result ≡ Err NextFault.Memory → IsSome (next self.old.book.office.me (site_of self.old) to) }
+        ensures no_site { (result ≡ Err NextFault.NoSite) ↔ ((self.old.closed ≡ false) × (is_peer
+            self.old.book.office self.old.book.history to ≡ false)) }
+        ensures memory { result ≡ Err NextFault.Memory → IsSome (next self.old.book.office.me
+            (site_of self.old) to) }
         ensures same { self.new ≡ self.old }
     {
         // What the book says of its history.
@@ -193,15 +194,19 @@ impl<K: Keeper, L: Opens> Locked<K, L> {
         looks: &[Seen],
     ) -> Result<SiteBook<K>, (SiteBook<K>, FinishFault)>
         ensures book { handed_back result ≡ self }
-        ensures counted { OnOk result (shares_of seats.items ≡ asked_since (length L.began) self.book.history) }
+        ensures counted { OnOk result (shares_of seats.items ≡ asked_since (length L.began)
+            self.book.history) }
         ensures receipts { OnOk result (All (StandsIn self.book.history) receipts.now) }
         ensures looks { OnOk result (All (WasSeen self.book.office self.book.history) looks.now) }
         ensures fault { IfErr result (λ e. FindsFirst self.book.office self.book.history
-            (asked_since (length L.began) self.book.history) (shares_of seats.items) receipts.now looks.now e.1) }
-        ensures whole { parts_of seats.items ≡ L.parts → shares_of seats.items ≡ asked_since (length L.began) self.book.history }
+            (asked_since (length L.began) self.book.history) (shares_of seats.items) receipts.now
+            looks.now e.1) }
+        ensures whole { parts_of seats.items ≡ L.parts → shares_of seats.items ≡ asked_since (length
+            L.began) self.book.history }
 
         // What the types of the book and its keeper keep.
-        ensures at_desk { IsAtDesk L.office L.began (SiteInStep K.failed K.is_trusted K.kept K.may_leave) self }
+        ensures at_desk { IsAtDesk L.office L.began (SiteInStep K.failed K.is_trusted K.kept
+            K.may_leave) self }
     {
         let Locked {
             book,

@@ -1,22 +1,22 @@
 //! The book of a site over its keeper.
-ghost use Rattle.std.specs.Prelude.{◌≡◌, ◌≢◌, ◌<◌, ◌⊎◌, ◌↔◌, ℕ, List, Err, true, false, length, IfOk, IfErr, IsSome, Some, OnOk, OnErr};
+ghost use Rattle.std.specs.Prelude.{◌≡◌, ◌<◌, ◌↔◌, ℕ, List, Err, true, false, length, IfOk, IfErr, IsSome, OnOk};
 ghost use Rattle.rights_lattice.specs.declared.cell.Cell.{Cell};
 ghost use Rattle.rights_lattice.specs.Cell.{owner_of};
 ghost use Rattle.rights_lattice.specs.State.{knows};
-ghost use Rattle.book_core.specs.declared.entry.Entry.TheVariants.{Grown};
 ghost use Rattle.book_core.specs.History.{state_of};
 ghost use Rattle.book_core.specs.Decision.{sites_of};
 ghost use Rattle.book_core.specs.OwnRow.{HasOwnRights, cell_in};
 ghost use Rattle.book_core.specs.Legal.{IsLegal};
 ghost use Rattle.book_core.specs.Replay.{IsReplayFault};
-ghost use Rattle.site_exchange.specs.Exchange.{Joins, NothingNew, ack_for, entry_of_take, next, zeros};
-ghost use Rattle.site_exchange.specs.Taking.{MayTake, site_after, with_entry};
-ghost use Rattle.sql_records.specs.Keeping.{Keeps, LeavesEither, LeavesOnly};
-ghost use Rattle.sql_records.specs.declared.meta.Meta.{Meta as Numbers};
+ghost use Rattle.site_exchange.specs.Exchange.{next};
+ghost use Rattle.sql_records.specs.Keeping.{LeavesOnly};
 ghost use Rattle.sql_records.specs.Layout.{office_of};
-ghost use Rattle.site_desk.specs.Answers.{IsAnswer, IsAskFault, IsGrowFault, IsSeenAt, IsTakeFault, IsTaken, is_peer};
+ghost use Rattle.site_desk.specs.Answers.{is_peer};
+ghost use Rattle.site_desk.specs.Looks.{IsSeenAt};
+ghost use Rattle.site_desk.specs.Calls.{AskCall, GrowCall, TakeCall, keeping};
+ghost use Rattle.site_desk.specs.Storing.{IsStarted};
 ghost use Rattle.site_desk.specs.Count.{HasOneMoreIf};
-ghost use Rattle.site_desk.specs.SiteView.{SiteInStep, decision_in, entry_in, grow_decision_in, growth_in, site_of, verdict_in};
+ghost use Rattle.site_desk.specs.SiteView.{SiteInStep, site_of};
 
 use crate::answer::{Answer, Seen, Taken};
 use crate::asking::answer;
@@ -71,14 +71,12 @@ impl<K: Keeper> SiteBook<K> {
         requires site { meta.me < meta.sites }
         requires sound { K.failed keeper ≡ 0 }
         requires kept { K.is_trusted keeper → entries.items ≡ K.kept keeper }
-        ensures open { IfOk result (λ s. s.closed ≡ false) }
-        ensures history { IfOk result (λ s. s.book.history ≡ entries.items) }
-        ensures office { IfOk result (λ s. s.book.office ≡ office_of meta) }
+        ensures started { IfOk result (IsStarted (keeping K.failed K.is_trusted K.kept K.may_leave
+            K.is_of) keeper entries.items meta) }
         ensures legal { IfOk result (λ s. IsLegal s.book.office s.book.history) }
-        ensures acknowledged { IfOk result (λ s. s.acked ≡ zeros) }
-        ensures keeper { IfOk result (λ s. s.keeper ≡ keeper) }
         ensures has_rights { IfOk result (λ s. HasOwnRights s.book) }
-        ensures fault { IfErr result (λ e. (e.0 ≡ keeper) × IsReplayFault (office_of meta) entries.items e.1) }
+        ensures fault { IfErr result
+            (λ e. (e.0 ≡ keeper) × IsReplayFault (office_of meta) entries.items e.1) }
     {
         // What the keeper says of a stop.
         let _none = keeper.failures();
@@ -115,8 +113,10 @@ impl<K: Keeper> SiteBook<K> {
     pub fn is_closed(&self) -> bool
         ensures closed { result ≡ self.now.closed }
         ensures sound { result ≡ false → K.failed self.now.keeper ≡ 0 }
-        ensures kept { result ≡ false → K.is_trusted self.now.keeper → self.now.book.history ≡ K.kept self.now.keeper }
-        ensures rests { result ≡ false → K.is_trusted self.now.keeper → LeavesOnly self.now.book.history (K.may_leave self.now.keeper) }
+        ensures kept { result ≡ false → K.is_trusted self.now.keeper → self.now.book.history ≡
+            K.kept self.now.keeper }
+        ensures rests { result ≡ false → K.is_trusted self.now.keeper → LeavesOnly
+            self.now.book.history (K.may_leave self.now.keeper) }
     {
         self.is_closed
     }
@@ -142,31 +142,12 @@ impl<K: Keeper> SiteBook<K> {
         number: RequestNumber,
         request: &Request,
     ) -> Result<Answer, AskFault>
-        ensures office { self.new.book.office ≡ self.old.book.office }
-        ensures sites { sites_of self.new.book.office self.new.book.history ≡ sites_of self.old.book.office self.old.book.history }
-        ensures answer { IfOk result (IsAnswer (decision_in self.old.book number request.now) (length self.old.book.history)) }
-        ensures entered { OnOk result (site_of self.new ≡ with_entry (entry_in self.old.book number request.now) (site_of self.old)) }
-        ensures grown { IfOk result (λ a. HasOneMoreIf a.fresh a.place self.old.book.history self.new.book.history) }
-
-        // When each error comes, and what it leaves.
-        ensures closed { (result ≡ Err AskFault.Closed) ↔ (self.old.closed ≡ true) }
-        ensures fault { IfErr result (IsAskFault self.old.closed (decision_in self.old.book number request.now) (K.failed self.old.keeper) (K.failed self.new.keeper)) }
-        ensures unchanged { OnErr result (site_of self.new ≡ site_of self.old) }
-        ensures untouched { IfErr result (λ fault. fault ≢ AskFault.Store → self.new.keeper ≡ self.old.keeper) }
-        ensures closes { (self.new.closed ≡ true) ↔ ((self.old.closed ≡ true) ⊎ (result ≡ Err AskFault.Store)) }
-        ensures still { IfOk result (λ a. a.fresh ≡ false → self.new ≡ self.old) }
-        ensures refused { IfErr result (λ fault. fault ≢ AskFault.Memory → fault ≢ AskFault.Store → self.new ≡ self.old) }
-
-        // What the keeper holds, and what a stop may leave of it.
-        ensures again { IfOk result (λ a. a.fresh ≡ false → self.new.keeper ≡ self.old.keeper) }
-        ensures kept { IfOk result (λ a. a.fresh ≡ true → K.is_trusted self.new.keeper → Keeps self.new.book.history (K.kept self.new.keeper) (K.may_leave self.new.keeper)) }
-        ensures stopped { result ≡ Err AskFault.Store → K.is_trusted self.new.keeper
-            → LeavesEither self.old.book.history (entry_in self.old.book number request.now) (K.may_leave self.new.keeper) }
-        ensures stored { self.new.closed ≡ false → K.is_trusted self.new.keeper → self.new.book.history ≡ K.kept self.new.keeper }
-        ensures rests { self.new.closed ≡ false → K.is_trusted self.new.keeper → LeavesOnly self.new.book.history (K.may_leave self.new.keeper) }
-        ensures site { K.is_trusted self.new.keeper → (meta : Numbers) → K.is_of self.old.keeper meta → K.is_of self.new.keeper meta }
-        ensures trusted { K.is_trusted self.new.keeper → K.is_trusted self.old.keeper }
-
+        ensures asked { AskCall (keeping K.failed K.is_trusted K.kept K.may_leave K.is_of)
+            self.old self.new number request.now result }
+        ensures grown { IfOk result
+            (λ a. HasOneMoreIf a.fresh a.place self.old.book.history self.new.book.history) }
+        ensures sites { sites_of self.new.book.office self.new.book.history
+            ≡ sites_of self.old.book.office self.old.book.history }
         ensures has_rights { HasOwnRights self.new.book }
     {
         if self.is_closed {
@@ -185,34 +166,12 @@ impl<K: Keeper> SiteBook<K> {
     /// was acknowledged.
     #[tactic(auto, using(crate::proofs::Growth::sites_taken))]
     pub fn take(&mut self, message: Message) -> Result<Taken, TakeFault>
-        ensures office { self.new.book.office ≡ self.old.book.office }
-        ensures sites { sites_of self.new.book.office self.new.book.history ≡ sites_of self.old.book.office self.old.book.history }
-        ensures taken { IfOk result (IsTaken (verdict_in self.old.book message) (ack_for message)) }
-        ensures changed { OnOk result (site_of self.new ≡ site_after (verdict_in self.old.book message) message (site_of self.old)) }
-
-        // When each error comes, and what it leaves.
-        ensures closed { (result ≡ Err TakeFault.Closed) ↔ (self.old.closed ≡ true) }
-        ensures fault { IfErr result (IsTakeFault self.old.closed (verdict_in self.old.book message)
-            (MayTake (verdict_in self.old.book message) (site_of self.old) message) (K.failed self.old.keeper) (K.failed self.new.keeper)) }
-        ensures unchanged { OnErr result (site_of self.new ≡ site_of self.old) }
-        ensures untouched { IfErr result (λ fault. fault ≢ TakeFault.Store → self.new.keeper ≡ self.old.keeper) }
-        ensures closes { (self.new.closed ≡ true) ↔ ((self.old.closed ≡ true) ⊎ (result ≡ Err TakeFault.Store)) }
-        ensures still { verdict_in self.old.book message ≢ Joins → self.new.book ≡ self.old.book }
-        ensures known { verdict_in self.old.book message ≡ NothingNew → self.new ≡ self.old }
-        ensures refused { IfErr result (λ fault. fault ≢ TakeFault.Memory → fault ≢ TakeFault.Store → self.new ≡ self.old) }
-
-        // What the keeper holds, and what a stop may leave of it.
-        ensures again { OnOk result (verdict_in self.old.book message ≢ Joins → self.new.keeper ≡ self.old.keeper) }
-        ensures kept { OnOk result (verdict_in self.old.book message ≡ Joins → K.is_trusted self.new.keeper
-            → Keeps self.new.book.history (K.kept self.new.keeper) (K.may_leave self.new.keeper)) }
-        ensures stopped { result ≡ Err TakeFault.Store → K.is_trusted self.new.keeper
-            → LeavesEither self.old.book.history (entry_of_take self.old.book.office self.old.book.history message) (K.may_leave self.new.keeper) }
-        ensures stored { self.new.closed ≡ false → K.is_trusted self.new.keeper → self.new.book.history ≡ K.kept self.new.keeper }
-        ensures rests { self.new.closed ≡ false → K.is_trusted self.new.keeper → LeavesOnly self.new.book.history (K.may_leave self.new.keeper) }
-        ensures site { K.is_trusted self.new.keeper → (meta : Numbers) → K.is_of self.old.keeper meta → K.is_of self.new.keeper meta }
-        ensures trusted { K.is_trusted self.new.keeper → K.is_trusted self.old.keeper }
-
-        ensures own_row { (event : List ℕ) (cell : Cell) → owner_of cell ≡ self.old.book.office.me → cell_in self.new.book event cell ≡ cell_in self.old.book event cell }
+        ensures took { TakeCall (keeping K.failed K.is_trusted K.kept K.may_leave K.is_of)
+            self.old self.new message result }
+        ensures sites { sites_of self.new.book.office self.new.book.history
+            ≡ sites_of self.old.book.office self.old.book.history }
+        ensures own_row { (event : List ℕ) (cell : Cell) → owner_of cell ≡ self.old.book.office.me
+            → cell_in self.new.book event cell ≡ cell_in self.old.book event cell }
         ensures has_rights { HasOwnRights self.new.book }
     {
         if self.is_closed {
@@ -247,29 +206,11 @@ impl<K: Keeper> SiteBook<K> {
     /// `NotMore` where the book is open and the count is not above the count so far. Other errors are as for a request;
     /// neither `NotMore` nor a full history wants memory.
     pub fn grow(&mut self, alloc: Global, sites: Sites) -> Result<(), GrowFault>
-        ensures office { self.new.book.office ≡ self.old.book.office }
-        ensures growth { OnOk result (growth_in self.old.book sites ≡ Some (Grown sites)) }
-        ensures entered { OnOk result (site_of self.new ≡ with_entry (growth_in self.old.book sites) (site_of self.old)) }
+        ensures grown { GrowCall (keeping K.failed K.is_trusted K.kept K.may_leave K.is_of)
+            self.old self.new sites result }
         ensures sites { OnOk result (sites_of self.new.book.office self.new.book.history ≡ sites) }
-
-        // When each error comes, and what it leaves.
-        ensures closed { (result ≡ Err GrowFault.Closed) ↔ (self.old.closed ≡ true) }
-        ensures fault { IfErr result (IsGrowFault self.old.closed (grow_decision_in self.old.book sites) (K.failed self.old.keeper) (K.failed self.new.keeper)) }
-        ensures unchanged { OnErr result (site_of self.new ≡ site_of self.old) }
-        ensures untouched { IfErr result (λ fault. fault ≢ GrowFault.Store → self.new.keeper ≡ self.old.keeper) }
-        ensures still { IfErr result (λ fault. fault ≢ GrowFault.Memory → fault ≢ GrowFault.Store → self.new ≡ self.old) }
-        ensures closes { (self.new.closed ≡ true) ↔ ((self.old.closed ≡ true) ⊎ (result ≡ Err GrowFault.Store)) }
-
-        // What the keeper holds, and what a stop may leave of it.
-        ensures kept { OnOk result (K.is_trusted self.new.keeper → Keeps self.new.book.history (K.kept self.new.keeper) (K.may_leave self.new.keeper)) }
-        ensures stopped { result ≡ Err GrowFault.Store → K.is_trusted self.new.keeper
-            → LeavesEither self.old.book.history (growth_in self.old.book sites) (K.may_leave self.new.keeper) }
-        ensures stored { self.new.closed ≡ false → K.is_trusted self.new.keeper → self.new.book.history ≡ K.kept self.new.keeper }
-        ensures rests { self.new.closed ≡ false → K.is_trusted self.new.keeper → LeavesOnly self.new.book.history (K.may_leave self.new.keeper) }
-        ensures site { K.is_trusted self.new.keeper → (meta : Numbers) → K.is_of self.old.keeper meta → K.is_of self.new.keeper meta }
-        ensures trusted { K.is_trusted self.new.keeper → K.is_trusted self.old.keeper }
-
-        ensures cells { (event : List ℕ) (cell : Cell) → cell_in self.new.book event cell ≡ cell_in self.old.book event cell }
+        ensures cells { (event : List ℕ) (cell : Cell)
+            → cell_in self.new.book event cell ≡ cell_in self.old.book event cell }
         ensures has_rights { HasOwnRights self.new.book }
     {
         if self.is_closed {
@@ -287,10 +228,13 @@ impl<K: Keeper> SiteBook<K> {
     /// `Closed` where the book is closed, and else `NoSite` where the site is not another one of those that it counts so
     /// far. No error changes the history, what was acknowledged or the keeper.
     pub fn next(&mut self, alloc: Global, to: SiteId) -> Result<Option<Message>, NextFault>
-        ensures message { IfOk result (λ message. message ≡ next self.old.book.office.me (site_of self.old) to) }
+        ensures message { IfOk result (λ message. message ≡ next self.old.book.office.me (site_of
+            self.old) to) }
         ensures closed { (result ≡ Err NextFault.Closed) ↔ (self.old.closed ≡ true) }
-        ensures no_site { (result ≡ Err NextFault.NoSite) ↔ ((self.old.closed ≡ false) × (is_peer self.old.book.office self.old.book.history to ≡ false)) }
-        ensures memory { result ≡ Err NextFault.Memory → IsSome (next self.old.book.office.me (site_of self.old) to) }
+        ensures no_site { (result ≡ Err NextFault.NoSite) ↔ ((self.old.closed ≡ false) × (is_peer
+            self.old.book.office self.old.book.history to ≡ false)) }
+        ensures memory { result ≡ Err NextFault.Memory → IsSome (next self.old.book.office.me
+            (site_of self.old) to) }
         ensures same { self.new ≡ self.old }
     {
         if self.is_closed {
@@ -309,7 +253,8 @@ impl<K: Keeper> SiteBook<K> {
         ensures seen { IfOk result (IsSeenAt self.now.book.office self.now.book.history event) }
         ensures at { IfOk result (λ seen. seen.at ≡ length self.now.book.history) }
         ensures closed { (result ≡ Err LookFault.Closed) ↔ (self.now.closed ≡ true) }
-        ensures unknown { (result ≡ Err LookFault.Unknown) ↔ ((self.now.closed ≡ false) × (knows (state_of self.now.book.history).names event ≡ false)) }
+        ensures unknown { (result ≡ Err LookFault.Unknown) ↔ ((self.now.closed ≡ false) × (knows
+            (state_of self.now.book.history).names event ≡ false)) }
     {
         if self.is_closed {
             return Err(LookFault::Closed);

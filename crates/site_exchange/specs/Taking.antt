@@ -49,3 +49,8 @@ restarted site = record { history = site.history; acked = zeros }
 -- the site stopped in the midst of an input and started anew, with the entry that the input adds where it was stored
 abbrev pub stopped_with : Option Entry → Bool → SitePart → SitePart
 stopped_with entry stored site = restarted (if stored then with_entry entry site else site)
+
+-- the messages with this one, if any, at their end
+abbrev pub with_given : List Message → Option Message → List Message
+with_given given None = given
+with_given given (Some message) = given ++ message ∷ []

@@ -1,10 +1,12 @@
 -- What an open finds of a database that a stop left.
-use Rattle.std.proofs.Common.{◌≡◌, inl, inr, ℕ, zero, suc, ◌+◌, ℤ, pos, List, [], ◌∷◌, map, Option, Some, None, IsSome, slice_get, drop, length, ◌<◌, ◌∙◌, refl, sym, ap, subst, arith}
+use Rattle.std.proofs.Common.{◌≡◌, inl, inr, Ok, Err, ℕ, zero, suc, ◌+◌, ℤ, pos, List, [], ◌∷◌, map, Option, Some, None, IsSome, slice_get, drop, length, ◌<◌, ◌∙◌, refl, sym, ap, subst, arith}
 use Rattle.sqlite_catalog.specs.Listing.{IsSound}
 use Rattle.sqlite_catalog.proofs.ReadLemmas.{lists_once}
 use Rattle.sqlite.specs.Order.{Row, column}
 use Rattle.sqlite.specs.Tree.{Trees}
+use Rattle.sqlite.specs.Held.{state}
 use Rattle.sqlite.specs.State.{State}
+use Rattle.sqlite.specs.Store.{Ghosts}
 use Rattle.sql_records.specs.declared.meta.Meta.{Meta}
 use Rattle.sql_records.specs.declared.version.Version.TheVariants.{Second}
 use Rattle.sql_records.specs.declared.fault.OpenFault.{OpenFault}
@@ -13,6 +15,8 @@ use Rattle.sql_records.specs.Layout.{IsOurs, HasMeta, HasOtherSchema}
 use Rattle.sql_records.specs.Rows.{shown, in_order, rows_below, rows_from_0, AreInOrder, AreWhole, IsEntryAt, IsDamagedAt}
 use Rattle.sql_records.specs.Held.{IsSiteIn, opened_in, rows_in}
 use Rattle.sql_records.specs.Opening.{IsOpenFault, IsOurFault, IsAfterStop}
+use Rattle.sql_records.specs.Restarting.{CrashesAreSurvived}
+use Rattle.sql_records.proofs.OpeningLemmas.{one_meta}
 use Rattle.sql_records.proofs.MetaLemmas.{same_row, same_int}
 use Rattle.sql_records.proofs.RowLemmas.{whole_from}
 use Rattle.sql_records.proofs.QueryLemmas.{order_whole}
@@ -68,3 +72,23 @@ module _ (old new : State) (meta : Meta) (site : IsSiteIn meta old.now.trees) (s
       let same = lists_once _ site.schema old.now.schema site.sound.lists sound.lists in
       absurd (foreign.0 (subst IsOurs same site.ours))
   after_stop fault (inr ours) = not_at_fault fault ours.1
+
+-- an open of what a crash may leave
+module _ {S : Type 0} (g : Ghosts S) where
+  pub crashes_are_survived : CrashesAreSurvived g
+  crashes_are_survived crashed again after (Ok found) h =
+      let db = (state g again).now.trees in
+      record {
+        found = record { db = db; left = h.left; site = h.opens.0; reads = h.opens.1 };
+        numbers = λ meta site. one_meta Second found.0 meta db h.opens.0.numbers (site db h.left).numbers;
+        entries = λ list only. let same : Some found.1 ≡ Some list = only.alone (Some found.1) (db, h.left, sym h.opens.1) in cc;
+        fault = λ meta site reads. tt;
+      }
+  crashes_are_survived crashed again after (Err fault) h =
+      let db = (state g again).now.trees in
+      record {
+        found = tt;
+        numbers = λ meta site. tt;
+        entries = λ list only. tt;
+        fault = λ meta site reads. after_stop (state g again) (state g after) meta (site db h.left) h.sound (reads _ (db, h.left, refl)) fault h.opens;
+      }

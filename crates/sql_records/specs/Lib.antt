@@ -7,5 +7,6 @@ pub mod Lookups
 pub mod Making
 pub mod Migrating
 pub mod Opening
+pub mod Restarting
 pub mod Rows
 pub mod Texts

@@ -1,7 +1,16 @@
 //! What a site's history is stored in.
 //!
-//! A keeper holds a list of entries that grows at its end. From the first call that fails on it is shut, and the history
-//! is opened again from what was stored.
+//! `Keeper` is the trait of a store: a list of entries that grows at its end by `append`. From the first call that
+//! fails it is shut, and only opening it again tells what was stored. `Records` is the store over a database, one row
+//! an entry, one transaction an append; `ListKeeper` is one in memory, for tests. `init`, `migrate`, `find` and `list`
+//! are functions of `Records` too.
+//!
+//! Guaranteed, while nothing else writes the store and it returns what was written (`is_trusted`): after an append
+//! that succeeded a crash leaves the list with the entry, after one that failed the list with or without it.
+//! `Records::open` returns the entries of the rows, or the first fault in a fixed order. `open_after_stop` opens what
+//! a crash leaves.
+//!
+//! Lemmas for callers: `OpeningLemmas`.
 #![tactic(auto)]
 
 mod columns;
@@ -9,6 +18,7 @@ mod creation;
 mod fault;
 mod inserting;
 mod keeper;
+pub mod laws;
 mod list_keeper;
 mod lookup;
 mod meta;

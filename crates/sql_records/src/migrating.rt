@@ -118,9 +118,9 @@ impl<S: Alter> Records<S> {
     /// entries are as they were.
     ///
     /// A stop leaves what was there, or the numbers under the new version and the rows of the entries; an error leaves what
-    /// was there to a connection that is still open. The tables are looked at first (`NotOurs`), then the version
-    /// (`OtherSchema`, `Nothing`), the numbers (`NotOurs`) and the entries (`Damaged`); `Memory` and `Disk` come at the call
-    /// that fails. So it is `Nothing` where the version is the second already, whatever else the records hold. `Disk` too
+    /// was there to a connection that is still open. Another version than 1 and 2 comes first, whatever the tables are
+    /// (`OtherSchema`); then tables that are not ours (`NotOurs`), version 2 (`Nothing`, whatever else the records hold),
+    /// the numbers (`NotOurs`) and the entries (`Damaged`). `Memory` and `Disk` come at the call that fails; `Disk` too
     /// where a transaction is open, which changes nothing.
     pub fn migrate(alloc: Global, conn: &mut Connection<S>) -> Result<(), MigrateFault>
         ensures busy { conn.old.in_transaction ≡ true → (result ≡ Err MigrateFault.Disk) × (conn.new ≡ conn.old) }

@@ -5,6 +5,7 @@ ghost use Rattle.sqlite.specs.Held.{state};
 ghost use Rattle.sql_records.specs.declared.meta.Meta.{Meta as Numbers};
 ghost use Rattle.sql_records.specs.Held.{IsAtRest, IsKeepFault, LeavesSite, MayLeaveIn, history_in, most};
 ghost use Rattle.sql_records.specs.Keeping.{LeavesWithOrWithout};
+ghost use Rattle.sql_records.specs.Layout.{meta_tree};
 
 use crate::columns::fits;
 use crate::fault::OpenFault;
@@ -74,6 +75,8 @@ fn store<S: Alter>(
     ensures named { result ≢ Err KeepFault.Shut }
     ensures site { HasCleanDisk (state S.Store conn.new) → (meta : Numbers)
         → LeavesSite (state S.Store conn.old) meta → LeavesSite (state S.Store conn.new) meta }
+    ensures meta { HasCleanDisk (state S.Store conn.new) → OnOk result
+        ((state S.Store conn.new).now.trees meta_tree ≡ (state S.Store conn.old).now.trees meta_tree) }
     ensures limit { conn.new.step_limit ≡ conn.old.step_limit }
     ensures clean { HasCleanDisk (state S.Store conn.new) → HasCleanDisk (state S.Store conn.old) }
 {
@@ -115,6 +118,8 @@ impl<S: Alter> Keeper for Records<S> {
         ensures shut { self.old.failures ≢ 0 → (result ≡ Err KeepFault.Shut) × (self.new ≡ self.old) }
         ensures cause { IfErr result (λ fault. IsTrusted S.Store self.new → IsKeepFault S.Store self.old self.new entry.now fault) }
         ensures site { IsTrusted S.Store self.new → (meta : Numbers) → IsOf S.Store self.old meta → IsOf S.Store self.new meta }
+        ensures numbers { OnOk result (IsTrusted S.Store self.new
+            → (state S.Store self.new.conn).now.trees meta_tree ≡ (state S.Store self.old.conn).now.trees meta_tree) }
         ensures limit { self.new.conn.step_limit ≡ self.old.conn.step_limit }
         ensures trusted { IsTrusted S.Store self.new → IsTrusted S.Store self.old }
     {

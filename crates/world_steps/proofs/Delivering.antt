@@ -16,7 +16,8 @@ use Rattle.world_steps.specs.declared.step.WorldFault.{WorldFault}
 use Rattle.world_steps.specs.Nodes.{site_of, limit_of, first_count_of, verdict_told}
 use Rattle.world_steps.specs.Outcomes.{outcome, delivered_as, taken_as, MayWantMemory}
 use Rattle.world_steps.specs.Reaching.{world_of, IsKept}
-use Rattle.world_steps.specs.World.{World, count, site_numbered, history_at, office_at, at_site, with_sent, judged, delivered, after}
+use Rattle.world_steps.specs.World.{World, count, site_numbered, history_at, office_at, at_site, judged, delivered, after}
+use Rattle.site_exchange.specs.Taking.{with_given}
 use Rattle.world_steps.proofs.Reached.{sound_in}
 use Rattle.world_steps.proofs.Sites.{at_place, found_at, made_at, length-sites}
 use Rattle.world_steps.proofs.Worlds.{IsSound}
@@ -92,7 +93,7 @@ pub deliver_gives : (nodes : List NodeView) (sent : List Message) (index i : ℕ
     → i ≡ receiver message → i < length nodes → old ≡ get_or nodes i old → new.book.office ≡ old.book.office
     → verdict_told taken ≡ verdict old.book.office old.book.history message
     → site_of new ≡ site_after (verdict old.book.office old.book.history message) message (site_of old)
-    → IsDelivered nodes sent (set nodes i new) (with_sent sent (ack_due (verdict_told taken) message)) index (taken_as (verdict_told taken) (length sent))
+    → IsDelivered nodes sent (set nodes i new) (with_given sent (ack_due (verdict_told taken) message)) index (taken_as (verdict_told taken) (length sent))
 deliver_gives nodes sent index i message old new taken kept sent_is to l is office taken_is changed =
     let w : World = world_of nodes sent in
     let here = at_place nodes sent i old kept l is in
@@ -100,16 +101,16 @@ deliver_gives nodes sent index i message old new taken kept sent_is to l is offi
     let told_is : verdict_told taken ≡ judged w message = taken_is ∙ verdict_is in
     let site_is : site_of new ≡ site_after (judged w message) message (site_numbered w i) =
     changed ∙ ap (λ v. site_after v message (site_of old)) verdict_is ∙ ap (λ (s : SitePart). site_after (judged w message) message s) (sym here.site) in
-    let after_is : after w (Deliver index) ≡ at_site (world_of nodes (with_sent sent (ack_due (verdict_told taken) message))) i (site_of new) =
+    let after_is : after w (Deliver index) ≡ at_site (world_of nodes (with_given sent (ack_due (verdict_told taken) message))) i (site_of new) =
     ap (delivered w) sent_is
     ∙ (λ k. record {
       limits = map limit_of nodes;
       counts = map first_count_of nodes;
       sites = set (map site_of nodes) (sym to k) (site_after (judged w message) message (site_numbered w (sym to k)));
-      sent = with_sent sent (ack_due (sym told_is k) message);
+      sent = with_given sent (ack_due (sym told_is k) message);
     })
-    ∙ ap (at_site (world_of nodes (with_sent sent (ack_due (verdict_told taken) message))) i) (sym site_is) in
-    let made = made_at nodes sent (with_sent sent (ack_due (verdict_told taken) message)) i old new (Deliver index) kept here.found office after_is in
+    ∙ ap (at_site (world_of nodes (with_given sent (ack_due (verdict_told taken) message))) i) (sym site_is) in
+    let made = made_at nodes sent (with_given sent (ack_due (verdict_told taken) message)) i old new (Deliver index) kept here.found office after_is in
     record {
       kept = made.kept;
       made = made.made;

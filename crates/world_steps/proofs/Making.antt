@@ -20,7 +20,8 @@ use Rattle.world_steps.specs.declared.step.WorldFault.TheVariants.{NoSite, NoMes
 use Rattle.world_steps.specs.Nodes.{site_of}
 use Rattle.world_steps.specs.Outcomes.{answered, outcome, delivered_as, IsDue, MayWantMemory, MayStore}
 use Rattle.world_steps.specs.Reaching.{world_of, IsKept}
-use Rattle.world_steps.specs.World.{World, count, site_numbered, history_at, office_at, count_at, at_site, are_peers, with_sent, sends, asks, entry_of_input, is_there, stopped_in, after, IsGrowth, IsReached}
+use Rattle.world_steps.specs.World.{World, count, site_numbered, history_at, office_at, count_at, at_site, are_peers, sends, asks, entry_of_input, is_there, stopped_in, after, IsGrowth, IsReached}
+use Rattle.site_exchange.specs.Taking.{with_given}
 use Rattle.world_steps.proofs.Reached.{reached_after, sound_in}
 use Rattle.world_steps.proofs.Widening.{input_adds_none}
 use Rattle.world_steps.proofs.Sites.{IsMade, at_place, made_at, same_world, kept_same, length-sites}
@@ -176,13 +177,13 @@ sent_made nodes sent sent_now step kept is = record {
 -- a message sent
 pub send_made : (nodes : List NodeView) (sent : List Message) (i j : ℕ) (old : NodeView) (due : Option Message) → IsKept nodes sent → i < length nodes → old ≡ get_or nodes i old
     → are_peers (world_of nodes sent) i j ≡ true
-    → due ≡ next old.book.office.me (site_of old) j → IsMade nodes sent nodes (with_sent sent due) (Send i j)
+    → due ≡ next old.book.office.me (site_of old) j → IsMade nodes sent nodes (with_given sent due) (Send i j)
 send_made nodes sent i j old due kept l is peers due_is =
     let w : World = world_of nodes sent in
     let here = at_place nodes sent i old kept l is in
     let same : due ≡ next i (site_numbered w i) j = due_is ∙ ap (λ (f : Office). next f.me (site_of old) j) (sym here.office) ∙ ap (λ (s : SitePart). next i s j) (sym here.site) in
-    sent_made nodes sent (with_sent sent due) (Send i j) kept
-    (ap (λ b. cond b (sends (next i (site_numbered w i) j) w) w) peers ∙ ap (λ (o : Option Message). world_of nodes (with_sent sent o)) (sym same))
+    sent_made nodes sent (with_given sent due) (Send i j) kept
+    (ap (λ b. cond b (sends (next i (site_numbered w i) j) w) w) peers ∙ ap (λ (o : Option Message). world_of nodes (with_given sent o)) (sym same))
 
 pub peers_in : (nodes : List NodeView) (sent : List Message) (w : World) (i by j : ℕ) → world_of nodes sent ≡ w → i ≡ by → true ≡ are_peers w by j → are_peers (world_of nodes sent) i j ≡ true
 peers_in nodes sent w i by j is here peers = (λ k. are_peers (is k) (here k) j) ∙ sym peers

@@ -6,17 +6,13 @@ use Rattle.local_rights.specs.declared.seat_totals.Totals.{Totals}
 use Rattle.book_core.specs.declared.entry.Entry.{Entry}
 use Rattle.book_core.specs.Decision.{sites_of}
 use Rattle.book_core.specs.Legal.{IsLegal}
-use Rattle.book_core.specs.Operations.{Operation, operations_below, outstanding, released, sold, refunded}
 use Rattle.book_core.specs.BookView.{BookView, SeesWithin}
+use Rattle.book_core.specs.Books.{history_among}
 use Rattle.world_steps.specs.World.{totals_below, events_below}
 
 -- the books that a slice refers to
 abbrev pub books_of : List (Bor BookView) → List BookView
 books_of books = map (λ book. book.now) books
-
--- the history of the k-th book, and none past the last
-abbrev pub history_among : List BookView → ℕ → List Entry
-history_among books k = get_or (map (λ book. book.history) books) k []
 
 -- the book is of site k, and counts no more sites than these so far
 pub record StandsAt (k sites : ℕ) (book : BookView) : Type 0 where
@@ -56,10 +52,6 @@ pub record IsFirstAhead (books : List BookView) (v o : ℕ) : Type 0 where
   pub above : IsFirstPassed books viewer o
   pub before : (w : ℕ) (other : BookView) → w < v → slice_get books w ≡ Some other → SeesNoneAbove books other
 
--- the accepted requests of all books
-abbrev pub operations_in : List BookView → List Operation
-operations_in books = operations_below (length books) (history_among books)
-
 -- what all books released, sold and took back of an event
 abbrev pub totals_in : List BookView → List ℕ → Totals
 totals_in books = totals_below (length books) (history_among books)
@@ -71,8 +63,3 @@ events_in books = events_below (length books) (history_among books)
 -- each of these names with its sums
 abbrev pub lines_in : List BookView → List (List ℕ × Totals)
 lines_in books = map (λ event. (event, totals_in books event)) (events_in books)
-
--- The tickets outstanding over all books never exceed the seats released, and no more is given back than was sold.
-abbrev pub AreNotOversold : List BookView → Type 0
-AreNotOversold books = (event : List ℕ)
-    → (outstanding event (operations_in books) ≤ released event (operations_in books)) × (refunded event (operations_in books) ≤ sold event (operations_in books))

@@ -18,7 +18,7 @@ use Rattle.book_core.specs.Decision.{Office, entry_of_ask, sites_of}
 use Rattle.book_core.specs.Growing.{entry_of_grow}
 use Rattle.book_core.specs.Operations.{Operation, operations_below, released, sold, refunded}
 use Rattle.site_exchange.specs.Exchange.{SitePart, zeros, Verdict, next, receiver, verdict, entry_of_take}
-use Rattle.site_exchange.specs.Taking.{with_entry, site_after, ack_due, restarted, stopped_with}
+use Rattle.site_exchange.specs.Taking.{with_entry, site_after, ack_due, restarted, stopped_with, with_given}
 
 -- the greatest length of each site's history, the count of sites with which it began, the sites, and all messages
 -- ever sent
@@ -92,13 +92,8 @@ widened_by (Some (Grown sites)) i w = widened sites (get_or w.limits i 0) w
 abbrev pub entered : Option Entry → ℕ → SitePart → World → World
 entered entry i site w = at_site (widened_by entry i w) i site
 
--- the list with this message, if any, at its end
-abbrev pub with_sent : List Message → Option Message → List Message
-with_sent sent None = sent
-with_sent sent (Some message) = sent ++ message ∷ []
-
 abbrev pub sends : Option Message → World → World
-sends message w = record w { sent = with_sent w.sent message }
+sends message w = record w { sent = with_given w.sent message }
 
 abbrev pub asks : World → ℕ → ℕ → Request → Option Entry
 asks w i number request = entry_of_ask (office_at w i) (history_at w i) number request

@@ -3,7 +3,8 @@ ghost use Rattle.std.specs.Prelude.{IfOk, IfErr, IfSome, OnOk, OnErr, IsSome, op
 ghost use Rattle.book_core.specs.Operations.{outstanding, released, sold, refunded};
 ghost use Rattle.site_exchange.specs.Exchange.{receiver};
 ghost use Rattle.site_exchange.specs.Taking.{ack_due};
-ghost use Rattle.world_steps.specs.World.{IsReached, after, all_operations, are_peers, count, events_of, history_at, is_there, office_at, opening, run, totals_of, with_sent};
+ghost use Rattle.world_steps.specs.World.{IsReached, after, all_operations, are_peers, count, events_of, history_at, is_there, office_at, opening, run, totals_of};
+ghost use Rattle.site_exchange.specs.Taking.{with_given};
 ghost use Rattle.world_steps.specs.Promises.{HoldsPromises};
 ghost use Rattle.world_steps.specs.declared.step.Input.{Input};
 ghost use Rattle.world_steps.specs.declared.step.Outcome.{Outcome};
@@ -448,7 +449,7 @@ fn make_room(sent: &mut Vec<Message>, is_put: bool) -> Result<(), AllocError>
 // Puts the message, if there is one, at the end of those that were sent.
 fn put(sent: &mut Vec<Message>, message: Option<Message>)
     requires { IsSome message → vec_len sent.old < vec_capacity sent.old }
-    ensures { sent.new.items ≡ with_sent sent.old.items message }
+    ensures { sent.new.items ≡ with_given sent.old.items message }
 {
     if let Some(message) = message {
         sent.push_reserved(message);

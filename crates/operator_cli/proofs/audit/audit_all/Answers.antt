@@ -1,7 +1,8 @@
 use Rattle.std.proofs.Common.{◌≡◌, List, ap, ◌∙◌, subst}
 use Rattle.std.specs.Prelude.{IfOk, IfErr}
 use Rattle.book_core.specs.BookView.{BookView}
-use Rattle.world_steps.specs.Audit.{AreNotOversold, books_of}
+use Rattle.world_steps.specs.Audit.{books_of}
+use Rattle.book_core.specs.Books.{AreNotOversold}
 use Rattle.operator_cli.specs.declared.status.Status.{Status}
 use Rattle.operator_cli.specs.declared.status.Status.TheVariants.{Done}
 use Rattle.operator_cli.specs.Printed.{Printed, Unprinted}

@@ -1,5 +1,5 @@
 use Rattle.std.proofs.Common.{◌≡◌, map}
-use Rattle.world_steps.specs.Audit.{AreNotOversold}
+use Rattle.book_core.specs.Books.{AreNotOversold}
 use Rattle.operator_cli.specs.declared.status.Status.{Status}
 use Rattle.operator_cli.specs.declared.status.Status.TheVariants.{Done}
 use Rattle.operator_cli.proofs.PrintLaws.{ends_as}

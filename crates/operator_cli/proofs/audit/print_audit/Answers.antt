@@ -3,7 +3,8 @@ use Rattle.local_rights.specs.declared.seat_totals.Totals.{Totals}
 use Rattle.book_core.specs.BookView.{BookView}
 use Rattle.world_steps.specs.declared.auditing.AuditFault.{AuditFault}
 use Rattle.world_steps.specs.declared.auditing.AuditFault.TheVariants as audit
-use Rattle.world_steps.specs.Audit.{AreNotOversold, IsFirstAhead, IsWhole, books_of, events_in, totals_in}
+use Rattle.world_steps.specs.Audit.{IsFirstAhead, IsWhole, books_of, events_in, totals_in}
+use Rattle.book_core.specs.Books.{AreNotOversold}
 use Rattle.operator_cli.specs.declared.told.Told.{Told}
 use Rattle.operator_cli.specs.declared.told.Told.TheVariants.{NotWhole, Ahead}
 use Rattle.operator_cli.specs.Told.{ended_by_audit, told_line, told_status}

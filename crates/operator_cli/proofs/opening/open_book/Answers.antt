@@ -14,22 +14,22 @@ use Rattle.operator_cli.proofs.opening.open_book.Goals as goal
 
 pub returns-in-Ok-start-clause-book : goal.returns-in-Ok-start-clause-book
 returns-in-Ok-start-clause-book g c = λ clean.
-    let trusted = subst (λ kept. HasCleanDisk (state g.S.Store kept.conn)) (c.in-Ok-start.ensures.keeper) clean in record {
+    let trusted = subst (λ kept. HasCleanDisk (state g.S.Store kept.conn)) (c.in-Ok-start.ensures.started.keeper_is) clean in record {
       ours = (_, (c.in-Ok.ensures.holds trusted).0.numbers);
-      office = λ meta has. c.in-Ok-start.ensures.office ∙ ap office_of (c.in-Ok.ensures.given trusted meta has);
-      history = c.in-Ok-start.ensures.history ∙ c.in-Ok.ensures.entries trusted ∙ ap (λ store. history_in store.trees) (c.in-Ok.ensures.same trusted);
+      office = λ meta has. c.in-Ok-start.ensures.started.office ∙ ap office_of (c.in-Ok.ensures.given trusted meta has);
+      history = c.in-Ok-start.ensures.started.history ∙ c.in-Ok.ensures.entries trusted ∙ ap (λ store. history_in store.trees) (c.in-Ok.ensures.same trusted);
       legal = λ meta has.
-          let entries = c.in-Ok-start.ensures.history ∙ c.in-Ok.ensures.entries trusted ∙ ap (λ store. history_in store.trees) (c.in-Ok.ensures.same trusted) in
-          let office = c.in-Ok-start.ensures.office ∙ ap office_of (c.in-Ok.ensures.given trusted meta has) in
+          let entries = c.in-Ok-start.ensures.started.history ∙ c.in-Ok.ensures.entries trusted ∙ ap (λ store. history_in store.trees) (c.in-Ok.ensures.same trusted) in
+          let office = c.in-Ok-start.ensures.started.office ∙ ap office_of (c.in-Ok.ensures.given trusted meta has) in
           subst₂ IsLegal office entries c.in-Ok-start.ensures.legal;
-      fresh = c.in-Ok-start.ensures.acknowledged;
-      unclosed = c.in-Ok-start.ensures.open;
+      fresh = c.in-Ok-start.ensures.started.acknowledged;
+      unclosed = c.in-Ok-start.ensures.started.opened;
     }
 
 pub returns-in-Ok-start-clause-site : goal.returns-in-Ok-start-clause-site
 returns-in-Ok-start-clause-site g c = λ clean meta has.
-    let trusted = subst (λ kept. HasCleanDisk (state g.S.Store kept.conn)) (c.in-Ok-start.ensures.keeper) clean in
-    subst (λ (kept : RecordsView g.row.S.Denot). IsOf g.S.Store kept meta) (sym c.in-Ok-start.ensures.keeper)
+    let trusted = subst (λ kept. HasCleanDisk (state g.S.Store kept.conn)) (c.in-Ok-start.ensures.started.keeper_is) clean in
+    subst (λ (kept : RecordsView g.row.S.Denot). IsOf g.S.Store kept meta) (sym c.in-Ok-start.ensures.started.keeper_is)
     (subst (IsOf g.S.Store c.in-Ok.opened.0) (c.in-Ok.ensures.given trusted meta has) (c.in-Ok.ensures.site trusted))
 
 pub returns-in-Err-clause-fault : goal.returns-in-Err-clause-fault
@@ -71,5 +71,5 @@ returns-in-Err-start-clause-fault g c =
 
 pub returns-in-Ok-start-clause-unchanged : goal.returns-in-Ok-start-clause-unchanged
 returns-in-Ok-start-clause-unchanged g c = λ clean.
-    let trusted = subst (λ kept. HasCleanDisk (state g.S.Store kept.conn)) (c.in-Ok-start.ensures.keeper) clean in
-    subst (λ (kept : RecordsView g.row.S.Denot). IsUnchanged (state g.S.Store c.args.conn) (state g.S.Store kept.conn)) (sym c.in-Ok-start.ensures.keeper) (c.in-Ok.ensures.unchanged trusted)
+    let trusted = subst (λ kept. HasCleanDisk (state g.S.Store kept.conn)) (c.in-Ok-start.ensures.started.keeper_is) clean in
+    subst (λ (kept : RecordsView g.row.S.Denot). IsUnchanged (state g.S.Store c.args.conn) (state g.S.Store kept.conn)) (sym c.in-Ok-start.ensures.started.keeper_is) (c.in-Ok.ensures.unchanged trusted)

@@ -1,6 +1,7 @@
 use Rattle.std.proofs.Common.{length, ap, rules, subst}
 use Rattle.std.specs.Prelude.{IsSome, is_some}
 use Rattle.session_server.proofs.Seats.{one_lacks, parts_more, seats_lack, seats_more, shares_lack, shares_more}
+use Rattle.session_server.proofs.Rows.{mapped_more}
 use Rattle.session_server.proofs.serve.+serve_from.Goals as goal
 
 pub returns-in-Ok-clause-parts : goal.returns-in-Ok-clause-parts
@@ -26,3 +27,15 @@ returns-in-Ok-clause-seats g t c =
 pub returns-in-Err-clause-seats : goal.returns-in-Err-clause-seats
 returns-in-Err-clause-seats g t c =
     seats_lack (λ e. is_some e.writer) _ _ c.args.ends.now.items _ _ _ c.push_reserved-in-Err.ensures.items c.serve_from-in-Err.ensures.seats (ap (λ w. is_some w) c.not_started.ensures.writer)
+
+pub returns-in-Ok-clause-ids : goal.returns-in-Ok-clause-ids
+returns-in-Ok-clause-ids g t c =
+    mapped_more (λ e. e.id) (λ s. s.id) c.args.ends.now.items c.serve_from.new.ends.items _ _ _ c.join-end.result.0 c.in-Some.session c.push_reserved.ensures.items c.in-Some.ensures.items (search rules) c.serve_from.ensures.ids
+
+pub returns-in-Ok-clause-readers : goal.returns-in-Ok-clause-readers
+returns-in-Ok-clause-readers g t c =
+    mapped_more (λ e. e.reader_began.value) (λ s. s.reader) c.args.ends.now.items c.serve_from.new.ends.items _ _ _ c.join-end.result.0 c.in-Some.session c.push_reserved.ensures.items c.in-Some.ensures.items (search rules) c.serve_from.ensures.readers
+
+pub returns-in-Ok-clause-writers : goal.returns-in-Ok-clause-writers
+returns-in-Ok-clause-writers g t c =
+    mapped_more (λ e. e.writer_began.value) (λ s. s.writer) c.args.ends.now.items c.serve_from.new.ends.items _ _ _ c.join-end.result.0 c.in-Some.session c.push_reserved.ensures.items c.in-Some.ensures.items (search rules) c.serve_from.ensures.writers

@@ -2,7 +2,8 @@ use Rattle.std.proofs.Common.{◌≡◌, ℕ, List, length, sym, ap, subst, ◌�
 use Rattle.std.specs.Prelude.{IfOk}
 use Rattle.book_core.proofs.Deltas.{no_names_listed}
 use Rattle.world_steps.specs.World.{events_below}
-use Rattle.world_steps.specs.Audit.{books_of, history_among, events_in}
+use Rattle.world_steps.specs.Audit.{books_of, events_in}
+use Rattle.book_core.specs.Books.{history_among}
 use Rattle.world_steps.proofs.Names.{known_more}
 use Rattle.world_steps.proofs.Audits.{found_view, history_there, length-views}
 use Rattle.world_steps.proofs.auditing.events.Goals as goal

@@ -1,7 +1,8 @@
 use Rattle.std.proofs.Common.{◌≡◌}
 use Rattle.rights_lattice.specs.State.{names_in_order}
 use Rattle.world_steps.specs.World.{known_below}
-use Rattle.world_steps.specs.Audit.{books_of, history_among}
+use Rattle.world_steps.specs.Audit.{books_of}
+use Rattle.book_core.specs.Books.{history_among}
 use Rattle.world_steps.proofs.auditing.events.Given as goal
 
 abbrev pub invariant-loop-book : goal.invariant-loop-book

@@ -1,7 +1,8 @@
 use Rattle.std.proofs.Common.{◌≡◌, ◌+◌, ◌*◌, length, sym, subst, arith}
 use Rattle.std.specs.Prelude.{Some, slice_get}
 use Rattle.rights_lattice.specs.Cells.{greatest_value}
-use Rattle.world_steps.specs.Audit.{books_of, history_among}
+use Rattle.world_steps.specs.Audit.{books_of}
+use Rattle.book_core.specs.Books.{history_among}
 use Rattle.world_steps.proofs.Audits.{found_view, first_count_in, history_there, legal_in, length-views, limit_in}
 use Rattle.world_steps.proofs.Totals.{AreOwn, own_none, own_all_more, own_fits, one_more, own_totals}
 use Rattle.world_steps.proofs.auditing.totals.Goals as goal

@@ -1,7 +1,8 @@
 use Rattle.std.proofs.Common.{◌*◌}
 use Rattle.rights_lattice.specs.Cells.{greatest_value}
 use Rattle.world_steps.specs.Reaching.{AreAtMost}
-use Rattle.world_steps.specs.Audit.{books_of, history_among}
+use Rattle.world_steps.specs.Audit.{books_of}
+use Rattle.book_core.specs.Books.{history_among}
 use Rattle.world_steps.proofs.Totals.{AreOwn}
 use Rattle.world_steps.proofs.auditing.totals.Given as goal
 

@@ -6,11 +6,11 @@ pub returns-clause-taken : goal.returns-clause-taken
 returns-clause-taken g c = record {
   site = c.deref_mut.result.now;
   at_desk = c.take.ensures.at_desk;
-  holds = takes g.K.Keeper.failed c.deref_mut.result.now c.args.message (g.K.Keeper.failed c.take.new.self.keeper) c.take.result c.take.ensures.closed c.take.ensures.taken c.take.ensures.fault;
+  holds = takes c.deref_mut.result.now c.take.new.self c.args.message c.take.result c.take.ensures.took;
 }
 
 pub returns-clause-held : goal.returns-clause-held
-returns-clause-held g c = held c.deref_mut.result.now c.take.new.self c.args.message c.take.result c.take.ensures.closed c.take.ensures.taken c.take.ensures.changed c.take.ensures.closes c.take.ensures.stays
+returns-clause-held g c = held c.deref_mut.result.now c.take.new.self c.args.message c.take.result c.take.ensures.took c.take.ensures.stays
 
 pub returns-clause-shut : goal.returns-clause-shut
-returns-clause-shut g c = shut c.deref_mut.result.now c.take.new.self c.take.result take_fault.Store c.take.ensures.closes c.take.ensures.stays
+returns-clause-shut g c = shut c.deref_mut.result.now c.take.new.self c.take.result take_fault.Store c.take.ensures.took.call.closes c.take.ensures.stays

@@ -16,7 +16,7 @@ invariant_of-self-2 g c =
     let h = book.history in
     let now = c.grow-grown.new.book.history in
     let entry = growth_in book c.args.sites in
-    let is : now ≡ extended entry h = c.in_ok-grown.ensures.entered in
+    let is : now ≡ extended entry h = c.in_ok-grown.ensures.enters.entered in
     let counted : sites_of office now ≡ c.args.sites = ap (sites_of office) (is ∙ ap (λ e. extended e h) c.in_ok-grown.ensures.growth) ∙ sites_of-push office h (Grown c.args.sites) in (
       record {
         sound = search rules;
@@ -27,10 +27,10 @@ invariant_of-self-2 g c =
           arith,
           c.self.invariant.0.acknowledged peer,
           ap (λ (e : ExchangeView). get_or e.acked peer 0) c.grow.ensures,
-          no_shorter c.grow-grown.result entry h now c.grow-grown.ensures.entered c.grow-grown.ensures.unchanged,
+          no_shorter c.grow-grown.result entry h now c.grow-grown.ensures.enters.entered c.grow-grown.ensures.enters.unchanged,
         );
         has_rights = search rules;
       },
-      subst (λ (o : Office). IsExchangeOf o now c.grow.new.self) (sym c.grow-grown.ensures.office)
+      subst (λ (o : Office). IsExchangeOf o now c.grow.new.self) (sym c.grow-grown.ensures.enters.office)
           (exchange_grown office entry h now c.self.inside.exchange c.grow.new.self is (c.grow.ensures ∙ ap (λ n. record c.self.inside.exchange { sites = n }) (sym counted)) c.self.invariant.1),
     )

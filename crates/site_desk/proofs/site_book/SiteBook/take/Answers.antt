@@ -36,9 +36,32 @@ invariant_of-self-in-Delta g c =
         broken = search rules;
         same = search rules;
         rests = search rules;
-        acknowledged = λ peer. omega (arith, c.self.invariant.0.acknowledged peer, no_shorter c.join-taken.result entry h now c.join-taken.ensures.entered c.join-taken.ensures.unchanged);
+        acknowledged = λ peer. omega (arith, c.self.invariant.0.acknowledged peer, no_shorter c.join-taken.result entry h now c.join-taken.ensures.enters.entered c.join-taken.ensures.enters.unchanged);
         has_rights = search rules;
       },
-      exchange_entered c.join-taken.result office c.join-taken.new.book.office entry h now c.self.inside.exchange c.join-taken.ensures.office c.join-taken.ensures.entered c.join-taken.ensures.unchanged
+      exchange_entered c.join-taken.result office c.join-taken.new.book.office entry h now c.self.inside.exchange c.join-taken.ensures.enters.office c.join-taken.ensures.enters.entered c.join-taken.ensures.enters.unchanged
           (count_of_join office h c.in-Delta.by c.in-Delta.delta) c.self.invariant.1,
     )
+
+pub returns-after-matches-clause-took : goal.returns-after-matches-clause-took
+returns-after-matches-clause-took g c = record {
+  call = record {
+    office = search rules;
+    made = search rules;
+    unchanged = search rules;
+    shut = search rules;
+    closes = search rules;
+    untouched = search rules;
+    stored = search rules;
+    rests = search rules;
+    stopped = search rules;
+    site = search rules;
+    trusted = search rules;
+  };
+  taken = search rules;
+  fault = search rules;
+  still = search rules;
+  again = search rules;
+  known = search rules;
+  refused = search rules;
+}

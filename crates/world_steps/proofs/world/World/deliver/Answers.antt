@@ -11,7 +11,8 @@ use Rattle.world_steps.specs.declared.step.WorldFault.TheVariants.{Memory}
 use Rattle.world_steps.specs.Nodes.{site_of, verdict_told}
 use Rattle.world_steps.specs.Outcomes.{outcome, taken_as, IsDue, MayWantMemory}
 use Rattle.world_steps.specs.Reaching.{world_of, IsKept}
-use Rattle.world_steps.specs.World.{World, after, with_sent}
+use Rattle.world_steps.specs.World.{World, after}
+use Rattle.site_exchange.specs.Taking.{with_given}
 use Rattle.world_steps.proofs.Making.{sent_is_due}
 use Rattle.world_steps.proofs.Sites.{kept_same, same_world, found_at}
 use Rattle.world_steps.proofs.Delivering.{IsDelivered, deliver_gives, deliver_wants, IsFor, is_for, same_message, same_node, verdict_by}
@@ -73,7 +74,7 @@ returns-then-is_err-2-clause-unchanged c =
     ∙ same_world c.self.inside.sites.items c.self.inside.sent.items c.number-place.result c.index_mut-node.result.now c.take.new.node (node_in_err c) c.take.ensures.office (search rules)
     ∙ c.self.view_is
 
-given : (c : goal.After-put) → IsDelivered c.self.inside.sites.items c.self.inside.sent.items (slice_set c.self.inside.sites.items c.number-place.result c.take.new.node) (with_sent c.self.inside.sent.items (ack_due (verdict_told c.judge-taken.result) c.index-message.result.now)) c.args.index (taken_as (verdict_told c.judge-taken.result) (length c.self.inside.sent.items))
+given : (c : goal.After-put) → IsDelivered c.self.inside.sites.items c.self.inside.sent.items (slice_set c.self.inside.sites.items c.number-place.result c.take.new.node) (with_given c.self.inside.sent.items (ack_due (verdict_told c.judge-taken.result) c.index-message.result.now)) c.args.index (taken_as (verdict_told c.judge-taken.result) (length c.self.inside.sent.items))
 given c =
     let old : NodeView = c.index_mut-node.result.now in
     let there = is_for c.self.inside.sites.items c.self.inside.sent.items c.args.index c.number-place.result c.index-message.result.now c.self.invariant (search rules) c.index-message.ensures (c.number-place.ensures.number ∙ c.receiver.ensures) in
@@ -86,9 +87,9 @@ given c =
     ∙ ap (λ (m : Message). site_after (verdict old.book.office old.book.history m) m (site_of old))
     (same_message c.self.inside.sent.items c.make_room.new.sent.items c.args.index c.index-message.result.now c.index-2.result.now c.make_room.ensures.items (search rules) c.index-message.ensures c.index-2.ensures))
 
-sent_now : (c : goal.After-put) → with_sent c.self.inside.sent.items (ack_due (verdict_told c.judge-taken.result) c.index-message.result.now) ≡ c.put.new.sent.items
+sent_now : (c : goal.After-put) → with_given c.self.inside.sent.items (ack_due (verdict_told c.judge-taken.result) c.index-message.result.now) ≡ c.put.new.sent.items
 sent_now c =
-    (λ k. with_sent (sym c.make_room.ensures.items k) (sym c.ack_due-ack.ensures k)) ∙ sym c.put.ensures
+    (λ k. with_given (sym c.make_room.ensures.items k) (sym c.ack_due-ack.ensures k)) ∙ sym c.put.ensures
 
 pub invariant_of-self-2 : goal.invariant_of-self-2
 invariant_of-self-2 c = subst (λ (sent : List Message). IsKept (slice_set c.self.inside.sites.items c.number-place.result c.take.new.node) sent) (sent_now c) (given c).kept

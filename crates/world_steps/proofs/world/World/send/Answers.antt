@@ -4,7 +4,8 @@ use Rattle.site_exchange.specs.declared.message.Message.{Message}
 use Rattle.world_steps.specs.NodeView.{NodeView}
 use Rattle.world_steps.specs.declared.step.Step.TheVariants.{Send}
 use Rattle.world_steps.specs.Reaching.{world_of}
-use Rattle.world_steps.specs.World.{World, after, are_peers, with_sent}
+use Rattle.world_steps.specs.World.{World, after, are_peers}
+use Rattle.site_exchange.specs.Taking.{with_given}
 use Rattle.world_steps.proofs.Sites.{IsMade, put_back}
 use Rattle.world_steps.proofs.Making.{acked_within, peers_in, peer_below, peer_counted, send_made}
 use Rattle.world_steps.proofs.world.World.send.Goals as goal
@@ -22,14 +23,14 @@ next-requires-clause-site c =
     peer_counted c.self.inside.sites.items c.self.inside.sent.items c.number.result c.args.to c.index_mut-node.result.now c.self.invariant
     (peer_below c.self.inside.sites.items c.self.inside.sent.items c.number.result c.args.to (peers c)) c.index_mut-node.ensures.value (peers c)
 
-made : (c : goal.After-put) → IsMade c.self.inside.sites.items c.self.inside.sent.items c.self.inside.sites.items (with_sent c.self.inside.sent.items c.in_ok-due.due) (Send c.number.result c.args.to)
+made : (c : goal.After-put) → IsMade c.self.inside.sites.items c.self.inside.sent.items c.self.inside.sites.items (with_given c.self.inside.sent.items c.in_ok-due.due) (Send c.number.result c.args.to)
 made c =
     let there = peers_in c.self.inside.sites.items c.self.inside.sent.items c.args.self.now c.number.result c.args.by c.args.to c.self.view_is c.number.ensures.number c.if-not-are_peers.ensures in
     send_made c.self.inside.sites.items c.self.inside.sent.items c.number.result c.args.to c.index_mut-node.result.now c.in_ok-due.due c.self.invariant
     (peer_below c.self.inside.sites.items c.self.inside.sent.items c.number.result c.args.to there) c.index_mut-node.ensures.value there c.in_ok-due.ensures.message
 
-sent_is : (c : goal.After-put) → with_sent c.self.inside.sent.items c.in_ok-due.due ≡ c.put.new.sent.items
-sent_is c = ap (λ (sent : List Message). with_sent sent c.in_ok-due.due) (sym c.make_room.ensures.items) ∙ sym c.put.ensures
+sent_is : (c : goal.After-put) → with_given c.self.inside.sent.items c.in_ok-due.due ≡ c.put.new.sent.items
+sent_is c = ap (λ (sent : List Message). with_given sent c.in_ok-due.due) (sym c.make_room.ensures.items) ∙ sym c.put.ensures
 
 -- the sites and the messages after the send
 now_is : (c : goal.After-put) → IsMade c.self.inside.sites.items c.self.inside.sent.items (slice_set c.self.inside.sites.items c.number.result c.next.new.self) c.put.new.sent.items (Send c.number.result c.args.to)

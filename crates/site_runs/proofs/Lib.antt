@@ -1,0 +1,10 @@
+pub mod Moves
+pub mod OneStep
+pub mod Restarting
+pub mod Beginning
+pub mod Listing
+pub mod Sums
+pub mod Growing
+mod Copying
+mod Examples
+mod Forging

@@ -1,0 +1,5 @@
+pub mod Runs
+pub mod Steps
+pub mod SitesCode
+pub mod Premises
+pub mod Moving

@@ -1,0 +1,96 @@
+//! The calls of a run that a contract of the books does not name: a start, and what is given.
+ghost use Rattle.std.specs.Prelude.{◌≡◌, ◌<◌, List, [], IfOk, Some};
+ghost use Rattle.site_exchange.specs.declared.message.Message.{Message as Sent};
+ghost use Rattle.sql_records.specs.Layout.{office_of};
+ghost use Rattle.site_desk.specs.Answers.{ack_of};
+ghost use Rattle.site_desk.specs.Calls.{keeping};
+ghost use Rattle.site_desk.specs.SiteView.{SiteView};
+ghost use Rattle.site_runs.specs.Runs.{Gives, Happens, IsNew, Restarts};
+
+use book_core::{Entry, ReplayFault};
+use rights_lattice::SiteId;
+use site_desk::{NextFault, SiteBook, Taken};
+use site_exchange::Message;
+use sql_records::{Keeper, Meta};
+use std::alloc::{AllocError, Global};
+
+/// Another message that says the same.
+pub fn copied(alloc: Global, message: &Message) -> Result<Message, AllocError>
+    ensures { IfOk result (λ other. other ≡ message.now) }
+{
+    match message {
+        Message::Delta {
+            by,
+            to,
+            upto,
+            delta,
+        } => Ok(Message::Delta {
+            by: *by,
+            to: *to,
+            upto: *upto,
+            delta: delta.copy(alloc)?,
+        }),
+        Message::Ack { by, to, upto } => Ok(Message::Ack {
+            by: *by,
+            to: *to,
+            upto: *upto,
+        }),
+    }
+}
+
+/// The message that is due to a peer.
+pub fn give<K: Keeper>(
+    book: &mut SiteBook<K>,
+    alloc: Global,
+    to: SiteId,
+) -> Result<Option<Message>, NextFault>
+    ensures { (given : List Sent)
+        → Happens (keeping K.failed K.is_trusted K.kept K.may_leave K.is_of)
+        given book.old (Gives to result) book.new }
+{
+    book.next(alloc, to)
+}
+
+/// The acknowledgement that a message taken gives, if any.
+pub fn acknowledgement(taken: Taken) -> Option<Message>
+    ensures { result ≡ ack_of taken }
+{
+    match taken {
+        Taken::Joined { ack } | Taken::NothingNew { ack } => Some(ack),
+        Taken::Acked => None,
+    }
+}
+
+/// A start of the same site from what a crash left.
+pub fn restart<K: Keeper>(
+    alloc: Global,
+    keeper: K,
+    entries: Vec<Entry>,
+    meta: Meta,
+) -> Result<SiteBook<K>, (K, ReplayFault)>
+    requires site { meta.me < meta.sites }
+    requires sound { K.failed keeper ≡ 0 }
+    requires kept { K.is_trusted keeper → entries.items ≡ K.kept keeper }
+    ensures { IfOk result (λ new. (given : List Sent) (old : SiteView K) → K.is_trusted old.keeper
+        → K.may_leave old.keeper (Some entries.items) → old.book.office ≡ office_of meta
+        → Happens (keeping K.failed K.is_trusted K.kept K.may_leave K.is_of) given old Restarts new) }
+{
+    SiteBook::start(alloc, keeper, entries, meta)
+}
+
+/// A site of which there are no entries.
+pub fn begin<K: Keeper>(
+    alloc: Global,
+    keeper: K,
+    meta: Meta,
+) -> Result<SiteBook<K>, (K, ReplayFault)>
+    requires site { meta.me < meta.sites }
+    requires sound { K.failed keeper ≡ 0 }
+    requires kept { K.is_trusted keeper → K.kept keeper ≡ [] }
+    ensures { IfOk result (λ new.
+        IsNew (keeping K.failed K.is_trusted K.kept K.may_leave K.is_of) meta.me new) }
+{
+    let _me = meta.me.number();
+    let _sites = meta.sites.count();
+    SiteBook::start(alloc, keeper, Vec::new(alloc), meta)
+}

@@ -1,0 +1,34 @@
+//! What holds over every run of sites' books.
+ghost use Rattle.site_desk.specs.Calls.{keeping};
+ghost use Rattle.site_runs.specs.Premises.{ForgedMessagesOversell, TwoCopiesOversell};
+ghost use Rattle.site_runs.specs.Runs.{BooksNeverOversold};
+ghost use Rattle.site_runs.specs.Steps.{RunsAreSteps, RunsKeepPromises};
+
+use sql_records::Keeper;
+
+/// Each run of sites' books is a list of steps of a world that shows the same.
+pub fn runs_are_steps<K: Keeper>()
+    ensures { RunsAreSteps (keeping K.failed K.is_trusted K.kept K.may_leave K.is_of) }
+{}
+
+/// So each promise of a world of 64 sites holds of one that shows the sites; those that are not there have no history.
+pub fn runs_keep_promises<K: Keeper>()
+    ensures { RunsKeepPromises (keeping K.failed K.is_trusted K.kept K.may_leave K.is_of) }
+{}
+
+/// The tickets outstanding by all books never exceed the seats that they released, and no more is given back than was sold:
+/// at no moment of any run of up to 64 sites, with messages lost, repeated and reordered, crashes, restarts and growth.
+pub fn books_never_oversold<K: Keeper>()
+    ensures { BooksNeverOversold (keeping K.failed K.is_trusted K.kept K.may_leave K.is_of) }
+{}
+
+/// That messages are genuine is needed: a run with one forged message oversells.
+pub fn forged_messages_oversell()
+    ensures { ForgedMessagesOversell }
+{}
+
+/// That a site has one copy is needed: in a run that goes on from an older copy a release is lost, and what was sold of it is
+/// more than what is released.
+pub fn two_copies_oversell()
+    ensures { TwoCopiesOversell }
+{}

@@ -1,0 +1,127 @@
+#!/usr/bin/env python3
+"""Runs each command over files with one request for memory refused, and looks at what it answers and leaves.
+
+Usage: tests/memory_refused.py [PROGRAM] [--full]     (PROGRAM: crates/boxoffice/out/boxoffice)
+
+A command ends as it does with ample memory, or with status 3, `memory` or `store`, and nothing printed that is not so.
+Given again it ends well. Each of the last requests of a command is refused, and some of those before, most of which are
+made while its files are opened; by `--full` each of all. Prints what differs, and ends with status 1 where anything does.
+"""
+
+import os
+import shutil
+import sys
+import tempfile
+
+FULL = "--full" in sys.argv
+sys.argv = [word for word in sys.argv if not word.startswith("--")]
+
+from refuser import begun, chosen, count, ended, make_refuser
+from trial import HERE, PROGRAM, call, same, try_each
+
+# The disk is not what is tried here.
+tempfile.tempdir = "/dev/shm" if os.path.isdir("/dev/shm") else None
+SPREAD, LAST = (1_000_000, 0) if FULL else (25, 60)
+ASKED = "announce 1 gala\nrelease 2 gala 50\nsell 3 gala 8\nsell 4 gala 100\n"
+# No reply depends on another.
+LINES = "sell 5 gala 2\nsell 6 gala 3\nrefund 7 99\nsell 3 gala 8\nsell 3 gala 9\n"
+REPLIES = ["done", "done", "no-sale", "done", "reused"]
+# Messages that take memory while they are read: as they come, and line by line.
+LONG = 10_000 * ("x" * 199 + "\n")
+NEWS = "delta 0 1 9\nname expo\n" + "".join(f"gave e{k} 0 1 {k}\n" for k in range(100, 400)) + "end\n"
+LISTED = "0 announce 1 gala done\n1 release 2 gala 50 done\n2 sell 3 gala 8 done\n3 sell 4 gala 100 short 42\n"
+SENT = "delta 1 0 4\nname gala\ngave gala 1 1 50\nused gala 1 8\nend\n"
+SUMS = "gala released 50 sold 8 refunded 0 outstanding 8\n"
+# The words, the input, the status and the answer; those of a second time where they are others.
+COMMANDS = [
+    (["import", "one.db"], LONG, (1, "bad-line 1\n"), None),
+    (["import", "one.db"], NEWS, (0, "joined\n"), (0, "nothing-new\n")),
+    (["import", "one.db"], "ack 0 1 4\nend\n", (0, "acked\n"), None),
+    (["export", "one.db", "0"], "", (0, SENT), None),
+    (["find", "one.db", "4"], "", (0, "3 short 42\n"), None),
+    (["list", "one.db", "gala"], "", (0, LISTED), None),
+    (["audit", "zero.db", "one.db"], "", (0, SUMS), None),
+    (["grow", "one.db", "3"], "", (0, "grown\n"), (1, "not-more\n")),
+    (["migrate", "old.db"], "", (0, "migrated\n"), (1, "nothing\n")),
+    (["init", "new.db", "0", "2", "1000"], "", (0, "done\n"), (1, "already-there\n")),
+]
+# `store`: what could not be stored is an entry.
+STORING = ("import", "grow")
+
+
+def make(folder):
+    for site, file in enumerate(["zero.db", "one.db"]):
+        same(f"init {file}", call(folder, ["init", file, str(site), "2", "1000"]), (0, "done\n", ""))
+    same("ask", call(folder, ["ask", "one.db"], ASKED), (0, "done\ndone\ndone\nshort 42\n", ""))
+    shutil.copyfile(os.path.join(HERE, "schema-1.db"), os.path.join(folder, "old.db"))
+
+
+class Refusals:
+    """Runs with one request refused, over files that are each time as they were."""
+
+    def __init__(self, top):
+        self.kept, self.work = os.path.join(top, "kept"), os.path.join(top, "work")
+        for folder in [self.kept, self.work]:
+            os.mkdir(folder)
+        make(self.kept)
+        self.refuser = make_refuser(top)
+
+    def run(self, words, given, number):
+        """Whether that request was refused, and the status, standard output and standard error."""
+        shutil.rmtree(self.work)
+        shutil.copytree(self.kept, self.work)
+        was_refused, (status, out, err) = ended(*begun(self.refuser, number, [PROGRAM, *words], self.work), given.encode())
+        return was_refused, status, out.decode(), err.decode()
+
+    def again(self, words, given):
+        return call(self.work, words, given)
+
+    def each(self, words, given):
+        """The requests of these words that are tried: their numbers, each with what came of it."""
+        total = count(lambda number: self.run(words, given, number)[0])
+        numbers = chosen(total, SPREAD, LAST)
+        print(f"{' '.join(words)}: {len(numbers)} of {total} requests are refused", flush=True)
+        for number in numbers:
+            was_refused, status, out, err = self.run(words, given, number)
+            same(f"{words}: request {number} came", was_refused, True)
+            yield f"{words}: request {number}", status, out, err
+
+
+def try_command(refusals, words, given, first, second):
+    may_tell = ["memory\n", "store\n"] if words[0] in STORING else ["memory\n"]
+    for which, status, out, err in refusals.each(words, given):
+        if status == 3:
+            same(f"{which}: {out!r} {err!r}", (first[1].startswith(out), err in may_tell), (True, True))
+        else:
+            same(which, (status, out, err), (*first, ""))
+        wanted = [second or first] if out else [first, second or first]
+        told = refusals.again(words, given)
+        same(f"{which}: again {told!r}", told in [(*one, "") for one in wanted], True)
+
+
+def are_fit(replies):
+    """Each reply is the right one or `memory`, and behind a failed store all are `closed`."""
+    if "store" in replies:
+        place = replies.index("store")
+        return are_fit(replies[:place]) and all(reply == "closed" for reply in replies[place + 1 :])
+    return all(reply in (wanted, "memory") for reply, wanted in zip(replies, REPLIES))
+
+
+def try_session(refusals):
+    words = ["ask", "one.db"]
+    for which, status, out, err in refusals.each(words, LINES):
+        replies = out.splitlines()
+        same(f"{which}: {replies}", are_fit(replies), True)
+        wanted = (3, "memory\n", len(replies)) if status == 3 else (0, "", len(REPLIES))
+        same(f"{which}: the end", (status, err, len(replies)), wanted)
+        same(f"{which}: again", refusals.again(words, LINES), (0, "\n".join(REPLIES) + "\n", ""))
+
+
+def all_commands(folder):
+    refusals = Refusals(folder)
+    for command in COMMANDS:
+        try_command(refusals, *command)
+    try_session(refusals)
+
+
+sys.exit(try_each([all_commands], "no answer stands in the place of a refusal"))
