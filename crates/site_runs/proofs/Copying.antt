@@ -1,8 +1,9 @@
--- A run with two copies of a site that oversells: site 0 goes on from a copy in which it released nothing, after it gave site 1 five seats.
+-- A run with two copies of a site that sells the same seats twice: site 0 gives its five seats to site 1, goes on from a copy in which it had not,
+-- and sells them, and site 1 sells them too.
 use Rattle.std.proofs.Common.{◌≡◌, ℕ, ◌+◌, ◌≤◌, lit≤, Bool, cond, not, List, [], ◌∷◌, ◌++◌, Some, Ok, refl, sym, ap, ◌∙◌, arith}
 use Rattle.std.specs.Prelude.{IsTrue}
 use Rattle.rights_lattice.specs.declared.cell.Cell.{Cell}
-use Rattle.rights_lattice.specs.declared.cell.Cell.TheVariants.{Gave}
+use Rattle.rights_lattice.specs.declared.cell.Cell.TheVariants.{Gave, Used}
 use Rattle.rights_lattice.specs.Cells.{Valued, all_zero, greatest, value_at}
 use Rattle.rights_lattice.specs.Marks.{AreMarks, are_rising_marks}
 use Rattle.rights_lattice.specs.State.{at, join, Name, At, Spot}
@@ -25,8 +26,8 @@ use Rattle.site_exchange.specs.declared.message.Message.TheVariants.{Ack, Delta}
 use Rattle.site_exchange.specs.Exchange.{next}
 use Rattle.site_desk.specs.SiteView.{site_of}
 use Rattle.site_runs.specs.Premises.{HappensOfCopies, TwoCopiesOversell, no_store}
-use Rattle.site_runs.specs.Runs.{Asks, Event, Gives, Restarts, RunsBy, Sites, Starts}
-use Rattle.site_runs.proofs.Examples.{Says, answer, are_new, asks, first, five, five_given, gala, has_room, known, last, left_by, may_spend, message, office, said, sells, site_with, sites, takes, takes_and_sells, value_is, with_done}
+use Rattle.site_runs.specs.Runs.{Asks, CallAt, Gives, Restarts, RunsBy, Sites, Starts}
+use Rattle.site_runs.proofs.Examples.{Says, answer, are_new, asks, first, five, five_given, gala, has_room, known, last, left_by, may_spend, message, office, said, sale, sells, site_with, sites, takes, takes_and_sells, value_is, with_done}
 
 -- one more mark at the end
 says_more : (ms : List Valued) (m : Valued) → IsTrue (are_rising_marks ms) → AreMarks ms → IsTrue (are_rising_marks (ms ++ m ∷ [])) → AreMarks (ms ++ m ∷ [])
@@ -100,32 +101,53 @@ gives : Some message ≡ next 0 (site_of (site_with 0 ceded)) 1
 unfolding max_sites
 gives = ap (λ X. Some (Delta 0 1 3 X)) (sym says_ceded.state)
 
-starts : Starts no_store (site_with 0 ceded) (site_with 0 []) []
+-- the older copy: before the cession
+starts : Starts no_store (site_with 0 ceded) (site_with 0 released) released
 starts = record { history = refl; office = refl; acked = refl; opened = refl; rests = λ trusted. absurd trusted }
 
+abbrev newer : List Entry
+newer = Asked 3 (Cede gala 1 5) Done (delta_for (office 0) released (Cede gala 1 5) Done) ∷ []
+
+abbrev resold : List Entry
+resold = with_done 0 released 3 sale
+
+sells_again : decision (office 0) released 3 sale ≡ Fresh Done
+sells_again = ap Fresh (may_spend 0 released (five (Gave 0 0) ∷ []) (Used 0) says_released five_left refl)
+
 -- site 0 releases five seats and cedes them to site 1
-abbrev asked : List (Event (Unit {0})) → List (Event (Unit {0}))
+abbrev asked : List (CallAt (Unit {0})) → List (CallAt (Unit {0}))
 asked rest =
     record { site = 0; call = Asks 1 (Announce gala) (Ok (answer 0)); after = site_with 0 announced }
     ∷ record { site = 0; call = Asks 2 (Release gala 5) (Ok (answer 1)); after = site_with 0 released }
     ∷ record { site = 0; call = Asks 3 (Cede gala 1 5) (Ok (answer 2)); after = site_with 0 ceded }
     ∷ rest
 
--- it gives the message and goes on from a copy in which it did neither, and site 1 sells
-abbrev copied : List (Event (Unit {0}))
+-- it gives the message, goes on from a copy of before the cession, and sells; and so does site 1
+abbrev copied : List (CallAt (Unit {0}))
 copied =
     record { site = 0; call = Gives 1 (Ok (Some message)); after = site_with 0 ceded }
-    ∷ record { site = 0; call = Restarts; after = site_with 0 [] }
+    ∷ record { site = 0; call = Restarts; after = site_with 0 released }
+    ∷ record { site = 0; call = Asks 3 sale (Ok (answer 2)); after = site_with 0 resold }
     ∷ takes_and_sells
 
 abbrev end : Sites (Unit {0})
-end = sites [] last (message ∷ Ack 1 0 3 ∷ [])
+end = sites resold last (message ∷ Ack 1 0 3 ∷ [])
 
-sold : RunsBy (HappensOfCopies no_store) takes_and_sells (sites [] [] (message ∷ [])) end
+sold : RunsBy (HappensOfCopies no_store) takes_and_sells (sites resold [] (message ∷ [])) end
 sold = (site_with 1 [], refl, ((λ _. (0, refl)), takes), (site_with 1 first, refl, sells, refl))
 
 goes_on : RunsBy (HappensOfCopies no_store) copied (sites ceded [] []) end
-goes_on = (site_with 0 ceded, refl, (refl, (refl, gives)), (site_with 0 ceded, refl, ([], ceded, refl, starts), sold))
+goes_on = (
+  site_with 0 ceded,
+  refl,
+  record { same = refl; due = (refl, gives); fault = tt },
+  (
+    site_with 0 ceded,
+    refl,
+    (released, newer, refl, starts),
+    (site_with 0 released, refl, asks 0 released 3 sale sells_again, sold),
+  ),
+)
 
 runs : RunsBy (HappensOfCopies no_store) (asked copied) (sites [] [] []) end
 runs = (
@@ -140,8 +162,9 @@ runs = (
   ),
 )
 
+-- ten are outstanding, of five
 pub two_copies_oversell : TwoCopiesOversell
 two_copies_oversell never =
     let sums = never (asked copied) (sites [] [] []) end are_new runs gala in
-    let over : 5 ≤ 0 = sums.0 in
-    absurd (omega arith)
+    let over : 10 ≤ 5 = sums.0 in
+    absurd (omega (arith, over))

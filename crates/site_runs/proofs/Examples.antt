@@ -33,7 +33,7 @@ use Rattle.site_desk.specs.Answers.{IsAnswer}
 use Rattle.site_desk.specs.Calls.{AskCall, SiteCall, TakeCall}
 use Rattle.site_desk.specs.SiteView.{SiteView, site_of}
 use Rattle.site_runs.specs.Premises.{no_store}
-use Rattle.site_runs.specs.Runs.{AreNew, Asks, Event, IsNew, Sites, Takes}
+use Rattle.site_runs.specs.Runs.{AreNew, Asks, CallAt, IsNew, Sites, Takes}
 
 abbrev pub Site : Type 0
 Site = SiteView (Unit {0})
@@ -144,7 +144,7 @@ joins = λ i. verdict_of (decided (marks_of-cells_of five_given refl (lit≤ tt,
 abbrev pub first : List Entry
 first = Joined 0 (said five_given) ∷ []
 
-abbrev sale : Request
+abbrev pub sale : Request
 sale = Sell gala 5
 
 abbrev pub last : List Entry
@@ -178,7 +178,7 @@ abbrev pub sites : List Entry → List Entry → List Message → Sites (Unit {0
 sites h g given = record { books = site_with 0 h ∷ site_with 1 g ∷ []; given = given }
 
 -- site 1 takes the message and sells
-abbrev pub takes_and_sells : List (Event (Unit {0}))
+abbrev pub takes_and_sells : List (CallAt (Unit {0}))
 takes_and_sells =
     record { site = 1; call = Takes message (Ok (taken.Joined (Ack 1 0 3))); after = site_with 1 first }
     ∷ record { site = 1; call = Asks 1 sale (Ok (answer 1)); after = site_with 1 last }

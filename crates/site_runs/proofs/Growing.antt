@@ -6,13 +6,13 @@ use Rattle.site_exchange.specs.declared.message.TakeFault.{TakeFault}
 use Rattle.site_desk.specs.declared.answer.Taken.{Taken}
 use Rattle.site_desk.specs.SiteView.{SiteView}
 use Rattle.site_desk.specs.Calls.{Keeping, TakeCall}
-use Rattle.site_runs.specs.Runs.{Event, Sites, Happens, Runs, IsOneOf, IsRun, Moves, Takes, NotOversold, moved, Call}
+use Rattle.site_runs.specs.Runs.{CallAt, Sites, Happens, Runs, IsOneOf, IsRun, Moves, Takes, NotOversold, moved, Call}
 use Rattle.site_runs.proofs.Sums.{books_never_oversold}
 
-runs_push : {K : Type 0} (k : Keeping K) (events : List (Event K)) (begin s : Sites K) (e : Event K) (old : SiteView K) → Runs k events begin s → slice_get s.books e.site ≡ Some old → Happens k s.given old e.call e.after
-    → Runs k (events ++ e ∷ []) begin (moved s e)
+runs_push : {K : Type 0} (k : Keeping K) (calls : List (CallAt K)) (begin s : Sites K) (e : CallAt K) (old : SiteView K) → Runs k calls begin s → slice_get s.books e.site ≡ Some old → Happens k s.given old e.call e.after
+    → Runs k (calls ++ e ∷ []) begin (moved s e)
 runs_push k [] begin s e old runs found h = subst (λ b. Runs k (e ∷ []) b (moved s e)) runs (old, found, h, refl)
-runs_push k (x ∷ events) begin s e old runs found h = (runs.0, runs.1, runs.2, runs_push k events (moved begin x) s e old runs.3 found h)
+runs_push k (x ∷ calls) begin s e old runs found h = (runs.0, runs.1, runs.2, runs_push k calls (moved begin x) s e old runs.3 found h)
 
 pub goes_on : {K : Type 0} (k : Keeping K) (s : Sites K) (i : ℕ) (old : SiteView K) (call : Call) (new : SiteView K) → IsRun k s → slice_get s.books i ≡ Some old → Happens k s.given old call new
     → IsRun k (moved s (record { site = i; call = call; after = new }))

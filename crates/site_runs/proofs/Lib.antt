@@ -5,6 +5,7 @@ pub mod Beginning
 pub mod Listing
 pub mod Sums
 pub mod Growing
+pub mod Adding
 mod Copying
 mod Examples
 mod Forging

@@ -12,7 +12,7 @@ use Rattle.site_desk.specs.SiteView.{SiteView, entry_in, growth_in, site_of, ver
 use Rattle.world_steps.specs.declared.step.Step.{Step}
 use Rattle.world_steps.specs.World.{World, begun, run, after}
 use Rattle.site_desk.specs.Calls.{Keeping}
-use Rattle.site_runs.specs.Runs.{Call, Asks, Takes, Grows, Gives, Restarts, Crashes, left_of, Event, Sites, Happens, Runs, WasTried, moved, given_by}
+use Rattle.site_runs.specs.Runs.{Call, Asks, Takes, Grows, Gives, Restarts, Crashes, history_left, CallAt, Sites, Happens, Runs, WasTried, moved, given_by}
 use Rattle.site_runs.specs.Steps.{RunsAreSteps, Shows}
 use Rattle.site_runs.proofs.Moves.{found_after, shows_moved}
 use Rattle.site_runs.proofs.OneStep.{Made, IsHere, by_none, is_here, ask_step, grow_step, take_step, next_step}
@@ -24,7 +24,7 @@ pub office_stays : {K : Type 0} (k : Keeping K) (given : List Message) (old : Si
 office_stays k given old (Asks number request answer) new h = h.call.office
 office_stays k given old (Takes message answer) new h = h.1.call.office
 office_stays k given old (Grows sites answer) new h = h.call.office
-office_stays {K} k given old (Gives to answer) new h = ap (λ (v : SiteView K). v.book.office) h.0
+office_stays {K} k given old (Gives to answer) new h = ap (λ (v : SiteView K). v.book.office) h.same
 office_stays k given old Restarts new h = h.starts.office
 office_stays k given old (Crashes in_hand stored) new h = h.1.office
 
@@ -36,9 +36,9 @@ keeps k given old (Takes message answer) new h can =
     came_keeps k given old new (OfMessage message) (site_after (verdict_in old.book message) message (site_of old)) take.Closed take.Store answer h.1.call (λ e. cc) (λ e. h.0 (subst WasTried (sym e) tt)) can
 keeps k given old (Grows sites answer) new h can =
     came_keeps k given old new (OfGrowth sites) (with_entry (growth_in old.book sites) (site_of old)) grow.Closed grow.Store answer h.call (λ e. cc) (λ e. tt) can
-keeps k given old (Gives to answer) new h can = subst (CanRestart k given) (sym h.0) can
+keeps k given old (Gives to answer) new h can = subst (CanRestart k given) (sym h.same) can
 keeps k given old Restarts new h can = started_can k given old new new.book.history h.starts
-keeps k given old (Crashes in_hand stored) new h can = started_can k given old new (left_of old.book in_hand stored) h.1
+keeps k given old (Crashes in_hand stored) new h can = started_can k given old new (history_left old.book in_hand stored) h.1
 
 -- the steps of a call
 pub steps_of : {K : Type 0} (k : Keeping K) (w : World) (i : ℕ) (old : SiteView K) (call : Call) (new : SiteView K) → max_sites ≡ length w.sites → old.book.office.me ≡ i → IsHere w i old → CanRestart k w.sent old
@@ -49,8 +49,8 @@ steps_of k w i old (Takes message (Ok taken)) new whole me here can h = take_ste
 steps_of k w i old (Takes message (Err fault)) new whole me here can h = by_none w i (site_of new) (h.1.call.unchanged ∙ sym here.site)
 steps_of k w i old (Grows sites (Ok done)) new whole me here can h = grow_step w i old new sites (sym whole) here h.call.made
 steps_of k w i old (Grows sites (Err fault)) new whole me here can h = by_none w i (site_of new) (h.call.unchanged ∙ sym here.site)
-steps_of k w i old (Gives to (Ok message)) new whole me here can h = next_step w i old new to message me here h.0 (h.1)
-steps_of {K} k w i old (Gives to (Err fault)) new whole me here can h = by_none w i (site_of new) (ap (λ (v : SiteView K). site_of v) h.0 ∙ sym here.site)
+steps_of k w i old (Gives to (Ok message)) new whole me here can h = next_step w i old new to message me here h.same h.due
+steps_of {K} k w i old (Gives to (Err fault)) new whole me here can h = by_none w i (site_of new) (ap (λ (v : SiteView K). site_of v) h.same ∙ sym here.site)
 steps_of k w i old Restarts new whole me here can h = restart_step k w i old new (sym whole) here can h
 steps_of k w i old (Crashes in_hand stored) new whole me here can h = crash_step k w i old new in_hand stored (sym whole) here h.0 h.1
 
@@ -61,16 +61,16 @@ run-append (step ∷ steps) more w = run-append steps more (after w step)
 abbrev pub CanAll : {K : Type 0} → Keeping K → Sites K → Type 0
 CanAll {K} k s = (i : ℕ) (site : SiteView K) → slice_get s.books i ≡ Some site → CanRestart k s.given site
 
-can_moved : {K : Type 0} (k : Keeping K) (s : Sites K) (e : Event K) (old : SiteView K) → CanAll k s → slice_get s.books e.site ≡ Some old → Happens k s.given old e.call e.after → CanAll k (moved s e)
+can_moved : {K : Type 0} (k : Keeping K) (s : Sites K) (e : CallAt K) (old : SiteView K) → CanAll k s → slice_get s.books e.site ≡ Some old → Happens k s.given old e.call e.after → CanAll k (moved s e)
 can_moved {K} k s e old can found h j x is = elim (found_after s.books e.site j e.after x is) [
   | inl p ↦ subst (CanRestart k (with_given s.given (given_by e.call))) (sym p.1) (can_stays k s.given (given_by e.call) e.after (keeps k s.given old e.call e.after h (can e.site old found)))
   | inr p ↦ can_stays k s.given (given_by e.call) x (can j x p.1)
 ]
 
 -- steps that lead to a world that shows the sites at the end
-pub list_of : {K : Type 0} (k : Keeping K) (events : List (Event K)) (s end : Sites K) (w : World) → Shows w s → CanAll k s → Runs k events s end → (steps : List Step) × Shows (run steps w) end
+pub list_of : {K : Type 0} (k : Keeping K) (calls : List (CallAt K)) (s end : Sites K) (w : World) → Shows w s → CanAll k s → Runs k calls s end → (steps : List Step) × Shows (run steps w) end
 list_of k [] s end w shows can runs = ([], subst (Shows w) (sym runs) shows)
-list_of {K} k (e ∷ events) s end w shows can runs =
+list_of {K} k (e ∷ calls) s end w shows can runs =
     let old : SiteView K = runs.0 in
     let found : slice_get s.books e.site ≡ Some old = runs.1 in
     let h : Happens k s.given old e.call e.after = runs.2 in
@@ -79,12 +79,12 @@ list_of {K} k (e ∷ events) s end w shows can runs =
     steps_of k w e.site old e.call e.after (sym shows.count) me (is_here w s e.site old shows found)
     (subst (λ ms. CanRestart k ms old) (sym shows.sent) (can e.site old found)) (subst (λ ms. Happens k ms old e.call e.after) (sym shows.sent) h) in
     let now : Shows (run made.steps w) (moved s e) = subst (λ (v : World). Shows v (moved s e)) (sym made.made) (shows_moved w s e old shows found (office_stays k s.given old e.call e.after h)) in
-    let rest = list_of k events (moved s e) end (run made.steps w) now (can_moved k s e old can found h) runs.3 in
+    let rest = list_of k calls (moved s e) end (run made.steps w) now (can_moved k s e old can found h) runs.3 in
     (made.steps ++ rest.0, subst (λ (v : World). Shows v end) (sym (run-append made.steps rest.0 w)) rest.1)
 
 pub runs_are_steps : {K : Type 0} (k : Keeping K) → RunsAreSteps k
-runs_are_steps {K} k events begin end are runs =
-    let list = list_of k events begin end (begun (limits_of begin.books) (counts_of begin.books)) (shows_begun k begin are) can runs in
+runs_are_steps {K} k calls begin end are runs =
+    let list = list_of k calls begin end (begun (limits_of begin.books) (counts_of begin.books)) (shows_begun k begin are) can runs in
     record {
       limits = limits_of begin.books;
       counts = counts_of begin.books;

@@ -13,7 +13,7 @@ use Rattle.site_exchange.specs.Exchange.{SitePart}
 use Rattle.site_desk.specs.SiteView.{SiteView, site_of}
 use Rattle.world_steps.specs.World.{World, count, no_site, office_at, at_site, sends, widened, widened_by}
 use Rattle.site_exchange.specs.Taking.{with_given}
-use Rattle.site_runs.specs.Runs.{Event, Sites, moved, given_by}
+use Rattle.site_runs.specs.Runs.{CallAt, Sites, moved, given_by}
 use Rattle.site_runs.specs.Steps.{Shows}
 
 -- what stands at a place behind a change: what was put there, or what stood there
@@ -33,7 +33,7 @@ set_found (x ∷ xs) zero old y found = refl
 set_found (x ∷ xs) (suc i) old y found = set_found xs i old y found
 
 -- the world with the site behind the event, and the message that it gave
-pub shows_moved : {K : Type 0} (w : World) (s : Sites K) (e : Event K) (old : SiteView K) → Shows w s → slice_get s.books e.site ≡ Some old → e.after.book.office ≡ old.book.office
+pub shows_moved : {K : Type 0} (w : World) (s : Sites K) (e : CallAt K) (old : SiteView K) → Shows w s → slice_get s.books e.site ≡ Some old → e.after.book.office ≡ old.book.office
     → Shows (sends (given_by e.call) (at_site w e.site (site_of e.after))) (moved s e)
 shows_moved {K} w s e old shows found same =
     let here : e.site < length w.sites = omega (arith, slice_get_within s.books e.site old found, shows.few, shows.count) in

@@ -19,7 +19,7 @@ use Rattle.world_steps.specs.declared.step.Step.TheVariants.{Restart, Stop}
 use Rattle.world_steps.specs.World.{World, count, site_numbered, history_at, office_at, at_site, widened_by, entry_if_sent, entry_of_input, is_there, stopped_in}
 use Rattle.world_steps.proofs.Widening.{ask_adds_none, take_adds_none}
 use Rattle.site_desk.specs.Calls.{Keeping, SiteCall}
-use Rattle.site_runs.specs.Runs.{IsOneOf, Restarted, Starts, left_of, IsGenuine, Call, Asks, Takes, Grows, Gives, Restarts, Crashes}
+use Rattle.site_runs.specs.Runs.{IsOneOf, Restarted, Starts, history_left, IsGenuine, Call, Asks, Takes, Grows, Gives, Restarts, Crashes}
 use Rattle.site_runs.proofs.Moves.{grow_adds_none}
 use Rattle.site_runs.proofs.OneStep.{Made, by_one, IsHere}
 
@@ -171,7 +171,7 @@ none_left false h = refl
 
 -- a stop in the midst of a call, and the start behind it, are a step
 pub crash_step : {K : Type 0} (k : Keeping K) (w : World) (i : ℕ) (old new : SiteView K) (in_hand : Call) (stored : Bool) → count w ≡ max_sites → IsHere w i old → IsGenuine w.sent in_hand
-    → Starts k old new (left_of old.book in_hand stored) → Made w i (site_of new) None
+    → Starts k old new (history_left old.book in_hand stored) → Made w i (site_of new) None
 crash_step k w i old new (Asks number request answer) stored whole here is starts = held_step w i old new (OfRequest number request) stored whole here tt starts.history starts.acked
 crash_step k w i old new (Takes message answer) stored whole here is starts = held_step w i old new (OfMessage message) stored whole here is starts.history starts.acked
 crash_step k w i old new (Grows sites answer) stored whole here is starts = held_step w i old new (OfGrowth sites) stored whole here tt starts.history starts.acked

@@ -1,20 +1,24 @@
 -- What the sites sold by their own books.
-use Rattle.std.proofs.Common.{◌≡◌, inl, inr, ℕ, zero, suc, ◌≤◌, ◌<◌, List, [], ◌∷◌, ◌++◌, Some, refl, sym, ap, ◌∙◌, subst, arith, length, get_or, map, append-nil}
+use Rattle.std.proofs.Common.{◌≡◌, inl, inr, ℕ, zero, suc, ◌≤◌, ◌<◌, List, [], ◌∷◌, ◌++◌, Some, refl, sym, ap, ◌∙◌, subst, arith, length, get_or, map, take, append-nil}
 use Rattle.std.specs.Prelude.{slice_get}
+use Rattle.std.proofs.Math.Seq.{take-length}
 use Rattle.std.proofs.lemmas.Bool.{cases_lt}
 use Rattle.std.proofs.lemmas.List.{length-map}
+use Rattle.rights_lattice.specs.State.{AtOrBelow}
+use Rattle.rights_lattice.proofs.StateLaws.{same_states}
 use Rattle.book_core.specs.declared.entry.Entry.{Entry}
 use Rattle.book_core.specs.BookView.{BookView}
 use Rattle.book_core.specs.Books.{operations_in}
+use Rattle.book_core.specs.History.{state_of}
 use Rattle.book_core.specs.Operations.{Operation, operations, operations_below, outstanding, released, sold, refunded}
 use Rattle.site_exchange.specs.Exchange.{SitePart}
 use Rattle.site_desk.specs.SiteView.{SiteView}
-use Rattle.world_steps.specs.World.{World, begun, run, count, history_at}
+use Rattle.world_steps.specs.World.{World, begun, run, count, history_at, site_numbered, state_at}
 use Rattle.world_steps.proofs.Promised as promised
 use Rattle.world_steps.proofs.Reached.{few_from, sound_from}
 use Rattle.site_desk.specs.Calls.{Keeping}
-use Rattle.site_runs.specs.Runs.{Sites, BooksNeverOversold, NotOversold, books_in}
-use Rattle.site_runs.specs.Steps.{Shows, AreSteps, RunsKeepPromises}
+use Rattle.site_runs.specs.Runs.{BooksNeverOversold, NotOversold, Sites, books_in}
+use Rattle.site_runs.specs.Steps.{AreSteps, BooksAgreeOnceAcknowledged, RunsKeepPromises, Shows}
 use Rattle.site_runs.proofs.Listing.{runs_are_steps}
 
 below_same : (n : ℕ) (g h : ℕ → List Entry) → ((i : ℕ) → i < n → g i ≡ h i) → operations_below n g ≡ operations_below n h
@@ -58,11 +62,11 @@ steps_never_oversell s are event =
     )
 
 pub books_never_oversold : {K : Type 0} (k : Keeping K) → BooksNeverOversold k
-books_never_oversold k events begin end are runs = steps_never_oversell end (runs_are_steps k events begin end are runs)
+books_never_oversold k calls begin end are runs = steps_never_oversell end (runs_are_steps k calls begin end are runs)
 
 pub runs_keep_promises : {K : Type 0} (k : Keeping K) → RunsKeepPromises k
-runs_keep_promises k events begin end are runs =
-    let list = runs_are_steps k events begin end are runs in
+runs_keep_promises k calls begin end are runs =
+    let list = runs_are_steps k calls begin end are runs in
     let w : World = run list.steps (begun list.limits list.counts) in
     let sound = sound_from list.limits list.counts list.steps list.are in
     let few = few_from list.limits list.counts list.steps list.are list.few in (
@@ -86,3 +90,16 @@ runs_keep_promises k events begin end are runs =
         receivers_are_there = promised.receivers_are_there w sound;
       },
     )
+
+-- what is acknowledged of a site is held by the other: all of it, by each of the two
+pub books_agree_once_acknowledged : {K : Type 0} (k : Keeping K) → BooksAgreeOnceAcknowledged k
+books_agree_once_acknowledged {K} k calls begin end are runs i j a b here there all_by_j all_by_i =
+    same_states (state_of a.book.history) (state_of b.book.history) (λ s. omega (arith, held i j a b here there all_by_j s, held j i b a there here all_by_i s))
+  where
+    held : (i j : ℕ) (a b : SiteView K) → slice_get end.books i ≡ Some a → slice_get end.books j ≡ Some b → get_or a.acked j 0 ≡ length a.book.history → AtOrBelow (state_of a.book.history) (state_of b.book.history)
+    held i j a b here there all =
+        let kept = runs_keep_promises k calls begin end are runs in
+        subst (λ (h : List Entry). AtOrBelow (state_of h) (state_of b.book.history)) (ap (λ n. take n a.book.history) all ∙ take-length a.book.history)
+        (subst (λ (p : SitePart). AtOrBelow (state_at p.history (get_or p.acked j 0)) (state_of b.book.history)) (kept.1.site i a here)
+        (subst (λ (p : SitePart). AtOrBelow (state_at (history_at kept.0 i) (get_or (site_numbered kept.0 i).acked j 0)) (state_of p.history)) (kept.1.site j b there)
+        (kept.2.acknowledged_is_held i j)))

@@ -1,5 +1,5 @@
 -- What a call of books at their places makes of them. (Our own.)
-use Rattle.std.specs.Prelude.{◌≡◌, ◌⊎◌, ℕ, ◌≤◌, Bool, true, false, length, slice_get, Option, Some, None, Result, Ok, Err}
+use Rattle.std.specs.Prelude.{◌≡◌, ◌⊎◌, ℕ, ◌≤◌, Bool, true, false, List, [], ◌∷◌, ◌++◌, length, slice_get, Option, Some, None, Result, Ok, Err}
 use Rattle.site_exchange.specs.declared.message.Message.{Message}
 use Rattle.site_exchange.specs.declared.message.TakeFault.{TakeFault}
 use Rattle.site_exchange.specs.declared.message.TakeFault.TheVariants as take
@@ -7,12 +7,25 @@ use Rattle.site_desk.specs.declared.answer.Taken.{Taken}
 use Rattle.site_desk.specs.declared.fault.NextFault.{NextFault}
 use Rattle.site_desk.specs.declared.fault.NextFault.TheVariants as next
 use Rattle.site_desk.specs.Calls.{Keeping}
+use Rattle.site_desk.specs.SiteView.{SiteView}
+use Rattle.book_core.specs.declared.entry.Entry.{Entry}
+use Rattle.sql_records.specs.declared.meta.Meta.{Meta}
+use Rattle.sql_records.specs.Layout.{office_of}
+use Rattle.site_desk.specs.Storing.{IsStarted}
 use Rattle.book_core.specs.declared.plan.ReplayFault.{ReplayFault}
-use Rattle.site_runs.specs.Runs.{Call, Gives, Moves, Restarts, Sites, Takes}
+use Rattle.site_runs.specs.Runs.{Call, Gives, Happens, Moves, Restarts, Sites, Takes}
 
 -- there is no such site, and nothing changed
 abbrev pub IsNoSite : {K : Type 0} → Sites K → ℕ → Sites K → Type 0
 IsNoSite old site now = (length old.books ≤ site) × (now ≡ old)
+
+-- A new site was started at the next place, over this keeper; or its count leaves it out, or it could not be, and nothing changed.
+abbrev pub Added : {K : Type 0} → Keeping K → Sites K → K → ℕ → ℕ → Option (Result (Unit {0}) ReplayFault) → Sites K → Type 0
+Added k old keeper sites limit None now = (sites ≤ length old.books) × (now ≡ old)
+Added {K} k old keeper sites limit (Some (Ok done)) now =
+    (site : SiteView K) × IsStarted k keeper [] (record { me = length old.books; sites = sites; limit = limit }) site
+    × (now ≡ record { books = old.books ++ site ∷ []; given = old.given })
+Added k old keeper sites limit (Some (Err fault)) now = now ≡ old
 
 -- the site was called, and answered so
 abbrev pub Called : {K R : Type 0} → Keeping K → Sites K → ℕ → (R → Call) → Option R → Sites K → Type 0
@@ -40,6 +53,14 @@ Took k old site index None now = ((length old.books ≤ site) ⊎ (length old.gi
 Took k old site index (Some told) now =
     ((told ≡ Err take.Memory) × (now ≡ old))
     ⊎ ((message : Message) × (slice_get old.given index ≡ Some message) × (answer : Result Taken TakeFault) × (told ≡ was_taken answer) × Moves k old site (Takes message answer) now)
+
+-- a crash of this site, between its calls, may leave these entries
+abbrev pub MayLeave : {K : Type 0} → Keeping K → SiteView K → List Entry → Meta → Type 0
+MayLeave k old entries meta = k.is_trusted old.keeper × k.may_leave old.keeper (Some entries) × (old.book.office ≡ office_of meta)
+
+-- the site is a start of each one that may have left these entries
+abbrev pub IsRestart : {K : Type 0} → Keeping K → List Entry → Meta → SiteView K → Type 0
+IsRestart {K} k entries meta new = (given : List Message) (old : SiteView K) → MayLeave k old entries meta → Happens k given old Restarts new
 
 -- the site was started again, or could not be and is as it was
 abbrev pub StartedAgain : {K : Type 0} → Keeping K → Sites K → ℕ → Option (Result (Unit {0}) ReplayFault) → Sites K → Type 0

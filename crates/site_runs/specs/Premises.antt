@@ -4,7 +4,7 @@ use Rattle.book_core.specs.declared.entry.Entry.{Entry}
 use Rattle.site_exchange.specs.declared.message.Message.{Message}
 use Rattle.site_desk.specs.Calls.{Keeping, TakeCall}
 use Rattle.site_desk.specs.SiteView.{SiteView}
-use Rattle.site_runs.specs.Runs.{AreNew, Call, Event, Happens, NotOversold, Restarts, RunsBy, Sites, Starts, Takes}
+use Rattle.site_runs.specs.Runs.{AreNew, Call, CallAt, Happens, NotOversold, Restarts, RunsBy, Sites, Starts, Takes}
 
 -- a keeper of which nothing is known
 abbrev pub no_store : Keeping (Unit {0})
@@ -18,7 +18,7 @@ HappensForged k given old call new = Happens k given old call new
 -- Some run with a forged message oversells.
 abbrev pub ForgedMessagesOversell : Type 0
 ForgedMessagesOversell =
-    ((events : List (Event (Unit {0}))) (begin end : Sites (Unit {0})) → AreNew no_store begin → RunsBy (HappensForged no_store) events begin end → NotOversold end) → ⊥
+    ((calls : List (CallAt (Unit {0}))) (begin end : Sites (Unit {0})) → AreNew no_store begin → RunsBy (HappensForged no_store) calls begin end → NotOversold end) → ⊥
 
 -- what a call makes of a site, where a start may go on from an older copy of its records
 abbrev pub HappensOfCopies : {K : Type 0} → Keeping K → List Message → SiteView K → Call → SiteView K → Type 0
@@ -28,4 +28,4 @@ HappensOfCopies k given old call new = Happens k given old call new
 -- Some run that goes on from an older copy of a site, beside what the newer one gave, oversells.
 abbrev pub TwoCopiesOversell : Type 0
 TwoCopiesOversell =
-    ((events : List (Event (Unit {0}))) (begin end : Sites (Unit {0})) → AreNew no_store begin → RunsBy (HappensOfCopies no_store) events begin end → NotOversold end) → ⊥
+    ((calls : List (CallAt (Unit {0}))) (begin end : Sites (Unit {0})) → AreNew no_store begin → RunsBy (HappensOfCopies no_store) calls begin end → NotOversold end) → ⊥

@@ -1,5 +1,5 @@
 -- Runs of the books of sites, call by call. (Our own.)
-use Rattle.std.specs.Prelude.{◌≡◌, ℕ, ◌<◌, ◌≤◌, Bool, true, false, List, [], ◌∷◌, if◌then◌else◌, length, map, set, slice_get, Option, Some, None, Result, Ok, Err, IfOk}
+use Rattle.std.specs.Prelude.{◌≡◌, ℕ, ◌<◌, ◌≤◌, Bool, true, false, List, [], ◌∷◌, if◌then◌else◌, length, map, set, slice_get, Option, Some, None, Result, Ok, Err, IfOk, IfErr}
 use Rattle.rights_lattice.specs.Sums.{max_sites}
 use Rattle.request_ledger.specs.declared.request.Request.{Request}
 use Rattle.book_core.specs.declared.entry.Entry.{Entry}
@@ -16,7 +16,7 @@ use Rattle.site_desk.specs.declared.answer.Answer.{Answer}
 use Rattle.site_desk.specs.declared.answer.Taken.{Taken}
 use Rattle.site_desk.specs.declared.fault.AskFault.{AskFault}
 use Rattle.site_desk.specs.declared.fault.NextFault.{NextFault}
-use Rattle.site_desk.specs.Answers.{ack_of, is_peer}
+use Rattle.site_desk.specs.Answers.{IsNextFault, ack_of, is_peer}
 use Rattle.site_desk.specs.Calls.{AskCall, GrowCall, Keeping, TakeCall}
 use Rattle.site_desk.specs.SiteView.{SiteView, entry_in, growth_in, site_of}
 
@@ -61,8 +61,14 @@ IsGenuine given (Takes message answer) = IsOneOf given message
 IsGenuine given _ = Unit {0}
 
 -- the history of a site that stopped in the midst of the call, and stored its entry or did not
-abbrev pub left_of : BookView → Call → Bool → List Entry
-left_of book in_hand stored = extended (if stored then adds in_hand book else None) book.history
+abbrev pub history_left : BookView → Call → Bool → List Entry
+history_left book in_hand stored = extended (if stored then adds in_hand book else None) book.history
+
+-- what is due to a peer is given, or why not is told; nothing changes
+pub record GiveCall {K : Type 0} (old new : SiteView K) (to : ℕ) (answer : Result (Option Message) NextFault) : Type 0 where
+  pub same : new ≡ old
+  pub due : IfOk answer (λ message. (is_peer old.book.office old.book.history to ≡ true) × (message ≡ next old.book.office.me (site_of old) to))
+  pub fault : IfErr answer (IsNextFault old.closed (is_peer old.book.office old.book.history to) (next old.book.office.me (site_of old) to))
 
 -- the message was taken, or it was being stored when the store failed; what was refused need be no message of a site
 abbrev pub WasTried : Result Taken TakeFault → Type 0
@@ -75,9 +81,9 @@ abbrev pub Happens : {K : Type 0} → Keeping K → List Message → SiteView K 
 Happens k given old (Asks number request answer) new = AskCall k old new number request answer
 Happens k given old (Takes message answer) new = (WasTried answer → IsOneOf given message) × TakeCall k old new message answer
 Happens k given old (Grows sites answer) new = GrowCall k old new sites answer
-Happens k given old (Gives to answer) new = (new ≡ old) × IfOk answer (λ message. (is_peer old.book.office old.book.history to ≡ true) × (message ≡ next old.book.office.me (site_of old) to))
+Happens k given old (Gives to answer) new = GiveCall old new to answer
 Happens k given old Restarts new = Restarted k old new
-Happens k given old (Crashes in_hand stored) new = IsGenuine given in_hand × Starts k old new (left_of old.book in_hand stored)
+Happens k given old (Crashes in_hand stored) new = IsGenuine given in_hand × Starts k old new (history_left old.book in_hand stored)
 
 -- the message that an answer gives, if any
 abbrev pub given_by : Call → Option Message
@@ -86,7 +92,7 @@ given_by (Gives to (Ok message)) = message
 given_by _ = None
 
 -- a call at a site, and the site behind it
-pub record Event (K : Type 0) : Type 0 where
+pub record CallAt (K : Type 0) : Type 0 where
   pub site : ℕ
   pub call : Call
   pub after : SiteView K
@@ -96,16 +102,16 @@ pub record Sites (K : Type 0) : Type 0 where
   pub books : List (SiteView K)
   pub given : List Message
 
-abbrev pub moved : {K : Type 0} → Sites K → Event K → Sites K
-moved s e = record { books = set s.books e.site e.after; given = with_given s.given (given_by e.call) }
+abbrev pub moved : {K : Type 0} → Sites K → CallAt K → Sites K
+moved s c = record { books = set s.books c.site c.after; given = with_given s.given (given_by c.call) }
 
--- The events happen one after the other: each finds its site as the one before left it, and does to it what may happen.
-abbrev pub RunsBy : {K : Type 0} → (List Message → SiteView K → Call → SiteView K → Type 0) → List (Event K) → Sites K → Sites K → Type 0
+-- The calls are made one after the other: each finds its site as the one before left it, and does to it what may happen.
+abbrev pub RunsBy : {K : Type 0} → (List Message → SiteView K → Call → SiteView K → Type 0) → List (CallAt K) → Sites K → Sites K → Type 0
 RunsBy May [] s end = end ≡ s
-RunsBy {K} May (e ∷ events) s end = (old : SiteView K) × (slice_get s.books e.site ≡ Some old) × May s.given old e.call e.after × RunsBy May events (moved s e) end
+RunsBy {K} May (c ∷ calls) s end = (old : SiteView K) × (slice_get s.books c.site ≡ Some old) × May s.given old c.call c.after × RunsBy May calls (moved s c) end
 
-abbrev pub Runs : {K : Type 0} → Keeping K → List (Event K) → Sites K → Sites K → Type 0
-Runs k events s end = RunsBy (Happens k) events s end
+abbrev pub Runs : {K : Type 0} → Keeping K → List (CallAt K) → Sites K → Sites K → Type 0
+Runs k calls s end = RunsBy (Happens k) calls s end
 
 -- a site before any call
 pub record IsNew {K : Type 0} (k : Keeping K) (i : ℕ) (site : SiteView K) : Type 0 where
@@ -131,11 +137,11 @@ NotOversold s = AreNotOversold (books_in s)
 
 -- At no moment of any run are more outstanding: each beginning of a run is a run.
 abbrev pub BooksNeverOversold : {K : Type 0} → Keeping K → Type 0
-BooksNeverOversold {K} k = (events : List (Event K)) (begin end : Sites K) → AreNew k begin → Runs k events begin end → NotOversold end
+BooksNeverOversold {K} k = (calls : List (CallAt K)) (begin end : Sites K) → AreNew k begin → Runs k calls begin end → NotOversold end
 
 -- some run leads to these sites
 abbrev pub IsRun : {K : Type 0} → Keeping K → Sites K → Type 0
-IsRun {K} k s = (begin : Sites K) × AreNew k begin × (events : List (Event K)) × Runs k events begin s
+IsRun {K} k s = (begin : Sites K) × AreNew k begin × (calls : List (CallAt K)) × Runs k calls begin s
 
 -- a call at one of the sites leads from these to those
 abbrev pub Moves : {K : Type 0} → Keeping K → Sites K → ℕ → Call → Sites K → Type 0

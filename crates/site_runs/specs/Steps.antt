@@ -1,13 +1,14 @@
 -- Runs of the books of sites are lists of steps. (Our own.)
-use Rattle.std.specs.Prelude.{◌≡◌, ℕ, ◌≤◌, List, [], length, Some, slice_get}
+use Rattle.std.specs.Prelude.{◌≡◌, ℕ, ◌≤◌, List, [], get_or, length, Some, slice_get}
 use Rattle.rights_lattice.specs.Sums.{max_sites}
+use Rattle.book_core.specs.History.{state_of}
 use Rattle.site_desk.specs.SiteView.{SiteView, site_of}
 use Rattle.world_steps.specs.declared.step.Step.{Step}
 use Rattle.world_steps.specs.World as world
 use Rattle.world_steps.specs.World.{World, begun, history_at, office_at, run, site_numbered}
 use Rattle.world_steps.specs.Promises.{HoldsPromises}
 use Rattle.site_desk.specs.Calls.{Keeping}
-use Rattle.site_runs.specs.Runs.{AreNew, Event, Runs, Sites}
+use Rattle.site_runs.specs.Runs.{AreNew, CallAt, Runs, Sites}
 
 -- the world has the histories, the acknowledged numbers, the limits, the counts and the messages of the sites, and no other history
 pub record Shows {K : Type 0} (w : World) (s : Sites K) : Type 0 where
@@ -29,8 +30,15 @@ pub record AreSteps {K : Type 0} (s : Sites K) : Type 0 where
 
 -- Each run is a list of steps.
 abbrev pub RunsAreSteps : {K : Type 0} → Keeping K → Type 0
-RunsAreSteps {K} k = (events : List (Event K)) (begin end : Sites K) → AreNew k begin → Runs k events begin end → AreSteps end
+RunsAreSteps {K} k = (calls : List (CallAt K)) (begin end : Sites K) → AreNew k begin → Runs k calls begin end → AreSteps end
 
 -- So each promise holds of a world that shows the sites at the end of each run.
 abbrev pub RunsKeepPromises : {K : Type 0} → Keeping K → Type 0
-RunsKeepPromises {K} k = (events : List (Event K)) (begin end : Sites K) → AreNew k begin → Runs k events begin end → (w : World) × Shows w end × HoldsPromises w
+RunsKeepPromises {K} k = (calls : List (CallAt K)) (begin end : Sites K) → AreNew k begin → Runs k calls begin end → (w : World) × Shows w end × HoldsPromises w
+
+-- Two sites that each count all of the other's history as acknowledged know the same.
+abbrev pub BooksAgreeOnceAcknowledged : {K : Type 0} → Keeping K → Type 0
+BooksAgreeOnceAcknowledged {K} k =
+    (calls : List (CallAt K)) (begin end : Sites K) → AreNew k begin → Runs k calls begin end
+    → (i j : ℕ) (a b : SiteView K) → slice_get end.books i ≡ Some a → slice_get end.books j ≡ Some b
+    → get_or a.acked j 0 ≡ length a.book.history → get_or b.acked i 0 ≡ length b.book.history → state_of a.book.history ≡ state_of b.book.history

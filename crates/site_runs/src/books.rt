@@ -1,13 +1,12 @@
 //! Books of several sites in one process, for tests and for who embeds them in a program of his own.
-ghost use Rattle.std.specs.Prelude.{◌≡◌, ◌<◌, [], Some, slice_get};
-ghost use Rattle.sql_records.specs.Layout.{office_of};
+ghost use Rattle.std.specs.Prelude.{◌≡◌, ◌<◌, [], Some, option_copied, slice_get};
 ghost use Rattle.site_desk.specs.Calls.{keeping};
 ghost use Rattle.site_desk.specs.SiteView.{SiteView};
-ghost use Rattle.site_runs.specs.Moving.{Called, Gave, StartedAgain, Took};
-ghost use Rattle.site_runs.specs.Runs.{AreNew, Asks, Grows, NotOversold, Sites as TheSites};
+ghost use Rattle.site_runs.specs.Moving.{Added, Called, Gave, MayLeave, StartedAgain, Took};
+ghost use Rattle.site_runs.specs.Runs.{Asks, Grows, NotOversold};
 
-use crate::calls::{acknowledgement, copied, give, restart};
-use book_core::{Entry, GrowFault, ReplayFault};
+use crate::calls::{acknowledgement, begin, copied, give, restart};
+use book_core::{Entry, GrowFault, Limit, ReplayFault};
 use request_ledger::{Request, RequestNumber};
 use rights_lattice::{SiteId, Sites};
 use site_desk::{Answer, AskFault, NextFault, SiteBook};
@@ -40,17 +39,38 @@ impl<K: Keeper> Model for Books<K> {
 }
 
 impl<K: Keeper> Books<K> {
-    /// New sites, each at the place of its number, and no message.
-    pub fn new(alloc: Global, books: Vec<SiteBook<K>>) -> Books<K>
-        requires { let s : TheSites K = record { books = books.items; given = [] } in
-            AreNew (keeping K.failed K.is_trusted K.kept K.may_leave K.is_of) s }
-        ensures books { result.books ≡ books.items }
+    /// No site and no message.
+    pub fn new(alloc: Global) -> Books<K>
+        ensures books { result.books ≡ [] }
         ensures given { result.given ≡ [] }
     {
         Books {
-            books,
+            books: Vec::new(alloc),
             given: Vec::new(alloc),
         }
+    }
+
+    /// The book of a site; `None` where there is no such site.
+    pub fn book(&self, site: usize) -> Option<&SiteBook<K>>
+        ensures { option_copied result ≡ slice_get self.now.books site }
+    {
+        self.books.get(site)
+    }
+
+    /// All messages that were given, the oldest first.
+    pub fn messages(&self) -> &[Message]
+        ensures { result.now ≡ self.now.given }
+    {
+        self.given.as_slice()
+    }
+
+    /// The books, each at the place of its number. The messages are let go.
+    pub fn into_books(self) -> Vec<SiteBook<K>>
+        ensures books { result.items ≡ self.books }
+        ensures never { NotOversold self }
+    {
+        let Books { books, .. } = self;
+        books
     }
 
     /// Asks a site, and answers as its book does; `None` where there is no such site.
@@ -190,6 +210,57 @@ impl<K: Keeper> Books<K> {
 }
 
 impl<K: Keeper + Drop> Books<K> {
+    /// Starts a new site over a keeper of nothing: its number is the next place, and it counts so many sites. A fault changes
+    /// nothing, and drops the keeper; `None` where the count leaves it out.
+    pub fn add(
+        &mut self,
+        alloc: Global,
+        keeper: K,
+        sites: Sites,
+        limit: Limit,
+    ) -> Option<Result<(), ReplayFault>>
+        requires sound { K.failed keeper ≡ 0 }
+        requires kept { K.is_trusted keeper → K.kept keeper ≡ [] }
+        ensures added { Added (keeping K.failed K.is_trusted K.kept K.may_leave K.is_of)
+            self.old keeper sites limit result self.new }
+        ensures never { NotOversold self.new }
+    {
+        let added = self.add_next(alloc, keeper, sites, limit);
+        self.as_run();
+        added
+    }
+
+    fn add_next(
+        &mut self,
+        alloc: Global,
+        keeper: K,
+        sites: Sites,
+        limit: Limit,
+    ) -> Option<Result<(), ReplayFault>>
+        requires sound { K.failed keeper ≡ 0 }
+        requires kept { K.is_trusted keeper → K.kept keeper ≡ [] }
+        ensures added { Added (keeping K.failed K.is_trusted K.kept K.may_leave K.is_of)
+            self.old keeper sites limit result self.new }
+    {
+        let number = self.books.len() as u64;
+        if number >= sites.count() {
+            return None;
+        }
+        let Some(me) = SiteId::of(number) else {
+            return None;
+        };
+        if self.books.reserve(1).is_err() {
+            return Some(Err(ReplayFault::Memory));
+        }
+        match begin(alloc, keeper, Meta { me, sites, limit }) {
+            Ok(book) => {
+                self.books.push_reserved(book);
+                Some(Ok(()))
+            }
+            Err((_keeper, fault)) => Some(Err(fault)),
+        }
+    }
+
     /// Starts a site again from what a crash between its calls left of its records; a fault leaves the book that was there, and
     /// drops the keeper. `None` where there is no such site.
     pub fn restart(
@@ -204,8 +275,8 @@ impl<K: Keeper + Drop> Books<K> {
         requires sound { K.failed keeper ≡ 0 }
         requires kept { K.is_trusted keeper → entries.items ≡ K.kept keeper }
         requires left { (old : SiteView K) → slice_get self.old.books site ≡ Some old
-            → K.is_trusted old.keeper × K.may_leave old.keeper (Some entries.items)
-            × (old.book.office ≡ office_of meta) }
+            → MayLeave (keeping K.failed K.is_trusted K.kept K.may_leave K.is_of)
+            old entries.items meta }
         ensures moves { StartedAgain (keeping K.failed K.is_trusted K.kept K.may_leave K.is_of)
             self.old site result self.new }
         ensures never { NotOversold self.new }
@@ -227,8 +298,8 @@ impl<K: Keeper + Drop> Books<K> {
         requires sound { K.failed keeper ≡ 0 }
         requires kept { K.is_trusted keeper → entries.items ≡ K.kept keeper }
         requires left { (old : SiteView K) → slice_get self.old.books site ≡ Some old
-            → K.is_trusted old.keeper × K.may_leave old.keeper (Some entries.items)
-            × (old.book.office ≡ office_of meta) }
+            → MayLeave (keeping K.failed K.is_trusted K.kept K.may_leave K.is_of)
+            old entries.items meta }
         ensures moves { StartedAgain (keeping K.failed K.is_trusted K.kept K.may_leave K.is_of)
             self.old site result self.new }
     {

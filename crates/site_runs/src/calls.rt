@@ -1,11 +1,13 @@
 //! The calls of a run that a contract of the books does not name: a start, and what is given.
-ghost use Rattle.std.specs.Prelude.{◌≡◌, ◌<◌, List, [], IfOk, Some};
+ghost use Rattle.std.specs.Prelude.{◌≡◌, ◌<◌, List, [], IfOk, IfErr};
+ghost use Rattle.book_core.specs.Replay.{IsReplayFault};
 ghost use Rattle.site_exchange.specs.declared.message.Message.{Message as Sent};
 ghost use Rattle.sql_records.specs.Layout.{office_of};
 ghost use Rattle.site_desk.specs.Answers.{ack_of};
 ghost use Rattle.site_desk.specs.Calls.{keeping};
-ghost use Rattle.site_desk.specs.SiteView.{SiteView};
-ghost use Rattle.site_runs.specs.Runs.{Gives, Happens, IsNew, Restarts};
+ghost use Rattle.site_desk.specs.Storing.{IsStarted};
+ghost use Rattle.site_runs.specs.Moving.{IsRestart};
+ghost use Rattle.site_runs.specs.Runs.{Gives, Happens, IsNew};
 
 use book_core::{Entry, ReplayFault};
 use rights_lattice::SiteId;
@@ -61,7 +63,7 @@ pub fn acknowledgement(taken: Taken) -> Option<Message>
     }
 }
 
-/// A start of the same site from what a crash left.
+/// A start of the same site from what a crash left. An error gives the keeper back as it was.
 pub fn restart<K: Keeper>(
     alloc: Global,
     keeper: K,
@@ -71,14 +73,15 @@ pub fn restart<K: Keeper>(
     requires site { meta.me < meta.sites }
     requires sound { K.failed keeper ≡ 0 }
     requires kept { K.is_trusted keeper → entries.items ≡ K.kept keeper }
-    ensures { IfOk result (λ new. (given : List Sent) (old : SiteView K) → K.is_trusted old.keeper
-        → K.may_leave old.keeper (Some entries.items) → old.book.office ≡ office_of meta
-        → Happens (keeping K.failed K.is_trusted K.kept K.may_leave K.is_of) given old Restarts new) }
+    ensures restarts { IfOk result (IsRestart (keeping K.failed K.is_trusted K.kept K.may_leave
+        K.is_of) entries.items meta) }
+    ensures fault { IfErr result
+        (λ e. (e.0 ≡ keeper) × IsReplayFault (office_of meta) entries.items e.1) }
 {
     SiteBook::start(alloc, keeper, entries, meta)
 }
 
-/// A site of which there are no entries.
+/// A site of which there are no entries. An error gives the keeper back as it was.
 pub fn begin<K: Keeper>(
     alloc: Global,
     keeper: K,
@@ -87,8 +90,11 @@ pub fn begin<K: Keeper>(
     requires site { meta.me < meta.sites }
     requires sound { K.failed keeper ≡ 0 }
     requires kept { K.is_trusted keeper → K.kept keeper ≡ [] }
-    ensures { IfOk result (λ new.
-        IsNew (keeping K.failed K.is_trusted K.kept K.may_leave K.is_of) meta.me new) }
+    ensures started { IfOk result (IsStarted (keeping K.failed K.is_trusted K.kept K.may_leave K.is_of)
+        keeper [] meta) }
+    ensures new { IfOk result (IsNew (keeping K.failed K.is_trusted K.kept K.may_leave K.is_of)
+        meta.me) }
+    ensures fault { IfErr result (λ e. (e.0 ≡ keeper) × IsReplayFault (office_of meta) [] e.1) }
 {
     let _me = meta.me.number();
     let _sites = meta.sites.count();

@@ -2,7 +2,7 @@
 ghost use Rattle.site_desk.specs.Calls.{keeping};
 ghost use Rattle.site_runs.specs.Premises.{ForgedMessagesOversell, TwoCopiesOversell};
 ghost use Rattle.site_runs.specs.Runs.{BooksNeverOversold};
-ghost use Rattle.site_runs.specs.Steps.{RunsAreSteps, RunsKeepPromises};
+ghost use Rattle.site_runs.specs.Steps.{BooksAgreeOnceAcknowledged, RunsAreSteps, RunsKeepPromises};
 
 use sql_records::Keeper;
 
@@ -22,13 +22,18 @@ pub fn books_never_oversold<K: Keeper>()
     ensures { BooksNeverOversold (keeping K.failed K.is_trusted K.kept K.may_leave K.is_of) }
 {}
 
+/// Two sites of a run that each count all of the other's history as acknowledged know the same.
+pub fn books_agree_once_acknowledged<K: Keeper>()
+    ensures { BooksAgreeOnceAcknowledged (keeping K.failed K.is_trusted K.kept K.may_leave
+        K.is_of) }
+{}
+
 /// That messages are genuine is needed: a run with one forged message oversells.
 pub fn forged_messages_oversell()
     ensures { ForgedMessagesOversell }
 {}
 
-/// That a site has one copy is needed: in a run that goes on from an older copy a release is lost, and what was sold of it is
-/// more than what is released.
+/// That a site has one copy is needed: in a run that goes on from an older copy of a site the same seats are sold twice.
 pub fn two_copies_oversell()
     ensures { TwoCopiesOversell }
 {}

@@ -12,5 +12,7 @@
 pub mod books;
 pub mod calls;
 pub mod laws;
+#[cfg(test)]
+mod tests;
 
 pub use books::Books;

@@ -14,7 +14,7 @@ invariant_of-self g c =
     let found : slice_get c.self.inside.books.items c.args.site ≡ Some old = slice_get_read c.self.inside.books.items (length c.self.inside.books.items) c.args.site old refl (omega (arith, c.if-site-len.false, c.len.ensures)) c.index_mut.ensures.value in
     let left = c.requires.left old (subst (λ s. slice_get s.books c.args.site ≡ Some old) c.self.view_is found) in
     goes_on (keeping g.K.Keeper.failed g.K.Keeper.is_trusted g.K.Keeper.kept g.K.Keeper.may_leave g.K.Keeper.is_of) (record { books = c.self.inside.books.items; given = given }) c.args.site old Restarts c.in-Ok.book c.self.invariant found
-    (c.in-Ok.ensures given old left.0 left.1 left.2)
+    (c.in-Ok.ensures.restarts given old left)
 
 pub returns-in-Ok : goal.returns-in-Ok
 returns-in-Ok g c =
@@ -24,5 +24,5 @@ returns-in-Ok g c =
     let left = c.requires.left old (subst (λ s. slice_get s.books c.args.site ≡ Some old) c.self.view_is found) in
     record {
       moves = subst (λ s. StartedAgain (keeping g.K.Keeper.failed g.K.Keeper.is_trusted g.K.Keeper.kept g.K.Keeper.may_leave g.K.Keeper.is_of) s c.args.site (Some (Ok tt)) (record { books = slice_set c.self.inside.books.items c.args.site c.in-Ok.book; given = given })) c.self.view_is
-          (old, c.in-Ok.book, found, c.in-Ok.ensures given old left.0 left.1 left.2, refl);
+          (old, c.in-Ok.book, found, c.in-Ok.ensures.restarts given old left, refl);
     }
