@@ -2,6 +2,7 @@ pub mod Admissible
 pub mod Answers
 pub mod Caller
 pub mod Gathered
+pub mod Grammar
 pub mod Handed
 pub mod Handling
 pub mod Importing

@@ -19,13 +19,17 @@ use std::io::Write;
 #[derive(Debug, Drop)]
 pub enum OfficeAnswer {
     /// The reply of a session.
-    Reply { answered: Answered },
+    Reply {
+        answered: Answered,
+    },
     /// The message that is due, if any.
     Exported {
         result: Result<Option<Message>, NextFault>,
     },
     /// What was done with a message.
-    Imported { result: Result<Taken, ImportFault> },
+    Imported {
+        result: Result<Taken, ImportFault>,
+    },
     /// Nothing yet: a message comes.
     Quiet,
 }

@@ -1,7 +1,9 @@
 //! The lines of a caller who may use all lines of an office.
 
-ghost use Rattle.std.specs.Prelude.{◌≡◌};
+ghost use Rattle.std.specs.Prelude.{◌≡◌, Ok, IfOk};
 ghost use Rattle.std.specs.Result.{result_ok};
+ghost use Rattle.live_office.specs.declared.office_line.OfficeLine.{OfficeLine};
+ghost use Rattle.live_office.specs.Grammar.{IsOfficeLine, office_line_text};
 ghost use Rattle.live_office.specs.Lines.{close_in, export_in, import_in, office_line_of, own_in};
 
 use delta_wire::site_at;
@@ -74,6 +76,11 @@ fn own_in(words: &mut Words<'_>) -> Option<OfficeLine>
 
 /// Reads a line, without its line break; `BadLine` where it is none. A line of a session is read as one of a session.
 pub fn read_office_line(bytes: &[u8]) -> Result<OfficeLine, BadLine>
+    // What is read is spelled so.
+    ensures found { IfOk result (λ l. IsOfficeLine l × (bytes.now ≡ office_line_text l)) }
+    // What is spelled so is read.
+    ensures only { (l : OfficeLine) → IsOfficeLine l → bytes.now ≡ office_line_text l → result ≡ Ok l }
+    // Which line it is, as a function.
     ensures exact { result_ok result ≡ office_line_of bytes.now }
 {
     if let Ok(line) = read_line(bytes) {

@@ -179,9 +179,11 @@ impl<'a, K: Keeper, L: Opens> OfficeSeat<'a, K, L> {
             self.now.held bytes.now true (answer_text result) (seat_state self.now.held Nothing) }
     {
         let result = import_at(rt, self.alloc, self.desk, bytes);
-        if let Err(ImportFault::Refused {
-            fault: TakeFault::Store,
-        }) = result
+        if let Err(
+            ImportFault::Refused {
+                fault: TakeFault::Store,
+            },
+        ) = result
         {
             self.closing.close();
         }

@@ -7,13 +7,12 @@ use crate::caller::{Caller, Connection, TURN};
 use crate::closing::Closing;
 use crate::door::{Access, Call, Door};
 use session_server::ListenFault;
-use std::io;
 use std::net::{Ipv4Addr, Net, SocketAddr, TcpListener, TcpStream};
 use std::os::fd::OwnedFd;
 use std::os::unix::net::{UnixListener, UnixStream};
 use std::sync::Wait;
-use std::thread;
 use std::time::{Clock, Duration};
+use std::{io, thread};
 
 /// The clerks' door: a port, at which callers have the lines of a session.
 #[derive(Drop)]

@@ -23,6 +23,7 @@ pub const CLERKS: u32 = 64;
 pub const OPERATORS: u32 = 4;
 
 // What the threads of an office share.
+#[derive(Drop)]
 pub(crate) struct Office<'a, K: Keeper, L: Opens, C, O> {
     pub(crate) alloc: Global,
     pub(crate) desk: &'a Desk<K, L>,
@@ -65,12 +66,7 @@ fn work<
     O: Door<R, W>,
     K: Keeper,
     L: Opens,
->(
-    rt: &T,
-    office: &Office<'_, K, L, C, O>,
-    seat: Seat<L>,
-    number: u32,
-) -> Seat<L>
+>(rt: &T, office: &Office<'_, K, L, C, O>, seat: Seat<L>, number: u32) -> Seat<L>
     ensures parts { result.parts ≡ seat.parts }
 {
     let Office {
