@@ -76,8 +76,8 @@ office_takes bytes l e = either (session_line_of bytes) refl e
     either : (o : Option Line) → session_line_of bytes ≡ o → session_or_own o (slice_split is_space bytes) ≡ Some l → IsOfficeLine l × (bytes ≡ join_with_byte 32 (office_words l))
     either (Some line) is h = subst (λ (m : OfficeLine). IsOfficeLine m × (bytes ≡ join_with_byte 32 (office_words m))) (same_Some (Session line) l h) (session_takes bytes line is)
     either None is h =
-      let f = own_found (slice_split is_space bytes) l h in
-      (f.1, sym (join_with_byte-slice_split 32 bytes) ∙ ap (join_with_byte 32) f.0)
+        let f = own_found (slice_split is_space bytes) l h in
+        (f.1, sym (join_with_byte-slice_split 32 bytes) ∙ ap (join_with_byte 32) f.0)
 
 -- ---- back
 
