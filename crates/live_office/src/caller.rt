@@ -92,11 +92,11 @@ pub struct Caller<'a> {
 fn is_in_line(was: bool, bytes: &[u8]) -> bool
     ensures { result ≡ is_in_line was bytes.now }
 {
-    let mut is_in_line = was;
+    let mut begun = was;
     for byte in bytes {
-        is_in_line = *byte != b'\n';
+        begun = *byte != b'\n';
     }
-    is_in_line
+    begun
 }
 
 impl<'a> Caller<'a> {

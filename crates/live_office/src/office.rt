@@ -4,7 +4,7 @@ ghost use Rattle.std.specs.Prelude.{◌≡◌, [], ◌<◌, ◌≤◌, ◌+◌, 
 ghost use Rattle.site_desk.specs.Moments.{IsLater};
 ghost use Rattle.site_desk.specs.Seats.{parts_of};
 ghost use Rattle.live_office.specs.Handed.{book_in};
-ghost use Rattle.live_office.specs.declared.office.OfficeFault.TheVariants.{Memory, NotStarted};
+ghost use Rattle.live_office.specs.declared.office.OfficeFault.TheVariants.{Memory};
 
 use crate::closing::Closing;
 use crate::door::Door;
@@ -100,19 +100,20 @@ fn at_desk<
     alloc: Global,
     book: SiteBook<K>,
     blank: Blank,
-    seats: Vec<Seat<L>>,
     clerks: &C,
     operators: &O,
     closing: &Closing,
 ) -> Result<SiteBook<K>, (SiteBook<K>, OfficeFault)>
     requires name { blank.name ≡ L.name }
     requires parts { (blank.parts ≡ L.parts) × (68 < blank.parts) }
-    requires room { (seats.items ≡ []) × (69 ≤ vec_capacity seats) }
     requires began { L.began ≡ book.book.history }
     requires office { L.office ≡ book.book.office }
     ensures later { IsLater book.book.office book.book.history (book_in result).book }
-    ensures fault { IfErr result (λ e. e.1 ≡ NotStarted) }
+    ensures memory { IfErr result (λ e. e.1 ≡ Memory → e.0 ≡ book) }
 {
+    let Ok(seats) = Vec::with_capacity(alloc, WORKERS as usize + 1) else {
+        return Err((book, OfficeFault::Memory));
+    };
     let (desk, seat) = Desk::<K, L>::new(book, blank);
     let office = Office {
         alloc,
@@ -152,15 +153,11 @@ pub fn open_office<
     ensures later { IsLater book.book.office book.book.history (book_in result).book }
     ensures memory { IfErr result (λ e. e.1 ≡ Memory → e.0 ≡ book) }
 {
-    let Ok(seats) = Vec::with_capacity(alloc, WORKERS as usize + 1) else {
-        return Err((book, OfficeFault::Memory));
-    };
     at_desk::<T, R, W, C, O, K, Brand>(
         rt,
         alloc,
         book,
         Blank::new(u64::from(WORKERS) + 1),
-        seats,
         clerks,
         operators,
         closing,

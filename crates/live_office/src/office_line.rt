@@ -74,6 +74,15 @@ fn own_in(words: &mut Words<'_>) -> Option<OfficeLine>
     }
 }
 
+fn office_line_of(bytes: &[u8]) -> Option<OfficeLine>
+    ensures { result ≡ office_line_of bytes.now }
+{
+    match read_line(bytes) {
+        Ok(line) => Some(OfficeLine::Session { line }),
+        Err(BadLine) => own_in(&mut Words::new(bytes)),
+    }
+}
+
 /// Reads a line, without its line break; `BadLine` where it is none. A line of a session is read as one of a session.
 pub fn read_office_line(bytes: &[u8]) -> Result<OfficeLine, BadLine>
     // What is read is spelled so.
@@ -83,10 +92,7 @@ pub fn read_office_line(bytes: &[u8]) -> Result<OfficeLine, BadLine>
     // Which line it is, as a function.
     ensures exact { result_ok result ≡ office_line_of bytes.now }
 {
-    if let Ok(line) = read_line(bytes) {
-        return Ok(OfficeLine::Session { line });
-    }
-    match own_in(&mut Words::new(bytes)) {
+    match office_line_of(bytes) {
         Some(line) => Ok(line),
         None => Err(BadLine),
     }

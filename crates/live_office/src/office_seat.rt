@@ -1,6 +1,6 @@
 //! A seat at a desk for callers who may use all lines of an office.
 
-ghost use Rattle.std.specs.Prelude.{◌≡◌, [], ◌∷◌, ◌++◌, Some, IfSome, MatchResult};
+ghost use Rattle.std.specs.Prelude.{◌≡◌, [], ◌∷◌, ◌++◌, true, Some, IfSome, MatchResult};
 ghost use Rattle.site_desk.specs.Moments.{Sends};
 ghost use Rattle.desk_lines.specs.declared.answered.Answered.TheVariants.{Unread};
 ghost use Rattle.desk_lines.specs.Replies.{reply_line};
