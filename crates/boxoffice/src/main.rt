@@ -10,19 +10,25 @@
 #![tactic(auto)]
 
 mod connections;
+mod doors;
 mod files;
 
 use crate::connections::visits;
+use crate::doors::{is_gone, says_close, socket_of};
 use crate::files::{Files, close, open_or_make, open_there};
 use book_core::Limit;
+use live_office::{
+    Closing, TcpDoor, UnixDoor, bind_port, bind_socket, check_socket, remove_socket,
+};
 use operator_cli::{
-    FileNames, Order, Status, WordsFault, ask_store, audit_stores, export_store, find_store,
-    grow_store, import_store, init_store, list_store, migrate_store, open_store, read_words,
-    refuse_parts, refuse_site, serve_stores, tell_listen_fault, world_script,
+    CloseFault, FileNames, Order, Status, WordsFault, ask_store, audit_stores, export_store,
+    find_store, grow_store, import_store, init_store, list_store, migrate_store, office_store,
+    open_store, read_words, refuse_parts, refuse_site, serve_stores, tell_close_fault,
+    tell_listen_fault, tell_socket_fault, world_script,
 };
 use request_ledger::RequestNumber;
 use rights_lattice::{SiteId, Sites};
-use session_server::{SiteEnd, Visit, listen};
+use session_server::{ListenFault, SiteEnd, Visit, listen};
 use site_desk::SiteBook;
 use sql_records::Records;
 use sqlite::{Alter, Connection};
@@ -33,9 +39,12 @@ use std::alloc::{AllocError, Global};
 use std::env;
 use std::io::{BufWriter, ErrorKind, Read, Stdout, Write};
 use std::net::{Net, TcpListener, TcpStream};
+use std::os::unix::net::UnixListener;
 use std::process::ExitCode;
+use std::rt::Files as Paths;
 use std::sync::Wait;
 use std::thread::Threads;
+use std::time::Clock;
 
 /// Where databases are opened and closed, each by a connection. The commands run over any, whatever store it stands in, so
 /// that no proof of a command speaks of files.
@@ -403,10 +412,109 @@ fn run_serve<S: Alter + Drop + Send, H: Shelf<Connection<S>>>(
     }
 }
 
+// Where callers come in to an office: its port and its socket.
+fn listeners(
+    rt: &HostRuntime,
+    host: &(impl Paths + Net<Listener = TcpListener, Stream = TcpStream>),
+    port: u16,
+    path: &str,
+) -> Result<(TcpListener, UnixListener), Status> {
+    let clerks = match bind_port(host, port) {
+        Ok(clerks) => clerks,
+        Err(fault) => return Err(tell_listen_fault(fault, &mut rt.stderr())),
+    };
+    match bind_socket(host, path) {
+        Ok(operators) => Ok((clerks, operators)),
+        Err(fault) => Err(tell_socket_fault(fault, &mut rt.stderr())),
+    }
+}
+
+// Keeps the office of this site open until it closes.
+fn keep_open<S: Alter + Drop + Send>(
+    rt: &HostRuntime,
+    host: &(impl Threads + Wait + Clock + Sync),
+    site: SiteBook<Records<S>>,
+    clerks: TcpListener,
+    operators: UnixListener,
+) -> (Status, Option<Connection<S>>) {
+    let closing = Closing::new();
+    let (Ok(clerks), Ok(operators)) = (
+        TcpDoor::new(clerks, &closing),
+        UnixDoor::new(operators, &closing),
+    ) else {
+        let status = tell_listen_fault(ListenFault::Bind, &mut rt.stderr());
+        return (status, Some(site.into_keeper().close()));
+    };
+    office_store(
+        host,
+        rt.alloc(),
+        site,
+        &clerks,
+        &operators,
+        &closing,
+        &mut rt.stdout(),
+        &mut rt.stderr(),
+    )
+}
+
+// The socket goes once the file is closed, so that whoever waits for that finds a file that can be opened.
+fn run_open<S: Alter + Drop + Send, H: Shelf<Connection<S>>>(
+    rt: &HostRuntime,
+    host: &(impl Threads
+        + Wait
+        + Clock
+        + Sync
+        + Paths
+        + Net<Listener = TcpListener, Stream = TcpStream>),
+    port: u16,
+    file: &str,
+    shelf: &H,
+) -> Result<Status, Status> {
+    let Ok(path) = socket_of(rt.alloc(), file) else {
+        return Ok(out_of_memory(rt));
+    };
+    if let Err(fault) = check_socket(host, path.as_str()) {
+        return Ok(tell_socket_fault(fault, &mut rt.stderr()));
+    }
+    let site = open_site(rt, file, shelf)?;
+    match listeners(rt, host, port, path.as_str()) {
+        Ok((clerks, operators)) => {
+            let came = keep_open(rt, host, site, clerks, operators);
+            let status = shelf.close(rt, came);
+            remove_socket(host, path.as_str());
+            Ok(status)
+        }
+        Err(status) => Ok(close_site(rt, shelf, status, site)),
+    }
+}
+
+fn run_close(
+    rt: &HostRuntime,
+    host: &(impl Wait + Clock + Paths + Net),
+    file: &str,
+) -> Result<Status, Status> {
+    let Ok(path) = socket_of(rt.alloc(), file) else {
+        return Ok(out_of_memory(rt));
+    };
+    let Ok(_caller) = says_close(host, path.as_str()) else {
+        return Ok(tell_close_fault(CloseFault::NotOpen, &mut rt.stderr()));
+    };
+    if is_gone(host, path.as_str()) {
+        Ok(Status::Done)
+    } else {
+        Ok(tell_close_fault(CloseFault::StillOpen, &mut rt.stderr()))
+    }
+}
+
 // An error is the status of a command that could not begin, and whose fault was told.
 fn run_order<S: Alter + Drop + Send, H: Shelf<Connection<S>>>(
     rt: &HostRuntime,
-    host: &(impl Threads + Wait + Sync + Net<Listener = TcpListener, Stream = TcpStream>),
+    host: &(impl Threads
+        + Wait
+        + Clock
+        + Sync
+        + Paths
+        + Net<Listener = TcpListener, Stream = TcpStream>),
     order: Order<'_>,
     shelf: &H,
 ) -> Result<Status, Status> {
@@ -432,12 +540,19 @@ fn run_order<S: Alter + Drop + Send, H: Shelf<Connection<S>>>(
             rounds,
             files,
         } => run_serve(rt, host, &files, port, sessions, rounds, shelf),
+        Order::Open { port, file } => run_open(rt, host, port, file, shelf),
+        Order::Close { file } => run_close(rt, host, file),
     }
 }
 
 fn run<S: Alter + Drop + Send, H: Shelf<Connection<S>>>(
     rt: &HostRuntime,
-    host: &(impl Threads + Wait + Sync + Net<Listener = TcpListener, Stream = TcpStream>),
+    host: &(impl Threads
+        + Wait
+        + Clock
+        + Sync
+        + Paths
+        + Net<Listener = TcpListener, Stream = TcpStream>),
     words: &[&str],
     shelf: &H,
 ) -> Status {
@@ -459,7 +574,12 @@ fn texts(alloc: Global, words: &[String]) -> Result<Vec<&str>, AllocError> {
 
 fn started<S: Alter + Drop + Send, H: Shelf<Connection<S>>>(
     rt: &HostRuntime,
-    host: &(impl Threads + Wait + Sync + Net<Listener = TcpListener, Stream = TcpStream>),
+    host: &(impl Threads
+        + Wait
+        + Clock
+        + Sync
+        + Paths
+        + Net<Listener = TcpListener, Stream = TcpStream>),
     shelf: &H,
 ) -> std::io::Result<Status> {
     let words: Vec<String> = env::args(rt)?.collect(rt.alloc())?;
@@ -470,7 +590,12 @@ fn started<S: Alter + Drop + Send, H: Shelf<Connection<S>>>(
 // The same over files, whatever they stand on.
 fn started_over<D: Disk + Drop + Send, H: Shelf<Connection<FileStore<D>>>>(
     rt: &HostRuntime,
-    host: &(impl Threads + Wait + Sync + Net<Listener = TcpListener, Stream = TcpStream>),
+    host: &(impl Threads
+        + Wait
+        + Clock
+        + Sync
+        + Paths
+        + Net<Listener = TcpListener, Stream = TcpStream>),
     shelf: &H,
 ) -> std::io::Result<Status> {
     started(rt, host, shelf)
@@ -479,7 +604,12 @@ fn started_over<D: Disk + Drop + Send, H: Shelf<Connection<FileStore<D>>>>(
 // The same over files of this machine.
 fn started_by_path<F: Start + Send, B: Begins<First = F>>(
     rt: &HostRuntime,
-    host: &(impl Threads + Wait + Sync + Net<Listener = TcpListener, Stream = TcpStream>),
+    host: &(impl Threads
+        + Wait
+        + Clock
+        + Sync
+        + Paths
+        + Net<Listener = TcpListener, Stream = TcpStream>),
     files: &ByPath<B>,
 ) -> std::io::Result<Status> {
     started_over(rt, host, files)
