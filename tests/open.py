@@ -167,6 +167,7 @@ def exchange(folder):
             number, was_over = number + 1, is_over.is_set()
             reply = caller.ask(f"sell {number} gala 1")
             sold += reply == "done"
+            time.sleep(0.005)
         return sold
 
     same("ten go back", south.ask("cede 1 gala 10 0"), "done")
