@@ -121,7 +121,8 @@ impl<'a, K: Keeper, L: Opens> Answerer for DeskSeat<'a, K, L> {
     ghost use Rattle.live_office.specs.Admissible.{admissible};
     ghost use Rattle.live_office.specs.SeatAnswers.{SeatAnswers};
 
-    ghost step = { SeatAnswers (admissible L.office L.began K.failed K.is_trusted K.kept K.may_leave) };
+    ghost step = { SeatAnswers
+        (admissible L.office L.began K.failed K.is_trusted K.kept K.may_leave) };
 
     fn answer<T: Wait>(&mut self, rt: &T, line: &Line) -> Answered {
         match line {

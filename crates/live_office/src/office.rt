@@ -5,6 +5,7 @@ ghost use Rattle.site_desk.specs.Moments.{IsLater};
 ghost use Rattle.site_desk.specs.Seats.{parts_of};
 ghost use Rattle.live_office.specs.Handed.{book_in};
 ghost use Rattle.live_office.specs.declared.office.OfficeFault.TheVariants.{Memory};
+ghost use Rattle.live_office.specs.declared.office.TheConstants.{WORKERS};
 
 use crate::closing::Closing;
 use crate::door::Door;
@@ -49,15 +50,15 @@ fn staffed<
     seat: Seat<L>,
     mut seats: Vec<Seat<L>>,
 ) -> (bool, Vec<Seat<L>>)
-    requires parts { 68 < seat.parts }
-    requires room { (seats.items ≡ []) × (69 ≤ vec_capacity seats) }
+    requires parts { WORKERS < seat.parts }
+    requires room { (seats.items ≡ []) × (WORKERS + 1 ≤ vec_capacity seats) }
     ensures { result.0 ≡ true → parts_of result.1.items ≡ seat.parts }
 {
     thread::scope(
         thread::scope_env(),
         rt,
         move |scope| -> (bool, Vec<Seat<L>>)
-            requires { (68 < seat.parts) × (seats.items ≡ []) × (69 ≤ vec_capacity seats) }
+            requires { (WORKERS < seat.parts) × (seats.items ≡ []) × (WORKERS + 1 ≤ vec_capacity seats) }
             ensures { result.0 ≡ true → parts_of result.1.items ≡ seat.parts }
         {
             let all = work_all(scope, rt, office, seat, WORKERS, &mut seats);
@@ -105,7 +106,7 @@ fn at_desk<
     closing: &Closing,
 ) -> Result<SiteBook<K>, (SiteBook<K>, OfficeFault)>
     requires name { blank.name ≡ L.name }
-    requires parts { (blank.parts ≡ L.parts) × (68 < blank.parts) }
+    requires parts { (blank.parts ≡ L.parts) × (WORKERS < blank.parts) }
     requires began { L.began ≡ book.book.history }
     requires office { L.office ≡ book.book.office }
     ensures later { IsLater book.book.office book.book.history (book_in result).book }

@@ -88,7 +88,8 @@ pub fn read_office_line(bytes: &[u8]) -> Result<OfficeLine, BadLine>
     // What is read is spelled so.
     ensures found { IfOk result (λ l. IsOfficeLine l × (bytes.now ≡ office_line_text l)) }
     // What is spelled so is read.
-    ensures only { (l : OfficeLine) → IsOfficeLine l → bytes.now ≡ office_line_text l → result ≡ Ok l }
+    ensures only { (l : OfficeLine) → IsOfficeLine l → bytes.now ≡ office_line_text l
+        → result ≡ Ok l }
     // Which line it is, as a function.
     ensures exact { result_ok result ≡ office_line_of bytes.now }
 {

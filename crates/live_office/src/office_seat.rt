@@ -229,7 +229,8 @@ impl<'a, K: Keeper, L: Opens> Handler for OfficeSeat<'a, K, L> {
     ghost use Rattle.live_office.specs.Admissible.{admissible};
     ghost use Rattle.live_office.specs.Handling.{Handles, LastHandled};
 
-    ghost handles = { Handles (admissible L.office L.began K.failed K.is_trusted K.kept K.may_leave) };
+    ghost handles = { Handles
+        (admissible L.office L.began K.failed K.is_trusted K.kept K.may_leave) };
 
     ghost ends = { LastHandled };
 

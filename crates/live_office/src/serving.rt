@@ -30,9 +30,9 @@ pub struct Served<'a, R: Read + Drop, W: Write + Drop, K: Keeper, L: Opens> {
     writer_began: Snapshot<W>,
     writer: W,
     pub ended: Result<Option<Last>, TalkFault>,
-    ghost served: { ∥ IsServed (admissible L.office L.began K.failed K.is_trusted K.kept K.may_leave)
-        access (R.remaining reader_began.value) (W.contents writer_began.value) (W.contents writer)
-        ended ∥₁ },
+    ghost served: { ∥ IsServed (admissible L.office L.began K.failed K.is_trusted K.kept
+        K.may_leave) access (R.remaining reader_began.value) (W.contents writer_began.value)
+        (W.contents writer) ended ∥₁ },
 }
 
 fn ended_as(ended: Result<Ended, TalkFault>) -> Result<Option<Last>, TalkFault>

@@ -28,8 +28,8 @@ pub struct UnixDoor<'a> {
     closing: &'a Closing,
 }
 
-// As of a connection, the system lets an `accept` give up after a time. A listener has no such setting in the library, so
-// its socket takes the name of a connection for that.
+// The system lets an `accept` give up after a time, as a read. The library has that setting for connections alone, so the
+// socket of the listener takes the type of one for a moment.
 fn timed_port(listener: TcpListener) -> io::Result<TcpListener> {
     let socket = TcpStream::from(OwnedFd::from(listener));
     socket.set_read_timeout(Some(Duration::from_millis(TURN)))?;
@@ -55,7 +55,7 @@ pub fn bind_port<N: Net<Listener = TcpListener, Stream = TcpStream>>(
 }
 
 impl<'a> TcpDoor<'a> {
-    /// A door at this port, until the office closes. The error is that of the system, which the listener does not outlive.
+    /// A door at this port, until the office closes. An error is the system's; the port is let go then.
     pub fn new(listener: TcpListener, closing: &'a Closing) -> io::Result<TcpDoor<'a>> {
         let listener = timed_port(listener)?;
         Ok(TcpDoor { listener, closing })

@@ -116,7 +116,8 @@ pub(crate) fn work_all<
 ) -> bool
     requires parts { count < seat.parts }
     requires room { vec_len seats.old + count + 1 ≤ vec_capacity seats.old }
-    ensures parts { result ≡ true → parts_of seats.new.items ≡ parts_of seats.old.items + seat.parts }
+    ensures parts { result ≡ true → parts_of seats.new.items ≡ parts_of seats.old.items
+        + seat.parts }
     ensures room { (vec_len seats.new ≤ vec_len seats.old + count + 1) × (vec_capacity seats.new ≡
         vec_capacity seats.old) }
 {
