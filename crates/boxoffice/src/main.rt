@@ -14,12 +14,10 @@ mod doors;
 mod files;
 
 use crate::connections::visits;
-use crate::doors::{is_gone, says_close, socket_of};
+use crate::doors::Socket;
 use crate::files::{Files, close, open_or_make, open_there};
 use book_core::Limit;
-use live_office::{
-    Closing, TcpDoor, UnixDoor, bind_port, bind_socket, check_socket, remove_socket,
-};
+use live_office::{Closing, TcpDoor, UnixDoor, check_socket};
 use operator_cli::{
     CloseFault, FileNames, Order, Status, WordsFault, ask_store, audit_stores, export_store,
     find_store, grow_store, import_store, init_store, list_store, migrate_store, office_store,
@@ -28,7 +26,7 @@ use operator_cli::{
 };
 use request_ledger::RequestNumber;
 use rights_lattice::{SiteId, Sites};
-use session_server::{ListenFault, SiteEnd, Visit, listen};
+use session_server::{SiteEnd, Visit, listen};
 use site_desk::SiteBook;
 use sql_records::Records;
 use sqlite::{Alter, Connection};
@@ -39,7 +37,6 @@ use std::alloc::{AllocError, Global};
 use std::env;
 use std::io::{BufWriter, ErrorKind, Read, Stdout, Write};
 use std::net::{Net, TcpListener, TcpStream};
-use std::os::unix::net::UnixListener;
 use std::process::ExitCode;
 use std::rt::Files as Paths;
 use std::sync::Wait;
@@ -412,80 +409,63 @@ fn run_serve<S: Alter + Drop + Send, H: Shelf<Connection<S>>>(
     }
 }
 
-// Where callers come in to an office: its port and its socket.
-fn listeners(
-    rt: &HostRuntime,
-    host: &(impl Paths + Net<Listener = TcpListener, Stream = TcpStream>),
-    port: u16,
-    path: &str,
-) -> Result<(TcpListener, UnixListener), Status> {
-    let clerks = match bind_port(host, port) {
-        Ok(clerks) => clerks,
-        Err(fault) => return Err(tell_listen_fault(fault, &mut rt.stderr())),
-    };
-    match bind_socket(host, path) {
-        Ok(operators) => Ok((clerks, operators)),
-        Err(fault) => Err(tell_socket_fault(fault, &mut rt.stderr())),
-    }
-}
-
-// Keeps the office of this site open until it closes.
-fn keep_open<S: Alter + Drop + Send>(
+// An office whose doors these are, whatever the records of its site stand in.
+fn office<S: Alter + Drop + Send>(
     rt: &HostRuntime,
     host: &(impl Threads + Wait + Clock + Sync),
     site: SiteBook<Records<S>>,
-    clerks: TcpListener,
-    operators: UnixListener,
+    clerks: &TcpDoor<'_>,
+    operators: &UnixDoor<'_>,
+    closing: &Closing,
 ) -> (Status, Option<Connection<S>>) {
-    let closing = Closing::new();
-    let (Ok(clerks), Ok(operators)) = (
-        TcpDoor::new(clerks, &closing),
-        UnixDoor::new(operators, &closing),
-    ) else {
-        let status = tell_listen_fault(ListenFault::Bind, &mut rt.stderr());
-        return (status, Some(site.into_keeper().close()));
-    };
     office_store(
         host,
         rt.alloc(),
         site,
-        &clerks,
-        &operators,
-        &closing,
+        clerks,
+        operators,
+        closing,
         &mut rt.stdout(),
         &mut rt.stderr(),
     )
 }
 
-// The socket goes once the file is closed, so that whoever waits for that finds a file that can be opened.
+// Keeps the office of a site open until it closes. Its socket is put aside while the file is locked, so that none of
+// another office is; and it goes once the file is closed, so that whoever waits for that finds a file to open.
 fn run_open<S: Alter + Drop + Send, H: Shelf<Connection<S>>>(
     rt: &HostRuntime,
-    host: &(impl Threads
-        + Wait
-        + Clock
-        + Sync
-        + Paths
-        + Net<Listener = TcpListener, Stream = TcpStream>),
+    host: &(impl Threads + Wait + Clock + Sync + Paths + Net<Listener = TcpListener, Stream = TcpStream>),
     port: u16,
     file: &str,
     shelf: &H,
 ) -> Result<Status, Status> {
-    let Ok(path) = socket_of(rt.alloc(), file) else {
+    let Ok(socket) = Socket::of(rt.alloc(), file) else {
         return Ok(out_of_memory(rt));
     };
-    if let Err(fault) = check_socket(host, path.as_str()) {
+    if let Err(fault) = check_socket(host, socket.path()) {
         return Ok(tell_socket_fault(fault, &mut rt.stderr()));
     }
     let site = open_site(rt, file, shelf)?;
-    match listeners(rt, host, port, path.as_str()) {
-        Ok((clerks, operators)) => {
-            let came = keep_open(rt, host, site, clerks, operators);
-            let status = shelf.close(rt, came);
-            remove_socket(host, path.as_str());
-            Ok(status)
+    let closing = Closing::new();
+    let clerks = match TcpDoor::bind(host, port, &closing) {
+        Ok(clerks) => clerks,
+        Err(fault) => {
+            let status = tell_listen_fault(fault, &mut rt.stderr());
+            return Ok(close_site(rt, shelf, status, site));
         }
-        Err(status) => Ok(close_site(rt, shelf, status, site)),
-    }
+    };
+    let operators = match UnixDoor::bind(host, socket.path(), &closing) {
+        Ok(operators) => operators,
+        Err(fault) => {
+            let status = tell_socket_fault(fault, &mut rt.stderr());
+            return Ok(close_site(rt, shelf, status, site));
+        }
+    };
+    let came = office(rt, host, site, &clerks, &operators, &closing);
+    socket.put_aside(host);
+    let status = shelf.close(rt, came);
+    socket.remove(host);
+    Ok(status)
 }
 
 fn run_close(
@@ -493,13 +473,13 @@ fn run_close(
     host: &(impl Wait + Clock + Paths + Net),
     file: &str,
 ) -> Result<Status, Status> {
-    let Ok(path) = socket_of(rt.alloc(), file) else {
+    let Ok(socket) = Socket::of(rt.alloc(), file) else {
         return Ok(out_of_memory(rt));
     };
-    let Ok(_caller) = says_close(host, path.as_str()) else {
+    let Ok(_caller) = socket.says_close(host) else {
         return Ok(tell_close_fault(CloseFault::NotOpen, &mut rt.stderr()));
     };
-    if is_gone(host, path.as_str()) {
+    if socket.is_gone(host) {
         Ok(Status::Done)
     } else {
         Ok(tell_close_fault(CloseFault::StillOpen, &mut rt.stderr()))

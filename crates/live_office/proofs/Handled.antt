@@ -3,11 +3,8 @@ use Rattle.std.proofs.Common.{◌≡◌, inl, inr, ◌⊎◌, ℕ, Bool, true, f
 use Rattle.delta_wire.specs.declared.fault.WireFault.TheVariants.{Memory}
 use Rattle.site_desk.specs.Seats.{Held}
 use Rattle.desk_lines.specs.declared.line.Line.TheVariants.{Ask, Left, Totals, Quit as QuitLine}
-use Rattle.session_server.specs.declared.fault.Ended.{Ended}
 use Rattle.session_server.specs.declared.fault.TalkFault.{TalkFault}
-use Rattle.session_server.specs.Session.{Talked}
 use Rattle.live_office.specs.declared.door.Access.{Access}
-use Rattle.live_office.specs.declared.door.Access.TheVariants.{Session as SessionAlone, Office}
 use Rattle.live_office.specs.declared.handler.Last.{Last}
 use Rattle.live_office.specs.declared.importing.ImportFault.TheVariants.{Unread}
 use Rattle.live_office.specs.declared.office_line.OfficeLine.{OfficeLine}
@@ -15,8 +12,7 @@ use Rattle.live_office.specs.declared.office_line.OfficeLine.TheVariants.{Sessio
 use Rattle.live_office.specs.Admissible.{Admissible}
 use Rattle.live_office.specs.Handling.{Gathering, Handles, HandlesBy, HandlesLine, HandlesLost, HandlesPart, LastHandled, Lost, Nothing, SeatState, Text, ends_message, seat_state}
 use Rattle.live_office.specs.Lines.{office_line_of}
-use Rattle.live_office.specs.SeatAnswers.{SeatAnswers}
-use Rattle.live_office.specs.Served.{IsServed, ended_as}
+use Rattle.live_office.specs.Served.{IsServed}
 use Rattle.live_office.specs.Talks.{OfficeTalked}
 use Rattle.live_office.proofs.Seats.{given_parts}
 use Rattle.live_office.proofs.Talks.{chain_keeps}

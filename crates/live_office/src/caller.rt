@@ -111,7 +111,7 @@ impl<'a> Caller<'a> {
         }
     }
 
-    // What a read of these bytes comes to. An end within a line is a fault.
+    // The result of a read of these bytes. An end within a line is a fault.
     fn came(&mut self, bytes: &[u8]) -> io::Result<usize>
         ensures line { self.new.is_in_line ≡ is_in_line self.old.is_in_line bytes.now }
         ensures all { IfOk result (λ count. count ≡ length bytes.now) }

@@ -19,7 +19,7 @@ use std::marker::Model;
 use std::sync::Wait;
 
 /// A seat at a desk that serves one session after another. It keeps neither receipts nor looks, so that its memory
-/// does not grow. Where the store fails it closes the office.
+/// does not grow. Where the store fails, it closes the office.
 #[derive(Drop)]
 pub struct DeskSeat<'a, K: Keeper, L: Opens> {
     alloc: Global,
@@ -62,7 +62,7 @@ impl<'a, K: Keeper, L: Opens> DeskSeat<'a, K, L> {
         seat
     }
 
-    // Why a request is not answered. Behind a failed store the office closes.
+    // Why a request is not answered. After a failed store the office closes.
     fn refused(&self, fault: AskFault) -> Answered
         ensures { result ≡ Refused fault }
     {

@@ -24,7 +24,7 @@ pub trait Handler {
     /// The line is the last that such a handler takes.
     ghost ends: { Self → List ℕ → LastLine → Type 0 };
 
-    /// Answers a line, or tells that it is the last, which changes nothing.
+    /// Answers a line, or reports that it is the last, which changes nothing.
     fn handle<T: Wait>(&mut self, rt: &T, line: &[u8]) -> Result<OfficeAnswer, Last>
         ensures { MatchResult result
             (λ answer. handles self.old line.now (answer_text answer) self.new)

@@ -18,7 +18,7 @@ pub enum OfficeLine {
     Session { line: Line },
     /// The message that is due to a site.
     Export { to: SiteId },
-    /// To take the message that the lines behind it spell, up to `end`.
+    /// To take the message that the lines after it spell, up to `end`.
     Import,
     /// That the office closes.
     Close,

@@ -173,7 +173,7 @@ impl<'a, K: Keeper, L: Opens> OfficeSeat<'a, K, L> {
         }
     }
 
-    // Takes the message of this text. Behind a failed store the office closes.
+    // Takes the message of this text. After a failed store the office closes.
     fn import<T: Wait>(&self, rt: &T, bytes: &[u8]) -> OfficeAnswer
         ensures { HandlesPart (admissible L.office L.began K.failed K.is_trusted K.kept K.may_leave)
             self.now.held bytes.now true (answer_text result) (seat_state self.now.held Nothing) }

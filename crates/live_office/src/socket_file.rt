@@ -13,13 +13,13 @@ use thiserror::Error;
 /// Why there is no socket at a path.
 #[derive(Clone, Copy, PartialEq, Eq, Debug, Error)]
 pub enum SocketFault {
-    /// The path is longer than the system allows for a socket, or has a null byte. Nothing was changed.
+    /// The path is too long for a socket (107 bytes at most), or has a null byte. Nothing was changed.
     #[error("the path is too long for a socket")]
     Path,
     /// Something else is at the path. Nothing was changed.
     #[error("what is at the path is no socket")]
     NotASocket,
-    /// The system refused it. A socket may be there, which nobody listens at.
+    /// The system refused it. A socket may be at the path, at which no process listens.
     #[error("the socket could not be made")]
     Bind,
 }
@@ -27,9 +27,9 @@ pub enum SocketFault {
 // The mode of a file that its owner alone reads and writes.
 const OWNER_ONLY: u32 = 0o600;
 
-/// Whether a socket could stand at this path: there is none yet, or one that can be replaced. Nothing is changed.
+/// Whether a socket can be at this path: nothing is there yet, or a socket, which can be replaced. Nothing is changed.
 ///
-/// `Path` and `NotASocket` say why not, and `Bind` that the system does not tell.
+/// `Path` and `NotASocket` say why not, and `Bind` that the system does not say what is there.
 pub fn check_socket<F: Files>(files: &F, path: &str) -> Result<(), SocketFault> {
     if SocketAddr::from_pathname(path).is_err() {
         return Err(SocketFault::Path);
@@ -42,7 +42,7 @@ pub fn check_socket<F: Files>(files: &F, path: &str) -> Result<(), SocketFault> 
     }
 }
 
-// Whoever came while others than its owner could connect is turned away.
+// Callers who came while others than the owner could connect are turned away.
 fn owner_only<H: Files>(host: &H, path: &str, listener: &UnixListener) -> io::Result<()> {
     fs::set_permissions(host, path, fs::Permissions::from_mode(OWNER_ONLY))?;
     listener.set_nonblocking(true)?;
@@ -60,11 +60,11 @@ fn bound<H: Files + Net>(host: &H, path: &str) -> io::Result<UnixListener> {
     Ok(listener)
 }
 
-/// Listens at a Unix socket at this path, for its owner alone. One that was there is replaced, so the caller knows that
-/// nobody else listens at it: whoever has the file of the site locked.
-///
-/// Errors are those of `check_socket`, and `Bind`.
-pub fn bind_socket<H: Files + Net>(host: &H, path: &str) -> Result<UnixListener, SocketFault> {
+// Listens at a socket at this path, in place of one that was there.
+pub(crate) fn bind_socket<H: Files + Net>(
+    host: &H,
+    path: &str,
+) -> Result<UnixListener, SocketFault> {
     check_socket(host, path)?;
     let _ = fs::remove_file(host, path);
     match bound(host, path) {
@@ -73,7 +73,7 @@ pub fn bind_socket<H: Files + Net>(host: &H, path: &str) -> Result<UnixListener,
     }
 }
 
-/// Removes the file of a socket, if it is there.
+/// Removes the socket of a door, if it is there, once the office is closed.
 pub fn remove_socket<F: Files>(files: &F, path: &str) {
     let _ = fs::remove_file(files, path);
 }

@@ -6,10 +6,12 @@ ghost use Rattle.live_office.specs.declared.door.Access.TheVariants.{Session, Of
 use crate::caller::{Caller, Connection, TURN};
 use crate::closing::Closing;
 use crate::door::{Access, Call, Door};
+use crate::socket_file::{SocketFault, bind_socket};
 use session_server::ListenFault;
 use std::net::{Ipv4Addr, Net, SocketAddr, TcpListener, TcpStream};
 use std::os::fd::OwnedFd;
 use std::os::unix::net::{UnixListener, UnixStream};
+use std::rt::Files;
 use std::sync::Wait;
 use std::time::{Clock, Duration};
 use std::{io, thread};
@@ -42,23 +44,21 @@ fn timed_socket(listener: UnixListener) -> io::Result<UnixListener> {
     Ok(UnixListener::from(OwnedFd::from(socket)))
 }
 
-/// Listens at this port of 127.0.0.1; `Bind` where it cannot.
-pub fn bind_port<N: Net<Listener = TcpListener, Stream = TcpStream>>(
-    net: &N,
-    port: u16,
-) -> Result<TcpListener, ListenFault> {
-    let here = SocketAddr::from((Ipv4Addr::LOCALHOST, port));
-    match TcpListener::bind(net, here) {
-        Ok(listener) => Ok(listener),
-        Err(_) => Err(ListenFault::Bind),
-    }
-}
-
 impl<'a> TcpDoor<'a> {
-    /// A door at this port, until the office closes. An error is the system's; the port is let go then.
-    pub fn new(listener: TcpListener, closing: &'a Closing) -> io::Result<TcpDoor<'a>> {
-        let listener = timed_port(listener)?;
-        Ok(TcpDoor { listener, closing })
+    /// A door at this port of 127.0.0.1, until the office closes; `Bind` where there can be none.
+    pub fn bind<N: Net<Listener = TcpListener, Stream = TcpStream>>(
+        net: &N,
+        port: u16,
+        closing: &'a Closing,
+    ) -> Result<TcpDoor<'a>, ListenFault> {
+        let here = SocketAddr::from((Ipv4Addr::LOCALHOST, port));
+        let Ok(listener) = TcpListener::bind(net, here) else {
+            return Err(ListenFault::Bind);
+        };
+        match timed_port(listener) {
+            Ok(listener) => Ok(TcpDoor { listener, closing }),
+            Err(_) => Err(ListenFault::Bind),
+        }
     }
 
     fn accept(&self) -> io::Result<Connection> {
@@ -68,10 +68,20 @@ impl<'a> TcpDoor<'a> {
 }
 
 impl<'a> UnixDoor<'a> {
-    /// As `TcpDoor::new`.
-    pub fn new(listener: UnixListener, closing: &'a Closing) -> io::Result<UnixDoor<'a>> {
-        let listener = timed_socket(listener)?;
-        Ok(UnixDoor { listener, closing })
+    /// A door at a Unix socket at this path, for its owner alone, until the office closes. A socket that was there is
+    /// replaced, so the caller knows that no other process listens at it: whoever has the site's file locked.
+    ///
+    /// Errors are those of `check_socket`, and `Bind`, after which a socket may be there.
+    pub fn bind<H: Files + Net>(
+        host: &H,
+        path: &str,
+        closing: &'a Closing,
+    ) -> Result<UnixDoor<'a>, SocketFault> {
+        let listener = bind_socket(host, path)?;
+        match timed_socket(listener) {
+            Ok(listener) => Ok(UnixDoor { listener, closing }),
+            Err(_) => Err(SocketFault::Bind),
+        }
     }
 
     fn accept(&self) -> io::Result<Connection> {
@@ -80,7 +90,7 @@ impl<'a> UnixDoor<'a> {
     }
 }
 
-// The caller of a connection, if one came. After a fault it takes a while until the next can come.
+// The caller at a connection, if there is one. After a fault the next can come only after a while.
 fn caller<'a, C: Clock>(
     clock: &C,
     came: io::Result<Connection>,

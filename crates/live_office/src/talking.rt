@@ -28,7 +28,7 @@ fn send<W: Write>(answer: &OfficeAnswer, out: &mut W) -> Result<(), TalkFault>
     }
 }
 
-// Answers the next line, or tells how the session ends there.
+// Answers the next line, or reports how the session ends there.
 fn talk_next<T: Wait, R: BufRead, W: Write, H: Handler>(
     rt: &T,
     reader: &mut R,
