@@ -2,14 +2,13 @@
 
 use live_office::remove_socket;
 use std::alloc::{AllocError, Global};
-use std::fs;
 use std::io::{self, Write};
 use std::net::Net;
 use std::os::unix::net::UnixStream;
 use std::rt::Files;
 use std::sync::Wait;
-use std::thread;
 use std::time::{Clock, Duration};
+use std::{fs, thread};
 
 // How often it is looked whether a socket is gone, and how long is waited in between, in milliseconds: two minutes.
 const LOOKS: u64 = 2_400;

@@ -434,7 +434,12 @@ fn office<S: Alter + Drop + Send>(
 // another office is; and it goes once the file is closed, so that whoever waits for that finds a file to open.
 fn run_open<S: Alter + Drop + Send, H: Shelf<Connection<S>>>(
     rt: &HostRuntime,
-    host: &(impl Threads + Wait + Clock + Sync + Paths + Net<Listener = TcpListener, Stream = TcpStream>),
+    host: &(impl Threads
+        + Wait
+        + Clock
+        + Sync
+        + Paths
+        + Net<Listener = TcpListener, Stream = TcpStream>),
     port: u16,
     file: &str,
     shelf: &H,
