@@ -1,7 +1,8 @@
 //! The commands `open` and `close`: an office that stays open, and its end.
 
 ghost use Rattle.std.specs.Prelude.{◌≡◌, ◌⊎◌, IfOk, IfErr, IfSome, OnOk, codes, false};
-ghost use Rattle.plain_words.specs.Writing.{AppendsFront};
+ghost use Rattle.std.specs.Io.KnownBytes.{Appends};
+ghost use Rattle.plain_words.specs.Writing.{AppendsFront, Writes};
 ghost use Rattle.operator_cli.specs.declared.status.Status.TheVariants.{Done, Failed};
 ghost use Rattle.operator_cli.specs.declared.store_fault.StoreFault.TheVariants.{Write as WriteFailed};
 ghost use Rattle.operator_cli.specs.Offices.{WasOpen, of_close_fault, of_socket_fault};
@@ -46,7 +47,7 @@ impl From<CloseFault> for StoreFault {
 
 // Tells that callers can come.
 fn tell_open<W: Write>(out: &mut W) -> Result<(), StoreFault>
-    ensures line { AppendsFront (W.contents out.old) (W.contents out.new) (codes "open\n") }
+    ensures written { Writes (W.contents out.old) (W.contents out.new) result (codes "open\n") }
     ensures fault { IfErr result (λ fault. fault ≡ WriteFailed) }
 {
     write_line(&word(b"open\n"), out)?;
@@ -92,6 +93,7 @@ pub fn office_store<
     err: &mut E,
 ) -> (Status, Option<Connection<S>>)
     ensures line { AppendsFront (W.contents out.old) (W.contents out.new) (codes "open\n") }
+    ensures all { result.0 ≡ Done → Appends (W.contents out.old) (W.contents out.new) (codes "open\n") }
     ensures left { IfSome result.1 (λ after.
         WasOpen S.Store book.book.office book.book.history after result.0) }
     ensures told { FaultTold (E.contents err.old) (E.contents err.new) result.0 }
