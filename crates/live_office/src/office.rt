@@ -105,10 +105,8 @@ fn at_desk<
     operators: &O,
     closing: &Closing,
 ) -> Result<SiteBook<K>, (SiteBook<K>, OfficeFault)>
-    requires name { blank.name ≡ L.name }
-    requires parts { (blank.parts ≡ L.parts) × (WORKERS < blank.parts) }
-    requires began { L.began ≡ book.book.history }
-    requires office { L.office ≡ book.book.office }
+    requires blank { (blank.name ≡ L.name) × (blank.parts ≡ L.parts) × (WORKERS < blank.parts) }
+    requires site { (L.began ≡ book.book.history) × (L.office ≡ book.book.office) }
     ensures later { IsLater book.book.office book.book.history (book_in result).book }
     ensures memory { IfErr result (λ e. e.1 ≡ Memory → e.0 ≡ book) }
 {
@@ -125,10 +123,9 @@ fn at_desk<
     };
     let (all, seats) = staffed(rt, &office, seat, seats);
     if all {
-        Ok(whole_book(desk, seats))
-    } else {
-        Err((book_of(desk, seats), OfficeFault::NotStarted))
+        return Ok(whole_book(desk, seats));
     }
+    Err((book_of(desk, seats), OfficeFault::NotStarted))
 }
 
 /// Opens a site's office: callers at the two doors are served, each by a thread, until one of them says `close`, the
