@@ -58,7 +58,8 @@ fn staffed<
         thread::scope_env(),
         rt,
         move |scope| -> (bool, Vec<Seat<L>>)
-            requires { (WORKERS < seat.parts) × (seats.items ≡ []) × (WORKERS + 1 ≤ vec_capacity seats) }
+            requires { (WORKERS < seat.parts) × (seats.items ≡ []) × (WORKERS + 1 ≤
+                vec_capacity seats) }
             ensures { result.0 ≡ true → parts_of result.1.items ≡ seat.parts }
         {
             let all = work_all(scope, rt, office, seat, WORKERS, &mut seats);
