@@ -68,7 +68,7 @@ fn staffed<
     )
 }
 
-// The book of a desk whose seats are all back. What was answered was not kept, so that nothing can differ from it.
+// The book of a desk whose seats are all back: then no fault is possible, since there is no receipt and no look.
 fn whole_book<K: Keeper + Drop, L: Opens>(desk: Desk<K, L>, seats: Vec<Seat<L>>) -> SiteBook<K>
     requires { parts_of seats.items ≡ L.parts }
     ensures later { IsLater L.office L.began result.book }
@@ -130,10 +130,10 @@ fn at_desk<
 }
 
 /// Opens a site's office: callers at the two doors are served, each by a thread, until one of them says `close`, the
-/// store fails, or `closing` is closed otherwise. Then all threads are joined, and the book comes back; it is closed
+/// store fails, or `closing` is closed otherwise. Then all threads are joined, and the book is returned. It is closed
 /// where the store failed.
 ///
-/// Errors give the book back: with `Memory` as it was; with `NotStarted` it may have new entries.
+/// Errors return the book too: with `Memory` as it was; with `NotStarted` it may have new entries.
 pub fn open_office<
     T: Threads + Wait + Clock + Sync,
     R: Read + Drop + Send,
