@@ -23,11 +23,13 @@ wire_fault_text (OutOfOrder line) = codes "out-of-order " ++ decimal line
 wire_fault_text Trailing = codes "trailing"
 wire_fault_text Memory = codes "memory"
 
+-- why no message is given
 abbrev pub next_fault_text : NextFault → List ℕ
 next_fault_text next.NoSite = codes "no-site"
 next_fault_text next.Closed = codes "closed"
 next_fault_text next.Memory = codes "memory"
 
+-- why a message is not taken
 abbrev pub import_fault_text : ImportFault → List ℕ
 import_fault_text (Unread fault) = wire_fault_text fault
 import_fault_text (Refused fault) = take_fault_text fault

@@ -24,7 +24,7 @@ use Rattle.live_office.specs.Importing.{IsImported}
 use Rattle.live_office.specs.Lines.{office_line_of}
 use Rattle.live_office.specs.SeatAnswers.{SeatAnswers}
 
--- what has come of a message behind `import`: none comes, its text so far, or memory was refused for it
+-- what has come of a message after `import`: no message comes, its text so far, or memory was refused for it
 pub data Gathering : Type 0 where
   Nothing : Gathering
   Text : List ℕ → Gathering
@@ -70,6 +70,7 @@ HandlesLost held false text new = (text ≡ []) × (new ≡ seat_state held Lost
 abbrev pub ends_message : List ℕ → Bool
 ends_message line = bytes_eq line (codes "end")
 
+-- a line, by what has come of a message before it
 abbrev pub HandlesBy : {K : Type 0} → Admissible K → SeatState → Gathering → List ℕ → List ℕ → SeatState → Type 0
 HandlesBy d old Nothing line text new = HandlesLine d old (office_line_of line) text new
 HandlesBy d old (Text so_far) line text new = HandlesPart d old.held (so_far ++ line ++ 10 ∷ []) (ends_message line) text new
@@ -84,5 +85,6 @@ abbrev pub IsLast : Last → Option OfficeLine → Type 0
 IsLast Quit line = line ≡ Some (Session QuitLine)
 IsLast Close line = line ≡ Some CloseLine
 
+-- such a line, where no message comes
 abbrev pub LastHandled : SeatState → List ℕ → Last → Type 0
 LastHandled old line last = (old.gathering ≡ Nothing) × IsLast last (office_line_of line)

@@ -9,6 +9,7 @@ use Rattle.desk_lines.specs.Reading.{session_line_of}
 use Rattle.live_office.specs.declared.office_line.OfficeLine.{OfficeLine}
 use Rattle.live_office.specs.declared.office_line.OfficeLine.TheVariants.{Session, Export, Import, Close}
 
+-- the words after `export`, `import` and `close`
 unfoldable pub export_in : List (List ℕ) → Option OfficeLine
 export_in words = do
   s ← site_at words
@@ -27,6 +28,7 @@ own_after word words =
     if bytes_eq word (codes "import") then import_in words else (
     if bytes_eq word (codes "close") then close_in words else None))
 
+-- a line of the office alone
 unfoldable pub own_in : List (List ℕ) → Option OfficeLine
 own_in words = do
   w ← first_word words

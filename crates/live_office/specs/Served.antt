@@ -14,7 +14,7 @@ use Rattle.live_office.specs.Handling.{Handles, LastHandled, Nothing, SeatState}
 use Rattle.live_office.specs.SeatAnswers.{SeatAnswers}
 use Rattle.live_office.specs.Talks.{OfficeTalked}
 
--- how a session ended, as an office tells it
+-- how a session ended, as an office reports it
 abbrev pub ended_as : Result Ended TalkFault → Result (Option Last) TalkFault
 ended_as (Ok ended.Quit) = Ok (Some Quit)
 ended_as (Ok ended.EndOfInput) = Ok None

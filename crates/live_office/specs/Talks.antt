@@ -10,7 +10,7 @@ use Rattle.session_server.specs.declared.fault.TalkFault.TheVariants as fault
 use Rattle.session_server.specs.Session.{IsRead}
 use Rattle.live_office.specs.declared.handler.Last.{Last}
 
--- how a handler answers a line by a text, which may be empty, and how it goes on
+-- how a handler answers a line by a text, which may be empty, and what it is then
 abbrev pub TextSteps : Type 0 → Type 1
 TextSteps A = A → List ℕ → List ℕ → A → Type 0
 
@@ -18,6 +18,7 @@ TextSteps A = A → List ℕ → List ℕ → A → Type 0
 abbrev pub Endings : Type 0 → Type 1
 Endings A = A → List ℕ → Last → Type 0
 
+-- all texts, one after another
 abbrev pub whole : List (List ℕ) → List ℕ
 whole texts = flat_map (λ (text : List ℕ). text) texts
 
@@ -45,7 +46,8 @@ NextOfficeTalked S E input rest old new before after (Err fault.LineTooLong) = B
 NextOfficeTalked S E input rest old new before after (Err fault.Write) = (r : Replied S input rest before after) × AppendsFront old new r.text
 NextOfficeTalked S E input rest old new before after (Err _) = ⊥
 
--- Of the lines that are taken from the input these were answered, where a session ends so: all of them, behind which the input ends as the fault says; those before the last; or the first of them.
+-- Of the lines that are taken from the input, these were answered where a session ends so: all of them, after which the input ends as the
+-- fault says; those before the last line; or the first of them.
 abbrev pub EndsAt : {A : Type 0} → Endings A → A → Result (Option Last) TalkFault → List (List ℕ) → TakenLines → Type 0
 EndsAt E after (Ok None) lines t = t ≡ record { lines = lines; end = AtEnd }
 EndsAt E after (Ok (Some last)) lines t = (line : List ℕ) × (more : List (List ℕ)) × E after line last × (t.lines ≡ lines ++ line ∷ more)
@@ -56,7 +58,7 @@ EndsAt E after (Err fault.Write) lines t = (lines ≢ []) × ((more : List (List
 EndsAt E after (Err fault.Memory) lines t = lines ≡ []
 EndsAt E after (Err fault.NotStarted) lines t = ⊥
 
--- All texts went out. Where a write failed it was that of the last: those before it went out, and a front of it.
+-- All texts went out. A write that failed was that of the last text: those before it went out, and a prefix of it.
 abbrev pub Wrote : Result (Option Last) TalkFault → Option (List ℕ) → Option (List ℕ) → List (List ℕ) → Type 0
 Wrote (Err fault.Write) old new texts =
     (earlier : List (List ℕ)) × (last : List ℕ) × (front : List ℕ) × (rest : List ℕ)
@@ -64,7 +66,7 @@ Wrote (Err fault.Write) old new texts =
 Wrote (Err fault.NotStarted) old new texts = ⊥
 Wrote _ old new texts = Appends old new (whole texts)
 
--- A session: the lines that were answered, and their texts in order.
+-- A session: the lines that were answered, and their texts in order. Without memory for its buffer, none was answered.
 pub record OfficeTalked {A : Type 0} (S : TextSteps A) (E : Endings A) (input old new : Option (List ℕ)) (before after : A) (result : Result (Option Last) TalkFault) : Type 0 where
   pub lines : List (List ℕ)
   pub texts : List (List ℕ)

@@ -18,7 +18,7 @@ const SILENT_TURNS: u32 = 7_200;
 // How long a caller may take to read what is written to it, in seconds.
 const WRITE_SECONDS: u64 = 60;
 
-/// A connection of one of the two doors. Two of them may be of one connection, which ends with the last.
+/// A connection at one of the two doors. Two of them may share one connection, which ends with the last.
 #[derive(Drop)]
 pub enum Connection {
     Tcp { stream: TcpStream },

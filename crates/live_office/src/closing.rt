@@ -16,7 +16,7 @@ impl Closing {
         }
     }
 
-    /// Lets no caller in any more, and lets each go who is in, after the lines that have come.
+    /// Lets no caller in any more. A session ends once the lines that have come are answered.
     pub fn close(&self) {
         self.is_closing.store(true, Ordering::SeqCst);
     }

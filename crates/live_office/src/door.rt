@@ -24,7 +24,7 @@ pub struct Call<R: Read + Drop, W: Write + Drop> {
 }
 
 impl<R: Read + Drop, W: Write + Drop> Call<R, W> {
-    /// A caller with this access, of whom the lines come from the reader, and to whom the answers go by the writer.
+    /// A caller with this access, whose lines come from the reader, and whose answers go to the writer.
     pub fn new(access: Access, reader: R, writer: W) -> Call<R, W>
         ensures access { result.access ≡ access }
         ensures reader { result.reader ≡ reader }

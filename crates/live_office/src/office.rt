@@ -58,7 +58,8 @@ fn staffed<
         thread::scope_env(),
         rt,
         move |scope| -> (bool, Vec<Seat<L>>)
-            requires { (WORKERS < seat.parts) × (seats.items ≡ []) × (WORKERS + 1 ≤ vec_capacity seats) }
+            requires { (WORKERS < seat.parts) × (seats.items ≡ []) × (WORKERS + 1 ≤
+                vec_capacity seats) }
             ensures { result.0 ≡ true → parts_of result.1.items ≡ seat.parts }
         {
             let all = work_all(scope, rt, office, seat, WORKERS, &mut seats);
@@ -67,7 +68,7 @@ fn staffed<
     )
 }
 
-// The book of a desk whose seats are all back. What was answered was not kept, so that nothing can differ from it.
+// The book of a desk whose seats are all back: then no fault is possible, since there is no receipt and no look.
 fn whole_book<K: Keeper + Drop, L: Opens>(desk: Desk<K, L>, seats: Vec<Seat<L>>) -> SiteBook<K>
     requires { parts_of seats.items ≡ L.parts }
     ensures later { IsLater L.office L.began result.book }
@@ -105,10 +106,8 @@ fn at_desk<
     operators: &O,
     closing: &Closing,
 ) -> Result<SiteBook<K>, (SiteBook<K>, OfficeFault)>
-    requires name { blank.name ≡ L.name }
-    requires parts { (blank.parts ≡ L.parts) × (WORKERS < blank.parts) }
-    requires began { L.began ≡ book.book.history }
-    requires office { L.office ≡ book.book.office }
+    requires blank { (blank.name ≡ L.name) × (blank.parts ≡ L.parts) × (WORKERS < blank.parts) }
+    requires site { (L.began ≡ book.book.history) × (L.office ≡ book.book.office) }
     ensures later { IsLater book.book.office book.book.history (book_in result).book }
     ensures memory { IfErr result (λ e. e.1 ≡ Memory → e.0 ≡ book) }
 {
@@ -125,17 +124,16 @@ fn at_desk<
     };
     let (all, seats) = staffed(rt, &office, seat, seats);
     if all {
-        Ok(whole_book(desk, seats))
-    } else {
-        Err((book_of(desk, seats), OfficeFault::NotStarted))
+        return Ok(whole_book(desk, seats));
     }
+    Err((book_of(desk, seats), OfficeFault::NotStarted))
 }
 
 /// Opens a site's office: callers at the two doors are served, each by a thread, until one of them says `close`, the
-/// store fails, or `closing` is closed otherwise. Then all threads are joined, and the book comes back; it is closed
+/// store fails, or `closing` is closed otherwise. Then all threads are joined, and the book is returned. It is closed
 /// where the store failed.
 ///
-/// Errors give the book back: with `Memory` as it was; with `NotStarted` it may have new entries.
+/// Errors return the book too: with `Memory` as it was; with `NotStarted` it may have new entries.
 pub fn open_office<
     T: Threads + Wait + Clock + Sync,
     R: Read + Drop + Send,

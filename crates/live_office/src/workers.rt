@@ -85,12 +85,10 @@ fn work<
 
 // The seat that a thread was begun with.
 #[derive(Drop)]
-struct Begun<L: Opens> {
-    seat: Snapshot<Seat<L>>,
-}
+struct Begun<L: Opens>(Snapshot<Seat<L>>);
 
 impl<L: Opens> Promise<Seat<L>> for Begun<L> {
-    ghost kept_by = { λ p r. r.parts ≡ p.seat.value.parts };
+    ghost kept_by = { λ p r. r.parts ≡ p.0.value.parts };
 }
 
 // Starts so many threads, each with one part of the seat, and waits for them. Where one could not be started the office
@@ -114,8 +112,7 @@ pub(crate) fn work_all<
     count: u32,
     seats: &mut Vec<Seat<L>>,
 ) -> bool
-    requires parts { count < seat.parts }
-    requires room { vec_len seats.old + count + 1 ≤ vec_capacity seats.old }
+    requires { (count < seat.parts) × (vec_len seats.old + count + 1 ≤ vec_capacity seats.old) }
     ensures parts { result ≡ true → parts_of seats.new.items ≡ parts_of seats.old.items
         + seat.parts }
     ensures room { (vec_len seats.new ≤ vec_len seats.old + count + 1) × (vec_capacity seats.new ≡
@@ -126,9 +123,7 @@ pub(crate) fn work_all<
         return true;
     }
     let (rest, own) = seat.split();
-    let begun = Begun {
-        seat: Snapshot::of(&own),
-    };
+    let begun = Begun(Snapshot::of(&own));
     let Ok(thread) = scope.spawn_with(begun, move || work(rt, office, own, count)) else {
         office.closing.close();
         seats.push_reserved(rest);
