@@ -1,4 +1,4 @@
-"""What the scripts over `serve` share: how it is started and how it ends, and callers that speak to it over loopback."""
+"""What the scripts over `serve` and `open` share: how `serve` is started and how both end, and callers that speak to them."""
 
 import contextlib
 import socket
@@ -69,3 +69,26 @@ class Caller:
     def go_away(self):
         self.stream.close()
         self.lines.close()
+
+
+class Operator(Caller):
+    """A session at the socket of an open office."""
+
+    def __init__(self, path):
+        self.stream = socket.socket(socket.AF_UNIX)
+        self.stream.settimeout(SECONDS)
+        self.stream.connect(path)
+        self.lines = self.stream.makefile("r")
+
+    def message(self, line):
+        """A message that begins with this line, up to `end`, or to the end of the connection."""
+        return line + "\n" + ("" if line in ("end", "") else self.message(self.reply()))
+
+    def export(self, to):
+        first = self.ask(f"export {to}")
+        return self.message(first) if first.startswith("delta ") else first
+
+    def take(self, message):
+        """The word that answers a message, and the acknowledgement."""
+        word = self.ask("import\n" + message.removesuffix("\n"))
+        return word, self.message(self.reply()) if word in ("joined", "nothing-new") else ""

@@ -10,15 +10,19 @@
 #![tactic(auto)]
 
 mod connections;
+mod doors;
 mod files;
 
 use crate::connections::visits;
+use crate::doors::Socket;
 use crate::files::{Files, close, open_or_make, open_there};
 use book_core::Limit;
+use live_office::{Closing, TcpDoor, UnixDoor, check_socket};
 use operator_cli::{
-    FileNames, Order, Status, WordsFault, ask_store, audit_stores, export_store, find_store,
-    grow_store, import_store, init_store, list_store, migrate_store, open_store, read_words,
-    refuse_parts, refuse_site, serve_stores, tell_listen_fault, world_script,
+    CloseFault, FileNames, Order, Status, WordsFault, ask_store, audit_stores, export_store,
+    find_store, grow_store, import_store, init_store, list_store, migrate_store, office_store,
+    open_store, read_words, refuse_parts, refuse_site, serve_stores, tell_close_fault,
+    tell_listen_fault, tell_socket_fault, world_script,
 };
 use request_ledger::RequestNumber;
 use rights_lattice::{SiteId, Sites};
@@ -34,8 +38,10 @@ use std::env;
 use std::io::{BufWriter, ErrorKind, Read, Stdout, Write};
 use std::net::{Net, TcpListener, TcpStream};
 use std::process::ExitCode;
+use std::rt::Files as Paths;
 use std::sync::Wait;
 use std::thread::Threads;
+use std::time::Clock;
 
 /// Where databases are opened and closed, each by a connection. The commands run over any, whatever store it stands in, so
 /// that no proof of a command speaks of files.
@@ -403,10 +409,97 @@ fn run_serve<S: Alter + Drop + Send, H: Shelf<Connection<S>>>(
     }
 }
 
+// An office whose doors these are, whatever the records of its site stand in.
+fn office<S: Alter + Drop + Send>(
+    rt: &HostRuntime,
+    host: &(impl Threads + Wait + Clock + Sync),
+    site: SiteBook<Records<S>>,
+    clerks: &TcpDoor<'_>,
+    operators: &UnixDoor<'_>,
+    closing: &Closing,
+) -> (Status, Option<Connection<S>>) {
+    office_store(
+        host,
+        rt.alloc(),
+        site,
+        clerks,
+        operators,
+        closing,
+        &mut rt.stdout(),
+        &mut rt.stderr(),
+    )
+}
+
+// Keeps the office of a site open until it closes. Its socket is put aside while the file is locked, so that none of
+// another office is; and it goes once the file is closed, so that whoever waits for that finds a file to open.
+fn run_open<S: Alter + Drop + Send, H: Shelf<Connection<S>>>(
+    rt: &HostRuntime,
+    host: &(impl Threads
+        + Wait
+        + Clock
+        + Sync
+        + Paths
+        + Net<Listener = TcpListener, Stream = TcpStream>),
+    port: u16,
+    file: &str,
+    shelf: &H,
+) -> Result<Status, Status> {
+    let Ok(socket) = Socket::of(rt.alloc(), file) else {
+        return Ok(out_of_memory(rt));
+    };
+    if let Err(fault) = check_socket(host, socket.path()) {
+        return Ok(tell_socket_fault(fault, &mut rt.stderr()));
+    }
+    let site = open_site(rt, file, shelf)?;
+    let closing = Closing::new();
+    let clerks = match TcpDoor::bind(host, port, &closing) {
+        Ok(clerks) => clerks,
+        Err(fault) => {
+            let status = tell_listen_fault(fault, &mut rt.stderr());
+            return Ok(close_site(rt, shelf, status, site));
+        }
+    };
+    let operators = match UnixDoor::bind(host, socket.path(), &closing) {
+        Ok(operators) => operators,
+        Err(fault) => {
+            let status = tell_socket_fault(fault, &mut rt.stderr());
+            return Ok(close_site(rt, shelf, status, site));
+        }
+    };
+    let came = office(rt, host, site, &clerks, &operators, &closing);
+    socket.put_aside(host);
+    let status = shelf.close(rt, came);
+    socket.remove(host);
+    Ok(status)
+}
+
+fn run_close(
+    rt: &HostRuntime,
+    host: &(impl Wait + Clock + Paths + Net),
+    file: &str,
+) -> Result<Status, Status> {
+    let Ok(socket) = Socket::of(rt.alloc(), file) else {
+        return Ok(out_of_memory(rt));
+    };
+    let Ok(_caller) = socket.says_close(host) else {
+        return Ok(tell_close_fault(CloseFault::NotOpen, &mut rt.stderr()));
+    };
+    if socket.is_gone(host) {
+        Ok(Status::Done)
+    } else {
+        Ok(tell_close_fault(CloseFault::StillOpen, &mut rt.stderr()))
+    }
+}
+
 // An error is the status of a command that could not begin, and whose fault was told.
 fn run_order<S: Alter + Drop + Send, H: Shelf<Connection<S>>>(
     rt: &HostRuntime,
-    host: &(impl Threads + Wait + Sync + Net<Listener = TcpListener, Stream = TcpStream>),
+    host: &(impl Threads
+        + Wait
+        + Clock
+        + Sync
+        + Paths
+        + Net<Listener = TcpListener, Stream = TcpStream>),
     order: Order<'_>,
     shelf: &H,
 ) -> Result<Status, Status> {
@@ -432,12 +525,19 @@ fn run_order<S: Alter + Drop + Send, H: Shelf<Connection<S>>>(
             rounds,
             files,
         } => run_serve(rt, host, &files, port, sessions, rounds, shelf),
+        Order::Open { port, file } => run_open(rt, host, port, file, shelf),
+        Order::Close { file } => run_close(rt, host, file),
     }
 }
 
 fn run<S: Alter + Drop + Send, H: Shelf<Connection<S>>>(
     rt: &HostRuntime,
-    host: &(impl Threads + Wait + Sync + Net<Listener = TcpListener, Stream = TcpStream>),
+    host: &(impl Threads
+        + Wait
+        + Clock
+        + Sync
+        + Paths
+        + Net<Listener = TcpListener, Stream = TcpStream>),
     words: &[&str],
     shelf: &H,
 ) -> Status {
@@ -459,7 +559,12 @@ fn texts(alloc: Global, words: &[String]) -> Result<Vec<&str>, AllocError> {
 
 fn started<S: Alter + Drop + Send, H: Shelf<Connection<S>>>(
     rt: &HostRuntime,
-    host: &(impl Threads + Wait + Sync + Net<Listener = TcpListener, Stream = TcpStream>),
+    host: &(impl Threads
+        + Wait
+        + Clock
+        + Sync
+        + Paths
+        + Net<Listener = TcpListener, Stream = TcpStream>),
     shelf: &H,
 ) -> std::io::Result<Status> {
     let words: Vec<String> = env::args(rt)?.collect(rt.alloc())?;
@@ -470,7 +575,12 @@ fn started<S: Alter + Drop + Send, H: Shelf<Connection<S>>>(
 // The same over files, whatever they stand on.
 fn started_over<D: Disk + Drop + Send, H: Shelf<Connection<FileStore<D>>>>(
     rt: &HostRuntime,
-    host: &(impl Threads + Wait + Sync + Net<Listener = TcpListener, Stream = TcpStream>),
+    host: &(impl Threads
+        + Wait
+        + Clock
+        + Sync
+        + Paths
+        + Net<Listener = TcpListener, Stream = TcpStream>),
     shelf: &H,
 ) -> std::io::Result<Status> {
     started(rt, host, shelf)
@@ -479,7 +589,12 @@ fn started_over<D: Disk + Drop + Send, H: Shelf<Connection<FileStore<D>>>>(
 // The same over files of this machine.
 fn started_by_path<F: Start + Send, B: Begins<First = F>>(
     rt: &HostRuntime,
-    host: &(impl Threads + Wait + Sync + Net<Listener = TcpListener, Stream = TcpStream>),
+    host: &(impl Threads
+        + Wait
+        + Clock
+        + Sync
+        + Paths
+        + Net<Listener = TcpListener, Stream = TcpStream>),
     files: &ByPath<B>,
 ) -> std::io::Result<Status> {
     started_over(rt, host, files)

@@ -39,6 +39,10 @@ stays_unprinted P a b c fault.SeatsOut h k = absurd h
 stays_unprinted P a b c (fault.Stranger at) h k = absurd h
 stays_unprinted P a b c (fault.StrangerSeen at) h k = absurd h
 stays_unprinted P a b c (fault.Closed site) h k = absurd h
+stays_unprinted P a b c fault.LongPath h k = absurd h
+stays_unprinted P a b c fault.NoSocket h k = absurd h
+stays_unprinted P a b c fault.NotOpen h k = absurd h
+stays_unprinted P a b c fault.StillOpen h k = absurd h
 
 -- the end of a command, with what of its text went out
 pub fails_unprinted : (P : Status → List ℕ → Type 0) (a b c x y : Option (List ℕ)) (came : Result Status StoreFault) (status : Status)

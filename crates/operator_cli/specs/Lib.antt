@@ -14,3 +14,4 @@ pub mod Dealt
 pub mod Exchanged
 pub mod Opened
 pub mod Serving
+pub mod Offices

@@ -75,6 +75,12 @@ audit_app = with_rule (new_app (codes "audit")) (repeated_operand (codes "FILE")
 abbrev pub serve_app : App
 serve_app = with_rule (taking (taking (taking (new_app (codes "serve")) (codes "PORT")) (codes "SESSIONS")) (codes "ROUNDS")) (repeated_operand (codes "FILE") most_desks)
 
+abbrev pub open_app : App
+open_app = taking (taking (new_app (codes "open")) (codes "PORT")) (codes "FILE")
+
+abbrev pub close_app : App
+close_app = taking (new_app (codes "close")) (codes "FILE")
+
 -- a command that is not used alone
 abbrev pub needing : App → App
 needing a = record a { top = record a.top { subcommand_required = true } }
@@ -84,7 +90,7 @@ abbrev pub above : App → App → App
 above a b = with_subcommand a b.top
 
 abbrev pub boxoffice : App
-boxoffice = above (above (above (above (above (above (above (above (above (above (above (needing (new_app (codes "boxoffice"))) world_app) init_app) migrate_app) grow_app) ask_app) find_app) list_app) export_app) import_app) audit_app) serve_app
+boxoffice = above (above (above (above (above (above (above (above (above (above (above (above (above (needing (new_app (codes "boxoffice"))) world_app) init_app) migrate_app) grow_app) ask_app) find_app) list_app) export_app) import_app) audit_app) serve_app) open_app) close_app
 
 -- What is ordered: a command with its values, words as bytes and numbers as themselves.
 pub data Said : Type 0 where
@@ -99,6 +105,8 @@ pub data Said : Type 0 where
   SaysImport : (file : Text) → Said
   SaysAudit : (files : List Text) → Said
   SaysServe : (port sessions rounds : ℕ) (files : List Text) → Said
+  SaysOpen : (port : ℕ) (file : Text) → Said
+  SaysClose : (file : Text) → Said
 
 abbrev pub said_by : Order → Said
 said_by order.World = SaysWorld
@@ -112,6 +120,8 @@ said_by (order.Export file to) = SaysExport file.now to
 said_by (order.Import file) = SaysImport file.now
 said_by (order.Audit files) = SaysAudit (map (λ file. file.now) files.items)
 said_by (order.Serve port sessions rounds files) = SaysServe port sessions rounds (map (λ file. file.now) files.items)
+said_by (order.Open port file) = SaysOpen port file.now
+said_by (order.Close file) = SaysClose file.now
 
 -- the number from low to high that the value of this name spells
 unfoldable pub number_in : Text → ℕ → ℕ → List Row → Option ℕ
@@ -189,6 +199,17 @@ serve_in rows = do
   files ← files_in most_desks rows
   Some (SaysServe port sessions rounds files)
 
+unfoldable pub open_in : List Row → Option Said
+open_in rows = do
+  port ← number_in (codes "PORT") 1 greatest_port rows
+  file ← first_of (codes "FILE") rows
+  Some (SaysOpen port file)
+
+unfoldable pub close_in : List Row → Option Said
+close_in rows = do
+  file ← first_of (codes "FILE") rows
+  Some (SaysClose file)
+
 -- the order that the command of this name gives with these values
 unfoldable pub named_order : Text → List Row → Option Said
 named_order name rows =
@@ -202,7 +223,9 @@ named_order name rows =
     if bytes_eq name (codes "export") then export_in rows else (
     if bytes_eq name (codes "import") then import_in rows else (
     if bytes_eq name (codes "audit") then audit_in rows else (
-    if bytes_eq name (codes "serve") then serve_in rows else None))))))))))
+    if bytes_eq name (codes "serve") then serve_in rows else (
+    if bytes_eq name (codes "open") then open_in rows else (
+    if bytes_eq name (codes "close") then close_in rows else None))))))))))))
 
 -- the order of the subcommand that was met
 abbrev pub order_in : Option (Text × List Row) → Option Said
@@ -234,7 +257,9 @@ values_of name =
     if bytes_eq name (codes "export") then File ∷ To ∷ [] else (
     if bytes_eq name (codes "import") then File ∷ [] else (
     if bytes_eq name (codes "audit") then Files ∷ [] else (
-    if bytes_eq name (codes "serve") then Port ∷ Sessions ∷ Rounds ∷ Desks ∷ [] else Command ∷ []))))))))))
+    if bytes_eq name (codes "serve") then Port ∷ Sessions ∷ Rounds ∷ Desks ∷ [] else (
+    if bytes_eq name (codes "open") then Port ∷ File ∷ [] else (
+    if bytes_eq name (codes "close") then File ∷ [] else Command ∷ []))))))))))))
 
 -- whether a value is given and in its range
 abbrev pub fits : List Row → Misfit → Bool

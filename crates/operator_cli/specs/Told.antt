@@ -47,6 +47,10 @@ store_fault_text fault.SeatsOut = codes "seats-out"
 store_fault_text (fault.Stranger at) = codes "stranger " ++ decimal at
 store_fault_text (fault.StrangerSeen at) = codes "stranger-seen " ++ decimal at
 store_fault_text (fault.Closed site) = codes "closed " ++ decimal site
+store_fault_text fault.LongPath = codes "long-path"
+store_fault_text fault.NoSocket = codes "no-socket"
+store_fault_text fault.NotOpen = codes "not-open"
+store_fault_text fault.StillOpen = codes "open"
 
 abbrev pub store_fault_line : StoreFault → List ℕ
 store_fault_line f = store_fault_text f ++ 10 ∷ []

@@ -29,8 +29,8 @@ pub(crate) fn write_line<W: Write>(line: &Text, out: &mut W) -> Result<(), Store
     }
 }
 
-// What was written is at its writer's end.
-fn flushed<W: Write>(status: Status, out: &mut W) -> Result<Status, StoreFault>
+/// What was written is at its writer's end.
+pub(crate) fn flushed<W: Write>(status: Status, out: &mut W) -> Result<Status, StoreFault>
     ensures kept { Keeps (W.contents out.old) (W.contents out.new) }
     ensures status { IfOk result (λ s. s ≡ status) }
     ensures fault { IfErr result (λ fault. fault ≡ WriteFailed) }

@@ -3,7 +3,7 @@
 ghost use Rattle.std.specs.Prelude.{◌≡◌, IfOk, false, codes};
 ghost use Rattle.clap.specs.Words.{app_of, new_app, rule_of};
 ghost use Rattle.clap.specs.declared.builder.command.Command.TheViews.{out-Command as fields_of};
-ghost use Rattle.operator_cli.specs.Orders.{operand, boxoffice, init_app, migrate_app, grow_app, ask_app, find_app, list_app, export_app, import_app, audit_app, serve_app, most_desks, repeated_operand};
+ghost use Rattle.operator_cli.specs.Orders.{operand, boxoffice, init_app, migrate_app, grow_app, ask_app, find_app, list_app, export_app, import_app, audit_app, serve_app, open_app, close_app, most_desks, repeated_operand};
 ghost use Rattle.rights_lattice.specs.Limits.{most_sites};
 
 use crate::orders::{MOST_DESKS, MOST_FILES};
@@ -180,6 +180,27 @@ fn serve<'a>(alloc: Global) -> Result<Command<'a>, AllocError>
     .arg(desks(alloc))
 }
 
+fn open<'a>(alloc: Global) -> Result<Command<'a>, AllocError>
+    ensures app { IfOk result (λ command. app_of command ≡ open_app) }
+    ensures local { IfOk result (λ command. (fields_of command).has_globals ≡ false) }
+{
+    let port = operand(alloc, "PORT", "The port of this machine, 1 to 65535");
+    named(
+        alloc,
+        "open",
+        "Keeps the office of a site open, at a port and at the socket FILE-sock",
+    )
+    .arg(port)?
+    .arg(file(alloc))
+}
+
+fn close<'a>(alloc: Global) -> Result<Command<'a>, AllocError>
+    ensures app { IfOk result (λ command. app_of command ≡ close_app) }
+    ensures local { IfOk result (λ command. (fields_of command).has_globals ≡ false) }
+{
+    named(alloc, "close", "Closes the office of a site").arg(file(alloc))
+}
+
 /// The program's command line.
 pub(crate) fn boxoffice<'a>(alloc: Global) -> Result<Command<'a>, AllocError>
     ensures { IfOk result (λ command. app_of command ≡ boxoffice) }
@@ -201,6 +222,8 @@ pub(crate) fn boxoffice<'a>(alloc: Global) -> Result<Command<'a>, AllocError>
     .subcommand(export(alloc)?)?
     .subcommand(import(alloc)?)?
     .subcommand(audit(alloc)?)?
-    .subcommand(serve(alloc)?)?;
+    .subcommand(serve(alloc)?)?
+    .subcommand(open(alloc)?)?
+    .subcommand(close(alloc)?)?;
     Ok(whole)
 }

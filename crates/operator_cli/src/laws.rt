@@ -2,7 +2,7 @@
 
 ghost use Rattle.std.specs.Prelude.{◌∷◌, [], codes};
 ghost use Rattle.operator_cli.specs.Laws.{ScriptsMakeSteps, TotalsAreThose, TotalsAreNotOversold};
-ghost use Rattle.operator_cli.specs.Orders.{boxoffice, AreUnderstood, Give, SaysWorld, SaysInit, SaysMigrate, SaysGrow, SaysAsk, SaysFind, SaysList, SaysExport, SaysImport, SaysAudit, SaysServe};
+ghost use Rattle.operator_cli.specs.Orders.{boxoffice, AreUnderstood, Give, SaysWorld, SaysInit, SaysMigrate, SaysGrow, SaysAsk, SaysFind, SaysList, SaysExport, SaysImport, SaysAudit, SaysServe, SaysOpen, SaysClose};
 
 /// The totals of a script are those of a world that its steps lead to, and none is oversold.
 pub fn totals_are_not_oversold()
@@ -25,6 +25,8 @@ pub fn each_command_has_words()
     ensures import { Give (codes "import" ∷ codes "a.db" ∷ []) (SaysImport (codes "a.db")) }
     ensures audit { Give (codes "audit" ∷ codes "a.db" ∷ codes "b.db" ∷ []) (SaysAudit (codes "a.db" ∷ codes "b.db" ∷ [])) }
     ensures serve { Give (codes "serve" ∷ codes "7000" ∷ codes "2" ∷ codes "9" ∷ codes "a.db" ∷ codes "b.db" ∷ []) (SaysServe 7000 2 9 (codes "a.db" ∷ codes "b.db" ∷ [])) }
+    ensures open { Give (codes "open" ∷ codes "7000" ∷ codes "a.db" ∷ []) (SaysOpen 7000 (codes "a.db")) }
+    ensures close { Give (codes "close" ∷ codes "a.db" ∷ []) (SaysClose (codes "a.db")) }
     ensures no_file { AreUnderstood (codes "boxoffice" ∷ codes "audit" ∷ []) → ⊥ }
     ensures word_too_many { AreUnderstood (codes "boxoffice" ∷ codes "world" ∷ codes "extra" ∷ []) → ⊥ }
     ensures help { AreUnderstood (codes "boxoffice" ∷ codes "world" ∷ codes "--help" ∷ []) → ⊥ }

@@ -6,7 +6,7 @@ ghost use Rattle.clap.specs.Words.{subcommand_of, subcommand_rows_of, kind_of, a
 ghost use Rattle.rights_lattice.specs.Cells.{greatest_value};
 ghost use Rattle.rights_lattice.specs.Limits.{greatest_site, most_sites};
 ghost use Rattle.book_core.specs.Limits.{greatest_limit};
-ghost use Rattle.operator_cli.specs.Orders.{boxoffice, greatest_port, most_sessions, AreUnderstood, order_in, said_by, number_in, init_in, migrate_in, grow_in, ask_in, find_in, list_in, export_in, import_in, files_in, audit_in, serve_in, named_order, values_of, first_misfit, misfit_in, misfit_line, TellsMisfit, IsWordsRefusal};
+ghost use Rattle.operator_cli.specs.Orders.{boxoffice, greatest_port, most_sessions, AreUnderstood, order_in, said_by, number_in, init_in, migrate_in, grow_in, ask_in, find_in, list_in, export_in, import_in, files_in, audit_in, serve_in, open_in, close_in, named_order, values_of, first_misfit, misfit_in, misfit_line, TellsMisfit, IsWordsRefusal};
 
 use crate::grammar::boxoffice;
 use arrayvec::ArrayVec;
@@ -88,6 +88,15 @@ pub enum Order<'a> {
         sessions: usize,
         rounds: u64,
         files: FileNames<'a>,
+    },
+    /// Keeps the office of a site open: callers come at a port, and at a socket beside the file.
+    Open {
+        port: u16,
+        file: &'a str,
+    },
+    /// Closes the office of a site.
+    Close {
+        file: &'a str,
     },
 }
 
@@ -330,6 +339,25 @@ fn serve_of<'a>(values: &ArgMatches<'a>) -> Result<Order<'a>, Misfit>
     })
 }
 
+#[tactic(auto, unfolding(crate::specs::Orders::open_in))]
+fn open_of<'a>(values: &ArgMatches<'a>) -> Result<Order<'a>, Misfit>
+    ensures order { MatchResult result (λ order. open_in (rows_of (found_of values.now)) ≡ Some (said_by order)) (λ _. open_in (rows_of (found_of values.now)) ≡ None) }
+    ensures misfit { IfErr result (λ misfit. first_misfit (Misfit.Port ∷ Misfit.File ∷ []) (rows_of (found_of values.now)) ≡ Some misfit) }
+{
+    let port = port_of(values).ok_or(Misfit::Port)?;
+    let file = value_of(values, "FILE").ok_or(Misfit::File)?;
+    Ok(Order::Open { port, file })
+}
+
+#[tactic(auto, unfolding(crate::specs::Orders::close_in))]
+fn close_of<'a>(values: &ArgMatches<'a>) -> Result<Order<'a>, Misfit>
+    ensures order { MatchResult result (λ order. close_in (rows_of (found_of values.now)) ≡ Some (said_by order)) (λ _. close_in (rows_of (found_of values.now)) ≡ None) }
+    ensures misfit { IfErr result (λ misfit. first_misfit (Misfit.File ∷ []) (rows_of (found_of values.now)) ≡ Some misfit) }
+{
+    let file = value_of(values, "FILE").ok_or(Misfit::File)?;
+    Ok(Order::Close { file })
+}
+
 #[tactic(auto, unfolding(crate::specs::Orders::named_order, crate::specs::Orders::values_of))]
 fn named_order<'a>(name: &str, values: &ArgMatches<'a>) -> Result<Order<'a>, Misfit>
     ensures order { MatchResult result (λ order. named_order name.now (rows_of (found_of values.now)) ≡ Some (said_by order)) (λ _. named_order name.now (rows_of (found_of values.now)) ≡ None) }
@@ -357,6 +385,10 @@ fn named_order<'a>(name: &str, values: &ArgMatches<'a>) -> Result<Order<'a>, Mis
         audit_of(values)
     } else if name == "serve" {
         serve_of(values)
+    } else if name == "open" {
+        open_of(values)
+    } else if name == "close" {
+        close_of(values)
     } else {
         Err(Misfit::Command)
     }

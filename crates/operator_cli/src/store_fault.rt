@@ -7,6 +7,7 @@ ghost use Rattle.plain_words.specs.Input.{longest_line};
 ghost use Rattle.operator_cli.specs.Told.{store_fault_text, store_fault_line};
 
 use crate::fault::ScriptFault;
+use live_office::{OfficeFault, SocketFault};
 use plain_words::{Text, numbered, put, put_number, word};
 use rights_lattice::SiteId;
 use session_server::{ExchangeFault, ListenFault, TalkFault};
@@ -50,6 +51,14 @@ pub(crate) enum StoreFault {
     StrangerSeen { at: u64 },
     /// The site's book is closed, since an entry could not be stored.
     Closed { site: SiteId },
+    /// The path of an office's socket is too long.
+    LongPath,
+    /// Something else stands where an office's socket should.
+    NoSocket,
+    /// No office is open.
+    NotOpen,
+    /// The office is still open.
+    StillOpen,
 }
 
 impl From<AllocError> for StoreFault {
@@ -109,6 +118,35 @@ impl From<ListenFault> for StoreFault {
             ListenFault::Bind => StoreFault::Bind,
             ListenFault::Accept => StoreFault::Accept,
             ListenFault::Memory => StoreFault::Memory,
+        }
+    }
+}
+
+impl From<SocketFault> for StoreFault {
+    ghost use Rattle.std.specs.Prelude.{◌≡◌};
+    ghost use Rattle.operator_cli.specs.Offices.{of_socket_fault};
+
+    ghost from_gives = { λ socket fault. fault ≡ of_socket_fault socket };
+
+    fn from(fault: SocketFault) -> StoreFault {
+        match fault {
+            SocketFault::Path => StoreFault::LongPath,
+            SocketFault::NotASocket => StoreFault::NoSocket,
+            SocketFault::Bind => StoreFault::Bind,
+        }
+    }
+}
+
+impl From<OfficeFault> for StoreFault {
+    ghost use Rattle.std.specs.Prelude.{◌≡◌};
+    ghost use Rattle.operator_cli.specs.Offices.{of_office_fault};
+
+    ghost from_gives = { λ office fault. fault ≡ of_office_fault office };
+
+    fn from(fault: OfficeFault) -> StoreFault {
+        match fault {
+            OfficeFault::Memory => StoreFault::Memory,
+            OfficeFault::NotStarted => StoreFault::NotStarted,
         }
     }
 }
@@ -178,6 +216,10 @@ fn store_fault_text(fault: StoreFault) -> Text
         StoreFault::Stranger { at } => numbered(b"stranger ", at),
         StoreFault::StrangerSeen { at } => numbered(b"stranger-seen ", at),
         StoreFault::Closed { site } => numbered(b"closed ", site.number()),
+        StoreFault::LongPath => word(b"long-path"),
+        StoreFault::NoSocket => word(b"no-socket"),
+        StoreFault::NotOpen => word(b"not-open"),
+        StoreFault::StillOpen => word(b"open"),
     }
 }
 

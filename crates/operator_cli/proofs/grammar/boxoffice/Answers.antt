@@ -21,4 +21,6 @@ returns c =
     let export = c.in_ok-subcommand-8.ensures.shape c.in_ok-export.ensures.local ∙ ap₂ with_subcommand list (ap top_of c.in_ok-export.ensures.app) in
     let import = c.in_ok-subcommand-9.ensures.shape c.in_ok-import.ensures.local ∙ ap₂ with_subcommand export (ap top_of c.in_ok-import.ensures.app) in
     let audit = c.in_ok-subcommand-10.ensures.shape c.in_ok-audit.ensures.local ∙ ap₂ with_subcommand import (ap top_of c.in_ok-audit.ensures.app) in
-    c.in_ok-whole.ensures.shape c.in_ok-serve.ensures.local ∙ ap₂ with_subcommand audit (ap top_of c.in_ok-serve.ensures.app)
+    let serve = c.in_ok-subcommand-11.ensures.shape c.in_ok-serve.ensures.local ∙ ap₂ with_subcommand audit (ap top_of c.in_ok-serve.ensures.app) in
+    let opened = c.in_ok-subcommand-12.ensures.shape c.in_ok-open.ensures.local ∙ ap₂ with_subcommand serve (ap top_of c.in_ok-open.ensures.app) in
+    c.in_ok-whole.ensures.shape c.in_ok-close.ensures.local ∙ ap₂ with_subcommand opened (ap top_of c.in_ok-close.ensures.app)

@@ -1,0 +1,4 @@
+pub mod Handled
+pub mod OfficeLines
+pub mod Seats
+pub mod Talks

@@ -1,0 +1,90 @@
+-- How a seat handles the lines of a caller who may use all lines of an office. (Our own.)
+use Rattle.std.specs.Prelude.{◌≡◌, ◌⊎◌, ℕ, Bool, true, false, List, [], ◌∷◌, ◌++◌, Option, Some, None, Result, Err, codes}
+use Rattle.std.specs.Str.{bytes_eq}
+use Rattle.site_exchange.specs.declared.message.Message.{Message}
+use Rattle.delta_wire.specs.declared.fault.WireFault.TheVariants.{Memory}
+use Rattle.site_desk.specs.declared.answer.Taken.{Taken}
+use Rattle.site_desk.specs.declared.fault.NextFault.{NextFault}
+use Rattle.site_desk.specs.Moments.{Sends}
+use Rattle.site_desk.specs.Seats.{Held}
+use Rattle.desk_lines.specs.declared.line.Line.{Line}
+use Rattle.desk_lines.specs.declared.line.Line.TheVariants.{Ask, Left, Totals, Quit as QuitLine}
+use Rattle.desk_lines.specs.declared.answered.Answered.{Answered}
+use Rattle.desk_lines.specs.declared.answered.Answered.TheVariants as answered
+use Rattle.desk_lines.specs.Replies.{reply_line}
+use Rattle.live_office.specs.declared.handler.Last.{Last}
+use Rattle.live_office.specs.declared.handler.Last.TheVariants.{Quit, Close}
+use Rattle.live_office.specs.declared.importing.ImportFault.{ImportFault}
+use Rattle.live_office.specs.declared.importing.ImportFault.TheVariants.{Unread}
+use Rattle.live_office.specs.declared.office_line.OfficeLine.{OfficeLine}
+use Rattle.live_office.specs.declared.office_line.OfficeLine.TheVariants.{Session, Export, Import, Close as CloseLine}
+use Rattle.live_office.specs.Admissible.{Admissible, SomeAdmissible}
+use Rattle.live_office.specs.Answers.{exported_text, imported_text}
+use Rattle.live_office.specs.Importing.{IsImported}
+use Rattle.live_office.specs.Lines.{office_line_of}
+use Rattle.live_office.specs.SeatAnswers.{SeatAnswers}
+
+-- what has come of a message after `import`: no message comes, its text so far, or memory was refused for it
+pub data Gathering : Type 0 where
+  Nothing : Gathering
+  Text : List ℕ → Gathering
+  Lost : Gathering
+
+-- a seat, and what has come of a message
+pub record SeatState : Type 0 where
+  pub held : Held
+  pub gathering : Gathering
+
+abbrev pub seat_state : Held → Gathering → SeatState
+seat_state held gathering = record { held = held; gathering = gathering }
+
+-- a line of a session is answered as the seat answers it
+abbrev pub HandlesSession : {K : Type 0} → Admissible K → SeatState → Line → List ℕ → SeatState → Type 0
+HandlesSession d old line text new =
+    (given : Answered) × SeatAnswers d old.held line given new.held × (text ≡ reply_line given) × (new.gathering ≡ old.gathering)
+
+-- A line where no message comes. `quit` and `close` have no answer.
+abbrev pub HandlesLine : {K : Type 0} → Admissible K → SeatState → Option OfficeLine → List ℕ → SeatState → Type 0
+HandlesLine d old (Some (Session (Ask number request))) text new = HandlesSession d old (Ask number request) text new
+HandlesLine d old (Some (Session (Left event))) text new = HandlesSession d old (Left event) text new
+HandlesLine d old (Some (Session (Totals event))) text new = HandlesSession d old (Totals event) text new
+HandlesLine d old (Some (Session QuitLine)) text new = ⊥
+HandlesLine d old (Some (Export to)) text new =
+    (result : Result (Option Message) NextFault) × SomeAdmissible d (Sends to result) × (text ≡ exported_text result) × (new ≡ old)
+HandlesLine d old (Some Import) text new = (text ≡ []) × (new ≡ seat_state old.held (Text []))
+HandlesLine d old (Some CloseLine) text new = ⊥
+HandlesLine d old None text new = (text ≡ reply_line answered.Unread) × (new ≡ old)
+
+-- A line of a message, which is this text with it. With its last line the message is taken; before, nothing is answered.
+abbrev pub HandlesPart : {K : Type 0} → Admissible K → Held → List ℕ → Bool → List ℕ → SeatState → Type 0
+HandlesPart d held message true text new =
+    (result : Result Taken ImportFault) × IsImported d message result × (text ≡ imported_text result) × (new ≡ seat_state held Nothing)
+HandlesPart d held message false text new = (text ≡ []) × ((new ≡ seat_state held (Text message)) ⊎ (new ≡ seat_state held Lost))
+
+-- a line of a message for which memory was refused: `memory` is answered with its last line
+abbrev pub HandlesLost : Held → Bool → List ℕ → SeatState → Type 0
+HandlesLost held true text new = (text ≡ imported_text (Err (Unread Memory))) × (new ≡ seat_state held Nothing)
+HandlesLost held false text new = (text ≡ []) × (new ≡ seat_state held Lost)
+
+-- the line is the last of a message
+abbrev pub ends_message : List ℕ → Bool
+ends_message line = bytes_eq line (codes "end")
+
+-- a line, by what has come of a message before it
+abbrev pub HandlesBy : {K : Type 0} → Admissible K → SeatState → Gathering → List ℕ → List ℕ → SeatState → Type 0
+HandlesBy d old Nothing line text new = HandlesLine d old (office_line_of line) text new
+HandlesBy d old (Text so_far) line text new = HandlesPart d old.held (so_far ++ line ++ 10 ∷ []) (ends_message line) text new
+HandlesBy d old Lost line text new = HandlesLost old.held (ends_message line) text new
+
+-- a seat handles a line by this text, and then has this state
+abbrev pub Handles : {K : Type 0} → Admissible K → SeatState → List ℕ → List ℕ → SeatState → Type 0
+Handles d old line text new = HandlesBy d old old.gathering line text new
+
+-- which lines end a session, and how
+abbrev pub IsLast : Last → Option OfficeLine → Type 0
+IsLast Quit line = line ≡ Some (Session QuitLine)
+IsLast Close line = line ≡ Some CloseLine
+
+-- such a line, where no message comes
+abbrev pub LastHandled : SeatState → List ℕ → Last → Type 0
+LastHandled old line last = (old.gathering ≡ Nothing) × IsLast last (office_line_of line)

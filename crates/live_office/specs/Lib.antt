@@ -1,0 +1,12 @@
+pub mod Admissible
+pub mod Answers
+pub mod Caller
+pub mod Gathered
+pub mod Grammar
+pub mod Handed
+pub mod Handling
+pub mod Importing
+pub mod Lines
+pub mod SeatAnswers
+pub mod Served
+pub mod Talks

@@ -1,0 +1,135 @@
+//! A seat at a desk that serves one session after another.
+
+ghost use Rattle.std.specs.Prelude.{◌≡◌};
+ghost use Rattle.desk_lines.specs.declared.line.Line.TheVariants.{Ask, Left, Totals as TotalsOf};
+ghost use Rattle.desk_lines.specs.declared.answered.Answered.TheVariants.{Refused};
+ghost use Rattle.session_server.specs.BookStep.{not_shown};
+ghost use Rattle.live_office.specs.Admissible.{admissible};
+ghost use Rattle.live_office.specs.SeatAnswers.{SeatAnswers};
+
+use crate::closing::Closing;
+use desk_lines::{Answered, Line};
+use request_ledger::{Request, RequestNumber};
+use rights_lattice::Event;
+use session_server::Answerer;
+use site_desk::{AskFault, Desk, LookFault, NoGate, Opens, Seat};
+use sql_records::Keeper;
+use std::alloc::Global;
+use std::marker::Model;
+use std::sync::Wait;
+
+/// A seat at a desk that serves one session after another. It keeps neither receipts nor looks, so that its memory
+/// does not grow. Where the store fails, it closes the office.
+#[derive(Drop)]
+pub struct DeskSeat<'a, K: Keeper, L: Opens> {
+    alloc: Global,
+    desk: &'a Desk<K, L>,
+    closing: &'a Closing,
+    seat: Seat<L>,
+}
+
+impl<'a, K: Keeper, L: Opens> Model for DeskSeat<'a, K, L> {
+    ghost use Rattle.site_desk.specs.Seats.{Held};
+
+    ghost Value = { Held };
+
+    ghost view = { λ a. a.seat };
+}
+
+impl<'a, K: Keeper, L: Opens> DeskSeat<'a, K, L> {
+    /// The seat answers at this desk.
+    pub fn new(
+        alloc: Global,
+        desk: &'a Desk<K, L>,
+        closing: &'a Closing,
+        seat: Seat<L>,
+    ) -> DeskSeat<'a, K, L>
+        ensures { result ≡ seat }
+    {
+        DeskSeat {
+            alloc,
+            desk,
+            closing,
+            seat,
+        }
+    }
+
+    /// The seat, which answers no more.
+    pub fn into_seat(self) -> Seat<L>
+        ensures { result ≡ self.entry }
+    {
+        let DeskSeat { seat, .. } = self;
+        seat
+    }
+
+    // Why a request is not answered. After a failed store the office closes.
+    fn refused(&self, fault: AskFault) -> Answered
+        ensures { result ≡ Refused fault }
+    {
+        if let AskFault::Store = fault {
+            self.closing.close();
+        }
+        Answered::Refused(fault)
+    }
+
+    fn ask<T: Wait>(&mut self, rt: &T, number: RequestNumber, request: &Request) -> Answered
+        ensures { SeatAnswers (admissible L.office L.began K.failed K.is_trusted K.kept K.may_leave)
+            self.old (Ask number request.now) result self.new }
+    {
+        match self
+            .desk
+            .ask(rt, self.alloc, &NoGate, &mut self.seat, number, request)
+        {
+            Ok((answer, _receipt)) => Answered::Kept(answer.reply),
+            Err(fault) => self.refused(fault),
+        }
+    }
+
+    fn left<T: Wait>(&mut self, rt: &T, event: Event) -> Answered
+        ensures { SeatAnswers (admissible L.office L.began K.failed K.is_trusted K.kept K.may_leave)
+            self.old (Left event) result self.new }
+    {
+        let seen = match self.desk.look(rt, &self.seat, event) {
+            Ok(seen) => seen,
+            Err(fault) => return not_shown(fault),
+        };
+        Answered::LeftIs(seen.left)
+    }
+
+    fn totals<T: Wait>(&mut self, rt: &T, event: Event) -> Answered
+        ensures { SeatAnswers (admissible L.office L.began K.failed K.is_trusted K.kept K.may_leave)
+            self.old (TotalsOf event) result self.new }
+    {
+        let seen = match self.desk.look(rt, &self.seat, event) {
+            Ok(seen) => seen,
+            Err(fault) => return not_shown(fault),
+        };
+        Answered::TotalsAre(seen.totals)
+    }
+}
+
+fn not_shown(fault: LookFault) -> Answered
+    ensures { result ≡ not_shown fault }
+{
+    match fault {
+        LookFault::Unknown => Answered::NotKnown,
+        LookFault::Closed => Answered::Refused(AskFault::Closed),
+    }
+}
+
+impl<'a, K: Keeper, L: Opens> Answerer for DeskSeat<'a, K, L> {
+    ghost use Rattle.live_office.specs.Admissible.{admissible};
+    ghost use Rattle.live_office.specs.SeatAnswers.{SeatAnswers};
+
+    ghost step = { SeatAnswers
+        (admissible L.office L.began K.failed K.is_trusted K.kept K.may_leave) };
+
+    fn answer<T: Wait>(&mut self, rt: &T, line: &Line) -> Answered {
+        match line {
+            Line::Ask { number, request } => self.ask(rt, *number, request),
+            Line::Left { event } => self.left(rt, *event),
+            Line::Totals { event } => self.totals(rt, *event),
+            Line::Quit => Answered::NotKnown,
+        }
+    }
+}

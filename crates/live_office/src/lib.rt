@@ -1,0 +1,45 @@
+//! An office that stays open: callers come and go while it sells.
+//!
+//! `open_office` serves callers at two doors, each in a thread, until one of them says `close` or the store fails. At a
+//! `TcpDoor` a caller has the lines of a session. At a `UnixDoor` a caller has these and the lines of the office:
+//! `export`, `import`, `close` (`OfficeLine`). A new line is a variant there, with a function of `office_line.rt` and
+//! a row of `specs/Grammar.antt`, `Lines.antt` and `Handling.antt`; a new answer is a variant of `OfficeAnswer`.
+//!
+//! Guaranteed: what a caller is sent is exactly the texts of the answers to the lines that were read, in order, up to a
+//! failed write, and a caller can only be used up by being served (`Served`). A line of a session means what it means
+//! in any session. Each answer is that of an admissible book. The book that is returned extends the one that was
+//! passed. Of a session only the count of its seat is kept. Not proved: that callers are served, in which order, and
+//! that `close` ends the threads.
+#![tactic(auto)]
+
+mod caller;
+mod closing;
+mod desk_seat;
+mod door;
+mod handler;
+mod importing;
+mod office;
+mod office_answer;
+mod office_line;
+mod office_seat;
+mod serving;
+mod socket_file;
+mod sockets;
+mod talking;
+mod workers;
+
+pub use caller::{Caller, Connection};
+pub use closing::Closing;
+pub use desk_seat::DeskSeat;
+pub use door::{Access, Call, Door};
+pub use handler::{Handler, Last};
+pub use importing::{ImportFault, import_at};
+pub use office::{OfficeFault, open_office};
+pub use office_answer::{OfficeAnswer, write_answer};
+pub use office_line::{OfficeLine, read_office_line};
+pub use office_seat::OfficeSeat;
+pub use serving::Served;
+pub use socket_file::{SocketFault, check_socket, remove_socket};
+pub use sockets::{TcpDoor, UnixDoor};
+pub use talking::office_talk;
+pub use workers::{CLERKS, OPERATORS};

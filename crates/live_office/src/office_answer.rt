@@ -1,0 +1,127 @@
+//! What an open office answers, and its text.
+
+ghost use Rattle.std.specs.Prelude.{◌≡◌, ◌≤◌, ◌++◌, ◌∷◌, []};
+ghost use Rattle.arrayvec.specs.ArrayVec.{array_vec_len};
+ghost use Rattle.plain_words.specs.Input.{longest_line};
+ghost use Rattle.plain_words.specs.Writing.{Writes};
+ghost use Rattle.delta_wire.specs.Grammar.{message_text};
+ghost use Rattle.live_office.specs.Answers.{answer_text, exported_text, import_fault_text, imported_text, next_fault_text, wire_fault_text};
+
+use crate::importing::ImportFault;
+use delta_wire::{WireFault, write_message};
+use desk_lines::{Answered, reply_line, take_fault_text};
+use plain_words::{Text, WriteFault, numbered, put, word, write_bytes};
+use site_desk::{NextFault, Taken};
+use site_exchange::Message;
+use std::io::Write;
+
+/// What a line is answered.
+#[derive(Debug, Drop)]
+pub enum OfficeAnswer {
+    /// The reply of a session.
+    Reply {
+        answered: Answered,
+    },
+    /// The message that is due, if any.
+    Exported {
+        result: Result<Option<Message>, NextFault>,
+    },
+    /// What was done with a message.
+    Imported {
+        result: Result<Taken, ImportFault>,
+    },
+    /// Nothing yet: a message comes.
+    Quiet,
+}
+
+fn wire_fault_text(fault: WireFault) -> Text
+    ensures value { result.items ≡ wire_fault_text fault }
+    ensures len { array_vec_len result ≤ longest_line }
+{
+    match fault {
+        WireFault::Truncated => word(b"truncated"),
+        WireFault::BadLine { line } => numbered(b"bad-line ", line),
+        WireFault::OutOfOrder { line } => numbered(b"out-of-order ", line),
+        WireFault::Trailing => word(b"trailing"),
+        WireFault::Memory => word(b"memory"),
+    }
+}
+
+fn next_fault_text(fault: NextFault) -> Text
+    ensures value { result.items ≡ next_fault_text fault }
+    ensures len { array_vec_len result ≤ longest_line }
+{
+    match fault {
+        NextFault::NoSite => word(b"no-site"),
+        NextFault::Closed => word(b"closed"),
+        NextFault::Memory => word(b"memory"),
+    }
+}
+
+fn import_fault_text(fault: ImportFault) -> Text
+    ensures value { result.items ≡ import_fault_text fault }
+    ensures len { array_vec_len result ≤ longest_line }
+{
+    match fault {
+        ImportFault::Unread { fault } => wire_fault_text(fault),
+        ImportFault::Refused { fault } => take_fault_text(fault),
+    }
+}
+
+// Writes a text of one line, and its line break.
+fn write_text<W: Write>(text: Text, out: &mut W) -> Result<(), WriteFault>
+    requires { array_vec_len text ≤ longest_line }
+    ensures { Writes (W.contents out.old) (W.contents out.new) result (text.items ++ 10 ∷ []) }
+{
+    let mut line = text;
+    put(&mut line, b"\n");
+    write_bytes(line.as_slice(), out)
+}
+
+fn write_exported<W: Write>(
+    exported: &Result<Option<Message>, NextFault>,
+    out: &mut W,
+) -> Result<(), WriteFault>
+    ensures { Writes (W.contents out.old) (W.contents out.new) result (exported_text exported.now) }
+{
+    match exported {
+        Ok(Some(message)) => write_message(message, out),
+        Ok(None) => write_bytes(b"nothing\n", out),
+        Err(fault) => write_text(next_fault_text(*fault), out),
+    }
+}
+
+// Writes a line that says what was done with a message, and the acknowledgement.
+fn write_taken<W: Write>(line: &[u8], ack: &Message, out: &mut W) -> Result<(), WriteFault>
+    ensures { Writes (W.contents out.old) (W.contents out.new) result (line.now ++ message_text
+        ack.now) }
+{
+    write_bytes(line, out)?;
+    write_message(ack, out)
+}
+
+fn write_imported<W: Write>(
+    imported: &Result<Taken, ImportFault>,
+    out: &mut W,
+) -> Result<(), WriteFault>
+    ensures { Writes (W.contents out.old) (W.contents out.new) result (imported_text imported.now) }
+{
+    match imported {
+        Ok(Taken::Joined { ack }) => write_taken(b"joined\n", ack, out),
+        Ok(Taken::NothingNew { ack }) => write_taken(b"nothing-new\n", ack, out),
+        Ok(Taken::Acked) => write_bytes(b"acked\n", out),
+        Err(fault) => write_text(import_fault_text(*fault), out),
+    }
+}
+
+/// Writes an answer, with its line breaks. A failed write leaves a prefix of it.
+pub fn write_answer<W: Write>(answer: &OfficeAnswer, out: &mut W) -> Result<(), WriteFault>
+    ensures { Writes (W.contents out.old) (W.contents out.new) result (answer_text answer.now) }
+{
+    match answer {
+        OfficeAnswer::Reply { answered } => reply_line(answered, out),
+        OfficeAnswer::Exported { result } => write_exported(result, out),
+        OfficeAnswer::Imported { result } => write_imported(result, out),
+        OfficeAnswer::Quiet => write_bytes(b"", out),
+    }
+}

@@ -1,0 +1,100 @@
+//! The lines of a caller who may use all lines of an office.
+
+ghost use Rattle.std.specs.Prelude.{◌≡◌, Ok, IfOk};
+ghost use Rattle.std.specs.Result.{result_ok};
+ghost use Rattle.live_office.specs.declared.office_line.OfficeLine.{OfficeLine};
+ghost use Rattle.live_office.specs.Grammar.{IsOfficeLine, office_line_text};
+ghost use Rattle.live_office.specs.Lines.{close_in, export_in, import_in, office_line_of, own_in};
+
+use delta_wire::site_at;
+use desk_lines::{BadLine, Line, read_line};
+use plain_words::Words;
+use rights_lattice::SiteId;
+
+/// What a line asks of an open office.
+#[derive(Clone, Copy, PartialEq, Eq, Debug)]
+pub enum OfficeLine {
+    /// What it asks in any session.
+    Session { line: Line },
+    /// The message that is due to a site.
+    Export { to: SiteId },
+    /// To take the message that the lines after it spell, up to `end`.
+    Import,
+    /// That the office closes.
+    Close,
+}
+
+#[tactic(auto, unfolding(crate::specs::Lines::export_in))]
+fn export_in(words: &mut Words<'_>) -> Option<OfficeLine>
+    ensures { result ≡ export_in words.old }
+{
+    let to = site_at(words)?;
+    if words.is_empty() {
+        Some(OfficeLine::Export { to })
+    } else {
+        None
+    }
+}
+
+#[tactic(auto, unfolding(crate::specs::Lines::import_in))]
+fn import_in(words: &mut Words<'_>) -> Option<OfficeLine>
+    ensures { result ≡ import_in words.old }
+{
+    if words.is_empty() {
+        Some(OfficeLine::Import)
+    } else {
+        None
+    }
+}
+
+#[tactic(auto, unfolding(crate::specs::Lines::close_in))]
+fn close_in(words: &mut Words<'_>) -> Option<OfficeLine>
+    ensures { result ≡ close_in words.old }
+{
+    if words.is_empty() {
+        Some(OfficeLine::Close)
+    } else {
+        None
+    }
+}
+
+#[tactic(auto, unfolding(crate::specs::Lines::own_in))]
+fn own_in(words: &mut Words<'_>) -> Option<OfficeLine>
+    ensures { result ≡ own_in words.old }
+{
+    let word = words.next()?;
+    if word == b"export".as_slice() {
+        export_in(words)
+    } else if word == b"import".as_slice() {
+        import_in(words)
+    } else if word == b"close".as_slice() {
+        close_in(words)
+    } else {
+        None
+    }
+}
+
+fn office_line_of(bytes: &[u8]) -> Option<OfficeLine>
+    ensures { result ≡ office_line_of bytes.now }
+{
+    match read_line(bytes) {
+        Ok(line) => Some(OfficeLine::Session { line }),
+        Err(BadLine) => own_in(&mut Words::new(bytes)),
+    }
+}
+
+/// Reads a line, without its line break; `BadLine` where it is none. A line of a session is read as one of a session.
+pub fn read_office_line(bytes: &[u8]) -> Result<OfficeLine, BadLine>
+    // What is read is spelled so.
+    ensures found { IfOk result (λ l. IsOfficeLine l × (bytes.now ≡ office_line_text l)) }
+    // What is spelled so is read.
+    ensures only { (l : OfficeLine) → IsOfficeLine l → bytes.now ≡ office_line_text l
+        → result ≡ Ok l }
+    // Which line it is, as a function.
+    ensures exact { result_ok result ≡ office_line_of bytes.now }
+{
+    match office_line_of(bytes) {
+        Some(line) => Ok(line),
+        None => Err(BadLine),
+    }
+}

@@ -1,0 +1,247 @@
+//! A seat at a desk for callers who may use all lines of an office.
+
+ghost use Rattle.std.specs.Prelude.{◌≡◌, [], ◌∷◌, ◌++◌, true, Some, IfSome, MatchResult};
+ghost use Rattle.site_desk.specs.Moments.{Sends};
+ghost use Rattle.desk_lines.specs.declared.answered.Answered.TheVariants.{Unread};
+ghost use Rattle.desk_lines.specs.Replies.{reply_line};
+ghost use Rattle.live_office.specs.declared.office_line.OfficeLine.TheVariants.{Export, Session};
+ghost use Rattle.live_office.specs.Admissible.{admissible};
+ghost use Rattle.live_office.specs.Answers.{answer_text};
+ghost use Rattle.live_office.specs.Handling.{HandlesLine, HandlesLost, HandlesPart, HandlesSession, IsLast, Nothing, ends_message, seat_state};
+ghost use Rattle.live_office.specs.Lines.{office_line_of};
+
+use crate::closing::Closing;
+use crate::desk_seat::DeskSeat;
+use crate::handler::{Handler, Last};
+use crate::importing::{ImportFault, import_at};
+use crate::office_answer::OfficeAnswer;
+use crate::office_line::{OfficeLine, read_office_line};
+use delta_wire::WireFault;
+use desk_lines::{Answered, BadLine, Line};
+use rights_lattice::SiteId;
+use session_server::Answerer;
+use site_desk::{Desk, Opens, Seat};
+use site_exchange::TakeFault;
+use sql_records::Keeper;
+use std::alloc::Global;
+use std::marker::Model;
+use std::mem;
+use std::sync::Wait;
+
+// What has come of a message.
+#[derive(Drop)]
+enum Gathered {
+    Nothing,
+    Text { bytes: Vec<u8> },
+    // Memory was refused for it.
+    Lost,
+}
+
+/// A seat at a desk, and what has come of a message.
+#[derive(Drop)]
+pub struct OfficeSeat<'a, K: Keeper, L: Opens> {
+    alloc: Global,
+    desk: &'a Desk<K, L>,
+    closing: &'a Closing,
+    seat: DeskSeat<'a, K, L>,
+    gathered: Gathered,
+}
+
+impl<'a, K: Keeper, L: Opens> Model for OfficeSeat<'a, K, L> {
+    ghost use Rattle.live_office.specs.Handling.{SeatState, seat_state};
+    ghost use Rattle.live_office.specs.Gathered.{gathering};
+
+    ghost Value = { SeatState };
+
+    ghost view = { λ s. seat_state s.seat (gathering s.gathered) };
+}
+
+// The text with one line more, and none where memory was refused.
+fn with_line(mut bytes: Vec<u8>, line: &[u8]) -> Option<Vec<u8>>
+    ensures { IfSome result (λ all. all.items ≡ bytes.items ++ line.now ++ 10 ∷ []) }
+{
+    if bytes.extend_from_slice(line).is_err() {
+        return None;
+    }
+    if bytes.push(b'\n').is_err() {
+        return None;
+    }
+    Some(bytes)
+}
+
+fn unread() -> OfficeAnswer
+    ensures { answer_text result ≡ reply_line Unread }
+{
+    OfficeAnswer::Reply {
+        answered: Answered::Unread,
+    }
+}
+
+fn ends_message(line: &[u8]) -> bool
+    ensures { result ≡ ends_message line.now }
+{
+    line == b"end".as_slice()
+}
+
+impl<'a, K: Keeper, L: Opens> OfficeSeat<'a, K, L> {
+    /// The seat answers at this desk. No message comes.
+    pub fn new(
+        alloc: Global,
+        desk: &'a Desk<K, L>,
+        closing: &'a Closing,
+        seat: Seat<L>,
+    ) -> OfficeSeat<'a, K, L>
+        ensures { result ≡ seat_state seat Nothing }
+    {
+        OfficeSeat {
+            alloc,
+            desk,
+            closing,
+            seat: DeskSeat::new(alloc, desk, closing, seat),
+            gathered: Gathered::Nothing,
+        }
+    }
+
+    /// The seat, which answers no more.
+    pub fn into_seat(self) -> Seat<L>
+        ensures { result ≡ self.entry.held }
+    {
+        let OfficeSeat { seat, .. } = self;
+        seat.into_seat()
+    }
+
+    fn reply<T: Wait>(&mut self, rt: &T, line: &Line) -> OfficeAnswer
+        ensures { HandlesSession (admissible L.office L.began K.failed K.is_trusted K.kept
+            K.may_leave) self.old line.now (answer_text result) self.new }
+    {
+        let answered = self.seat.answer(rt, line);
+        OfficeAnswer::Reply { answered }
+    }
+
+    // A line of a session.
+    fn handle_session<T: Wait>(&mut self, rt: &T, line: &Line) -> Result<OfficeAnswer, Last>
+        ensures { MatchResult result (λ answer. HandlesLine (admissible L.office L.began K.failed
+            K.is_trusted K.kept K.may_leave) self.old (Some (Session line.now)) (answer_text answer)
+            self.new) (λ last. IsLast last (Some (Session line.now)) × (self.new ≡ self.old)) }
+    {
+        match line {
+            Line::Quit => Err(Last::Quit),
+            Line::Ask { .. } => Ok(self.reply(rt, line)),
+            Line::Left { .. } => Ok(self.reply(rt, line)),
+            Line::Totals { .. } => Ok(self.reply(rt, line)),
+        }
+    }
+
+    fn export<T: Wait>(&mut self, rt: &T, to: SiteId) -> OfficeAnswer
+        ensures { HandlesLine (admissible L.office L.began K.failed K.is_trusted K.kept K.may_leave)
+            self.old (Some (Export to)) (answer_text result) self.new }
+    {
+        let result = self.desk.next(rt, self.alloc, to);
+        OfficeAnswer::Exported { result }
+    }
+
+    // What a line asks where no message comes.
+    fn handle_asked<T: Wait>(&mut self, rt: &T, line: &OfficeLine) -> Result<OfficeAnswer, Last>
+        requires { self.old.gathering ≡ Nothing }
+        ensures { MatchResult result (λ answer. HandlesLine (admissible L.office L.began K.failed
+            K.is_trusted K.kept K.may_leave) self.old (Some line.now) (answer_text answer)
+            self.new) (λ last. IsLast last (Some line.now) × (self.new ≡ self.old)) }
+    {
+        match line {
+            OfficeLine::Session { line } => self.handle_session(rt, line),
+            OfficeLine::Export { to } => Ok(self.export(rt, *to)),
+            OfficeLine::Import => {
+                self.gathered = Gathered::Text {
+                    bytes: Vec::new(self.alloc),
+                };
+                Ok(OfficeAnswer::Quiet)
+            }
+            OfficeLine::Close => Err(Last::Close),
+        }
+    }
+
+    // A line where no message comes.
+    fn handle_line<T: Wait>(&mut self, rt: &T, line: &[u8]) -> Result<OfficeAnswer, Last>
+        requires { self.old.gathering ≡ Nothing }
+        ensures { MatchResult result (λ answer. HandlesLine (admissible L.office L.began K.failed
+            K.is_trusted K.kept K.may_leave) self.old (office_line_of line.now) (answer_text answer)
+            self.new) (λ last. IsLast last (office_line_of line.now) × (self.new ≡ self.old)) }
+    {
+        match read_office_line(line) {
+            Ok(asked) => self.handle_asked(rt, &asked),
+            Err(BadLine) => Ok(unread()),
+        }
+    }
+
+    // Takes the message of this text. After a failed store the office closes.
+    fn import<T: Wait>(&self, rt: &T, bytes: &[u8]) -> OfficeAnswer
+        ensures { HandlesPart (admissible L.office L.began K.failed K.is_trusted K.kept K.may_leave)
+            self.now.held bytes.now true (answer_text result) (seat_state self.now.held Nothing) }
+    {
+        let result = import_at(rt, self.alloc, self.desk, bytes);
+        if let Err(
+            ImportFault::Refused {
+                fault: TakeFault::Store,
+            },
+        ) = result
+        {
+            self.closing.close();
+        }
+        OfficeAnswer::Imported { result }
+    }
+
+    // A line of a message.
+    fn handle_part<T: Wait>(&mut self, rt: &T, bytes: Vec<u8>, line: &[u8]) -> OfficeAnswer
+        requires { self.old.gathering ≡ Nothing }
+        ensures { HandlesPart (admissible L.office L.began K.failed K.is_trusted K.kept K.may_leave)
+            self.old.held (bytes.items ++ line.now ++ 10 ∷ []) (ends_message line.now)
+            (answer_text result) self.new }
+    {
+        let is_last = ends_message(line);
+        let Some(bytes) = with_line(bytes, line) else {
+            return self.lose(is_last);
+        };
+        if is_last {
+            return self.import(rt, bytes.as_slice());
+        }
+        self.gathered = Gathered::Text { bytes };
+        OfficeAnswer::Quiet
+    }
+
+    // A line of a message for which memory was refused.
+    fn lose(&mut self, is_last: bool) -> OfficeAnswer
+        requires { self.old.gathering ≡ Nothing }
+        ensures { HandlesLost self.old.held is_last (answer_text result) self.new }
+    {
+        if is_last {
+            return OfficeAnswer::Imported {
+                result: Err(ImportFault::Unread {
+                    fault: WireFault::Memory,
+                }),
+            };
+        }
+        self.gathered = Gathered::Lost;
+        OfficeAnswer::Quiet
+    }
+}
+
+impl<'a, K: Keeper, L: Opens> Handler for OfficeSeat<'a, K, L> {
+    ghost use Rattle.live_office.specs.Admissible.{admissible};
+    ghost use Rattle.live_office.specs.Handling.{Handles, LastHandled};
+
+    ghost handles = { Handles
+        (admissible L.office L.began K.failed K.is_trusted K.kept K.may_leave) };
+
+    ghost ends = { LastHandled };
+
+    fn handle<T: Wait>(&mut self, rt: &T, line: &[u8]) -> Result<OfficeAnswer, Last> {
+        match mem::replace(&mut self.gathered, Gathered::Nothing) {
+            Gathered::Nothing => self.handle_line(rt, line),
+            Gathered::Text { bytes } => Ok(self.handle_part(rt, bytes, line)),
+            Gathered::Lost => {
+                let is_last = ends_message(line);
+                Ok(self.lose(is_last))
+            }
+        }
+    }
+}

@@ -1,0 +1,135 @@
+//! The threads of an office, each of which serves one caller after another.
+
+ghost use Rattle.std.specs.Prelude.{◌≡◌, ◌+◌, ◌≤◌, ◌<◌, true, vec_len, vec_capacity};
+ghost use Rattle.site_desk.specs.Seats.{parts_of};
+
+use crate::closing::Closing;
+use crate::door::Door;
+use crate::handler::Last;
+use crate::serving::serve;
+use site_desk::{Desk, Opens, Seat};
+use sql_records::Keeper;
+use std::alloc::Global;
+use std::io::{Read, Write};
+use std::snapshot::Snapshot;
+use std::sync::Wait;
+use std::thread::{Promise, Scope, Threads};
+use std::time::Clock;
+
+/// How many callers are served at once at the clerks' door.
+pub const CLERKS: u32 = 64;
+
+/// How many are served at once at the operators' door.
+pub const OPERATORS: u32 = 4;
+
+// What the threads of an office share.
+#[derive(Drop)]
+pub(crate) struct Office<'a, K: Keeper, L: Opens, C, O> {
+    pub(crate) alloc: Global,
+    pub(crate) desk: &'a Desk<K, L>,
+    pub(crate) clerks: &'a C,
+    pub(crate) operators: &'a O,
+    pub(crate) closing: &'a Closing,
+}
+
+// Serves one caller after another at a door, until there is none.
+fn work_at<T: Wait + Clock, R: Read + Drop, W: Write + Drop, D: Door<R, W>, K: Keeper, L: Opens>(
+    rt: &T,
+    alloc: Global,
+    desk: &Desk<K, L>,
+    closing: &Closing,
+    seat: Seat<L>,
+    door: &D,
+) -> Seat<L>
+    ensures parts { result.parts ≡ seat.parts }
+{
+    let mut seat = seat;
+    'callers: for _ in rt.forever() {
+        let Some(call) = door.next(rt) else {
+            break;
+        };
+        let (served, own) = serve(rt, alloc, desk, closing, seat, call);
+        seat = own;
+        if let Ok(Some(Last::Close)) = served.ended {
+            closing.close();
+        }
+    }
+    seat
+}
+
+// The work of the thread with this number: the first are at the operators' door, the others at the clerks'.
+fn work<
+    T: Wait + Clock,
+    R: Read + Drop,
+    W: Write + Drop,
+    C: Door<R, W>,
+    O: Door<R, W>,
+    K: Keeper,
+    L: Opens,
+>(rt: &T, office: &Office<'_, K, L, C, O>, seat: Seat<L>, number: u32) -> Seat<L>
+    ensures parts { result.parts ≡ seat.parts }
+{
+    let Office {
+        alloc,
+        desk,
+        clerks,
+        operators,
+        closing,
+    } = office;
+    if number <= OPERATORS {
+        work_at(rt, *alloc, desk, closing, seat, *operators)
+    } else {
+        work_at(rt, *alloc, desk, closing, seat, *clerks)
+    }
+}
+
+// The seat that a thread was begun with.
+#[derive(Drop)]
+struct Begun<L: Opens>(Snapshot<Seat<L>>);
+
+impl<L: Opens> Promise<Seat<L>> for Begun<L> {
+    ghost kept_by = { λ p r. r.parts ≡ p.0.value.parts };
+}
+
+// Starts so many threads, each with one part of the seat, and waits for them. Where one could not be started the office
+// closes, and its part is lost.
+#[tactic(auto, using(crate::proofs::Seats::parts_push))]
+pub(crate) fn work_all<
+    's,
+    E,
+    T: Threads + Wait + Clock + Sync,
+    R: Read + Drop + Send + 's,
+    W: Write + Drop + Send + 's,
+    C: Door<R, W> + Sync + 's,
+    O: Door<R, W> + Sync + 's,
+    K: Keeper + Send + 's,
+    L: Opens + Send + Sync + 's,
+>(
+    scope: &'s Scope<'s, E>,
+    rt: &'s T,
+    office: &'s Office<'s, K, L, C, O>,
+    seat: Seat<L>,
+    count: u32,
+    seats: &mut Vec<Seat<L>>,
+) -> bool
+    requires { (count < seat.parts) × (vec_len seats.old + count + 1 ≤ vec_capacity seats.old) }
+    ensures parts { result ≡ true → parts_of seats.new.items ≡ parts_of seats.old.items
+        + seat.parts }
+    ensures room { (vec_len seats.new ≤ vec_len seats.old + count + 1) × (vec_capacity seats.new ≡
+        vec_capacity seats.old) }
+{
+    if count == 0 {
+        seats.push_reserved(seat);
+        return true;
+    }
+    let (rest, own) = seat.split();
+    let begun = Begun(Snapshot::of(&own));
+    let Ok(thread) = scope.spawn_with(begun, move || work(rt, office, own, count)) else {
+        office.closing.close();
+        seats.push_reserved(rest);
+        return false;
+    };
+    let all = work_all(scope, rt, office, rest, count - 1, seats);
+    seats.push_reserved(thread.join(rt));
+    all
+}

@@ -1,0 +1,38 @@
+-- What an office that stays open comes to. (Our own.)
+use Rattle.std.specs.Prelude.{◌≡◌, List}
+use Rattle.sqlite.specs.Store.{Ghosts}
+use Rattle.sqlite.specs.Held.{Held, state}
+use Rattle.sqlite.specs.State.{HasCleanDisk}
+use Rattle.book_core.specs.declared.entry.Entry.{Entry}
+use Rattle.book_core.specs.BookView.{BookView}
+use Rattle.book_core.specs.Decision.{Office}
+use Rattle.site_desk.specs.Moments.{IsLater}
+use Rattle.live_office.specs.declared.office.OfficeFault.{OfficeFault}
+use Rattle.live_office.specs.declared.office.OfficeFault.TheVariants as office
+use Rattle.live_office.specs.declared.socket_file.SocketFault.{SocketFault}
+use Rattle.live_office.specs.declared.socket_file.SocketFault.TheVariants as socket
+use Rattle.operator_cli.specs.declared.store_fault.StoreFault.{StoreFault}
+use Rattle.operator_cli.specs.declared.store_fault.StoreFault.TheVariants as fault
+use Rattle.operator_cli.specs.declared.office.CloseFault.{CloseFault}
+use Rattle.operator_cli.specs.declared.office.CloseFault.TheVariants as closing
+use Rattle.operator_cli.specs.declared.status.Status.{Status}
+use Rattle.operator_cli.specs.declared.status.Status.TheVariants.{Done}
+use Rattle.operator_cli.specs.Exchanged.{HoldsOnly}
+
+abbrev pub of_socket_fault : SocketFault → StoreFault
+of_socket_fault socket.Path = fault.LongPath
+of_socket_fault socket.NotASocket = fault.NoSocket
+of_socket_fault socket.Bind = fault.Bind
+
+abbrev pub of_office_fault : OfficeFault → StoreFault
+of_office_fault office.Memory = fault.Memory
+of_office_fault office.NotStarted = fault.NotStarted
+
+abbrev pub of_close_fault : CloseFault → StoreFault
+of_close_fault closing.NotOpen = fault.NotOpen
+of_close_fault closing.StillOpen = fault.StillOpen
+
+-- A book that goes on from this history was open at the end. Where all is done, the connection holds its history, and a crash leaves that.
+abbrev pub WasOpen : {S : Type 0} → Ghosts S → Office → List Entry → Held S → Status → Type 0
+WasOpen g office began after status =
+    (book : BookView) × IsLater office began book × (status ≡ Done → HasCleanDisk (state g after) → HoldsOnly (state g after) book.history)

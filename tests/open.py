@@ -1,0 +1,348 @@
+#!/usr/bin/env python3
+"""Opens offices with the built program: callers come and go at the port and at the socket, two offices exchange messages while
+they sell, and one is killed (SIGKILL) as it answers. What was answered has to be in the files as C SQLite reads them.
+
+Usage: tests/open.py [PROGRAM] [--seed=N]     (PROGRAM: crates/boxoffice/out/boxoffice)
+
+The seed, printed first, gives the moments of the kills. Says what differs and ends with status 1 where anything does.
+"""
+
+import concurrent.futures
+import contextlib
+import itertools
+import os
+import random
+import resource
+import select
+import shutil
+import socket
+import stat
+import subprocess
+import sys
+import tempfile
+import threading
+import time
+
+# `trial` takes the first word for the program.
+SEED = next((int(word[7:]) for word in sys.argv if word.startswith("--seed=")), random.SystemRandom().randrange(10**9))
+sys.argv = [word for word in sys.argv if not word.startswith("--")]
+
+from serving import Caller, Operator, ended
+from trial import FORGED, PROGRAM, SECONDS, call, free_port, intact, opened, same, try_each
+
+# The disk is not what is tried here.
+tempfile.tempdir = "/dev/shm" if os.path.isdir("/dev/shm") else None
+FILE = "site.db"
+# How many are served at once at the port, and the most bytes of a socket's path.
+MOST_CALLERS, MOST_PATH = 64, 107
+# The bytes of a log without entries, and of one that may not grow further.
+EMPTY_LOG, MOST_LOG = 41, 1 << 20
+KILLS, KILLED_CALLERS, SEATS = 5, 6, 100_000
+OPENING = ["announce 1 gala", "release 2 gala 100", "cede 3 gala 40 1"]
+CESSION = "delta 0 1 3\nname gala\ngave gala 0 0 100\ngave gala 0 1 40\nend\n"
+
+
+class Office:
+    """An office, once callers can come."""
+
+    def __init__(self, folder, file=FILE, port=None, **limits):
+        self.folder, self.file, self.port = folder, file, port or free_port()
+        self.path = os.path.join(folder, file + "-sock")
+        streams = {"stdin": subprocess.DEVNULL, "stdout": subprocess.PIPE, "stderr": subprocess.PIPE}
+        self.program = subprocess.Popen([PROGRAM, "open", str(self.port), file], cwd=folder, **streams, **limits)
+        watch = threading.Timer(SECONDS, self.program.kill)
+        watch.start()
+        same(f"what {file} prints as it opens", self.program.stdout.readline(), b"open\n")
+        watch.cancel()
+
+    def close(self):
+        same(f"close {self.file}", call(self.folder, ["close", self.file]), (0, "", ""))
+        self.has_ended()
+
+    def has_ended(self):
+        """Nothing but the file and a log without entries is left."""
+        same(f"the end of {self.file}", ended(self.program), (0, "", ""))
+        same(f"no socket of {self.file} is left", os.path.lexists(self.path), False)
+        log = os.path.join(self.folder, self.file + "-wal")
+        same(f"the log of {self.file}", (os.path.getsize(log) if os.path.exists(log) else 0) in (0, EMPTY_LOG), True)
+        with opened(self.folder, self.file) as db:
+            intact(self.file, db)
+
+
+def made(folder, file=FILE, me=0):
+    same(f"init {file}", call(folder, ["init", file, str(me), "2", "1000000"]), (0, "done\n", ""))
+
+
+def asked(caller, lines, replies):
+    same(f"the replies to {lines}", [caller.ask(line) for line in lines], replies)
+
+
+def kept(folder):
+    """The replies under their numbers, and the deltas that were joined, in a copy of file and log."""
+    with tempfile.TemporaryDirectory() as copy:
+        shutil.copytree(folder, copy, ignore=shutil.ignore_patterns("*-sock"), dirs_exist_ok=True)
+        with opened(copy, FILE) as db:
+            intact(FILE, db)
+            rows = db.execute("SELECT peer, delta, number, reply, rest FROM entries ORDER BY pos").fetchall()
+    replies = {row[2]: row[3] if row[4] is None else f"{row[3]} {row[4]}" for row in rows if row[0] is None}
+    return replies, [row[1] for row in rows if row[0] is not None]
+
+
+def forty_callers(folder):
+    """Forty callers ask for 120 of sixty seats, one each time."""
+    made(folder)
+    office = Office(folder)
+    first = Caller(office.port)
+    asked(first, ["announce 1 gala", "release 2 gala 60", "sell 3 gala 61"], ["done", "done", "short 60"])
+
+    def sells(caller):
+        numbers, session = range(100 * caller + 100, 100 * caller + 103), Caller(office.port)
+        replies = {number: session.ask(f"sell {number} gala 1") for number in numbers}
+        asked(session, [f"sell {number} gala 1" for number in numbers], list(replies.values()))
+        same(f"the end of caller {caller}", session.quit(), True)
+        return replies
+
+    with concurrent.futures.ThreadPoolExecutor(40) as pool:
+        replies = {number: reply for told in pool.map(sells, range(40)) for number, reply in told.items()}
+    found = list(replies.values())
+    same("120 sales of 60 seats", (found.count("done"), found.count("short 0")), (60, 60))
+    asked(first, ["left gala", "totals gala"], ["left 0", "totals released 60 sold 60 refunded 0 open 0"])
+    office.close()
+    same("what is kept", kept(folder), ({1: "done", 2: "done", 3: "short 60", **replies}, []))
+
+
+def two_doors(folder):
+    """A caller at the port has the lines of a session alone; what the socket has beside them, and refuses."""
+    made(folder)
+    office = Office(folder)
+    caller, operator = Caller(office.port), Operator(office.path)
+    asked(caller, ["export 1", "close", "find 1", "", "left gala"], ["bad-line"] * 4 + ["unknown"])
+    lines = ["import", *FORGED.splitlines()]
+    asked(caller, lines, ["bad-line"] * len(lines))
+    asked(operator, ["export", "export 64", "export 01", "import 1", "close 1", " close"], ["bad-line"] * 6)
+    asked(operator, ["export 0", "export 2", "export 1"], ["no-site", "no-site", "nothing"])
+    asked(operator, OPENING, ["done"] * 3)
+    name = "delta 1 0 1\nname gala\n"
+    refusals = {"sell 4 gala 1\nend\n": "bad-line 1", name + "\nend\n": "bad-line 3", name + "name expo\nend\n": "out-of-order 3"}
+    refusals |= {FORGED: "not-for-me", "delta 2 0 1\nend\n": "unknown-site", "ack 1 0 4\nend\n": "stray-ack 3"}
+    refusals |= {name + "gave gala 0 0 101\nend\n": "foreign-row"}
+    for message, word in refusals.items():
+        same(f"import of {message!r}", operator.take(message), (word, ""))
+    same("a message of what is known", operator.take(name + "end\n"), ("nothing-new", "ack 0 1 1\nend\n"))
+    caller.send("sell 4 gala 61\nsell 5 gala 60\nquit\nsell 6 gala 1")
+    same("lines that come at once", [caller.reply() for _ in range(3)], ["short 60", "done", ""])
+    same("a line too long", Caller(office.port).ask("a" * 201), "")
+    same("quit at the socket", operator.quit(), True)
+    same("close at the socket", Operator(office.path).ask("close"), "")
+    office.has_ended()
+    same("what is kept", kept(folder), ({1: "done", 2: "done", 3: "done", 4: "short 60", 5: "done"}, []))
+
+
+def passed_on(giver, taker, to):
+    """Takes what is due to the other office there, and the acknowledgement here. False where there is nothing."""
+    message = giver.export(to)
+    if message == "nothing":
+        return False
+    same(f"the acknowledgement from {to}", giver.take(taker.take(message)[1]), ("acked", ""))
+    return True
+
+
+def exchange(folder):
+    """Two offices sell to four callers each. The first ceded 40 of 100 seats, and gets 10 back while both sell."""
+    files, is_over = ["north.db", "south.db"], threading.Event()
+    for me, file in enumerate(files):
+        made(folder, file, me)
+    offices = [Office(folder, file) for file in files]
+    north, south = (Operator(office.path) for office in offices)
+    asked(Caller(offices[0].port), OPENING, ["done"] * 3)
+    same("the cession, twice", [north.export(1), north.export(1)], [CESSION] * 2)
+    same("it is joined", south.take(CESSION), ("joined", "ack 1 0 3\nend\n"))
+    same("it is acknowledged", north.take("ack 1 0 3\nend\n"), ("acked", ""))
+    same("nothing is due", north.export(1), "nothing")
+    same("it comes again", south.take(CESSION), ("nothing-new", "ack 1 0 3\nend\n"))
+
+    def sells(place):
+        caller, sold, number, was_over, reply = Caller(offices[place % 2].port), 0, 1_000_000 * (place + 1), False, ""
+        while reply == "done" or not was_over:
+            number, was_over = number + 1, is_over.is_set()
+            reply = caller.ask(f"sell {number} gala 1")
+            sold += reply == "done"
+            time.sleep(0.005)
+        return sold
+
+    same("ten go back", south.ask("cede 1 gala 10 0"), "done")
+    with concurrent.futures.ThreadPoolExecutor(8) as pool:
+        sellers = [pool.submit(sells, place) for place in range(8)]
+        for _ in range(5):
+            passed_on(south, north, 0)
+            passed_on(north, south, 1)
+        is_over.set()
+        sold = [seller.result(SECONDS) for seller in sellers]
+    same("what each sold", [sum(sold[0::2]), sum(sold[1::2])], [70, 30])
+    rounds = [passed_on(south, north, 0) + passed_on(north, south, 1) for _ in range(4)]
+    same("what is due in the end", rounds[-1], 0)
+    totals = "totals released 100 sold 100 refunded 0 open 0"
+    same("the totals", [north.ask("totals gala"), south.ask("totals gala")], [totals] * 2)
+    for office in offices:
+        office.close()
+    same("the audit", call(folder, ["audit", *files])[:2], (0, "gala released 100 sold 100 refunded 0 outstanding 100\n"))
+
+
+def until_killed(office, chance, begin, joined):
+    """What each caller was answered until the office was killed, and how many messages were joined so far."""
+
+    def sells(caller, numbers):
+        answers = ((number, caller.ask(f"sell {number} gala 1")) for number in numbers)
+        return dict(itertools.takewhile(lambda answer: answer[1], answers))
+
+    def imports(operator, count):
+        while operator.take(f"delta 1 0 {count + 2}\nname gala\ngave gala 1 1 {count + 1}\nend\n")[0] == "joined":
+            count += 1
+        return count
+
+    with concurrent.futures.ThreadPoolExecutor(KILLED_CALLERS + 1) as pool:
+        ranges = [range(begin + 10_000 * k, begin + 10_000 * (k + 1)) for k in range(KILLED_CALLERS)]
+        told = [pool.submit(sells, Caller(office.port), numbers) for numbers in ranges]
+        joined = pool.submit(imports, Operator(office.path), joined)
+        time.sleep(chance.uniform(0.1, 0.8))
+        office.program.kill()
+        same("it was killed", (office.program.wait(SECONDS), *office.program.communicate()), (-9, b"", b""))
+        return {number: reply for one in told for number, reply in one.result(SECONDS).items()}, joined.result(SECONDS)
+
+
+def killed(folder):
+    """Nothing answered is lost, with one entry more at most for each caller. Opened again at its port, the office goes on."""
+    chance = random.Random(SEED)
+    made(folder)
+    office = Office(folder)
+    asked(Caller(office.port), ["announce 1 gala", f"release 2 gala {SEATS}"], ["done", "done"])
+    wanted, joined = {1: "done", 2: "done"}, 0
+    for kill in range(KILLS):
+        told, joined = until_killed(office, chance, 1_000_000 * (kill + 1), joined)
+        wanted |= told
+        replies, deltas = kept(folder)
+        more = [number for number in replies if number not in wanted]
+        same(f"kill {kill}: what was answered", {number: replies.get(number) for number in wanted}, wanted)
+        same(f"kill {kill}: one more for each caller", len({number // 10_000 for number in more}), len(more))
+        same(f"kill {kill}: each is a sale", {replies[number] for number in replies}, {"done"})
+        same(f"kill {kill}: messages, one more or none", len(deltas) - joined in (0, 1), True)
+        same(f"kill {kill}: messages", deltas, [f"name gala\ngave gala 1 1 {k + 1}\n" for k in range(len(deltas))])
+        wanted, joined = replies, len(deltas)
+        office = Office(folder, port=office.port)
+        left = f"left {SEATS - len(wanted) + 2}"
+        asked(Caller(office.port), [f"release 2 gala {SEATS}", "left gala"], ["done", left])
+    office.close()
+    print(f"killed {KILLS} times under {len(wanted) - 2} sales and {joined} messages")
+
+
+def cut_off(folder):
+    """What the end of the connection cuts off is not asked."""
+    made(folder)
+    office = Office(folder)
+    asked(Caller(office.port), ["announce 1 gala", "release 2 gala 100"], ["done", "done"])
+    pieces = ["sell 3 gala 1", "close", "import\ndelta 1 0 1\nname expo\n", "import\ndelta 1 0 1\nname expo\nend"]
+    for caller, piece in [(Caller(office.port), pieces[0]), *((Operator(office.path), piece) for piece in pieces)]:
+        caller.stream.sendall(piece.encode())
+        caller.stream.shutdown(socket.SHUT_WR)
+        same(f"the answer to {piece!r}, cut off", caller.reply(), "")
+    asked(Caller(office.port), ["left expo", "sell 3 gala 10", "left gala"], ["unknown", "done", "left 90"])
+    office.close()
+
+
+def places_of_sockets(folder):
+    path, port, longest = os.path.join(folder, FILE + "-sock"), str(free_port()), "n" * (MOST_PATH - len("-sock"))
+    os.symlink("other", path)
+    same("a link at its place, and no file", call(folder, ["open", port, FILE]), (3, "", "no-socket\n"))
+    os.remove(path)
+    made(folder)
+    with open(path, "wb+") as file:
+        file.write(b"mine")
+        file.flush()
+        same("a file at its place", call(folder, ["open", port, FILE]), (3, "", "no-socket\n"))
+        same("it is untouched", (os.lstat(path).st_ino, os.lstat(path).st_size), (os.fstat(file.fileno()).st_ino, 4))
+    os.remove(path)
+    same("a path too long", call(folder, ["open", port, longest + "n"]), (3, "", "long-path\n"))
+    made(folder, longest)
+    Office(folder, longest).close()
+    same("none is made of it", os.path.lexists(os.path.join(folder, longest + "n")), False)
+    # A socket that no one listens at any more, which anyone may write to, is replaced.
+    with contextlib.closing(socket.socket(socket.AF_UNIX)) as stale:
+        stale.bind(path)
+    os.chmod(path, 0o777)
+    same("no one listens at it", call(folder, ["close", FILE]), (3, "", "not-open\n"))
+    office = Office(folder)
+    mode = os.lstat(path).st_mode
+    same("its mode", (stat.S_ISSOCK(mode), oct(stat.S_IMODE(mode))), (True, "0o600"))
+    same("it is listened at", Operator(office.path).ask("export 1"), "nothing")
+    office.close()
+    for file in [FILE, "none.db"]:
+        same(f"close of {file}, which is not open", call(folder, ["close", file]), (3, "", "not-open\n"))
+
+
+def refused(folder):
+    made(folder)
+    with contextlib.closing(socket.socket()) as taken:
+        taken.bind(("127.0.0.1", 0))
+        taken.listen()
+        port = str(taken.getsockname()[1])
+        same("a port that is taken", call(folder, ["open", port, FILE]), (3, "", "bind\n"))
+    same("no socket is left", os.path.lexists(os.path.join(folder, FILE + "-sock")), False)
+    same("the file is free", call(folder, ["ask", FILE], "announce 1 gala\n"), (0, "done\n", ""))
+    same("no file", call(folder, ["open", port, "none.db"]), (3, "", "not-ours\n"))
+    for words in [["open", "0", FILE], ["open", "65536", FILE], ["open", FILE], ["open", port, FILE, FILE], ["close"]]:
+        same(f"{words}", call(folder, words)[:2], (2, ""))
+    office = Office(folder)
+    for words in [["open", port, FILE], ["ask", FILE], ["find", FILE, "1"], ["export", FILE, "1"], ["audit", FILE]]:
+        same(f"{words} beside it", call(folder, words), (3, "", "disk\n"))
+    same("it goes on", [at.ask("left gala") for at in (Caller(office.port), Operator(office.path))], ["left 0"] * 2)
+    office.close()
+    same("ask at once after it", call(folder, ["ask", FILE], "left gala\n"), (0, "left 0\n", ""))
+
+
+def sessions(folder):
+    """Memory does not grow with sessions. Of the callers at the port 64 are served, and the next once one has gone."""
+    made(folder)
+    office = Office(folder)
+    asked(Caller(office.port), ["announce 1 gala", "release 2 gala 9"], ["done", "done"])
+    sizes = []
+    for _ in range(300):
+        caller = Caller(office.port)
+        asked(caller, ["left gala", "announce 1 gala", "sell", "quit"], ["left 9", "done", "bad-line", ""])
+        caller.go_away()
+        with open(f"/proc/{office.program.pid}/status", encoding="ascii") as status:
+            sizes += [int(line.split()[1]) for line in status if line.startswith("VmRSS")]
+    same(f"{sizes[299] - sizes[99]} kB more after 200 sessions more, of {sizes[99]}", sizes[299] - sizes[99] < 2048, True)
+    callers = [Caller(office.port) for _ in range(MOST_CALLERS)]
+    same("as many as there may be", [caller.ask("left gala") for caller in callers], ["left 9"] * MOST_CALLERS)
+    callers.append(Caller(office.port))
+    callers[-1].send("left gala")
+    same("one more waits", select.select([callers[-1].stream], [], [], 0.3)[0], [])
+    same("the first has gone", callers[0].quit(), True)
+    same("then it is answered", callers[-1].reply(), "left 9")
+    callers += [Operator(office.path) for _ in range(3)]
+    same("operators beside them", [caller.ask("left gala") for caller in callers[-3:]], ["left 9"] * 3)
+    # As the office closes, a line that has not come whole is not asked.
+    callers[1].stream.sendall(b"sell 3 gala 9")
+    office.close()
+    same("who was in has gone", {caller.reply() for caller in callers}, {""})
+    same("what is kept", kept(folder), ({1: "done", 2: "done"}, []))
+
+
+def storing_fails(folder):
+    """A log that may not grow: the request that cannot be stored gets `store`, and the office closes."""
+    made(folder)
+    most = {"preexec_fn": lambda: resource.setrlimit(resource.RLIMIT_FSIZE, (MOST_LOG, MOST_LOG)), "restore_signals": False}
+    office, number = Office(folder, **most), 1
+    caller, other = Caller(office.port), Operator(office.path)
+    while number < 5000 and (reply := caller.ask(f"announce {number} event-{number}")) == "done":
+        number += 1
+    same(f"the reply after {number - 1}", (reply, number > 1), ("store", True))
+    same("another caller", other.ask("left event-1") in ("closed", ""), True)
+    same("the end", ended(office.program), (3, "", "closed 0\n"))
+    lines = "".join(f"announce {k} event-{k}\n" for k in range(1, number + 1))
+    same("asked again", call(folder, ["ask", FILE], lines), (0, "done\n" * number, ""))
+
+
+TRIALS = [forty_callers, two_doors, exchange, killed, cut_off, places_of_sockets, refused, sessions, storing_fails]
+print(f"the seed is {SEED}", flush=True)
+sys.exit(try_each(TRIALS, "an open office: 0 differ", "an open office: {} differ"))
