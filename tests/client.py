@@ -8,9 +8,11 @@ The seed, printed first, gives the moments of the kills. Says what differs and e
 """
 
 import concurrent.futures
-import errno
 import os
+import pathlib
+import queue
 import random
+import re
 import resource
 import shutil
 import socket
@@ -34,7 +36,7 @@ from boxoffice import Done, Refused, Short, Till, Totals
 
 # The disk is not what is tried here.
 tempfile.tempdir = "/dev/shm" if os.path.isdir("/dev/shm") else None
-JOURNAL, FIRST, FINAL, KILLS, SEATS = "till.journal", 1001, 9999, 10, 100_000
+JOURNAL, FIRST, FINAL, KILLS, SEATS = "till.journal", 1001, 999_999, 10, 100_000
 SCRIPT = os.path.join(HERE, "..", "examples", "till.py")
 
 
@@ -42,7 +44,7 @@ class Stub:
     """In place of an office, it reads a line of each connection and sends the next answer; None is none yet."""
 
     def __init__(self, *answers):
-        self.listener, self.lines, self.silent = socket.create_server(("127.0.0.1", 0)), [], []
+        self.listener, self.lines, self.silent = socket.create_server(("127.0.0.1", 0)), [], queue.Queue()
         self.port = self.listener.getsockname()[1]
         self.thread = threading.Thread(target=self.serve, args=(answers,), daemon=True)
         self.thread.start()
@@ -51,8 +53,9 @@ class Stub:
         for answer in answers:
             stream = self.listener.accept()[0]
             self.lines.append(stream.makefile("r").readline())
-            self.silent += [stream] if answer is None else []
-            if answer is not None:
+            if answer is None:
+                self.silent.put(stream)
+            else:
                 stream.sendall(answer)
                 stream.shutdown(socket.SHUT_RDWR)
 
@@ -75,18 +78,9 @@ def till(folder, port, seconds=SECONDS, final=FINAL):
     return Till(port, os.path.join(folder, JOURNAL), FIRST, final, seconds)
 
 
-def journal(folder):
-    with open(os.path.join(folder, JOURNAL), "rb") as file:
-        return file.read()
-
-
 def journalled(folder):
-    """The requests of the journal with their replies, in order; an open one has None."""
-    asked = []
-    for line in journal(folder).decode().splitlines()[1:]:
-        word, rest = line.split(" ", 1)
-        asked = [*asked, (rest, None)] if word == "ask" else [*asked[:-1], (asked[-1][0], rest.split(" ", 1)[1])]
-    return asked
+    """The requests of the journal with their replies, in order; an open one has none."""
+    return re.findall("ask (.*)\n(?:reply [0-9]+ (.*)\n)?", pathlib.Path(folder, JOURNAL).read_text("ascii"))
 
 
 def kept(folder):
@@ -105,8 +99,8 @@ def agree(what, folder, port):
     same(f"{what}: journal and file", asked, kept(folder))
     done = [line.split() for line, reply in asked if reply == "done"]
     sold, back = (sum(int(words[3]) for words in done if words[0] == verb) for verb in ("sell", "refund"))
-    wanted = f"totals released {SEATS} sold {sold} refunded {back} open {SEATS - sold + back}"
-    same(f"{what}: totals", Caller(port).ask("totals gala"), wanted)
+    totals = f"totals released {SEATS} sold {sold} refunded {back} open {SEATS - sold + back}"
+    same(f"{what}: totals", Caller(port).ask("totals gala"), totals)
     return len(asked)
 
 
@@ -118,19 +112,19 @@ def raised(what, kind, ask, *words):
 
 
 def sells(folder):
-    office = begun(folder)
+    office, path = begun(folder), pathlib.Path(folder, JOURNAL)
     with till(folder, office.port) as seller:
         found = [seller.sell("gala", 3), seller.sell("gala", SEATS), seller.refund(1001, 1), seller.refund(1001, 3)]
         same("sales", found, [Done(1001), Short(1002, SEATS - 3), Done(1003), Refused(1004, "too-many", 2)])
         found = [seller.refund(1001, 2), seller.refund(1001), seller.refund(7), seller.sell("none", 1)]
         same("more", found, [Done(1005), Refused(1006, "refunded"), Refused(1007, "no-sale"), Refused(1008, "unknown")])
-        same("looks", [seller.left("gala"), seller.totals("gala")], [SEATS, Totals(SEATS, 3, 3, SEATS)])
-        same("of no event", [seller.left("none"), seller.totals("none")], [Refused(None, "unknown")] * 2)
-        before = journal(folder)
-        for words in [("Gala", 1), ("", 1), ("a" * 33, 1), ("gala\n", 1), ("gala", 0), ("gala", True), ("gala", 10**12 + 1)]:
+        found = [seller.left("gala"), seller.totals("gala"), seller.left("none"), seller.totals("none")]
+        same("looks", found, [SEATS, Totals(SEATS, 3, 3, SEATS), Refused(None, "unknown"), Refused(None, "unknown")])
+        before, bad = path.read_bytes(), ["Gala", "", "a" * 33, "gala\n", "gala x"]
+        for words in [*((event, 1) for event in bad), *(("gala", seats) for seats in (0, True, 1.0, 10**12 + 1))]:
             raised(f"sell {words}", ValueError, seller.sell, *words)
         raised("no site", ValueError, seller.cede, "gala", 1, 64)
-        same("nothing is journalled", journal(folder), before)
+        same("nothing is journalled", path.read_bytes(), before)
         same("a refusal is asked once", agree("sells", folder, office.port), 8)
         found = [seller.announce("gala"), seller.release("expo", 1), seller.sell("gala", 1), seller.refund(1011)]
         same("others", found, [Refused(1009, "known"), Refused(1010, "unknown"), Done(1011), Done(1012)])
@@ -154,18 +148,17 @@ def office_killed(folder):
     with till(folder, offices[0].port) as seller, concurrent.futures.ThreadPoolExecutor(1) as pool:
         killer = pool.submit(kills, seller.journal)
         while not killer.done():
-            sold = seller.sell("gala", 2)
-            same("a refund", type(seller.refund(sold.number, 1)), Done)
+            same("a refund", type(seller.refund(seller.sell("gala", 2).number, 1)), Done)
         killer.result()
     print(f"an office killed {KILLS} times under {agree('office', folder, offices[0].port)} requests")
     offices[-1].close()
 
 
 def till_killed(folder):
-    chance, office = random.Random(SEED + 1), begun(folder)
-    words, printed = [sys.executable, SCRIPT, str(office.port), JOURNAL, str(FIRST), str(FINAL)], []
+    chance, office, printed = random.Random(SEED + 1), begun(folder), []
+    words = [sys.executable, SCRIPT, str(office.port), JOURNAL, str(FIRST), str(FINAL)]
+    streams = {"stdin": subprocess.PIPE, "stdout": subprocess.PIPE, "stderr": subprocess.DEVNULL}
     for _ in range(KILLS):
-        streams = {"stdin": subprocess.PIPE, "stdout": subprocess.PIPE, "stderr": subprocess.DEVNULL}
         with subprocess.Popen(words, cwd=folder, bufsize=0, **streams) as program:
             watch = threading.Timer(SECONDS, program.kill)
             watch.start()
@@ -176,37 +169,24 @@ def till_killed(folder):
             printed += program.stdout.readlines()
             watch.cancel()
     till(folder, office.port).close()
-    asked = journalled(folder)
-    known = [f"{line.split()[1]} {reply}\n".encode() for line, reply in asked]
+    known = {f"{line.split()[1]} {reply}\n".encode() for line, reply in journalled(folder)}
     same("what it printed", [line for line in printed if line.endswith(b"\n") and line not in known], [])
     print(f"a till killed {KILLS} times in {agree('till', folder, office.port)} requests")
     office.close()
 
 
 def journals(folder):
-    office, path = begun(folder), os.path.join(folder, JOURNAL)
-
-    def written(text):
-        with open(path, "wb") as file:
-            file.write(text)
-
-    def again(text, resumed, following):
-        written(text)
+    office, path, head = begun(folder), pathlib.Path(folder, JOURNAL), b"range 1001 1003\n"
+    half, whole = head + b"ask sell 1001 gala 4\n", head + b"ask sell 1001 gala 4\nreply 1001 done\n"
+    torn = {text: (None, head) for text in (b"", head[:9], head[:-1], b"\0" * 20)}
+    torn |= {text: (("sell 1001 gala 4", Done(1001)), whole) for text in (half, half + b"reply", whole[:-1])}
+    torn |= {text: (None, whole) for text in (whole, whole + b"ask sell 1002 gala 1", whole + b"\0" * 30)}
+    for text, wanted in torn.items():
+        path.write_bytes(text)
         with till(folder, office.port, final=1003) as seller:
-            same(f"taken up of {text!r}", (seller.resumed, seller.journal.next), (resumed, following))
-
-    head = b"range 1001 1003\n"
-    for torn in (b"", head[:9], head[:-1], b"\0" * 20):
-        again(torn, None, 1001)
-        same("the head is made", journal(folder), head)
-    again(head + b"ask sell 1001 gala 4\n", ("sell 1001 gala 4", Done(1001)), 1002)
-    whole = journal(folder)
-    again(whole[:-1], ("sell 1001 gala 4", Done(1001)), 1002)
-    again(whole + b"ask sell 1002 gala 1", None, 1002)
-    again(whole + b"\0" * 30, None, 1002)
-    same("what is torn is cut off", journal(folder), whole)
+            same(f"opened at {text!r}", (seller.resumed, path.read_bytes()), wanted)
     with till(folder, office.port, final=1003) as seller:
-        found, whole = [seller.refund(1001, 1), seller.sell("gala", SEATS)], journal(folder)
+        found, whole = [seller.refund(1001, 1), seller.sell("gala", SEATS)], path.read_bytes()
         same("other requests take the numbers", found, [Done(1002), Short(1003, SEATS - 3)])
         raised("it is used up", boxoffice.RangeUsedUp, seller.sell, "gala", 1)
         same("looks go on", seller.left("gala"), SEATS - 3)
@@ -214,28 +194,26 @@ def journals(folder):
         words = [sys.executable, SCRIPT, str(office.port), path, str(FIRST), "1003"]
         second = subprocess.run(words, input=b"", capture_output=True, timeout=SECONDS, check=False)
         same("one of another process", (second.returncode, second.stderr[:12]), (1, b"JournalError"))
-    for text in [b"mine", whole.replace(b"ask", b"sak", 1), whole.replace(b"1003\n", b"1004\n", 1), whole + b"reply 1004 done\n"]:
-        written(text)
-        raised(f"{text[:30]!r}", boxoffice.JournalError, till, folder, office.port, SECONDS, 1003)
-        same("it is unchanged", journal(folder), text)
-    written(whole)
     agree("journals", folder, office.port)
+    for text in [b"mine", whole.replace(b"ask", b"sak", 1), whole.replace(b"1003\n", b"1004\n", 1), whole + b"reply 1004 done\n"]:
+        path.write_bytes(text)
+        raised(f"{text[:30]!r}", boxoffice.JournalError, till, folder, office.port, SECONDS, 1003)
+        same("it is unchanged", path.read_bytes(), text)
     office.close()
 
 
 def replies(folder):
     """What an office may answer that decides nothing, and what no office answers."""
-    line = "sell 1001 gala 1"
     stub = Stub(b"", b"don", b"store\n", b"closed\n", b"memory\n", b"short 5\n")
     with till(folder, stub.port) as seller:
         same("the sixth", seller.sell("gala", 1), Short(1001, 5))
-    stub.end(*[line] * 6)
+    stub.end(*["sell 1001 gala 1"] * 6)
     line, stub = "sell 1002 gala 1", Stub(None, b"hello\n", b"done\ndone\n", b"a" * 300, b"done\n", b"bad-line\n", b"done\n")
     with till(folder, stub.port, seconds=1) as seller:
         raised("no reply", boxoffice.Unanswered, seller.sell, "gala", 1)
         raised("then another", boxoffice.RequestOpen, seller.sell, "gala", 2)
         seller.seconds = SECONDS
-        stub.silent[0].sendall(b"short 0\n")
+        stub.silent.get(timeout=SECONDS).sendall(b"short 0\n")
         for _ in range(3):
             raised("no office", boxoffice.NotAnOffice, seller.resume)
         same("at last", (seller.resume(), seller.resume()), ((line, Done(1002)), None))
@@ -243,12 +221,12 @@ def replies(folder):
         same("the next", seller.sell("gala", 8), Done(1004))
     stub.end(*[line] * 5, "sell 1003 gala 7", "sell 1004 gala 8")
     wanted = f"{line}\nreply 1002 done\nask sell 1003 gala 7\nnot-asked 1003\nask sell 1004 gala 8\nreply 1004 done\n"
-    same("the end of the journal", journal(folder).decode().partition("short 5\nask ")[2], wanted)
+    same("the end of the journal", pathlib.Path(folder, JOURNAL).read_text("ascii").partition("short 5\nask ")[2], wanted)
 
 
 def disks(folder):
     """Where the journal cannot be written, nothing is asked, and nothing is forgotten."""
-    office, failure = begun(folder), OSError(errno.EIO, "the disk fails")
+    office, failure, path = begun(folder), OSError("the disk fails"), pathlib.Path(folder, JOURNAL)
     for calls, resumed, then in [(1, None, "JournalError"), (2, ("sell 1001 gala 1", Done(1001)), "RequestOpen")]:
         with till(folder, office.port) as seller, unittest.mock.patch("os.fsync", side_effect=[None] * (calls - 1) + [failure]):
             raised(f"sync {calls} fails", boxoffice.JournalError, seller.sell, "gala", 1)
@@ -257,11 +235,11 @@ def disks(folder):
         with till(folder, office.port) as seller:
             same("opened again", seller.resumed, resumed)
     with till(folder, office.port) as seller:
-        limits, size = resource.getrlimit(resource.RLIMIT_FSIZE), len(journal(folder))
+        limits, size = resource.getrlimit(resource.RLIMIT_FSIZE), len(path.read_bytes())
         resource.setrlimit(resource.RLIMIT_FSIZE, (size + 7, limits[1]))
         raised("a full disk", boxoffice.JournalError, seller.sell, "gala", 1)
         resource.setrlimit(resource.RLIMIT_FSIZE, limits)
-        same("nothing of it is left", len(journal(folder)), size)
+        same("nothing of it is left", len(path.read_bytes()), size)
     with till(folder, office.port) as seller:
         same("the number is free", (seller.resumed, seller.sell("gala", 5)), (None, Done(1002)))
     agree("disks", folder, office.port)
@@ -269,5 +247,4 @@ def disks(folder):
 
 
 print(f"the seed is {SEED}", flush=True)
-TRIALS = [sells, office_killed, till_killed, journals, replies, disks]
-sys.exit(try_each(TRIALS, "a client: 0 differ", "a client: {} differ"))
+sys.exit(try_each([sells, office_killed, till_killed, journals, replies, disks], "a client: 0 differ", "a client: {} differ"))

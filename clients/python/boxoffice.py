@@ -24,7 +24,7 @@ import socket
 import threading
 import time
 from dataclasses import dataclass
-from typing import Literal, Union, cast, get_args
+from typing import Callable, Literal, Union, cast, get_args
 
 MAX_NUMBER, MAX_SITE = 1_000_000_000_000, 63
 MAX_REPLY, PATIENCE = 200, 10.0  # The most bytes of a reply, and for how many seconds it is waited for on one connection.
@@ -234,37 +234,34 @@ class Till(contextlib.AbstractContextManager):
 
     def _decide(self, line: str) -> tuple[str, Result]:
         """Asks the open request until it is decided, and journals the reply."""
-        reply = self._answer(line)
+        reply = self._answer(line, lambda reply: result_of(line, reply))
         if reply == "bad-line":
             self.journal.add(f"not-asked {self.journal.next}")
             raise BadLine(line)
-        if not (result := result_of(line, reply)):
-            raise NotAnOffice(f"{line!r}: {reply!r}")
         self.journal.add(f"reply {self.journal.next} {reply}")
-        return line, result
+        return line, cast(Result, result_of(line, reply))
 
     def _look(self, line: str, pattern: str) -> re.Match[str] | None:
         """What a look shows; None where the event is unknown."""
         with self._lock:
-            reply = self._answer(line)
-        found = re.fullmatch(pattern, reply)
-        if not found and reply != "unknown":
-            raise BadLine(line) if reply == "bad-line" else NotAnOffice(f"{line!r}: {reply!r}")
-        return found
+            reply = self._answer(line, lambda reply: reply == "unknown" or re.fullmatch(pattern, reply))
+        if reply == "bad-line":
+            raise BadLine(line)
+        return re.fullmatch(pattern, reply)
 
-    def _answer(self, line: str) -> str:
+    def _answer(self, line: str, means: Callable[[str], object]) -> str:
         """The reply that decides a line, which is asked again on a new connection after each that brought none."""
         end, pause = time.monotonic() + self.seconds, 0.02
         while True:
             try:
-                return self._asked(line, max(0.001, min(end - time.monotonic(), PATIENCE)))
+                return self._asked(line, means, max(0.001, min(end - time.monotonic(), PATIENCE)))
             except OSError as error:
                 if time.monotonic() + pause >= end:
                     raise Unanswered(f"{line!r}: {error}") from error
             time.sleep(pause)
             pause = min(2 * pause, 1.0)
 
-    def _asked(self, line: str, timeout: float) -> str:
+    def _asked(self, line: str, means: Callable[[str], object], timeout: float) -> str:
         """The reply of one attempt. A connection that leaves a line undecided is never used again: its reply may come late."""
         stream = self._stream or socket.create_connection(("127.0.0.1", self.port), timeout)
         self._stream, reply = None, b""
@@ -280,19 +277,22 @@ class Till(contextlib.AbstractContextManager):
                 reply += piece
                 if len(reply) > MAX_REPLY or b"\n" in reply[:-1]:
                     raise NotAnOffice(f"{line!r}: {reply[:MAX_REPLY]!r}")
-            if reply in (b"store\n", b"closed\n", b"memory\n"):
-                raise ConnectionError(f"the office answered {reply.decode().rstrip()}")
+            if (text := reply[:-1].decode("ascii", "replace")) in ("store", "closed", "memory"):
+                raise ConnectionError(f"the office answered {text}")
+            if text != "bad-line" and not means(text):
+                raise NotAnOffice(f"{line!r}: {text!r}")
         except BaseException:
             stream.close()
             raise
         self._stream = stream
-        return reply.decode("ascii", "replace").rstrip("\n")
+        return text
 
 
 def _event(event: str) -> str:
     if not re.fullmatch("[a-z0-9-]{1,32}", event):
         raise ValueError(f"no name of an event: {event!r}")
     return event
+
 
 def _number(number: int, least: int = 1, most: int = MAX_NUMBER) -> int:
     if type(number) is not int or not least <= number <= most:
