@@ -27,46 +27,18 @@ import time
 SEED = next((int(word[7:]) for word in sys.argv if word.startswith("--seed=")), random.SystemRandom().randrange(10**9))
 sys.argv = [word for word in sys.argv if not word.startswith("--")]
 
-from serving import Caller, Operator, ended
+from serving import FILE, Caller, Office, Operator, ended
 from trial import FORGED, PROGRAM, SECONDS, call, free_port, intact, opened, same, try_each
 
 # The disk is not what is tried here.
 tempfile.tempdir = "/dev/shm" if os.path.isdir("/dev/shm") else None
-FILE = "site.db"
 # How many are served at once at the port, and the most bytes of a socket's path.
 MOST_CALLERS, MOST_PATH = 64, 107
-# The bytes of a log without entries, and of one that may not grow further.
-EMPTY_LOG, MOST_LOG = 41, 1 << 20
+# The bytes of a log that may not grow further.
+MOST_LOG = 1 << 20
 KILLS, KILLED_CALLERS, SEATS = 5, 6, 100_000
 OPENING = ["announce 1 gala", "release 2 gala 100", "cede 3 gala 40 1"]
 CESSION = "delta 0 1 3\nname gala\ngave gala 0 0 100\ngave gala 0 1 40\nend\n"
-
-
-class Office:
-    """An office, once callers can come."""
-
-    def __init__(self, folder, file=FILE, port=None, **limits):
-        self.folder, self.file, self.port = folder, file, port or free_port()
-        self.path = os.path.join(folder, file + "-sock")
-        streams = {"stdin": subprocess.DEVNULL, "stdout": subprocess.PIPE, "stderr": subprocess.PIPE}
-        self.program = subprocess.Popen([PROGRAM, "open", str(self.port), file], cwd=folder, **streams, **limits)
-        watch = threading.Timer(SECONDS, self.program.kill)
-        watch.start()
-        same(f"what {file} prints as it opens", self.program.stdout.readline(), b"open\n")
-        watch.cancel()
-
-    def close(self):
-        same(f"close {self.file}", call(self.folder, ["close", self.file]), (0, "", ""))
-        self.has_ended()
-
-    def has_ended(self):
-        """Nothing but the file and a log without entries is left."""
-        same(f"the end of {self.file}", ended(self.program), (0, "", ""))
-        same(f"no socket of {self.file} is left", os.path.lexists(self.path), False)
-        log = os.path.join(self.folder, self.file + "-wal")
-        same(f"the log of {self.file}", (os.path.getsize(log) if os.path.exists(log) else 0) in (0, EMPTY_LOG), True)
-        with opened(self.folder, self.file) as db:
-            intact(self.file, db)
 
 
 def made(folder, file=FILE, me=0):
@@ -205,8 +177,7 @@ def until_killed(office, chance, begin, joined):
         told = [pool.submit(sells, Caller(office.port), numbers) for numbers in ranges]
         joined = pool.submit(imports, Operator(office.path), joined)
         time.sleep(chance.uniform(0.1, 0.8))
-        office.program.kill()
-        same("it was killed", (office.program.wait(SECONDS), *office.program.communicate()), (-9, b"", b""))
+        office.kill()
         return {number: reply for one in told for number, reply in one.result(SECONDS).items()}, joined.result(SECONDS)
 
 

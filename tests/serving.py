@@ -1,11 +1,16 @@
-"""What the scripts over `serve` and `open` share: how `serve` is started and how both end, and callers that speak to them."""
+"""What the scripts over `serve` and `open` share: how they are started and how they end, and callers that speak to them."""
 
 import contextlib
+import os
 import socket
 import subprocess
+import threading
 import time
 
-from trial import PROGRAM, SECONDS
+from trial import PROGRAM, SECONDS, call, free_port, intact, opened, same
+
+# The file of an office, and the bytes of a log without entries.
+FILE, EMPTY_LOG = "site.db", 41
 
 
 def started(folder, port, sessions, rounds, files, **limits):
@@ -92,3 +97,34 @@ class Operator(Caller):
         """The word that answers a message, and the acknowledgement."""
         word = self.ask("import\n" + message.removesuffix("\n"))
         return word, self.message(self.reply()) if word in ("joined", "nothing-new") else ""
+
+
+class Office:
+    """An office, once callers can come."""
+
+    def __init__(self, folder, file=FILE, port=None, **limits):
+        self.folder, self.file, self.port = folder, file, port or free_port()
+        self.path = os.path.join(folder, file + "-sock")
+        streams = {"stdin": subprocess.DEVNULL, "stdout": subprocess.PIPE, "stderr": subprocess.PIPE}
+        self.program = subprocess.Popen([PROGRAM, "open", str(self.port), file], cwd=folder, **streams, **limits)
+        watch = threading.Timer(SECONDS, self.program.kill)
+        watch.start()
+        same(f"what {file} prints as it opens", self.program.stdout.readline(), b"open\n")
+        watch.cancel()
+
+    def kill(self):
+        self.program.kill()
+        same("it was killed", (self.program.wait(SECONDS), *self.program.communicate()), (-9, b"", b""))
+
+    def close(self):
+        same(f"close {self.file}", call(self.folder, ["close", self.file]), (0, "", ""))
+        self.has_ended()
+
+    def has_ended(self):
+        """Nothing but the file and a log without entries is left."""
+        same(f"the end of {self.file}", ended(self.program), (0, "", ""))
+        same(f"no socket of {self.file} is left", os.path.lexists(self.path), False)
+        log = os.path.join(self.folder, self.file + "-wal")
+        same(f"the log of {self.file}", (os.path.getsize(log) if os.path.exists(log) else 0) in (0, EMPTY_LOG), True)
+        with opened(self.folder, self.file) as db:
+            intact(self.file, db)

@@ -1,0 +1,300 @@
+"""A client of an open office: each request of a till counts exactly once, whatever breaks.
+
+    with Till(7000, "till-3.journal", 3000000001, 3000999999) as till:
+        result = till.sell("gala", 2)       # Done(number), Short(number, left) or Refused(number, word)
+
+A till takes the numbers of its range in order. It writes number and request to its journal, synced, before it asks, and then
+the reply. Where none comes (the line broke, the office was killed, or it answers `store`, `closed` or `memory`) it asks the same
+again under the same number on a new connection, up to its deadline. Then it raises `Unanswered`, and the request stays open in
+the journal: `resume` asks it again. So does the next `Till` over that journal before anything else, also after the program or
+the machine was killed: `resumed` is that request with its result, and `journal.last` the last one that has a result.
+
+A refusal is a result, and is kept under its number: to try again, call again, which takes a new number. A range belongs to one
+journal, and a journal to one site. Never delete a journal whose range is in use, go on from an older copy of it, or use its range
+elsewhere. Threads may share a till; it asks one line at a time.
+"""
+
+from __future__ import annotations
+
+import contextlib
+import fcntl
+import os
+import re
+import socket
+import threading
+import time
+from dataclasses import dataclass
+from typing import Callable, Literal, Union, cast, get_args
+
+MAX_NUMBER, MAX_SITE = 1_000_000_000_000, 63
+MAX_REPLY, PATIENCE = 200, 10.0  # The most bytes of a reply, and for how many seconds it is waited for on one connection.
+TOTALS = "totals released ([0-9]+) sold ([0-9]+) refunded ([0-9]+) open ([0-9]+|none)"
+# Why a request or a look is refused; the manual has what each word means.
+Word = Literal["known", "unknown", "full-cell", "no-sale", "refunded", "too-many", "to-self", "no-site", "history-full", "reused"]
+
+
+@dataclass(frozen=True)
+class Done:
+    """Accepted. The number of a sale is what `refund` takes."""
+    number: int
+
+@dataclass(frozen=True)
+class Short:
+    """Refused: this site has only `left` seats to sell or to cede."""
+    number: int
+    left: int
+
+@dataclass(frozen=True)
+class Refused:
+    """Refused by a word; after `too-many`, `left` seats of the sale can be given back. A look has no number."""
+    number: int | None
+    word: Word
+    left: int | None = None
+
+@dataclass(frozen=True)
+class Totals:
+    """What all sites did, as far as this one knows. `open` is None where its view was not possible."""
+    released: int
+    sold: int
+    refunded: int
+    open: int | None
+
+Result = Union[Done, Short, Refused]
+
+
+class TillError(Exception):
+    """What a till raises, beside `ValueError` for arguments that no office reads: nothing is journalled for those."""
+
+class Unanswered(TillError):
+    """No reply up to the deadline. A request stays open: `resume` asks it again."""
+
+class RequestOpen(TillError):
+    """An earlier request is open: `resume` comes first. Nothing was asked."""
+
+class RangeUsedUp(TillError):
+    """The range has no number left. Nothing was asked."""
+
+class BadLine(TillError):
+    """The office does not read this line. It keeps nothing under the number, and the journal has it as not asked."""
+
+class NotAnOffice(TillError):
+    """What answers at the port is no office. A request stays open."""
+
+class JournalError(TillError):
+    """The journal is in use, damaged or of another range: it is unchanged, and nothing was asked. Or it could not be written:
+    this till asks nothing more. Open it again: what is open there is asked again then; what is not there was never asked."""
+
+
+def result_of(line: str, reply: str) -> Result | None:
+    """What a reply to a request means; None where it is none."""
+    verb, number = line.split(" ")[0], int(line.split(" ")[1])
+    if reply == "done":
+        return Done(number)
+    if (short := re.fullmatch("short ([0-9]+)", reply)) and verb in ("sell", "cede"):
+        return Short(number, int(short[1]))
+    if (many := re.fullmatch("too-many ([0-9]+)", reply)) and verb == "refund":
+        return Refused(number, "too-many", int(many[1]))
+    return Refused(number, cast(Word, reply)) if reply != "too-many" and reply in get_args(Word) else None
+
+
+class Journal:
+    """The range of a till, and in turn `ask` and a request, and `reply` with its number and the reply, or `not-asked` and its
+    number. A line is on the disk when `add` returns. `next` is the number of the open request, or of the next one."""
+
+    def __init__(self, path: str | os.PathLike[str], first: int, final: int) -> None:
+        self.next, self.final, self._end, self._failed = first, final, 0, False
+        self.open: str | None = None
+        self.last: tuple[str, Result] | None = None
+        self._file = open(os.open(path, os.O_RDWR | os.O_CREAT, 0o600), "r+b", buffering=0)
+        folder = os.open(os.path.dirname(os.path.abspath(path)), os.O_RDONLY)
+        try:
+            # The lock is one of the open file, and not of the process: a second till of this process is refused too.
+            fcntl.flock(self._file, fcntl.LOCK_EX | fcntl.LOCK_NB)
+            self._read(f"range {first} {final}")
+            os.fsync(folder)
+        except BaseException as error:
+            self.close()
+            if isinstance(error, BlockingIOError):
+                raise JournalError(f"another till has {os.fspath(path)!r}") from None
+            raise
+        finally:
+            os.close(folder)
+
+    def close(self) -> None:
+        self._failed = True
+        self._file.close()
+
+    def add(self, line: str) -> None:
+        if self._failed:
+            raise JournalError("an earlier line could not be written, or the till is closed")
+        self._failed = True  # Until the line is taken up: whatever interrupts that, an open request is not forgotten.
+        try:
+            self._write(line)
+        except OSError as error:
+            with contextlib.suppress(OSError):
+                self._file.truncate(self._end)
+            raise JournalError(f"{line!r}: {error}") from error
+        self._take(line)
+        self._failed = False
+
+    def _read(self, head: str) -> None:
+        *lines, torn = self._file.read().decode("ascii", "replace").split("\n")
+        # A torn line lacks its end. Its sync had not returned, so it was never asked, and is cut off.
+        if lines[:1] != [head] and (lines or not head.startswith(torn.rstrip("\0"))):
+            raise JournalError(f"it does not begin with {head!r}")
+        for line in lines[1:]:
+            self._take(line)
+        # The last line is written again: where its sync failed, it may be in memory alone, and another sync of it do nothing.
+        rewritten = lines.pop() if lines else head
+        self._end = sum(len(line) + 1 for line in lines)
+        self._write(rewritten)
+        self._file.truncate(self._end)
+        os.fsync(self._file)
+
+    def _take(self, line: str) -> None:
+        """Takes up a line as it is written."""
+        asked = re.fullmatch("ask ((?:announce|release|sell|refund|cede) ([0-9]+) [a-z0-9 -]+)", line)
+        if not self.open and asked and asked[2] == str(self.next) and self.next <= self.final:
+            self.open = asked[1]
+            return
+        begin = f"reply {self.next} "
+        result = result_of(self.open, line[len(begin) :]) if self.open and line.startswith(begin) else None
+        if not result and (not self.open or line != f"not-asked {self.next}"):
+            raise JournalError(f"{line!r} cannot be there")
+        self.last = (str(self.open), result) if result else self.last
+        self.open, self.next = None, self.next + 1
+
+    def _write(self, line: str) -> None:
+        data, end = line.encode() + b"\n", self._end
+        while data:
+            count = os.pwrite(self._file.fileno(), data, end)
+            data, end = data[count:], end + count
+        os.fsync(self._file)
+        self._end = end
+
+
+class Till(contextlib.AbstractContextManager):
+    """A till of the office at a port of this machine, with the numbers `first` to `final`. A call may take `seconds`. Making a
+    till asks the open request of the journal again, and raises what that raises, or `OSError` where it cannot have the file."""
+
+    def __init__(self, port: int, journal: str | os.PathLike[str], first: int, final: int, seconds: float = 60.0) -> None:
+        if _number(first) > _number(final):
+            raise ValueError(f"no number is in {first} to {final}")
+        self.port, self.seconds, self._lock = port, seconds, threading.Lock()
+        self._stream: socket.socket | None = None
+        self.journal = Journal(journal, first, final)
+        try:
+            self.resumed = self.resume()
+        except BaseException:
+            self.close()
+            raise
+
+    def close(self, *_: object) -> None:
+        """Drops connection and journal; an open request stays in the journal."""
+        if self._stream:
+            self._stream.close()
+        self.journal.close()
+    __exit__ = close
+
+    def resume(self) -> tuple[str, Result] | None:
+        """Asks the open request again under its number; None where there is none."""
+        with self._lock:
+            return self._decide(self.journal.open) if self.journal.open else None
+
+    def announce(self, event: str) -> Result:
+        return self._request("announce", _event(event))
+    def release(self, event: str, seats: int) -> Result:
+        return self._request("release", _event(event), _number(seats))
+    def sell(self, event: str, seats: int) -> Result:
+        return self._request("sell", _event(event), _number(seats))
+    def refund(self, sale: int, seats: int | None = None) -> Result:
+        """Gives back `seats` of the sale with this number, or all that is left of it."""
+        return self._request("refund", _number(sale), *([] if seats is None else [_number(seats)]))
+    def cede(self, event: str, seats: int, site: int) -> Result:
+        return self._request("cede", _event(event), _number(seats), _number(site, 0, MAX_SITE))
+
+    def left(self, event: str) -> int | Refused:
+        found = self._look(f"left {_event(event)}", "left ([0-9]+)")
+        return int(found[1]) if found else Refused(None, "unknown")
+
+    def totals(self, event: str) -> Totals | Refused:
+        if not (found := self._look(f"totals {_event(event)}", TOTALS)):
+            return Refused(None, "unknown")
+        return Totals(int(found[1]), int(found[2]), int(found[3]), None if found[4] == "none" else int(found[4]))
+
+    def _request(self, verb: str, *words: str | int) -> Result:
+        with self._lock:
+            if self.journal.open:
+                raise RequestOpen(self.journal.open)
+            if self.journal.next > self.journal.final:
+                raise RangeUsedUp(f"{self.journal.final} was the last number")
+            line = " ".join(str(word) for word in (verb, self.journal.next, *words))
+            self.journal.add(f"ask {line}")
+            return self._decide(line)[1]
+
+    def _decide(self, line: str) -> tuple[str, Result]:
+        """Asks the open request until it is decided, and journals the reply."""
+        reply = self._answer(line, lambda reply: result_of(line, reply))
+        if reply == "bad-line":
+            self.journal.add(f"not-asked {self.journal.next}")
+            raise BadLine(line)
+        self.journal.add(f"reply {self.journal.next} {reply}")
+        return line, cast(Result, result_of(line, reply))
+
+    def _look(self, line: str, pattern: str) -> re.Match[str] | None:
+        """What a look shows; None where the event is unknown."""
+        with self._lock:
+            reply = self._answer(line, lambda reply: reply == "unknown" or re.fullmatch(pattern, reply))
+        if reply == "bad-line":
+            raise BadLine(line)
+        return re.fullmatch(pattern, reply)
+
+    def _answer(self, line: str, means: Callable[[str], object]) -> str:
+        """The reply that decides a line, which is asked again on a new connection after each that brought none."""
+        end, pause = time.monotonic() + self.seconds, 0.02
+        while True:
+            try:
+                return self._asked(line, means, max(0.001, min(end - time.monotonic(), PATIENCE)))
+            except OSError as error:
+                if time.monotonic() + pause >= end:
+                    raise Unanswered(f"{line!r}: {error}") from error
+            time.sleep(pause)
+            pause = min(2 * pause, 1.0)
+
+    def _asked(self, line: str, means: Callable[[str], object], timeout: float) -> str:
+        """The reply of one attempt. A connection that leaves a line undecided is never used again: its reply may come late."""
+        stream = self._stream or socket.create_connection(("127.0.0.1", self.port), timeout)
+        self._stream, reply = None, b""
+        try:
+            # Where no one listens at a port that the system gives out for connections, one may be connected to itself.
+            if stream.getsockname() == stream.getpeername():
+                raise ConnectionError("no one listens at the port")
+            stream.settimeout(timeout)
+            stream.sendall(line.encode() + b"\n")
+            while not reply.endswith(b"\n"):
+                if not (piece := stream.recv(MAX_REPLY)):
+                    raise ConnectionError("the connection ended without a reply")
+                reply += piece
+                if len(reply) > MAX_REPLY or b"\n" in reply[:-1]:
+                    raise NotAnOffice(f"{line!r}: {reply[:MAX_REPLY]!r}")
+            if (text := reply[:-1].decode("ascii", "replace")) in ("store", "closed", "memory"):
+                raise ConnectionError(f"the office answered {text}")
+            if text != "bad-line" and not means(text):
+                raise NotAnOffice(f"{line!r}: {text!r}")
+        except BaseException:
+            stream.close()
+            raise
+        self._stream = stream
+        return text
+
+
+def _event(event: str) -> str:
+    if not re.fullmatch("[a-z0-9-]{1,32}", event):
+        raise ValueError(f"no name of an event: {event!r}")
+    return event
+
+
+def _number(number: int, least: int = 1, most: int = MAX_NUMBER) -> int:
+    if type(number) is not int or not least <= number <= most:
+        raise ValueError(f"no number from {least} to {most}: {number!r}")
+    return number
