@@ -1,6 +1,6 @@
 #!/usr/bin/env python3
 """Has two open offices exchange messages by the scripts of exchange/: office.py alone, a folder, and two brokers with a bridge
-where mosquitto is there. Messages are torn and forged, an office is closed and a broker killed; in the end all is summed up.
+where mosquitto is there. Messages are torn and forged, an office is closed and brokers are killed; in the end all is summed up.
 
 Usage: tests/exchange.py [PROGRAM]     (PROGRAM: crates/boxoffice/out/boxoffice)
 
@@ -19,16 +19,13 @@ from serving import Caller, ended
 from trial import HERE, PROGRAM, SECONDS, call, free_port, same, try_each
 
 tempfile.tempdir = "/dev/shm" if os.path.isdir("/dev/shm") else None
-EXCHANGE = os.path.join(HERE, "..", "exchange")
-OFFICE, FOLDER = os.path.join(EXCHANGE, "office.py"), os.path.join(EXCHANGE, "folder", "boxoffice-exchange")
-MQTT = os.path.join(EXCHANGE, "mqtt")
+OFFICE, FOLDER, MQTT = (os.path.join(HERE, "..", "exchange", name) for name in ("office.py", "folder/boxoffice-exchange", "mqtt"))
 FILES = ["north.db", "south.db"]
 OPENING = ["announce 1 gala", "release 2 gala 100", "cede 3 gala 40 1"]
 CESSION = "delta 0 1 3\nname gala\ngave gala 0 0 100\ngave gala 0 1 40\nend\n"
 ACKNOWLEDGED = "ack 1 0 3\nend\n"
-# What is due is published again after as many seconds.
-AGAIN = 2
-# Messages that are not what they are named, or not whole; the office would take what follows `end` for a line of its own.
+AGAIN = 2  # What is due is published again after as many seconds.
+# Messages that are not what they are named, or not whole; what follows `end` would be a line of its own to the office.
 REFUSED = {"delta 1 0 9\nname expo\nend\n": "misnamed", "delta 0 1 9\nname expo\n": "truncated"}
 REFUSED |= {"delta 0 1 9\nname expo\nend\nclose\n": "trailing", "delta 0 1 9\nname Expo\nend\n": "bad-line 2"}
 
@@ -36,12 +33,12 @@ REFUSED |= {"delta 0 1 9\nname expo\nend\nclose\n": "trailing", "delta 0 1 9\nna
 class Office:
     """An office of one of two sites, once callers can come, with a clerk."""
 
-    def __init__(self, folder, me, port=None):
-        self.folder, self.me, self.file, self.port = folder, me, FILES[me], port or free_port()
+    def __init__(self, folder, me):
+        self.folder, self.me, self.file, port = folder, me, FILES[me], free_port()
         streams = {"stdin": subprocess.DEVNULL, "stdout": subprocess.PIPE, "stderr": subprocess.PIPE}
-        self.program = subprocess.Popen([PROGRAM, "open", str(self.port), self.file], cwd=folder, **streams)
+        self.program = subprocess.Popen([PROGRAM, "open", str(port), self.file], cwd=folder, **streams)
         same(f"what {self.file} prints as it opens", self.program.stdout.readline(), b"open\n")
-        self.clerk = Caller(self.port)
+        self.clerk = Caller(port)
 
     def ask(self, *lines):
         return [self.clerk.ask(line) for line in lines]
@@ -51,7 +48,6 @@ class Office:
         same(f"the end of {self.file}", ended(self.program), (0, "", ""))
 
     def due(self):
-        """What office.py says as it exports: its status and what it prints."""
         return run(self.folder, [OFFICE, "export", self.file + "-sock", str(1 - self.me)])
 
 
@@ -89,8 +85,8 @@ def comes_to_both(what, offices, totals):
 def audited(offices, sold):
     for office in offices:
         office.close()
-    found = call(offices[0].folder, ["audit", *FILES])
-    same("the audit", found, (0, f"gala released 100 sold {sold} refunded 0 outstanding {sold}\n", ""))
+    sums = f"gala released 100 sold {sold} refunded 0 outstanding {sold}\n"
+    same("the audit", call(offices[0].folder, ["audit", *FILES]), (0, sums, ""))
 
 
 def asked_by_office(folder):
@@ -103,9 +99,9 @@ def asked_by_office(folder):
         refused = {**REFUSED, "": "truncated", "delta 0 1 2\n" + "a" * 201 + "\nend\n": "bad-line 2"}
         for message, word in list(refused.items())[1:]:
             same(f"import of {message!r}", run(folder, takes, message), (1, "", word + "\n"))
-        same("it is joined, and comes again", [run(folder, takes, CESSION)] * 2, [(0, ACKNOWLEDGED, "")] * 2)
+        same("it is joined, and comes again", [run(folder, takes, CESSION) for _ in range(2)], [(0, ACKNOWLEDGED, "")] * 2)
         same("it is acknowledged", run(folder, [OFFICE, "import", north.file + "-sock"], ACKNOWLEDGED), (0, "", ""))
-        same("an acknowledgement at its own sender", run(folder, takes, ACKNOWLEDGED), (1, "", "not-for-me\n"))
+        same("at its own sender", run(folder, takes, ACKNOWLEDGED), (1, "", "not-for-me\n"))
         same("nothing is due any more", north.due(), (1, "", ""))
         same("to no site", run(folder, [OFFICE, "export", north.file + "-sock", "2"]), (1, "", "no-site\n"))
         same("wrong arguments", run(folder, [OFFICE, "export", north.file + "-sock"])[:2], (2, ""))
@@ -125,17 +121,13 @@ def looks(office):
     return run(office.folder, [FOLDER, str(office.me), "2", office.file, "shared", "--once"])
 
 
-def put(folder, message):
-    with open(os.path.join(folder, "shared", "0-1.delta"), "w", encoding="ascii") as file:
-        file.write(message)
-
-
 def damaged_in_folder(folder, north, south):
     """What is torn or forged is refused and said; the next look of its sender puts the message there again."""
     same("twenty more", north.ask("cede 4 gala 20 1"), ["done"])
     for message, word in REFUSED.items():
         same("north looks", looks(north)[0], 0)
-        put(folder, message)
+        with open(os.path.join(folder, "shared", "0-1.delta"), "w", encoding="ascii") as file:
+            file.write(message)
         same(f"in the folder {message!r}", looks(south), (0, "", f"site 1: delta from 0: {word}\n"))
         same("nothing came", south.ask("left gala", "left expo"), ["left 39", "unknown"])
     same("north looks, then south", [looks(north)[0], looks(south)], [0, (0, "", "site 1: delta from 0: joined\n")])
@@ -185,6 +177,16 @@ def broker(folder, me):
     return subprocess.Popen(["mosquitto", "-c", place], stdout=subprocess.DEVNULL, stderr=subprocess.DEVNULL)
 
 
+@contextlib.contextmanager
+def killed(folder, brokers, me):
+    """A broker that is not there until a moment after the end of a `with`."""
+    brokers[me].kill()
+    brokers[me].wait(SECONDS)
+    yield
+    time.sleep(1)
+    brokers[me] = broker(folder, me)
+
+
 def configured(folder):
     """A folder for each site's broker, of which the first makes a bridge to the second."""
     ports = [free_port(), free_port()]
@@ -194,9 +196,6 @@ def configured(folder):
         for file in ["ca.crt", f"{me}.crt", f"{me}.key"]:
             shutil.copy(os.path.join(folder, file), place)
         same("configure", run(place, [os.path.join(MQTT, "configure"), str(me), str(ports[me]), *bridges]), (0, "", ""))
-        if os.geteuid() == 0:
-            with open(os.path.join(place, "broker.conf"), "a", encoding="ascii") as file:
-                file.write("user root\n")
 
 
 def publish(folder, me, topic, message):
@@ -216,15 +215,15 @@ def sold_over_brokers(folder, offices, brokers):
     publish(folder, 1, "sites/0/1/delta", "delta 0 1 9\nname expo\nend\n")
     same("both sell on", north.ask("sell 5 gala 1") + south.ask("sell 2 gala 1"), ["done"] * 2)
     comes_to_both("after forged messages", offices, "released 100 sold 4 refunded 0 open 96")
-    brokers[1].kill()
-    brokers[1].wait(SECONDS)
-    same("north, cut off", north.ask("cede 6 gala 20 1", "sell 7 gala 35"), ["done", "done"])
-    same("south, cut off", south.ask("sell 3 gala 38", "sell 4 gala 1"), ["done", "short 0"])
-    time.sleep(1)
-    brokers[1] = broker(folder, 1)
+    with killed(folder, brokers, 1):
+        same("north, cut off", north.ask("cede 6 gala 20 1", "sell 7 gala 35"), ["done", "done"])
+        same("south, cut off", south.ask("sell 3 gala 38", "sell 4 gala 1"), ["done", "short 0"])
     comes("what was ceded, after the cut", lambda: south.ask("left gala"), ["left 20"])
     same("a name that no site announced", north.ask("left expo") + south.ask("left expo"), ["unknown"] * 2)
-    comes_to_both("after the cut", offices, "released 100 sold 77 refunded 0 open 23")
+    with killed(folder, brokers, 0):
+        same("five go back", south.ask("cede 5 gala 5 0"), ["done"])
+    comes("what was given back", lambda: north.ask("left gala"), ["left 8"])
+    comes_to_both("after the cuts", offices, "released 100 sold 77 refunded 0 open 23")
 
 
 def over_brokers(folder):
