@@ -1,0 +1,80 @@
+#!/usr/bin/env python3
+"""Asks an open office at its socket, FILE-sock, for the message that is due to a site, and has it take one.
+
+Usage: office.py export FILE-sock T     prints the message that is due to site T; status 1 and no message where nothing is
+       office.py import FILE-sock       takes the message on standard input, and prints the acknowledgement where there is one
+
+Status 0: exported; or joined, nothing-new, acked. 1: nothing is due; or refused, with the word on standard error. 2: wrong
+arguments. 3: no office is there, or it ended before it had answered.
+"""
+
+import socket
+import sys
+
+# How long an office may take; of a line the most bytes, and of a session the most lines beside `import` and `quit`.
+SECONDS, MOST_BYTES, MOST_LINES = 60, 200, 999_998
+TAKEN = ("joined", "nothing-new", "acked")
+
+
+Absent = type("Absent", (Exception,), {"__doc__": "No office answered."})
+
+
+def answer_of(path, text):
+    """All that the office answers until the session has ended."""
+    try:
+        with socket.socket(socket.AF_UNIX) as office, office.makefile("rb") as answers:
+            office.settimeout(SECONDS)
+            office.connect(path)
+            office.sendall(text + b"quit\n")
+            answer = answers.read()
+    except OSError as error:
+        raise Absent from error
+    if not answer.endswith(b"\nend\n" if answer.startswith((b"delta ", b"joined\n", b"nothing-new\n")) else b"\n"):
+        raise Absent
+    return answer
+
+
+def export(path, to):
+    """The message that is due to a site, or else the word that says why there is none."""
+    answer = answer_of(path, b"export %d\n" % to)
+    return (answer, "") if answer.startswith(b"delta ") else (b"", answer.decode().strip())
+
+
+def misframed(message):
+    """Why the lines of a text are no message up to one `end`. What follows that would be lines to the office, like `close`."""
+    *lines, rest = message.split(b"\n")
+    if b"end" not in lines:
+        return "truncated"
+    if rest or lines.index(b"end") != len(lines) - 1:
+        return "trailing"
+    long = [at for at, line in enumerate(lines, 1) if len(line) > MOST_BYTES]
+    return f"bad-line {long[0]}" if long else "too-long" if len(lines) > MOST_LINES else ""
+
+
+def take(path, message, head=b""):
+    """The word that answers a message which begins with this head, and the acknowledgement where there is one."""
+    if word := misframed(message) if message.startswith(head) else "misnamed":
+        return word, b""
+    word, _, acknowledgement = answer_of(path, b"import\n" + message).partition(b"\n")
+    return word.decode(), acknowledgement
+
+
+def main(words):
+    """What goes to standard output and to standard error, and the status."""
+    if words[:1] == ["export"] and len(words) == 3 and words[2].isdecimal():
+        message, word = export(words[1], int(words[2]))
+        return message, word.removeprefix("nothing"), 0 if message else 1
+    if words[:1] == ["import"] and len(words) == 2:
+        word, message = take(words[1], sys.stdin.buffer.read())
+        return (message, "", 0) if word in TAKEN else (b"", word, 1)
+    return b"", __doc__.split("\n\n")[1], 2
+
+
+if __name__ == "__main__":
+    try:
+        message, text, status = main(sys.argv[1:])
+    except Absent:
+        message, text, status = b"", "not-open", 3
+    sys.stdout.buffer.write(message)
+    sys.stderr.write(text and text + "\n")
+    sys.exit(status)
