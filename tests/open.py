@@ -27,7 +27,7 @@ import time
 SEED = next((int(word[7:]) for word in sys.argv if word.startswith("--seed=")), random.SystemRandom().randrange(10**9))
 sys.argv = [word for word in sys.argv if not word.startswith("--")]
 
-from serving import FILE, Caller, Office, Operator, ended
+from serving import FILE, Caller, Office, Operator, ended, is_reached
 from trial import FORGED, PROGRAM, SECONDS, call, free_port, intact, opened, same, try_each
 
 # The disk is not what is tried here.
@@ -87,6 +87,7 @@ def two_doors(folder):
     """A caller at the port has the lines of a session alone; what the socket has beside them, and refuses."""
     made(folder)
     office = Office(folder)
+    same("another address is not listened to", is_reached("127.0.0.2", office.port), False)
     caller, operator = Caller(office.port), Operator(office.path)
     asked(caller, ["export 1", "close", "find 1", "", "left gala"], ["bad-line"] * 4 + ["unknown"])
     lines = ["import", *FORGED.splitlines()]
@@ -226,12 +227,13 @@ def places_of_sockets(folder):
     same("a link at its place, and no file", call(folder, ["open", port, FILE]), (3, "", "no-socket\n"))
     os.remove(path)
     made(folder)
-    with open(path, "wb+") as file:
-        file.write(b"mine")
-        file.flush()
-        same("a file at its place", call(folder, ["open", port, FILE]), (3, "", "no-socket\n"))
-        same("it is untouched", (os.lstat(path).st_ino, os.lstat(path).st_size), (os.fstat(file.fileno()).st_ino, 4))
-    os.remove(path)
+    for place in (path, os.path.join(folder, FILE + "-shut")):
+        with open(place, "wb+") as file:
+            file.write(b"mine")
+            file.flush()
+            same(f"a file at {place}", call(folder, ["open", port, FILE]), (3, "", "no-socket\n"))
+            same("it is untouched", (os.lstat(place).st_ino, os.lstat(place).st_size), (os.fstat(file.fileno()).st_ino, 4))
+        os.remove(place)
     same("a path too long", call(folder, ["open", port, longest + "n"]), (3, "", "long-path\n"))
     made(folder, longest)
     Office(folder, longest).close()

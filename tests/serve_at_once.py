@@ -16,7 +16,7 @@ import sys
 import threading
 import time
 
-from serving import Caller, ended, started
+from serving import Caller, ended, is_reached, started
 from trial import FORGED, SECONDS, call, free_port, intact, make_sites, opened, same, try_each
 
 CALLERS = 8
@@ -110,15 +110,6 @@ def bad_sessions(folder, files, line):
     same("another session beside them", other.ask("sell 6001 gala 1"), "short 0")
     same("it is let go", other.quit(), True)
     same("the end of bad sessions", ended(serving), (0, line, ""))
-
-
-def is_reached(address, port):
-    """Whether anything listens to the port at this address of this machine."""
-    try:
-        socket.create_connection((address, port), timeout=SECONDS).close()
-    except ConnectionRefusedError:
-        return False
-    return True
 
 
 def this_machine_alone(folder, files, line):

@@ -45,6 +45,15 @@ def connected(port, seconds=SECONDS):
             time.sleep(0.01)
 
 
+def is_reached(address, port):
+    """Whether anything listens to the port at this address of this machine."""
+    try:
+        socket.create_connection((address, port), timeout=SECONDS).close()
+    except ConnectionRefusedError:
+        return False
+    return True
+
+
 class Caller:
     """A session over a connection: each line is sent once the reply to the one before was read."""
 

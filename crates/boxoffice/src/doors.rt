@@ -1,6 +1,6 @@
 //! The socket beside the file of an office.
 
-use live_office::remove_socket;
+use live_office::{SocketFault, check_socket, remove_socket};
 use std::alloc::{AllocError, Global};
 use std::io::{self, Write};
 use std::net::Net;
@@ -23,12 +23,12 @@ pub(crate) struct Socket {
 }
 
 impl Socket {
-    /// The socket of this file's office, at FILE-sock, and aside at FILE-sock-end.
+    /// The socket of this file's office, at FILE-sock, and aside at FILE-shut.
     pub(crate) fn of(alloc: Global, file: &str) -> Result<Socket, AllocError> {
         let mut path = String::from_str(alloc, file)?;
         path.push_str("-sock")?;
-        let mut aside = String::from_str(alloc, path.as_str())?;
-        aside.push_str("-end")?;
+        let mut aside = String::from_str(alloc, file)?;
+        aside.push_str("-shut")?;
         Ok(Socket { path, aside })
     }
 
@@ -37,16 +37,26 @@ impl Socket {
         self.path.as_str()
     }
 
-    /// Puts the socket aside, where no caller looks for it.
+    /// Whether a socket can be at both places, and nothing else is there. Nothing is changed.
+    pub(crate) fn check<F: Files>(&self, files: &F) -> Result<(), SocketFault> {
+        check_socket(files, self.path.as_str())?;
+        check_socket(files, self.aside.as_str())
+    }
+
+    /// Puts the socket aside, where no caller looks for it. Where it cannot be, it is removed.
     pub(crate) fn put_aside<F: Files>(&self, files: &F) {
-        if fs::rename(files, self.path.as_str(), self.aside.as_str()).is_err() {
+        if check_socket(files, self.aside.as_str()).is_err()
+            || fs::rename(files, self.path.as_str(), self.aside.as_str()).is_err()
+        {
             remove_socket(files, self.path.as_str());
         }
     }
 
     /// Removes the socket that was put aside.
     pub(crate) fn remove<F: Files>(&self, files: &F) {
-        remove_socket(files, self.aside.as_str());
+        if check_socket(files, self.aside.as_str()).is_ok() {
+            remove_socket(files, self.aside.as_str());
+        }
     }
 
     /// Says to the office that it closes. The connection is kept until the office was seen to be closed.

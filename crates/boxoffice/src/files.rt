@@ -27,7 +27,7 @@ const DATABASE: [u8; 16] = *b"SQLite format 3\0";
 
 /// Why a file could not be opened or closed.
 #[derive(Clone, Copy)]
-enum FileFault {
+pub(crate) enum FileFault {
     NotOurs,
     Memory,
     Disk,
@@ -55,7 +55,7 @@ fn fault_of_closing(error: Error) -> FileFault
     }
 }
 
-fn failed(rt: &HostRuntime, fault: FileFault) -> Status {
+pub(crate) fn failed(rt: &HostRuntime, fault: FileFault) -> Status {
     let word = match fault {
         FileFault::NotOurs => "not-ours",
         FileFault::Memory => "memory",

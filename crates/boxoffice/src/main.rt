@@ -15,9 +15,9 @@ mod files;
 
 use crate::connections::visits;
 use crate::doors::Socket;
-use crate::files::{Files, close, open_or_make, open_there};
+use crate::files::{FileFault, Files, close, failed, open_or_make, open_there};
 use book_core::Limit;
-use live_office::{Closing, TcpDoor, UnixDoor, check_socket};
+use live_office::{Closing, TcpDoor, UnixDoor};
 use operator_cli::{
     CloseFault, FileNames, Order, Status, WordsFault, ask_store, audit_stores, export_store,
     find_store, grow_store, import_store, init_store, list_store, migrate_store, office_store,
@@ -447,7 +447,7 @@ fn run_open<S: Alter + Drop + Send, H: Shelf<Connection<S>>>(
     let Ok(socket) = Socket::of(rt.alloc(), file) else {
         return Ok(out_of_memory(rt));
     };
-    if let Err(fault) = check_socket(host, socket.path()) {
+    if let Err(fault) = socket.check(host) {
         return Ok(tell_socket_fault(fault, &mut rt.stderr()));
     }
     let site = open_site(rt, file, shelf)?;
@@ -481,8 +481,14 @@ fn run_close(
     let Ok(socket) = Socket::of(rt.alloc(), file) else {
         return Ok(out_of_memory(rt));
     };
-    let Ok(_caller) = socket.says_close(host) else {
-        return Ok(tell_close_fault(CloseFault::NotOpen, &mut rt.stderr()));
+    let _caller = match socket.says_close(host) {
+        Ok(caller) => caller,
+        Err(error) => match error.kind() {
+            ErrorKind::NotFound | ErrorKind::ConnectionRefused => {
+                return Ok(tell_close_fault(CloseFault::NotOpen, &mut rt.stderr()));
+            }
+            _ => return Ok(failed(rt, FileFault::Disk)),
+        },
     };
     if socket.is_gone(host) {
         Ok(Status::Done)
