@@ -16,7 +16,7 @@ pub enum Access {
     Office,
 }
 
-/// A caller that came in. It has neither `Drop` nor `Clone`, so that nothing but serving it uses it up.
+/// A caller that came in. It has neither `Drop` nor `Clone`: outside of this crate nothing but serving it uses it up.
 pub struct Call<R: Read + Drop, W: Write + Drop> {
     pub(crate) access: Access,
     pub(crate) reader: R,

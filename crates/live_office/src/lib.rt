@@ -5,11 +5,11 @@
 //! `export`, `import`, `close` (`OfficeLine`). A new line is a variant there, with a function of `office_line.rt` and
 //! a row of `specs/Grammar.antt`, `Lines.antt` and `Handling.antt`; a new answer is a variant of `OfficeAnswer`.
 //!
-//! Guaranteed: what a caller is sent is exactly the texts of the answers to the lines that were read, in order, up to a
-//! failed write, and a caller can only be used up by being served (`Served`). A line of a session means what it means
-//! in any session. Each answer is that of an admissible book. The book that is returned extends the one that was
-//! passed. Of a session only the count of its seat is kept. Not proved: that callers are served, in which order, and
-//! that `close` ends the threads.
+//! Guaranteed: what a served caller is sent is exactly the texts of the answers to the lines that were read, in order,
+//! up to a failed write (`Served`). A line of a session is answered as in any session, each answer is that of an
+//! admissible book, and the book that is returned extends the one that was passed. Of a session only the count of its
+//! seat is kept. Not proved: that callers are served and in which order, that a line does nothing else to the book
+//! than its answer tells, who may close an office, and that `close` ends the threads.
 #![tactic(auto)]
 
 mod caller;

@@ -69,7 +69,7 @@ impl<'a> TcpDoor<'a> {
 
 impl<'a> UnixDoor<'a> {
     /// A door at a Unix socket at this path, for its owner alone, until the office closes. A socket that was there is
-    /// replaced, so the caller knows that no other process listens at it: whoever has the site's file locked.
+    /// replaced, so the caller knows that no other office listens at it: whoever has the site's file locked.
     ///
     /// Errors are those of `check_socket`, and `Bind`, after which a socket may be there.
     pub fn bind<H: Files + Net>(

@@ -15,7 +15,7 @@ use std::alloc::Global;
 use std::io::{BufRead, BufReader, Read, Write};
 use std::sync::Wait;
 
-// Writes an answer, which is then at its writer's end.
+// Writes an answer, and flushes it.
 fn send<W: Write>(answer: &OfficeAnswer, out: &mut W) -> Result<(), TalkFault>
     ensures written { Writes (W.contents out.old) (W.contents out.new) result (answer_text
         answer.now) }
