@@ -1,6 +1,7 @@
 #!/usr/bin/env bash
 # Three box offices in network namespaces of their own, each with a broker. All sell; east is cut off, and all sell on; then the
-# line is back, and the files of all are summed up. Their files stay in the folder that is named at the end.
+# line is back, and the files of all are summed up. Each line shows a request, its reply, and what each city has left to sell then.
+# The files stay in the folder that is named at the end.
 #
 # usage: three-cities.sh                 builds the program, which proves it first
 #        three-cities.sh --unproved      compiles it in some minutes, and proves nothing
@@ -73,13 +74,13 @@ start() {
     running+=($!)
 }
 
-# Of two sites the one with the lower number makes the bridge.
+# A city's script publishes at the brokers of the others, and takes what comes at its own.
 open_city() {
-    local city=${cities[$1]} bridges=()
-    for ((peer = $1 + 1; peer < 3; peer++)); do bridges+=("$peer=10.79.0.$((peer + 1)):8883"); done
+    local city=${cities[$1]} peers=()
+    for peer in 0 1 2; do [ $peer = "$1" ] || peers+=("$peer=10.79.0.$((peer + 1)):8883"); done
     mkdir "$city"
     cp ca.crt "$1.crt" "$1.key" "$city"
-    (cd "$city" && "$here/../exchange/mqtt/configure" "$1" 8883 "${bridges[@]}")
+    (cd "$city" && "$here/../exchange/mqtt/configure" "$1" 8883)
     start "$city" mosquitto -c "$city/broker.conf"
     "$boxoffice" init "$city.db" "$1" 3 10000 > /dev/null
     start "$city" "$boxoffice" open 7000 "$city.db"
@@ -87,7 +88,7 @@ open_city() {
         if grep -qx open "$city.said"; then break; fi
         sleep 0.1
     done
-    start "$city" env "XDG_CONFIG_HOME=$folder/$city" "$here/../exchange/mqtt/boxoffice-exchange" "$1" 3 "$city.db"
+    start "$city" env "XDG_CONFIG_HOME=$folder/$city" "$here/../exchange/mqtt/boxoffice-exchange" "$1" "$city.db" "${peers[@]}"
     echo "$city is open, as site $1"
 }
 
@@ -97,25 +98,34 @@ reply() {
     in_city "$1" bash -c 'exec 3<> /dev/tcp/127.0.0.1/7000 && printf "%s\nquit\n" "$1" >&3 && head -n 1 <&3' bash "$2"
 }
 
-sell() { printf '    %s\n' "$1: $2"$'\t'"$(reply "$1" "$2")" | expand -t 36; }
+# What each city has left to sell.
+left() {
+    local city
+    for city in "${cities[@]}"; do printf '%6s' "$(reply "$city" 'left gala' | sed 's/^left //; s/^unknown$/-/')"; done
+}
+
+show() { printf '    %-30s%-52s%s\n' "$1" "$2" "$(left)"; }
+
+sell() { show "$1: $2" "$(reply "$1" "$2")"; }
 
 # Waits for a minute until a line is answered so at each of the cities that are named.
 await() {
-    local begin=$SECONDS
+    local begin=$SECONDS city
     for city in "${@:3}"; do
         until [ "$(reply "$city" "$1")" = "$2" ]; do
             ((SECONDS < begin + 60)) || { echo "$city does not answer $2 to $1" >&2; exit 1; }
             sleep 0.2
         done
-        printf '    %s\n' "$city: $1"$'\t'"$2" | expand -t 36
+        show "$city: $1" "$2"
     done
-    echo "after $((SECONDS - begin)) s"
+    echo "    (after $((SECONDS - begin)) s)"
 }
 
 "$here/../exchange/mqtt/certificates" 0=10.79.0.1 1=10.79.0.2 2=10.79.0.3
 make_lines
 for site in 0 1 2; do open_city $site; done
 
+printf '%86s%6s%6s%6s\n' '' "${cities[@]}"
 echo 'North releases 300 seats, and cedes 100 to each of the others:'
 for line in 'announce 1 gala' 'release 2 gala 300' 'cede 3 gala 100 1' 'cede 4 gala 100 2'; do sell north "$line"; done
 await 'left gala' 'left 100' north south east
@@ -133,7 +143,6 @@ sell south 'sell 2 gala 80'
 sell east 'sell 2 gala 70'
 sell east 'sell 3 gala 1'
 await 'totals gala' 'totals released 300 sold 180 refunded 0 open 120' north south
-for city in "${cities[@]}"; do sell "$city" 'left gala'; done
 sleep "$cut"
 
 ip -n "east-$$" link set line up

@@ -8,6 +8,7 @@ Status 0: exported; or joined, nothing-new, acked. 1: nothing is due; or refused
 arguments. 3: no office is there, or it ended before it had answered.
 """
 
+import re
 import socket
 import sys
 
@@ -57,6 +58,22 @@ def take(path, message, head=b""):
         return word, b""
     word, _, acknowledgement = answer_of(path, b"import\n" + message).partition(b"\n")
     return word.decode(), acknowledgement
+
+
+def messages(text):
+    """The messages that follow each other in a text, each up to its line `end`; the last may be torn."""
+    return [found[0] for found in re.finditer(rb"(?ms).+?(?:^end\n|\Z)", text)]
+
+
+def take_each(path, text, me, peer, say):
+    """Takes messages of one site that follow each other in a text, says what became of each, and gives the last acknowledgement."""
+    last = b""
+    for message in messages(text):
+        kind = "ack" if message.startswith(b"ack ") else "delta"
+        word, acknowledgement = take(path, message, f"{kind} {peer} {me} ".encode())
+        say(f"site {me}: {kind} from {peer}: {word}")
+        last = acknowledgement or last
+    return last
 
 
 def main(words):

@@ -1,13 +1,20 @@
 #!/usr/bin/env python3
-"""Tries the client for tills over offices of the built program: office and till are killed (SIGKILL) at ten moments each, replies
-are cut, late or none, journals are torn and disks full. Each request has to be in the file once, with the reply of the journal.
+"""Tries the client for tills over offices of the built program: office and till are killed (SIGKILL) at ten moments each, and then
+an office and its eight tills at random; replies are cut, late or none, journals are torn and disks full. Each request has to be in
+the file once, with the reply of the journal.
 
-Usage: tests/client.py [PROGRAM] [--seed=N]     (PROGRAM: crates/boxoffice/out/boxoffice)
+Usage: tests/client.py [PROGRAM [TRIAL ..]] [--kills=N] [--offices=SHARE] [--between=BYTES] [--seed=N]
+       [--longest=SECONDS]
+       (PROGRAM: crates/boxoffice/out/boxoffice; without names each TRIAL; N kills of an office and its eight tills: 12; the SHARE of
+       them that the office has: 0.3; between two of them up to so many BYTES of journals: 2000; a trial may take so many SECONDS:
+       300, and 20 for each kill)
 
-The seed, printed first, gives the moments of the kills. Says what differs and ends with status 1 where anything does.
+The seed, printed first, gives the moments of the kills. Says what differs and ends with status 1 where anything does, also where a
+trial does not end in time.
 """
 
 import concurrent.futures
+import contextlib
 import os
 import pathlib
 import queue
@@ -15,6 +22,7 @@ import random
 import re
 import resource
 import shutil
+import signal
 import socket
 import subprocess
 import sys
@@ -24,7 +32,9 @@ import time
 import unittest.mock
 
 # `trial` takes the first word for the program.
-SEED = next((int(word[7:]) for word in sys.argv if word.startswith("--seed=")), random.SystemRandom().randrange(10**9))
+GIVEN = dict(word[2:].split("=") for word in sys.argv if word.startswith("--"))
+SEED = int(GIVEN.get("seed", random.SystemRandom().randrange(10**9)))
+TILL_KILLS, BETWEEN, OFFICES = int(GIVEN.get("kills", 12)), int(GIVEN.get("between", 2000)), float(GIVEN.get("offices", 0.3))
 sys.argv = [word for word in sys.argv if not word.startswith("--")]
 
 from serving import FILE, Caller, Office
@@ -38,6 +48,8 @@ from boxoffice import Done, Refused, Short, Till, Totals
 tempfile.tempdir = "/dev/shm" if os.path.isdir("/dev/shm") else None
 JOURNAL, FIRST, FINAL, KILLS, SEATS = "till.journal", 1001, 999_999, 10, 100_000
 SCRIPT = os.path.join(HERE, "..", "examples", "till.py")
+# How long a trial may take, and for each of its kills; a client that is wrong may wait for ever.
+LONGEST, LONGEST_KILL, TILLS, RANGE = int(GIVEN.get("longest", 300)), 20, 8, 1_000_000
 
 
 class Stub:
@@ -224,6 +236,36 @@ def replies(folder):
     same("the end of the journal", pathlib.Path(folder, JOURNAL).read_text("ascii").partition("short 5\nask ")[2], wanted)
 
 
+def connected_to_itself(address, timeout):
+    stream = socket.socket()
+    stream.settimeout(timeout)
+    stream.bind(("127.0.0.1", 0))
+    stream.connect(stream.getsockname())
+    return stream
+
+
+def sockets(folder):
+    """A port at which no one listens, and a connection to itself that the system may make there."""
+    with contextlib.closing(socket.create_server(("127.0.0.1", 0))) as listener:
+        port = listener.getsockname()[1]
+    with till(folder, port, seconds=0.2) as seller:
+        raised("no one listens", boxoffice.Unanswered, seller.left, "gala")
+        with unittest.mock.patch("socket.create_connection", connected_to_itself):
+            raised("connected to itself", boxoffice.Unanswered, seller.left, "gala")
+            raised("a request", boxoffice.Unanswered, seller.sell, "gala", 1)
+        same("it is open", seller.journal.open, "sell 1001 gala 1")
+
+
+def threads(folder):
+    """Eight threads share a till."""
+    office = begun(folder)
+    with till(folder, office.port) as seller, concurrent.futures.ThreadPoolExecutor(8) as pool:
+        found = list(pool.map(lambda at: (seller.sell("gala", 1 + at % 3), seller.left("gala"))[0], range(80)))
+    same("each has a number of its own", sorted(result.number for result in found), list(range(FIRST, FIRST + 80)))
+    same("what they asked", agree("threads", folder, office.port), 80)
+    office.close()
+
+
 def disks(folder):
     """Where the journal cannot be written, nothing is asked, and nothing is forgotten."""
     office, failure, path = begun(folder), OSError("the disk fails"), pathlib.Path(folder, JOURNAL)
@@ -242,9 +284,151 @@ def disks(folder):
         same("nothing of it is left", len(path.read_bytes()), size)
     with till(folder, office.port) as seller:
         same("the number is free", (seller.resumed, seller.sell("gala", 5)), (None, Done(1002)))
+    with unittest.mock.patch("os.fsync", wraps=os.fsync) as sync:
+        boxoffice.Journal(os.path.join(folder, "new.journal"), FIRST, FINAL).close()
+    same("the folder of a new journal is synced", [type(one.args[0]) for one in sync.call_args_list].count(int), 1)
     agree("disks", folder, office.port)
     office.close()
 
 
+# A till that sells and gives back until it is killed, and prints each reply: a ticket that went out.
+SELLS = """
+import random, sys
+sys.path.insert(0, sys.argv[1])
+from boxoffice import Done, Till
+port, path, first, chance, sales = int(sys.argv[2]), sys.argv[3], int(sys.argv[4]), random.Random(sys.argv[5]), []
+with Till(port, path, first, first + 999_999, 600.0) as till:
+    while True:
+        refunds = sales and chance.random() < 0.3
+        result = till.refund(sales.pop(chance.randrange(len(sales))), 1) if refunds else till.sell("gala", chance.randrange(1, 4))
+        if type(result) is Done:
+            sales += [] if refunds else [result.number]
+            print(result.number, flush=True)
+"""
+
+
+class Tills:
+    """Eight tills of an office, each a program of its own with a range of its own."""
+
+    def __init__(self, folder, port):
+        self.folder, self.port, self.programs, self.starts = folder, port, [None] * TILLS, 0
+        for at in range(TILLS):
+            self.start(at)
+
+    def path(self, at):
+        return os.path.join(self.folder, f"till-{at}.journal")
+
+    def start(self, at):
+        self.starts += 1
+        client = os.path.join(HERE, "..", "clients", "python")
+        words = [sys.executable, "-c", SELLS, client, self.port, self.path(at), RANGE * (at + 1), f"{SEED} {self.starts}"]
+        paths = [os.path.join(self.folder, name) for name in (f"{at}.printed", "faults")]
+        with open(paths[0], "ab") as printed, open(paths[1], "ab") as faults:
+            self.programs[at] = subprocess.Popen([str(word) for word in words], stdout=printed, stderr=faults)
+
+    def kill(self, at):
+        self.programs[at].kill()
+        same(f"till {at} was killed, and had not ended by itself", self.programs[at].wait(SECONDS), -9)
+
+    def asked(self):
+        """How many bytes all journals have, which grows with each request."""
+        return sum(os.path.getsize(self.path(at)) for at in range(TILLS) if os.path.exists(self.path(at)))
+
+
+def killed_at_random(folder, chance, office, tills):
+    """Kills the office or a till, each time some requests later; gives how often the office, and the office that is open then."""
+    ends = 0
+    for kill in range(TILL_KILLS):
+        wanted, end = tills.asked() + chance.randrange(1, BETWEEN), time.monotonic() + SECONDS
+        while tills.asked() < wanted and time.monotonic() < end:
+            time.sleep(0.001)
+        same(f"before kill {kill}: requests go on", tills.asked() >= wanted, True)
+        if chance.random() < OFFICES:
+            ends += 1
+            office.kill()
+            office = Office(folder, port=office.port)
+        else:
+            at = chance.randrange(TILLS)
+            tills.kill(at)
+            tills.start(at)
+    return ends, office
+
+
+def eight_tills(folder):
+    """What was asked and answered in the end: by the journals, by the file as C SQLite reads it, and by what was printed."""
+    chance, office = random.Random(SEED + 2), begun(folder)
+    tills = Tills(folder, office.port)
+    ends, office = killed_at_random(folder, chance, office, tills)
+    for at in range(TILLS):
+        tills.kill(at)
+    asked = {}
+    for at in range(TILLS):
+        Till(office.port, tills.path(at), RANGE * (at + 1), RANGE * (at + 1) + 999_999, SECONDS).close()
+        found = re.findall("ask (.*)\n(?:reply [0-9]+ (.*)\n)?", pathlib.Path(tills.path(at)).read_text("ascii"))
+        numbers, begin = [int(line.split()[1]) for line, _ in found], RANGE * (at + 1)
+        same(f"till {at}: each number once, in order", numbers, list(range(begin, begin + len(found))))
+        asked |= {number: entry for number, entry in zip(numbers, found)}
+        done = {line.split()[1] for line, reply in found if reply == "done"}
+        printed = pathlib.Path(folder, f"{at}.printed").read_text("ascii").split("\n")[:-1]
+        same(f"till {at}: what was printed twice", len(printed) - len(set(printed)), 0)
+        same(f"till {at}: what was printed and was not done", set(printed) - done, set())
+    same("faults of tills", pathlib.Path(folder, "faults").read_text("utf-8"), "")
+    rows = kept(folder)
+    in_file = {int(line.split()[1]): (line, reply) for line, reply in rows}
+    lost = [entry for number, entry in asked.items() if in_file.get(number) != entry]
+    doubled = len(rows) - len(in_file) + len(set(in_file) - set(asked))
+    same("lost or other, by journals against the file", lost, [])
+    same("doubled, or asked by no journal", doubled, 0)
+    done = [line.split() for line, reply in asked.values() if reply == "done"]
+    sold, back = (sum(int(words[3]) for words in done if words[0] == verb) for verb in ("sell", "refund"))
+    totals = f"totals released {SEATS} sold {sold} refunded {back} open {SEATS - sold + back}"
+    same("the totals", Caller(office.port).ask("totals gala"), totals)
+    office.close()
+    told = f"an office killed {ends} times and its eight tills {TILL_KILLS - ends} times in {len(asked)} requests"
+    print(f"{told}: {len(lost)} lost, {doubled} doubled")
+
+
+def children():
+    """The numbers of the programs that this one started and that have not ended."""
+    for entry in os.listdir("/proc"):
+        with contextlib.suppress(OSError, ValueError):
+            with open(f"/proc/{int(entry)}/stat", encoding="ascii", errors="replace") as stat:
+                if int(stat.read().rpartition(")")[2].split()[1]) == os.getpid():
+                    yield int(entry)
+
+
+def gives_up(trial, seconds, folder):
+    """The verdict where a trial does not end."""
+    print(f"{trial}: has not ended after {seconds} s\na client: 1 differs", flush=True)
+    for child in children():
+        os.kill(child, signal.SIGKILL)
+    shutil.rmtree(folder, ignore_errors=True)
+    os._exit(1)
+
+
+def in_time(trial):
+    """The trial, with a verdict also where it does not end."""
+
+    def run(folder):
+        kills = {eight_tills: TILL_KILLS, office_killed: KILLS, till_killed: KILLS}.get(trial, 0)
+        seconds = LONGEST + LONGEST_KILL * kills
+        watch = threading.Timer(seconds, gives_up, (trial.__name__, seconds, folder))
+        watch.daemon = True
+        watch.start()
+        try:
+            trial(folder)
+        except Exception as error:  # Whatever a wrong client does is a difference.
+            same(f"{trial.__name__} goes on", f"{type(error).__name__}: {error}", "")
+        finally:
+            watch.cancel()
+            for child in children():
+                os.kill(child, signal.SIGKILL)
+
+    return run
+
+
+ALL = [sells, threads, sockets, office_killed, till_killed, journals, replies, disks, eight_tills]
+TRIALS = {trial.__name__: trial for trial in ALL}
 print(f"the seed is {SEED}", flush=True)
-sys.exit(try_each([sells, office_killed, till_killed, journals, replies, disks], "a client: 0 differ", "a client: {} differ"))
+chosen = [TRIALS[word] for word in sys.argv[1:] if word in TRIALS] or TRIALS.values()
+sys.exit(try_each(map(in_time, chosen), "a client: 0 differ", "a client: {} differ"))

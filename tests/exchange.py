@@ -1,113 +1,200 @@
 #!/usr/bin/env python3
-"""Has two open offices exchange messages by the scripts of exchange/: office.py alone, a folder, and two brokers with a bridge
-where mosquitto is there. Messages are torn and forged, an office is closed and brokers are killed; in the end all is summed up.
+"""Has open offices exchange messages by the scripts of exchange/: office.py alone, ssh, a folder, and three brokers where mosquitto
+is there. Messages are torn and forged, an office is closed and brokers are killed; in the end all is summed up.
 
-Usage: tests/exchange.py [PROGRAM]     (PROGRAM: crates/boxoffice/out/boxoffice)
+Usage: tests/exchange.py [PROGRAM [office|ssh|folder|brokers ..]]     (PROGRAM: crates/boxoffice/out/boxoffice; without names: all)
 
-Says what differs and ends with status 1 where anything does.
+Says what differs and ends with status 1 where anything does. It needs no rights and no network beside this machine's own. In place
+of ssh is a script that runs the command of the key at once; what ssh itself does is not tried.
 """
 
 import contextlib
 import os
+import random
 import shutil
+import socket
 import subprocess
 import sys
 import tempfile
 import time
 
-from serving import Caller, ended
-from trial import HERE, PROGRAM, SECONDS, call, free_port, same, try_each
+from serving import Caller, Office, Operator
+from trial import HERE, SECONDS, call, free_port, same, try_each
 
 tempfile.tempdir = "/dev/shm" if os.path.isdir("/dev/shm") else None
-OFFICE, FOLDER, MQTT = (os.path.join(HERE, "..", "exchange", name) for name in ("office.py", "folder/boxoffice-exchange", "mqtt"))
-FILES = ["north.db", "south.db"]
+OFFICE, FOLDER, MQTT, SSH = (
+    os.path.join(HERE, "..", "exchange", name) for name in ("office.py", "folder/boxoffice-exchange", "mqtt", "ssh")
+)
+BOARD = os.path.join(HERE, "..", "examples", "board.py")
+BOARD_WORDS = ["--events", "gala", "expo", "--output", "page.html"]
+CITIES, NEEDED = ["north", "south", "east"], ("mosquitto", "mosquitto_pub", "mosquitto_sub", "openssl")
 OPENING = ["announce 1 gala", "release 2 gala 100", "cede 3 gala 40 1"]
 CESSION = "delta 0 1 3\nname gala\ngave gala 0 0 100\ngave gala 0 1 40\nend\n"
 ACKNOWLEDGED = "ack 1 0 3\nend\n"
-AGAIN = 2  # What is due is published again after as many seconds.
+EVERY = "0.2"  # How often a script looks, and by how many seconds what is due is published again.
 # Messages that are not what they are named, or not whole; what follows `end` would be a line of its own to the office.
 REFUSED = {"delta 1 0 9\nname expo\nend\n": "misnamed", "delta 0 1 9\nname expo\n": "truncated"}
 REFUSED |= {"delta 0 1 9\nname expo\nend\nclose\n": "trailing", "delta 0 1 9\nname Expo\nend\n": "bad-line 2"}
 
 
-class Office:
-    """An office of one of two sites, once callers can come, with a clerk."""
+class Site(Office):
+    """The office of one of several sites, with a clerk."""
 
-    def __init__(self, folder, me):
-        self.folder, self.me, self.file, port = folder, me, FILES[me], free_port()
-        streams = {"stdin": subprocess.DEVNULL, "stdout": subprocess.PIPE, "stderr": subprocess.PIPE}
-        self.program = subprocess.Popen([PROGRAM, "open", str(port), self.file], cwd=folder, **streams)
-        same(f"what {self.file} prints as it opens", self.program.stdout.readline(), b"open\n")
-        self.clerk = Caller(port)
+    def __init__(self, folder, me, sites=2, port=None):
+        self.me, self.file, self.sites = me, CITIES[me] + ".db", sites
+        if not os.path.exists(os.path.join(folder, self.file)):
+            same(f"init {self.file}", call(folder, ["init", self.file, str(me), str(sites), "100000"]), (0, "done\n", ""))
+        super().__init__(folder, self.file, port or quiet_port())
+        self.clerk = Caller(self.port)
+
+    def close(self):
+        same(f"close of {self.file}", Operator(self.path).ask("close"), "")
+        self.has_ended()
 
     def ask(self, *lines):
         return [self.clerk.ask(line) for line in lines]
 
-    def close(self):
-        same(f"close {self.file}", call(self.folder, ["close", self.file]), (0, "", ""))
-        same(f"the end of {self.file}", ended(self.program), (0, "", ""))
+    def export(self, to):
+        return python(self.folder, [OFFICE, "export", self.file + "-sock", str(to)])
 
     def due(self):
-        return run(self.folder, [OFFICE, "export", self.file + "-sock", str(1 - self.me)])
+        return [self.export(peer) for peer in range(self.sites) if peer != self.me]
 
 
-def run(folder, words, given=""):
-    done = subprocess.run(words, input=given, capture_output=True, text=True, cwd=folder, timeout=SECONDS, check=False)
+def quiet_port():
+    """A port that is free and that no connection is given by chance, also while no one listens at it."""
+    for _ in range(1000):
+        with contextlib.closing(socket.socket()) as probe, contextlib.suppress(OSError):
+            probe.bind(("127.0.0.1", port := random.SystemRandom().randrange(15000, 32000)))
+            return port
+    return free_port()
+
+
+def run(folder, words, given="", **more):
+    done = subprocess.run(words, input=given, capture_output=True, text=True, cwd=folder, timeout=SECONDS, check=False, **more)
     return done.returncode, done.stdout, done.stderr
 
 
+def python(folder, words, given="", **more):
+    return run(folder, [sys.executable, *words], given, **more)
+
+
 @contextlib.contextmanager
-def two_offices(folder):
-    """Two offices that are killed at the end of a `with`, unless they were closed."""
-    for me, file in enumerate(FILES):
-        same(f"init {file}", call(folder, ["init", file, str(me), "2", "100000"]), (0, "done\n", ""))
-    offices = [Office(folder, me) for me in range(2)]
+def opened_sites(folder, sites):
+    """Offices that are killed at the end of a `with`, unless they were closed. One that is opened again takes its place there."""
+    offices = []
     try:
+        for me in range(sites):
+            offices.append(Site(folder, me, sites))
         yield offices
     finally:
         for office in offices:
             office.program.kill()
 
 
-def comes(what, look, wanted):
-    """Looks until it is as wanted, or time is up."""
-    end = time.monotonic() + SECONDS
-    while (found := look()) != wanted and time.monotonic() < end:
+def comes(what, look, wanted, seconds=SECONDS):
+    """Looks until it is as wanted, or time is up; gives how many seconds it took."""
+    begin = time.monotonic()
+    while (found := look()) != wanted and time.monotonic() < begin + seconds:
         time.sleep(0.05)
     same(what, found, wanted)
+    return time.monotonic() - begin
 
 
-def comes_to_both(what, offices, totals):
-    comes(f"{what}: the totals", lambda: [office.ask("totals gala") for office in offices], [[f"totals {totals}"]] * 2)
-    comes(f"{what}: nothing is due", lambda: [office.due() for office in offices], [(1, "", "")] * 2)
+def comes_to_all(what, offices, totals):
+    comes(f"{what}: the totals", lambda: [office.ask("totals gala") for office in offices], [[f"totals {totals}"]] * len(offices))
+    due = [[(1, "", "")] * (len(offices) - 1)] * len(offices)
+    comes(f"{what}: nothing is due", lambda: [office.due() for office in offices], due)
 
 
 def audited(offices, sold):
     for office in offices:
         office.close()
     sums = f"gala released 100 sold {sold} refunded 0 outstanding {sold}\n"
-    same("the audit", call(offices[0].folder, ["audit", *FILES]), (0, sums, ""))
+    # (A program that checks itself, as one unproved does, sums up slowly.)
+    found = call(offices[0].folder, ["audit", *(office.file for office in offices)], "", 10 * SECONDS)
+    same("the audit", found, (0, sums, ""))
 
 
 def asked_by_office(folder):
     """What office.py prints and ends with."""
-    with two_offices(folder) as (north, south):
-        same("nothing is due", north.due(), (1, "", ""))
+    with opened_sites(folder, 2) as (north, south):
+        same("nothing is due", north.export(1), (1, "", ""))
         same("the opening", north.ask(*OPENING), ["done"] * 3)
-        same("the cession, twice", [north.due(), north.due()], [(0, CESSION, "")] * 2)
+        same("the cession, twice", [north.export(1), north.export(1)], [(0, CESSION, "")] * 2)
         takes = [OFFICE, "import", south.file + "-sock"]
         refused = {**REFUSED, "": "truncated", "delta 0 1 2\n" + "a" * 201 + "\nend\n": "bad-line 2"}
         for message, word in list(refused.items())[1:]:
-            same(f"import of {message!r}", run(folder, takes, message), (1, "", word + "\n"))
-        same("it is joined, and comes again", [run(folder, takes, CESSION) for _ in range(2)], [(0, ACKNOWLEDGED, "")] * 2)
-        same("it is acknowledged", run(folder, [OFFICE, "import", north.file + "-sock"], ACKNOWLEDGED), (0, "", ""))
-        same("at its own sender", run(folder, takes, ACKNOWLEDGED), (1, "", "not-for-me\n"))
-        same("nothing is due any more", north.due(), (1, "", ""))
-        same("to no site", run(folder, [OFFICE, "export", north.file + "-sock", "2"]), (1, "", "no-site\n"))
-        same("wrong arguments", run(folder, [OFFICE, "export", north.file + "-sock"])[:2], (2, ""))
+            same(f"import of {message!r}", python(folder, takes, message), (1, "", word + "\n"))
+        same("it is joined, and comes again", [python(folder, takes, CESSION) for _ in range(2)], [(0, ACKNOWLEDGED, "")] * 2)
+        same("it is acknowledged", python(folder, [OFFICE, "import", north.file + "-sock"], ACKNOWLEDGED), (0, "", ""))
+        same("at its own sender", python(folder, takes, ACKNOWLEDGED), (1, "", "not-for-me\n"))
+        same("nothing is due any more", north.export(1), (1, "", ""))
+        same("to no site", north.export(2), (1, "", "no-site\n"))
+        same("wrong arguments", python(folder, [OFFICE, "export", north.file + "-sock"])[:2], (2, ""))
         same("what it may sell", south.ask("left gala", "left expo"), ["left 40", "unknown"])
+        same("the board", python(folder, [BOARD, north.path, "south.db-sock", "none-sock", *BOARD_WORDS])[0], 0)
+        with open(os.path.join(folder, "page.html"), encoding="utf-8") as page:
+            text = page.read()
+        shown = ["left at north: 60<", "left at south: 40<", "not given back: 0<", "not heard of: 0<"]
+        shown += ["2 of 3 answer", "no answer yet"]
+        same("what it shows", [part for part in shown if part not in text], [])
         audited([north, south], 0)
-        same("no office", [north.due(), run(folder, takes, CESSION)], [(3, "", "not-open\n")] * 2)
+        same("no office", [north.export(1), python(folder, takes, CESSION)], [(3, "", "not-open\n")] * 2)
+
+
+# In place of ssh: it runs the command of the key, as the far machine would, unless the line is cut. It hands over a byte less where
+# the line tears what goes through it.
+FAKE_SSH = """#!/bin/sh
+[ ! -e {folder}/cut ] || {{ echo 'ssh: connect to host south port 22: Connection timed out' >&2; exit 255; }}
+[ ! -e {folder}/torn ] || {{ head -c 30 | {answer}; exit; }}
+[ "$(eval echo \\"\\${{$#}}\\")" = clerk@south ] && exec {answer}
+"""
+
+
+def over_ssh(folder):
+    answer = f"{sys.executable} {SSH}/boxoffice-answer 1 {folder}/south.db 0"
+    with open(os.path.join(folder, "ssh"), "w", encoding="ascii") as file:
+        file.write(FAKE_SSH.format(folder=folder, answer=answer))
+    os.chmod(file.name, 0o755)
+    place = {"env": {**os.environ, "PATH": folder + ":" + os.environ["PATH"]}}
+    words = [f"{SSH}/boxoffice-exchange", "0", "north.db"]
+    joined = "site 1: delta from 0: joined\nsite 0: ack from 1: acked\n"
+
+    def looks():
+        return python(folder, [*words, "--once", "1=clerk@south"], **place)
+
+    def answers(given):
+        return python(folder, answer.split()[1:], given)
+
+    with opened_sites(folder, 2) as (north, south):
+        same("nothing is due", looks(), (0, "", ""))
+        same("the opening", north.ask(*OPENING), ["done"] * 3)
+        open(os.path.join(folder, "torn"), "w", encoding="ascii").close()
+        same("a look, torn", looks(), (0, "", "site 1: delta from 0: truncated\n"))
+        os.remove(os.path.join(folder, "torn"))
+        same("a look", looks(), (0, "", joined))
+        same("both sell", north.ask("sell 5 gala 1") + south.ask("left gala", "sell 1 gala 1"), ["done", "left 40", "done"])
+        brought = "site 0: delta from 1: joined\nsite 1: ack from 0: acked\n"
+        brought += "site 1: delta from 0: nothing-new\nsite 0: ack from 1: acked\n"
+        same("a look both ways", looks(), (0, "", joined + brought))
+        comes_to_all("by ssh", [north, south], "released 100 sold 2 refunded 0 open 98")
+        for message in ("delta 2 1 9\nname expo\nend\n", "ack 1 0 2\nend\n", "close\nend\n", "export 0\nclose\n"):
+            kind = "ack" if message.startswith("ack") else "delta"
+            same(f"forged {message!r}", answers(message), (0, "", f"site 1: {kind} from 0: misnamed\n"))
+        open(os.path.join(folder, "cut"), "w", encoding="ascii").close()
+        same("north cedes, cut off", north.ask("cede 6 gala 10 1"), ["done"])
+        same("a look, cut off", (looks()[0], south.ask("left gala")), (3, ["left 39"]))
+        with running(folder, [[*words, "--every", EVERY, "1=clerk@south"]], [place["env"]]):
+            comes("it is said", lambda: "timed out" in said(folder, 0), True)
+            os.remove(os.path.join(folder, "cut"))
+            comes("what was ceded", lambda: south.ask("left gala"), ["left 49"])
+            comes_to_all("by itself", [north, south], "released 100 sold 2 refunded 0 open 98")
+        south.close()
+        same("no office there", (looks()[0], answers("")), (3, (3, "", "site 1: not-open\n")))
+        south = Site(folder, 1)
+        audited([north, south], 2)
+        same("no office here", looks(), (3, "", "site 0: not-open\n"))
 
 
 def of_folder(folder):
@@ -116,135 +203,185 @@ def of_folder(folder):
         return sorted((file.name, file.stat().st_mtime_ns, file.stat().st_ino) for file in files)
 
 
-def looks(office):
+def looks_into_folder(office):
     """What the folder's script says as it looks once."""
-    return run(office.folder, [FOLDER, str(office.me), "2", office.file, "shared", "--once"])
+    return python(office.folder, [FOLDER, str(office.me), "2", office.file, "shared", "--once"])
 
 
 def damaged_in_folder(folder, north, south):
     """What is torn or forged is refused and said; the next look of its sender puts the message there again."""
     same("twenty more", north.ask("cede 4 gala 20 1"), ["done"])
     for message, word in REFUSED.items():
-        same("north looks", looks(north)[0], 0)
+        same("north looks", looks_into_folder(north)[0], 0)
         with open(os.path.join(folder, "shared", "0-1.delta"), "w", encoding="ascii") as file:
             file.write(message)
-        same(f"in the folder {message!r}", looks(south), (0, "", f"site 1: delta from 0: {word}\n"))
+        same(f"in the folder {message!r}", looks_into_folder(south), (0, "", f"site 1: delta from 0: {word}\n"))
         same("nothing came", south.ask("left gala", "left expo"), ["left 39", "unknown"])
-    same("north looks, then south", [looks(north)[0], looks(south)], [0, (0, "", "site 1: delta from 0: joined\n")])
+    found = [looks_into_folder(north)[0], looks_into_folder(south)]
+    same("north looks, then south", found, [0, (0, "", "site 1: delta from 0: joined\n")])
     same("it came", south.ask("left gala"), ["left 59"])
 
 
 def by_folder(folder):
     os.mkdir(os.path.join(folder, "shared"))
-    with two_offices(folder) as offices:
+    with opened_sites(folder, 2) as offices:
         north, south = offices
         same("the opening", north.ask(*OPENING), ["done"] * 3)
-        same("north looks", looks(north), (0, "", ""))
-        same("south looks", looks(south), (0, "", "site 1: delta from 0: joined\n"))
+        same("north looks", looks_into_folder(north), (0, "", ""))
+        same("south looks", looks_into_folder(south), (0, "", "site 1: delta from 0: joined\n"))
         same("both sell", north.ask("sell 5 gala 1") + south.ask("left gala", "sell 1 gala 1"), ["done", "left 40", "done"])
         for _ in range(5):
-            same("both look", [looks(office)[0] for office in offices], [0, 0])
-        comes_to_both("by hand", offices, "released 100 sold 2 refunded 0 open 98")
+            same("both look", [looks_into_folder(office)[0] for office in offices], [0, 0])
+        comes_to_all("by hand", offices, "released 100 sold 2 refunded 0 open 98")
         before = of_folder(folder)
-        same("looks that find nothing new", [looks(office)[0] for office in offices * 2], [0] * 4)
+        same("looks that find nothing new", [looks_into_folder(office)[0] for office in offices * 2], [0] * 4)
         same("they change no file", of_folder(folder), before)
         damaged_in_folder(folder, north, south)
-        words = [[FOLDER, str(office.me), "2", office.file, "shared"] for office in offices]
-        with running(folder, words):
-            comes_to_both("by itself", offices, "released 100 sold 2 refunded 0 open 98")
+        with running(folder, [[FOLDER, str(office.me), "2", office.file, "shared", "--every", EVERY] for office in offices]):
+            comes_to_all("by itself", offices, "released 100 sold 2 refunded 0 open 98")
             south.close()
             same("north cedes, cut off", north.ask("sell 6 gala 4", "cede 7 gala 10 1"), ["done"] * 2)
-            offices[1] = south = Office(folder, 1)
+            offices[1] = south = Site(folder, 1)
             comes("south opened again", lambda: south.ask("left gala"), ["left 69"])
-            comes_to_both("in the end", offices, "released 100 sold 6 refunded 0 open 94")
+            comes_to_all("in the end", offices, "released 100 sold 6 refunded 0 open 94")
         audited(offices, 6)
 
 
 @contextlib.contextmanager
-def running(folder, commands, environments=({}, {})):
-    """Commands that run until the end of a `with`; what they say is in the files 0.said, 1.said."""
+def running(folder, scripts, environments=None):
+    """Scripts that run until the end of a `with`; what they say is in the files 0.said, 1.said and so on."""
     with contextlib.ExitStack() as stack:
-        for k, (words, more) in enumerate(zip(commands, environments)):
-            said = stack.enter_context(open(os.path.join(folder, f"{k}.said"), "a", encoding="utf-8"))
-            program = subprocess.Popen(words, cwd=folder, stderr=said, env={**os.environ, **more})
+        for k, words in enumerate(scripts):
+            file = stack.enter_context(open(os.path.join(folder, f"{k}.said"), "a", encoding="utf-8"))
+            more = (environments or {}) and environments[k]
+            program = subprocess.Popen([sys.executable, *words], cwd=folder, stderr=file, env={**os.environ, **more})
             stack.callback(program.wait, SECONDS)
             stack.callback(program.terminate)
         yield
 
 
-def broker(folder, me):
-    place = os.path.join(folder, str(me), "broker.conf")
-    return subprocess.Popen(["mosquitto", "-c", place], stdout=subprocess.DEVNULL, stderr=subprocess.DEVNULL)
+def said(folder, me):
+    with open(os.path.join(folder, f"{me}.said"), encoding="utf-8") as file:
+        return file.read()
 
 
-@contextlib.contextmanager
-def killed(folder, brokers, me):
-    """A broker that is not there until a moment after the end of a `with`."""
-    brokers[me].kill()
-    brokers[me].wait(SECONDS)
-    yield
-    time.sleep(1)
-    brokers[me] = broker(folder, me)
+class Brokers:
+    """A broker for each site, as `configure` has it."""
+
+    def __init__(self, folder, hosts, before=()):
+        """`before` are for each broker the words that start a program elsewhere, as in a network namespace."""
+        self.folder, self.hosts, self.before, self.programs = folder, hosts, before, [None] * len(hosts)
+        pairs = [f"{me}={host}" for me, (host, _) in enumerate(hosts)]
+        same("certificates", run(folder, [os.path.join(MQTT, "certificates"), *pairs]), (0, "", ""))
+        for me, (_, port) in enumerate(hosts):
+            os.mkdir(place := os.path.join(folder, str(me)))
+            for file in ["ca.crt", f"{me}.crt", f"{me}.key"]:
+                shutil.copy(os.path.join(folder, file), place)
+            same("configure", run(place, [os.path.join(MQTT, "configure"), str(me), str(port)]), (0, "", ""))
+            self.start(me)
+
+    def start(self, me):
+        words = [*(self.before[me] if self.before else ()), "mosquitto", "-c", os.path.join(self.folder, str(me), "broker.conf")]
+        self.programs[me] = subprocess.Popen(words, stdout=subprocess.DEVNULL, stderr=subprocess.DEVNULL)
+
+    def kill(self, me):
+        self.programs[me].kill()
+        self.programs[me].wait(SECONDS)
+
+    @contextlib.contextmanager
+    def killed(self, me):
+        """The broker of a site is not there until a moment after the end of a `with`."""
+        self.kill(me)
+        yield
+        time.sleep(1)
+        self.start(me)
+
+    def end(self):
+        for me in range(len(self.hosts)):
+            self.kill(me)
+
+    def script(self, me, file):
+        """The words that run a site's script, without those that start it elsewhere, and its environment."""
+        peers = [f"{peer}={host}:{port}" for peer, (host, port) in enumerate(self.hosts) if peer != me]
+        words = [os.path.join(MQTT, "boxoffice-exchange"), str(me), file, "--every", EVERY, *peers]
+        return words, {"XDG_CONFIG_HOME": os.path.join(self.folder, str(me))}
+
+    def publish(self, me, at, topic, message):
+        """What a broker answers a site that publishes this."""
+        words = ["mosquitto_pub", "-V", "mqttv5", "-k", "5", "-q", "1", "-r", "-t", topic, "-m", message]
+        place = {**os.environ, "XDG_CONFIG_HOME": os.path.join(self.folder, str(me))}
+        return run(self.folder, [*words, "-h", self.hosts[at][0], "-p", str(self.hosts[at][1])], env=place)[2].strip()
+
+    def holds(self, me, topic, part):
+        """Whether the retained message of a topic at a site's own broker has this."""
+        place = {**os.environ, "XDG_CONFIG_HOME": os.path.join(self.folder, str(me))}
+        return part in run(self.folder, ["mosquitto_sub", "-k", "5", "-C", "1", "-W", "2", "-t", topic], env=place)[1]
+
+    def dies(self, me, at, topic, message):
+        """A site leaves this behind at a broker as its last will, and its connection ends."""
+        place = {**os.environ, "XDG_CONFIG_HOME": os.path.join(self.folder, str(me))}
+        words = ["mosquitto_sub", "-h", self.hosts[at][0], "-p", str(self.hosts[at][1]), "-t", f"sites/{me}/#", "--will-qos", "1"]
+        will = ["--will-retain", "--will-topic", topic, "--will-payload", message]
+        with subprocess.Popen([*words, *will], env=place, stdout=subprocess.DEVNULL, stderr=subprocess.DEVNULL) as program:
+            time.sleep(1)
+            program.kill()
 
 
-def configured(folder):
-    """A folder for each site's broker, of which the first makes a bridge to the second."""
-    ports = [free_port(), free_port()]
-    same("certificates", run(folder, [os.path.join(MQTT, "certificates"), "0=127.0.0.1", "1=127.0.0.1"]), (0, "", ""))
-    for me, bridges in enumerate([[f"1=127.0.0.1:{ports[1]}"], []]):
-        os.mkdir(place := os.path.join(folder, str(me)))
-        for file in ["ca.crt", f"{me}.crt", f"{me}.key"]:
-            shutil.copy(os.path.join(folder, file), place)
-        same("configure", run(place, [os.path.join(MQTT, "configure"), str(me), str(ports[me]), *bridges]), (0, "", ""))
-
-
-def publish(folder, me, topic, message):
-    place = {**os.environ, "XDG_CONFIG_HOME": os.path.join(folder, str(me))}
-    words = ["mosquitto_pub", "-q", "1", "-r", "-t", topic, "-m", message]
-    same(f"publish at {topic}", subprocess.run(words, env=place, timeout=SECONDS, check=False).returncode, 0)
+def forged(brokers):
+    """Under another's name no broker takes a message, from whomever; one that has another's text no script takes."""
+    for me, at, name in [(0, 2, 1), (1, 2, 0), (1, 0, 2), (2, 0, 1), (2, 1, 0), (0, 0, 1)]:
+        for kind, message in [("delta", f"delta {name} {at} 9\nname expo\nend\n"), ("ack", f"ack {name} {at} 1\nend\n")]:
+            found = brokers.publish(me, at, f"sites/{at}/{name}/{kind}", message)
+            same(f"site {me} at broker {at} as site {name}", found, "Warning: Publish 1 failed: Not authorized.")
+    brokers.dies(1, 2, "sites/2/0/delta", "delta 0 2 9\nname expo\nend\n")
+    same("another's text under its own name", brokers.publish(1, 2, "sites/2/1/delta", "delta 0 2 9\nname expo\nend\n"), "")
 
 
 def sold_over_brokers(folder, offices, brokers):
-    north, south = offices
+    north, south, east = offices
     same("the opening", north.ask(*OPENING), ["done"] * 3)
     comes("the cession", lambda: south.ask("left gala"), ["left 40"])
-    same("both sell", north.ask("sell 4 gala 1") + south.ask("sell 1 gala 1"), ["done"] * 2)
-    comes_to_both("over brokers", offices, "released 100 sold 2 refunded 0 open 98")
-    # Under another's name the broker takes no message; under its own, but with another's text, the script takes none.
-    publish(folder, 0, "sites/0/1/delta", "delta 1 0 9\nname expo\nend\n")
-    publish(folder, 1, "sites/0/1/delta", "delta 0 1 9\nname expo\nend\n")
-    same("both sell on", north.ask("sell 5 gala 1") + south.ask("sell 2 gala 1"), ["done"] * 2)
-    comes_to_both("after forged messages", offices, "released 100 sold 4 refunded 0 open 96")
-    with killed(folder, brokers, 1):
+    same("both sell", north.ask("sell 4 gala 1") + south.ask("sell 1 gala 1", "cede 2 gala 1 2"), ["done"] * 3)
+    comes("a second cession", lambda: east.ask("left gala"), ["left 1"])
+    comes_to_all("over brokers", offices, "released 100 sold 2 refunded 0 open 98")
+    forged(brokers)
+    comes("a text of another is misnamed", lambda: "site 2: delta from 1: misnamed\n" in said(folder, 2), True)
+    same("all sell on", north.ask("sell 5 gala 1") + south.ask("sell 3 gala 1") + east.ask("sell 1 gala 1"), ["done"] * 3)
+    comes_to_all("after forged messages", offices, "released 100 sold 5 refunded 0 open 95")
+    with brokers.killed(1):
         same("north, cut off", north.ask("cede 6 gala 20 1", "sell 7 gala 35"), ["done", "done"])
-        same("south, cut off", south.ask("sell 3 gala 38", "sell 4 gala 1"), ["done", "short 0"])
+        same("south, cut off", south.ask("sell 4 gala 37", "sell 5 gala 1"), ["done", "short 0"])
     comes("what was ceded, after the cut", lambda: south.ask("left gala"), ["left 20"])
-    same("a name that no site announced", north.ask("left expo") + south.ask("left expo"), ["unknown"] * 2)
-    with killed(folder, brokers, 0):
-        same("five go back", south.ask("cede 5 gala 5 0"), ["done"])
+    same("a name that no site announced", [office.ask("left expo") for office in offices], [["unknown"]] * 3)
+    with brokers.killed(0):
+        same("five go back", south.ask("cede 6 gala 5 0"), ["done"])
     comes("what was given back", lambda: north.ask("left gala"), ["left 8"])
-    comes_to_both("after the cuts", offices, "released 100 sold 77 refunded 0 open 23")
+    comes_to_all("after the cuts", offices, "released 100 sold 77 refunded 0 open 23")
+    south.close()
+    same("one more for south", north.ask("cede 8 gala 1 1"), ["done"])
+    comes("it is published", lambda: brokers.holds(1, "sites/1/0/delta", "gave gala 0 1 61\n"), True)
+    with brokers.killed(1):
+        os.remove(os.path.join(folder, "1", "mosquitto.db"))
+    offices[1] = south = Site(folder, 1, 3)
+    comes("what a broker had lost comes again", lambda: south.ask("left gala"), ["left 16"])
 
 
 def over_brokers(folder):
-    if missing := [name for name in ("mosquitto", "mosquitto_pub", "mosquitto_sub", "openssl") if not shutil.which(name)]:
+    if missing := [name for name in NEEDED if not shutil.which(name)]:
         print(f"over brokers: not tried, without {', '.join(missing)}")
         return
-    configured(folder)
-    words = [[os.path.join(MQTT, "boxoffice-exchange"), str(me), "2", FILES[me], str(AGAIN)] for me in range(2)]
-    places = [{"XDG_CONFIG_HOME": os.path.join(folder, str(me))} for me in range(2)]
-    brokers = [broker(folder, me) for me in range(2)]
+    brokers = Brokers(folder, [("127.0.0.1", quiet_port()) for _ in CITIES])
     try:
-        with two_offices(folder) as offices:
-            with running(folder, words, places):
+        with opened_sites(folder, 3) as offices:
+            scripts, places = zip(*(brokers.script(office.me, office.file) for office in offices))
+            with running(folder, scripts, places):
                 sold_over_brokers(folder, offices, brokers)
             audited(offices, 77)
     finally:
-        for one in brokers:
-            one.kill()
-            one.wait(SECONDS)
-    with open(os.path.join(folder, "0.said"), encoding="utf-8") as said:
-        same("a text of another is misnamed", "site 0: delta from 1: misnamed\n" in said.read(), True)
+        brokers.end()
 
 
-sys.exit(try_each([asked_by_office, by_folder, over_brokers], "exchange: 0 differ", "exchange: {} differ"))
+TRIALS = {"office": asked_by_office, "ssh": over_ssh, "folder": by_folder, "brokers": over_brokers}
+if __name__ == "__main__":
+    chosen = [TRIALS[word] for word in sys.argv[1:] if word in TRIALS] or TRIALS.values()
+    sys.exit(try_each(chosen, "exchange: 0 differ", "exchange: {} differ"))

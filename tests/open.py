@@ -33,7 +33,7 @@ from trial import FORGED, PROGRAM, SECONDS, call, free_port, intact, opened, sam
 # The disk is not what is tried here.
 tempfile.tempdir = "/dev/shm" if os.path.isdir("/dev/shm") else None
 # How many are served at once at the port, and the most bytes of a socket's path.
-MOST_CALLERS, MOST_PATH = 64, 107
+MOST_CALLERS, MOST_OPERATORS, MOST_PATH = 64, 8, 107
 # The bytes of a log that may not grow further.
 MOST_LOG = 1 << 20
 KILLS, KILLED_CALLERS, SEATS = 5, 6, 100_000
@@ -89,10 +89,11 @@ def two_doors(folder):
     office = Office(folder)
     same("another address is not listened to", is_reached("127.0.0.2", office.port), False)
     caller, operator = Caller(office.port), Operator(office.path)
-    asked(caller, ["export 1", "close", "find 1", "", "left gala"], ["bad-line"] * 4 + ["unknown"])
+    asked(caller, ["export 1", "close", "find 1", "list gala", "status", "", "left gala"], ["bad-line"] * 6 + ["unknown"])
     lines = ["import", *FORGED.splitlines()]
     asked(caller, lines, ["bad-line"] * len(lines))
     asked(operator, ["export", "export 64", "export 01", "import 1", "close 1", " close"], ["bad-line"] * 6)
+    asked(operator, ["find", "find 0", "find 01", "list", "list Gala", "list gala gala", "status 1"], ["bad-line"] * 7)
     asked(operator, ["export 0", "export 2", "export 1"], ["no-site", "no-site", "nothing"])
     asked(operator, OPENING, ["done"] * 3)
     name = "delta 1 0 1\nname gala\n"
@@ -109,6 +110,99 @@ def two_doors(folder):
     same("close at the socket", Operator(office.path).ask("close"), "")
     office.has_ended()
     same("what is kept", kept(folder), ({1: "done", 2: "done", 3: "done", 4: "short 60", 5: "done"}, []))
+
+
+def stands(what, status, wanted):
+    """A caller who went away is counted for a moment more."""
+    end = time.monotonic() + SECONDS
+    while (found := status()) != wanted and time.monotonic() < end:
+        time.sleep(0.01)
+    same(what, found, wanted)
+
+
+def looked_up(folder):
+    """What is kept under a number, what names an event, and where the office stands: each as the file has it by then."""
+    made(folder)
+    office = Office(folder)
+    clerk, operator = Caller(office.port), Operator(office.path)
+    asked(operator, ["find 1", "list gala", "status"], ["none", "none", "site 0 sites 2 entries 0 limit 1000000 callers 2"])
+    asked(clerk, [*OPENING, "sell 4 gala 61", "sell 5 gala 3", "refund 6 5 1"], ["done"] * 3 + ["short 60", "done", "done"])
+    same("a message", operator.take("delta 1 0 1\nname expo\nend\n"), ("joined", "ack 0 1 1\nend\n"))
+    asked(clerk, ["announce 7 expo"], ["known"])
+    asked(operator, ["find 1", "find 4", "find 6", "find 7", "find 8"], ["0 done", "3 short 60", "5 done", "7 known", "none"])
+    rows = ["0 announce 1 gala done", "1 release 2 gala 100 done", "2 cede 3 gala 40 1 done", "3 sell 4 gala 61 short 60"]
+    lists = {"gala": [*rows, "4 sell 5 gala 3 done", "end"], "expo": ["7 announce 7 expo known", "end"], "none": ["none"]}
+    for event, lines in lists.items():
+        operator.send(f"list {event}")
+        same(f"list {event}", [operator.reply() for _ in lines], lines)
+    clerk.quit()
+    stands("status once the clerk has gone", lambda: operator.ask("status"), "site 0 sites 2 entries 8 limit 1000000 callers 1")
+    office.close()
+    for event, lines in lists.items():
+        printed = "".join(line + "\n" for line in lines if line != "end")
+        same(f"list {event}, closed", call(folder, ["list", FILE, event]), (int(event == "none"), printed, ""))
+    same("status, closed", call(folder, ["status", FILE]), (0, "site 0 sites 2 entries 8 limit 1000000\n", ""))
+
+
+def commands(folder):
+    """The same commands print the same with the same status, where an office has the file open and where none has."""
+    lines = "\n".join([*OPENING, "close", "export 1", "import", "status", "", "left gala", "sell 4 gala 61", "totals gala"])
+    bad = "bad-line\n" * 5 + "left 60\nshort 60\ntotals released 100 sold 0 refunded 0 open 100\n"
+    name, longest = "delta 1 0 1\nname expo\nend\n", "x" * 201 + "\n"
+    runs = [(["ask", FILE], lines, (0, "done\n" * 3 + bad, "")), (["ask", FILE], "quit\nleft gala\n", (0, "", ""))]
+    runs += [(["ask", FILE], "left gala\n" + longest, (3, "left 60\n", "line-too-long\n")), (["ask", FILE], "", (0, "", ""))]
+    runs += [(["ask", FILE], "sell 5 gala 1", (0, "done\n", "")), (["find", FILE, "4"], "", (0, "3 short 60\n", ""))]
+    runs += [(["find", FILE, "9"], "", (1, "none\n", "")), (["list", FILE, "none"], "", (1, "none\n", ""))]
+    runs += [(["list", FILE, "Gala"], "", (1, "none\n", "")), (["export", FILE, "0"], "", (1, "no-site\n", ""))]
+    runs += [(["import", FILE], text, (1, word + "\n", "")) for text, word in {
+        "": "truncated", "close\n": "bad-line 1", name + "close\n": "trailing", name[:-4]: "truncated",
+        FORGED: "not-for-me", "ack 1 0 9\nend\n": "stray-ack 5"}.items()]
+    runs += [(["import", FILE], name, (0, word + "\n", "")) for word in ("joined", "nothing-new")]
+    runs += [(["import", FILE], "ack 1 0 1\nend\n", (0, "acked\n", "")), (["find", FILE, "0"], "", None)]
+    runs += [(["list", FILE, "gala"], "", None), (["list", FILE, "expo"], "", None), (["import", FILE], longest, None)]
+    found = []
+    for is_open in (True, False):
+        with tempfile.TemporaryDirectory() as place:
+            made(place)
+            office = Office(place) if is_open else None
+            same("nothing is due", call(place, ["export", FILE, "1"]), (1, "nothing\n", ""))
+            found.append([call(place, words, given) for words, given, _ in runs])
+            stood = "site 0 sites 2 entries 6 limit 1000000" + " callers 1" * is_open
+            stands(f"status, open: {is_open}", lambda: call(place, ["status", FILE]), (0, stood + "\n", ""))
+            if office:
+                same("a message that is due", call(place, ["export", FILE, "1"])[1][:10], "delta 0 1 ")
+                office.close()
+    for (words, given, wanted), at_office, at_file in zip(runs, *found):
+        same(f"{words} with {given!r}: open, and closed", at_office, at_file)
+        same(f"{words} with {given!r}", wanted or at_file, at_file)
+
+
+def piped(folder):
+    """`ask` at an office prints each reply before it reads the next line. What cannot be printed is said. A ninth at the socket waits."""
+    made(folder)
+    office = Office(folder)
+    streams = {"stdin": subprocess.PIPE, "stdout": subprocess.PIPE, "text": True, "bufsize": 1}
+    with subprocess.Popen([PROGRAM, "ask", FILE], cwd=folder, **streams) as asking:
+        for line, reply in {"announce 1 gala": "done", "close": "bad-line", "left gala": "left 0"}.items():
+            asking.stdin.write(line + "\n")
+            is_there = select.select([asking.stdout], [], [], SECONDS)[0]
+            same(f"the reply to {line}", asking.stdout.readline() if is_there else "", reply + "\n")
+        asking.stdin.close()
+        same("the end of ask", asking.wait(SECONDS), 0)
+    for words in [["find", FILE, "1"], ["list", FILE, "gala"], ["export", FILE, "1"], ["status", FILE]]:
+        with open("/dev/full", "wb") as full:
+            done = subprocess.run([PROGRAM, *words], cwd=folder, stdout=full, stderr=subprocess.PIPE, timeout=SECONDS, check=False)
+        same(f"{words} to a full device", (done.returncode, done.stderr), (3, b"write\n"))
+    operators = [Operator(office.path) for _ in range(MOST_OPERATORS)]
+    same("as many as there may be", [operator.ask("find 1") for operator in operators], ["0 done"] * MOST_OPERATORS)
+    ninth = Operator(office.path)
+    ninth.send("find 1")
+    same("one more waits", select.select([ninth.stream], [], [], 0.3)[0], [])
+    same("the first has gone", operators[0].quit(), True)
+    same("then it is answered", ninth.reply(), "0 done")
+    for operator in [*operators[1:], ninth]:
+        operator.quit()
+    office.close()
 
 
 def passed_on(giver, taker, to):
@@ -265,8 +359,9 @@ def refused(folder):
     for words in [["open", "0", FILE], ["open", "65536", FILE], ["open", FILE], ["open", port, FILE, FILE], ["close"]]:
         same(f"{words}", call(folder, words)[:2], (2, ""))
     office = Office(folder)
-    for words in [["open", port, FILE], ["ask", FILE], ["find", FILE, "1"], ["export", FILE, "1"], ["audit", FILE]]:
-        same(f"{words} beside it", call(folder, words), (3, "", "disk\n"))
+    others = [["open", port, FILE], ["audit", FILE], ["audit", "none.db", FILE], ["grow", FILE, "3"], ["migrate", FILE]]
+    for words in [*others, ["serve", port, "0", "0", FILE]]:
+        same(f"{words} beside it", call(folder, words), (3, "", "open\n"))
     same("it goes on", [at.ask("left gala") for at in (Caller(office.port), Operator(office.path))], ["left 0"] * 2)
     office.close()
     same("ask at once after it", call(folder, ["ask", FILE], "left gala\n"), (0, "left 0\n", ""))
@@ -278,13 +373,13 @@ def sessions(folder):
     office = Office(folder)
     asked(Caller(office.port), ["announce 1 gala", "release 2 gala 9"], ["done", "done"])
     sizes = []
-    for _ in range(300):
+    for _ in range(1000):
         caller = Caller(office.port)
         asked(caller, ["left gala", "announce 1 gala", "sell", "quit"], ["left 9", "done", "bad-line", ""])
         caller.go_away()
         with open(f"/proc/{office.program.pid}/status", encoding="ascii") as status:
             sizes += [int(line.split()[1]) for line in status if line.startswith("VmRSS")]
-    same(f"{sizes[299] - sizes[99]} kB more after 200 sessions more, of {sizes[99]}", sizes[299] - sizes[99] < 2048, True)
+    same(f"{sizes[999] - sizes[99]} kB more after 900 sessions more, of {sizes[99]}", sizes[999] - sizes[99] < 2048, True)
     callers = [Caller(office.port) for _ in range(MOST_CALLERS)]
     same("as many as there may be", [caller.ask("left gala") for caller in callers], ["left 9"] * MOST_CALLERS)
     callers.append(Caller(office.port))
@@ -301,11 +396,16 @@ def sessions(folder):
     same("what is kept", kept(folder), ({1: "done", 2: "done"}, []))
 
 
-def storing_fails(folder):
-    """A log that may not grow: the request that cannot be stored gets `store`, and the office closes."""
+def until_full(folder):
+    """An office whose log may not grow for ever."""
     made(folder)
     most = {"preexec_fn": lambda: resource.setrlimit(resource.RLIMIT_FSIZE, (MOST_LOG, MOST_LOG)), "restore_signals": False}
-    office, number = Office(folder, **most), 1
+    return Office(folder, **most)
+
+
+def storing_fails(folder):
+    """The request that cannot be stored gets `store`, and the office closes."""
+    office, number = until_full(folder), 1
     caller, other = Caller(office.port), Operator(office.path)
     while number < 5000 and (reply := caller.ask(f"announce {number} event-{number}")) == "done":
         number += 1
@@ -316,6 +416,19 @@ def storing_fails(folder):
     same("asked again", call(folder, ["ask", FILE], lines), (0, "done\n" * number, ""))
 
 
-TRIALS = [forty_callers, two_doors, exchange, killed, cut_off, places_of_sockets, refused, sessions, storing_fails]
+def storing_a_message_fails(folder):
+    """So does the message that cannot be stored, and what it brought may be in the file."""
+    office, count = until_full(folder), 0
+    operator = Operator(office.path)
+    while count < 5000 and (word := operator.take(f"delta 1 0 {count + 1}\nname event-{count}\nend\n")[0]) == "joined":
+        count += 1
+    same(f"the answer after {count}", (word, count > 0), ("store", True))
+    same("the end", ended(office.program), (3, "", "closed 0\n"))
+    with opened(folder, FILE) as db:
+        same("what is kept", db.execute("SELECT count(*) FROM entries").fetchone()[0] - count in (0, 1), True)
+
+
+TRIALS = [forty_callers, two_doors, looked_up, commands, piped, exchange, killed, cut_off, places_of_sockets, refused, sessions]
+TRIALS += [storing_fails, storing_a_message_fails]
 print(f"the seed is {SEED}", flush=True)
 sys.exit(try_each(TRIALS, "an open office: 0 differ", "an open office: {} differ"))

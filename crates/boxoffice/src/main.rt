@@ -2,7 +2,7 @@
 //!
 //! A thin main: it reads the arguments, opens and closes files as databases, takes connections, and hands all of it to
 //! `operator_cli`, whose commands run over any store. `Shelf` is where databases are opened and closed; `files.rt` and
-//! `connections.rt` have the file's checks and the ends of connections.
+//! `connections.rt` have the file's checks and the ends of connections, and `offices.rt` what goes to an open office.
 //!
 //! Guaranteed: the connection that a command gets shows the database that the file and its log held, whatever they
 //! held at first, or an empty one where they held none. Not proved, but tested on the built program: that the right
@@ -12,17 +12,19 @@
 mod connections;
 mod doors;
 mod files;
+mod offices;
 
 use crate::connections::visits;
 use crate::doors::Socket;
 use crate::files::{FileFault, Files, close, failed, open_or_make, open_there};
+use crate::offices::visited;
 use book_core::Limit;
 use live_office::{Closing, TcpDoor, UnixDoor};
 use operator_cli::{
     CloseFault, FileNames, Order, Status, WordsFault, ask_store, audit_stores, export_store,
     find_store, grow_store, import_store, init_store, list_store, migrate_store, office_store,
-    open_store, read_words, refuse_parts, refuse_site, serve_stores, tell_close_fault,
-    tell_listen_fault, tell_socket_fault, world_script,
+    open_store, read_words, refuse_parts, refuse_site, serve_stores, status_store,
+    tell_close_fault, tell_listen_fault, tell_socket_fault, world_script,
 };
 use request_ledger::RequestNumber;
 use rights_lattice::{SiteId, Sites};
@@ -91,7 +93,7 @@ impl<F: Start, B: Begins<First = F>> Shelf<Connection<Files<F>>> for ByPath<B> {
     }
 }
 
-fn out_of_memory(rt: &HostRuntime) -> Status {
+pub(crate) fn out_of_memory(rt: &HostRuntime) -> Status {
     let _ = eprintln!(rt; "memory");
     Status::Failed
 }
@@ -101,7 +103,7 @@ fn not_unicode(rt: &HostRuntime) -> Status {
     Status::NotUnderstood
 }
 
-fn buffered(rt: &HostRuntime) -> Result<BufWriter<Stdout>, Status> {
+pub(crate) fn buffered(rt: &HostRuntime) -> Result<BufWriter<Stdout>, Status> {
     match BufWriter::new(rt.alloc(), rt.stdout()) {
         Ok(out) => Ok(out),
         Err(_) => Err(out_of_memory(rt)),
@@ -190,6 +192,16 @@ fn run_list<S: Alter + Drop, H: Shelf<Connection<S>>>(
     let mut out = buffered(rt)?;
     let conn = shelf.open_there(rt, file)?;
     let came = list_store(rt.alloc(), conn, event, &mut out, &mut rt.stderr());
+    Ok(shelf.close(rt, came))
+}
+
+fn run_status<S: Alter + Drop, H: Shelf<Connection<S>>>(
+    rt: &HostRuntime,
+    file: &str,
+    shelf: &H,
+) -> Result<Status, Status> {
+    let conn = shelf.open_there(rt, file)?;
+    let came = status_store(rt.alloc(), conn, &mut rt.stdout(), &mut rt.stderr());
     Ok(shelf.close(rt, came))
 }
 
@@ -533,6 +545,25 @@ fn run_order<S: Alter + Drop + Send, H: Shelf<Connection<S>>>(
         } => run_serve(rt, host, &files, port, sessions, rounds, shelf),
         Order::Open { port, file } => run_open(rt, host, port, file, shelf),
         Order::Close { file } => run_close(rt, host, file),
+        Order::Status { file } => run_status(rt, file, shelf),
+    }
+}
+
+// The same, where it does not go to an office that is open.
+fn run_or_visit<S: Alter + Drop + Send, H: Shelf<Connection<S>>>(
+    rt: &HostRuntime,
+    host: &(impl Threads
+        + Wait
+        + Clock
+        + Sync
+        + Paths
+        + Net<Listener = TcpListener, Stream = TcpStream>),
+    order: Order<'_>,
+    shelf: &H,
+) -> Result<Status, Status> {
+    match visited(rt, host, &order)? {
+        Some(status) => Ok(status),
+        None => run_order(rt, host, order, shelf),
     }
 }
 
@@ -548,7 +579,7 @@ fn run<S: Alter + Drop + Send, H: Shelf<Connection<S>>>(
     shelf: &H,
 ) -> Status {
     match read_words(rt.alloc(), words) {
-        Ok(order) => match run_order(rt, host, order, shelf) {
+        Ok(order) => match run_or_visit(rt, host, order, shelf) {
             Ok(status) | Err(status) => status,
         },
         Err(WordsFault::NotUnderstood { text }) => {

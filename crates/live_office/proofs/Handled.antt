@@ -8,7 +8,7 @@ use Rattle.live_office.specs.declared.door.Access.{Access}
 use Rattle.live_office.specs.declared.handler.Last.{Last}
 use Rattle.live_office.specs.declared.importing.ImportFault.TheVariants.{Unread}
 use Rattle.live_office.specs.declared.office_line.OfficeLine.{OfficeLine}
-use Rattle.live_office.specs.declared.office_line.OfficeLine.TheVariants.{Session, Export, Import, Close as CloseLine}
+use Rattle.live_office.specs.declared.office_line.OfficeLine.TheVariants as office_line
 use Rattle.live_office.specs.Admissible.{Admissible}
 use Rattle.live_office.specs.Handling.{Gathering, Handles, HandlesBy, HandlesLine, HandlesLost, HandlesPart, LastHandled, Lost, Nothing, SeatState, Text, ends_message, seat_state}
 use Rattle.live_office.specs.Lines.{office_line_of}
@@ -26,13 +26,16 @@ parts_of_same : (old new : SeatState) → new ≡ old → new.held.parts ≡ old
 parts_of_same old new is = ap (λ (s : SeatState). s.held.parts) is
 
 line_parts : {K : Type 0} (d : Admissible K) (old : SeatState) (line : Option OfficeLine) (text : List ℕ) (new : SeatState) → HandlesLine d old line text new → new.held.parts ≡ old.held.parts
-line_parts d old (Some (Session QuitLine)) text new h = absurd h
-line_parts d old (Some (Session (Ask number request))) text new h = given_parts d old.held (Ask number request) h.0 new.held h.1
-line_parts d old (Some (Session (Left event))) text new h = given_parts d old.held (Left event) h.0 new.held h.1
-line_parts d old (Some (Session (Totals event))) text new h = given_parts d old.held (Totals event) h.0 new.held h.1
-line_parts d old (Some (Export to)) text new h = parts_of_same old new h.3
-line_parts d old (Some Import) text new h = ap (λ (s : SeatState). s.held.parts) h.1
-line_parts d old (Some CloseLine) text new h = absurd h
+line_parts d old (Some (office_line.Session QuitLine)) text new h = absurd h
+line_parts d old (Some (office_line.Session (Ask number request))) text new h = given_parts d old.held (Ask number request) h.0 new.held h.1
+line_parts d old (Some (office_line.Session (Left event))) text new h = given_parts d old.held (Left event) h.0 new.held h.1
+line_parts d old (Some (office_line.Session (Totals event))) text new h = given_parts d old.held (Totals event) h.0 new.held h.1
+line_parts d old (Some (office_line.Export to)) text new h = parts_of_same old new h.3
+line_parts d old (Some office_line.Import) text new h = ap (λ (s : SeatState). s.held.parts) h.1
+line_parts d old (Some (office_line.Find number)) text new h = parts_of_same old new h.3
+line_parts d old (Some (office_line.List event)) text new h = parts_of_same old new h.3
+line_parts d old (Some office_line.Status) text new h = parts_of_same old new h.4
+line_parts d old (Some office_line.Close) text new h = absurd h
 line_parts d old None text new h = parts_of_same old new h.1
 
 either_parts : (held : Held) (a b : Gathering) (new : SeatState) → (new ≡ seat_state held a) ⊎ (new ≡ seat_state held b) → new.held.parts ≡ held.parts

@@ -1,5 +1,5 @@
 -- Which books may stand at a desk, and what it may tell of them. (Our own.)
-use Rattle.std.specs.Prelude.{ℕ, List, Option}
+use Rattle.std.specs.Prelude.{◌≡◌, ℕ, true, List, Option}
 use Rattle.book_core.specs.declared.entry.Entry.{Entry}
 use Rattle.book_core.specs.Decision.{Office}
 use Rattle.site_desk.specs.Moments.{AtOneMoment}
@@ -20,6 +20,10 @@ admissible office began failed is_trusted kept may_leave =
 -- it holds of some book that may stand at the desk
 abbrev pub SomeAdmissible : {K : Type 0} → Admissible K → (SiteView K → Type 0) → Type 0
 SomeAdmissible d Holds = AtOneMoment d.office d.began d.in_step Holds
+
+-- some book that may stand at the desk is closed, as after its store failed
+abbrev pub IsShut : {K : Type 0} → Admissible K → Type 0
+IsShut {K} d = SomeAdmissible d (λ (s : SiteView K). s.closed ≡ true)
 
 -- what the desk may tell a session
 abbrev pub telling : {K : Type 0} → Admissible K → Telling

@@ -1,19 +1,26 @@
 -- The texts that answer the lines of an office. (Our own.)
-use Rattle.std.specs.Prelude.{ℕ, List, [], ◌∷◌, ◌++◌, Option, Some, None, Result, Ok, Err, codes}
+use Rattle.std.specs.Prelude.{ℕ, ◌==◌, List, [], ◌∷◌, ◌++◌, length, if◌then◌else◌, Option, Some, None, Result, Ok, Err, Vec, codes}
 use Rattle.std.specs.Fmt.{decimal}
+use Rattle.std.specs.List.{flat_map}
+use Rattle.sql_records.specs.declared.lookup.Found.{Found}
+use Rattle.sql_records.specs.declared.lookup.Listed.{Listed}
 use Rattle.site_exchange.specs.declared.message.Message.{Message}
 use Rattle.delta_wire.specs.Grammar.{message_text}
 use Rattle.delta_wire.specs.declared.fault.WireFault.{WireFault}
 use Rattle.delta_wire.specs.declared.fault.WireFault.TheVariants.{Truncated, BadLine, OutOfOrder, Trailing, Memory}
+use Rattle.site_desk.specs.declared.answer.Standing.{Standing}
 use Rattle.site_desk.specs.declared.answer.Taken.{Taken}
 use Rattle.site_desk.specs.declared.answer.Taken.TheVariants.{Joined, NothingNew, Acked}
+use Rattle.site_desk.specs.declared.fault.LookUpFault.{LookUpFault}
+use Rattle.site_desk.specs.declared.fault.LookUpFault.TheVariants as look_up
 use Rattle.site_desk.specs.declared.fault.NextFault.{NextFault}
 use Rattle.site_desk.specs.declared.fault.NextFault.TheVariants as next
 use Rattle.desk_lines.specs.Replies.{reply_line, take_fault_text}
 use Rattle.live_office.specs.declared.importing.ImportFault.{ImportFault}
 use Rattle.live_office.specs.declared.importing.ImportFault.TheVariants.{Unread, Refused}
 use Rattle.live_office.specs.declared.office_answer.OfficeAnswer.{OfficeAnswer}
-use Rattle.live_office.specs.declared.office_answer.OfficeAnswer.TheVariants.{Reply, Exported, Imported, Quiet}
+use Rattle.live_office.specs.declared.office_answer.OfficeAnswer.TheVariants as answer
+use Rattle.live_office.specs.RecordLines.{found_line, row_line}
 
 -- the word, and the number of the line, of a text that is no message
 abbrev pub wire_fault_text : WireFault → List ℕ
@@ -47,9 +54,41 @@ imported_text (Ok (NothingNew ack)) = (codes "nothing-new" ++ 10 ∷ []) ++ mess
 imported_text (Ok Acked) = codes "acked" ++ 10 ∷ []
 imported_text (Err fault) = import_fault_text fault ++ 10 ∷ []
 
+-- why nothing is told of requests
+abbrev pub look_up_fault_text : LookUpFault → List ℕ
+look_up_fault_text look_up.Closed = codes "closed"
+look_up_fault_text look_up.Memory = codes "memory"
+
+-- the place and the reply that are kept under a number, or that there are none
+abbrev pub found_text : Result (Option Found) LookUpFault → List ℕ
+found_text (Ok (Some found)) = found_line found.place found.reply
+found_text (Ok None) = codes "none" ++ 10 ∷ []
+found_text (Err fault) = look_up_fault_text fault ++ 10 ∷ []
+
+-- a line for each request, and the line `end`
+abbrev pub ended_rows : List Listed → List ℕ
+ended_rows rows = flat_map row_line rows ++ (codes "end" ++ 10 ∷ [])
+
+-- the same, or that there are none
+abbrev pub rows_text : List Listed → List ℕ
+rows_text rows = if length rows == 0 then codes "none" ++ 10 ∷ [] else ended_rows rows
+
+abbrev pub listed_text : {Z : Type 0} → Result (Vec Listed Z) LookUpFault → List ℕ
+listed_text (Ok listed) = rows_text listed.items
+listed_text (Err fault) = look_up_fault_text fault ++ 10 ∷ []
+
+-- which site it is, how many it counts, how long its history is and may become, and how many callers are served
+abbrev pub status_text : Standing → ℕ → List ℕ
+status_text s callers =
+    codes "site " ++ decimal s.me ++ codes " sites " ++ decimal s.sites ++ codes " entries " ++ decimal s.entries ++ codes " limit " ++ decimal s.limit
+    ++ codes " callers " ++ decimal callers ++ 10 ∷ []
+
 -- the whole answer to a line, with its line breaks; nothing while a message comes
 abbrev pub answer_text : OfficeAnswer → List ℕ
-answer_text (Reply answered) = reply_line answered
-answer_text (Exported result) = exported_text result
-answer_text (Imported result) = imported_text result
-answer_text Quiet = []
+answer_text (answer.Reply answered) = reply_line answered
+answer_text (answer.Exported result) = exported_text result
+answer_text (answer.Imported result) = imported_text result
+answer_text (answer.Found result) = found_text result
+answer_text (answer.Listed result) = listed_text result
+answer_text (answer.Status standing callers) = status_text standing callers
+answer_text answer.Quiet = []

@@ -2,17 +2,22 @@
 use Rattle.std.specs.Prelude.{ℕ, ⊤, List, [], ◌∷◌, codes}
 use Rattle.std.specs.List.{join_with_byte}
 use Rattle.std.specs.Fmt.{decimal}
+use Rattle.rights_lattice.specs.Cells.{IsValue}
+use Rattle.rights_lattice.specs.EventName.{IsEventName}
 use Rattle.rights_lattice.specs.Limits.{IsSite}
 use Rattle.desk_lines.specs.Grammar.{IsSessionLine, session_words}
 use Rattle.live_office.specs.declared.office_line.OfficeLine.{OfficeLine}
-use Rattle.live_office.specs.declared.office_line.OfficeLine.TheVariants.{Session, Export, Import, Close}
+use Rattle.live_office.specs.declared.office_line.OfficeLine.TheVariants as office_line
 
 -- the words of a line
 abbrev pub office_words : OfficeLine → List (List ℕ)
-office_words (Session line) = session_words line
-office_words (Export to) = codes "export" ∷ decimal to ∷ []
-office_words Import = codes "import" ∷ []
-office_words Close = codes "close" ∷ []
+office_words (office_line.Session line) = session_words line
+office_words (office_line.Export to) = codes "export" ∷ decimal to ∷ []
+office_words office_line.Import = codes "import" ∷ []
+office_words (office_line.Find number) = codes "find" ∷ decimal number ∷ []
+office_words (office_line.List event) = codes "list" ∷ event ∷ []
+office_words office_line.Status = codes "status" ∷ []
+office_words office_line.Close = codes "close" ∷ []
 
 -- the words with one space between two
 unfoldable pub office_line_text : OfficeLine → List ℕ
@@ -20,7 +25,10 @@ office_line_text line = join_with_byte 32 (office_words line)
 
 -- what has a text
 abbrev pub IsOfficeLine : OfficeLine → Type 0
-IsOfficeLine (Session line) = IsSessionLine line
-IsOfficeLine (Export to) = IsSite to
-IsOfficeLine Import = ⊤
-IsOfficeLine Close = ⊤
+IsOfficeLine (office_line.Session line) = IsSessionLine line
+IsOfficeLine (office_line.Export to) = IsSite to
+IsOfficeLine office_line.Import = ⊤
+IsOfficeLine (office_line.Find number) = IsValue number
+IsOfficeLine (office_line.List event) = IsEventName event
+IsOfficeLine office_line.Status = ⊤
+IsOfficeLine office_line.Close = ⊤

@@ -1,11 +1,16 @@
 -- How a seat handles the lines of a caller who may use all lines of an office. (Our own.)
-use Rattle.std.specs.Prelude.{◌≡◌, ◌⊎◌, ℕ, Bool, true, false, List, [], ◌∷◌, ◌++◌, Option, Some, None, Result, Err, codes}
+use Rattle.std.specs.Prelude.{◌≡◌, ◌⊎◌, ℕ, Bool, true, false, List, [], ◌∷◌, ◌++◌, Option, Some, None, Result, Err, Vec, codes}
 use Rattle.std.specs.Str.{bytes_eq}
+use Rattle.std.specs.declared.alloc.Global.{Global}
+use Rattle.sql_records.specs.declared.lookup.Found.{Found}
+use Rattle.sql_records.specs.declared.lookup.Listed.{Listed}
 use Rattle.site_exchange.specs.declared.message.Message.{Message}
 use Rattle.delta_wire.specs.declared.fault.WireFault.TheVariants.{Memory}
+use Rattle.site_desk.specs.declared.answer.Standing.{Standing}
 use Rattle.site_desk.specs.declared.answer.Taken.{Taken}
+use Rattle.site_desk.specs.declared.fault.LookUpFault.{LookUpFault}
 use Rattle.site_desk.specs.declared.fault.NextFault.{NextFault}
-use Rattle.site_desk.specs.Moments.{Sends}
+use Rattle.site_desk.specs.Moments.{Finds, IsStanding, Lists, Sends}
 use Rattle.site_desk.specs.Seats.{Held}
 use Rattle.desk_lines.specs.declared.line.Line.{Line}
 use Rattle.desk_lines.specs.declared.line.Line.TheVariants.{Ask, Left, Totals, Quit as QuitLine}
@@ -17,9 +22,9 @@ use Rattle.live_office.specs.declared.handler.Last.TheVariants.{Quit, Close}
 use Rattle.live_office.specs.declared.importing.ImportFault.{ImportFault}
 use Rattle.live_office.specs.declared.importing.ImportFault.TheVariants.{Unread}
 use Rattle.live_office.specs.declared.office_line.OfficeLine.{OfficeLine}
-use Rattle.live_office.specs.declared.office_line.OfficeLine.TheVariants.{Session, Export, Import, Close as CloseLine}
+use Rattle.live_office.specs.declared.office_line.OfficeLine.TheVariants as office_line
 use Rattle.live_office.specs.Admissible.{Admissible, SomeAdmissible}
-use Rattle.live_office.specs.Answers.{exported_text, imported_text}
+use Rattle.live_office.specs.Answers.{exported_text, found_text, imported_text, listed_text, status_text}
 use Rattle.live_office.specs.Importing.{IsImported}
 use Rattle.live_office.specs.Lines.{office_line_of}
 use Rattle.live_office.specs.SeatAnswers.{SeatAnswers}
@@ -43,16 +48,22 @@ abbrev pub HandlesSession : {K : Type 0} → Admissible K → SeatState → Line
 HandlesSession d old line text new =
     (given : Answered) × SeatAnswers d old.held line given new.held × (text ≡ reply_line given) × (new.gathering ≡ old.gathering)
 
--- A line where no message comes. `quit` and `close` have no answer.
+-- A line where no message comes. `quit` and `close` have no answer. The count of callers is not pinned.
 abbrev pub HandlesLine : {K : Type 0} → Admissible K → SeatState → Option OfficeLine → List ℕ → SeatState → Type 0
-HandlesLine d old (Some (Session (Ask number request))) text new = HandlesSession d old (Ask number request) text new
-HandlesLine d old (Some (Session (Left event))) text new = HandlesSession d old (Left event) text new
-HandlesLine d old (Some (Session (Totals event))) text new = HandlesSession d old (Totals event) text new
-HandlesLine d old (Some (Session QuitLine)) text new = ⊥
-HandlesLine d old (Some (Export to)) text new =
+HandlesLine d old (Some (office_line.Session (Ask number request))) text new = HandlesSession d old (Ask number request) text new
+HandlesLine d old (Some (office_line.Session (Left event))) text new = HandlesSession d old (Left event) text new
+HandlesLine d old (Some (office_line.Session (Totals event))) text new = HandlesSession d old (Totals event) text new
+HandlesLine d old (Some (office_line.Session QuitLine)) text new = ⊥
+HandlesLine d old (Some (office_line.Export to)) text new =
     (result : Result (Option Message) NextFault) × SomeAdmissible d (Sends to result) × (text ≡ exported_text result) × (new ≡ old)
-HandlesLine d old (Some Import) text new = (text ≡ []) × (new ≡ seat_state old.held (Text []))
-HandlesLine d old (Some CloseLine) text new = ⊥
+HandlesLine d old (Some office_line.Import) text new = (text ≡ []) × (new ≡ seat_state old.held (Text []))
+HandlesLine d old (Some (office_line.Find number)) text new =
+    (result : Result (Option Found) LookUpFault) × SomeAdmissible d (Finds number result) × (text ≡ found_text result) × (new ≡ old)
+HandlesLine d old (Some (office_line.List event)) text new =
+    (result : Result (Vec Listed Global) LookUpFault) × SomeAdmissible d (Lists event result) × (text ≡ listed_text result) × (new ≡ old)
+HandlesLine d old (Some office_line.Status) text new =
+    (standing : Standing) × (callers : ℕ) × SomeAdmissible d (IsStanding standing) × (text ≡ status_text standing callers) × (new ≡ old)
+HandlesLine d old (Some office_line.Close) text new = ⊥
 HandlesLine d old None text new = (text ≡ reply_line answered.Unread) × (new ≡ old)
 
 -- A line of a message, which is this text with it. With its last line the message is taken; before, nothing is answered.
@@ -82,8 +93,8 @@ Handles d old line text new = HandlesBy d old old.gathering line text new
 
 -- which lines end a session, and how
 abbrev pub IsLast : Last → Option OfficeLine → Type 0
-IsLast Quit line = line ≡ Some (Session QuitLine)
-IsLast Close line = line ≡ Some CloseLine
+IsLast Quit line = line ≡ Some (office_line.Session QuitLine)
+IsLast Close line = line ≡ Some office_line.Close
 
 -- such a line, where no message comes
 abbrev pub LastHandled : SeatState → List ℕ → Last → Type 0

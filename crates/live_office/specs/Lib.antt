@@ -7,6 +7,7 @@ pub mod Handed
 pub mod Handling
 pub mod Importing
 pub mod Lines
+pub mod RecordLines
 pub mod SeatAnswers
 pub mod Served
 pub mod Talks

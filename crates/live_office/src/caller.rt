@@ -1,6 +1,8 @@
 //! A connection over which a caller sends lines.
 
-ghost use Rattle.std.specs.Prelude.{◌≡◌, [], length, true, false, IfOk, IsErr};
+ghost use Rattle.std.specs.Prelude.{◌≡◌, ◌≢◌, [], length, take, true, false, None, Ok, IfOk, OnErr};
+ghost use Rattle.std.specs.Io.{ReadsAtMost};
+ghost use Rattle.std.specs.Io.KnownBytes.{ReadConsumes};
 ghost use Rattle.live_office.specs.Caller.{is_in_line};
 
 use crate::closing::Closing;
@@ -80,11 +82,11 @@ impl Connection {
     }
 }
 
-/// What a caller sends. A read fails where the office closes, where an hour goes by with nothing sent, and where the
-/// connection ends within a line, so that a line that was cut off is not asked.
+/// What a reader gives that gives up after a time. A read fails where the office closes, where an hour goes by with
+/// nothing given, and where the reader ends within a line, so that a line that was cut off is not asked.
 #[derive(Drop)]
-pub struct Caller<'a> {
-    connection: Connection,
+pub struct WholeLines<'a, R: Read + Drop> {
+    reader: R,
     closing: &'a Closing,
     is_in_line: bool,
 }
@@ -99,13 +101,14 @@ fn is_in_line(was: bool, bytes: &[u8]) -> bool
     begun
 }
 
-impl<'a> Caller<'a> {
-    /// What comes over this connection, from the start of a line.
-    pub fn new(connection: Connection, closing: &'a Closing) -> Caller<'a>
-        ensures { result.is_in_line ≡ false }
+impl<'a, R: Read + Drop> WholeLines<'a, R> {
+    /// What comes from this reader, from the start of a line.
+    pub fn new(reader: R, closing: &'a Closing) -> WholeLines<'a, R>
+        ensures reader { result.reader ≡ reader }
+        ensures line { result.is_in_line ≡ false }
     {
-        Caller {
-            connection,
+        WholeLines {
+            reader,
             closing,
             is_in_line: false,
         }
@@ -113,9 +116,11 @@ impl<'a> Caller<'a> {
 
     // The result of a read of these bytes. An end within a line is a fault.
     fn came(&mut self, bytes: &[u8]) -> io::Result<usize>
+        ensures reader { self.new.reader ≡ self.old.reader }
         ensures line { self.new.is_in_line ≡ is_in_line self.old.is_in_line bytes.now }
         ensures all { IfOk result (λ count. count ≡ length bytes.now) }
-        ensures cut_off { bytes.now ≡ [] → self.old.is_in_line ≡ true → IsErr result }
+        ensures none { OnErr result (bytes.now ≡ []) }
+        ensures cut_off { self.old.is_in_line ≡ true → result ≢ Ok 0 }
     {
         if bytes.is_empty() && self.is_in_line {
             return Err(io::Error::from(ErrorKind::UnexpectedEof));
@@ -125,13 +130,22 @@ impl<'a> Caller<'a> {
     }
 }
 
-impl Read for Caller<'_> {
-    fn read(&mut self, buf: &mut [u8]) -> io::Result<usize> {
-        for _ in 0..SILENT_TURNS {
+impl<R: Read + Drop> Read for WholeLines<'_, R> {
+    ghost remaining = { λ c. R.remaining c.reader };
+
+    fn read(&mut self, buf: &mut [u8]) -> io::Result<usize>
+        ensures bound { ReadsAtMost result buf.new }
+        ensures bytes { ReadConsumes (R.remaining self.old.reader) (R.remaining self.new.reader)
+            result buf.new }
+        ensures line { IfOk result (λ count. self.new.is_in_line ≡ is_in_line self.old.is_in_line
+            (take count buf.new)) }
+        ensures cut_off { self.old.is_in_line ≡ true → result ≢ Ok 0 }
+    {
+        'turns: for _ in 0..SILENT_TURNS {
             if self.closing.is_closing() {
                 return Err(io::Error::from(ErrorKind::ConnectionAborted));
             }
-            match self.connection.read(buf) {
+            match self.reader.read(buf) {
                 Ok(count) => return self.came(&buf[..count]),
                 Err(error) => match error.kind() {
                     ErrorKind::WouldBlock | ErrorKind::Interrupted => {}
@@ -140,5 +154,34 @@ impl Read for Caller<'_> {
             }
         }
         Err(io::Error::from(ErrorKind::TimedOut))
+    }
+}
+
+/// What a caller sends over a connection (`WholeLines`).
+#[derive(Drop)]
+pub struct Caller<'a> {
+    lines: WholeLines<'a, Connection>,
+}
+
+impl<'a> Caller<'a> {
+    /// What comes over this connection, which gives up after a time, from the start of a line.
+    pub fn new(connection: Connection, closing: &'a Closing) -> Caller<'a>
+        ensures { result.lines.is_in_line ≡ false }
+    {
+        Caller {
+            lines: WholeLines::new(connection, closing),
+        }
+    }
+}
+
+impl Read for Caller<'_> {
+    fn read(&mut self, buf: &mut [u8]) -> io::Result<usize>
+        ensures bound { ReadsAtMost result buf.new }
+        ensures bytes { ReadConsumes None None result buf.new }
+        ensures line { IfOk result (λ count. self.new.lines.is_in_line ≡ is_in_line
+            self.old.lines.is_in_line (take count buf.new)) }
+        ensures cut_off { self.old.lines.is_in_line ≡ true → result ≢ Ok 0 }
+    {
+        self.lines.read(buf)
     }
 }

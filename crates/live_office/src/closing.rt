@@ -1,8 +1,17 @@
-//! Whether an office closes.
+//! Whether an office closes, and what closes it.
 
+ghost use Rattle.std.specs.Prelude.{◌≡◌, Ok, Some};
+ghost use Rattle.live_office.specs.declared.handler.Last.TheVariants.{Close};
+ghost use Rattle.live_office.specs.Admissible.{IsShut, admissible};
+
+use crate::serving::Served;
+use site_desk::{Desk, Opens};
+use sql_records::Keeper;
+use std::io::{Read, Write};
 use std::sync::atomic::{AtomicBool, Ordering};
 
-/// Whether an office closes. Once it does, it does for good. Threads share it.
+/// Whether an office closes. Once it does, it does for good: no caller is let in any more, and a session ends once the
+/// lines that have come are answered. Threads share it.
 #[derive(Drop)]
 pub struct Closing {
     is_closing: AtomicBool,
@@ -16,9 +25,30 @@ impl Closing {
         }
     }
 
-    /// Lets no caller in any more. A session ends once the lines that have come are answered.
-    pub fn close(&self) {
+    fn close(&self) {
         self.is_closing.store(true, Ordering::SeqCst);
+    }
+
+    /// The office closes, as a caller asked whose last line was `close`.
+    pub fn asked<R: Read + Drop, W: Write + Drop, K: Keeper, L: Opens>(
+        &self,
+        _served: &Served<'_, R, W, K, L>,
+    )
+        requires { _served.now.ended ≡ Ok (Some Close) }
+    {
+        self.close();
+    }
+
+    /// The office closes, since the book at its desk closed when its store failed.
+    pub fn failed<K: Keeper, L: Opens>(&self, _desk: &Desk<K, L>)
+        requires { IsShut (admissible L.office L.began K.failed K.is_trusted K.kept K.may_leave) }
+    {
+        self.close();
+    }
+
+    // The office closes, since a thread of it could not be started.
+    pub(crate) fn not_staffed(&self) {
+        self.close();
     }
 
     /// Whether the office closes.

@@ -4,8 +4,9 @@ ghost use Rattle.std.specs.Prelude.{◌≡◌};
 ghost use Rattle.desk_lines.specs.declared.line.Line.TheVariants.{Ask, Left, Totals as TotalsOf};
 ghost use Rattle.desk_lines.specs.declared.answered.Answered.TheVariants.{Refused};
 ghost use Rattle.session_server.specs.BookStep.{not_shown};
-ghost use Rattle.live_office.specs.Admissible.{admissible};
+ghost use Rattle.live_office.specs.Admissible.{IsShut, admissible};
 ghost use Rattle.live_office.specs.SeatAnswers.{SeatAnswers};
+ghost use Rattle.site_desk.specs.declared.fault.AskFault.TheVariants.{Store};
 
 use crate::closing::Closing;
 use desk_lines::{Answered, Line};
@@ -64,10 +65,12 @@ impl<'a, K: Keeper, L: Opens> DeskSeat<'a, K, L> {
 
     // Why a request is not answered. After a failed store the office closes.
     fn refused(&self, fault: AskFault) -> Answered
+        requires { fault ≡ Store → IsShut (admissible L.office L.began K.failed K.is_trusted K.kept
+            K.may_leave) }
         ensures { result ≡ Refused fault }
     {
         if let AskFault::Store = fault {
-            self.closing.close();
+            self.closing.failed(self.desk);
         }
         Answered::Refused(fault)
     }

@@ -3,6 +3,7 @@
 ghost use Rattle.std.specs.Prelude.{◌≡◌, IfSome};
 ghost use Rattle.live_office.specs.declared.door.Access.{Access as AccessOf};
 
+use crate::serving::Call;
 use std::io::{Read, Write};
 use std::sync::Wait;
 use std::time::Clock;
@@ -14,28 +15,6 @@ pub enum Access {
     Session,
     /// Those, and the lines of the office.
     Office,
-}
-
-/// A caller that came in. It has neither `Drop` nor `Clone`: outside of this crate nothing but serving it uses it up.
-pub struct Call<R: Read + Drop, W: Write + Drop> {
-    pub(crate) access: Access,
-    pub(crate) reader: R,
-    pub(crate) writer: W,
-}
-
-impl<R: Read + Drop, W: Write + Drop> Call<R, W> {
-    /// A caller with this access, whose lines come from the reader, and whose answers go to the writer.
-    pub fn new(access: Access, reader: R, writer: W) -> Call<R, W>
-        ensures access { result.access ≡ access }
-        ensures reader { result.reader ≡ reader }
-        ensures writer { result.writer ≡ writer }
-    {
-        Call {
-            access,
-            reader,
-            writer,
-        }
-    }
 }
 
 /// A door at which callers come in, which threads share.

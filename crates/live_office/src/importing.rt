@@ -1,7 +1,9 @@
 //! The text of a message that comes to an office.
 
-ghost use Rattle.std.specs.Prelude.{◌≡◌};
-ghost use Rattle.live_office.specs.Admissible.{admissible};
+ghost use Rattle.std.specs.Prelude.{◌≡◌, Err};
+ghost use Rattle.site_exchange.specs.declared.message.TakeFault.TheVariants.{Store};
+ghost use Rattle.live_office.specs.declared.importing.ImportFault.TheVariants.{Refused};
+ghost use Rattle.live_office.specs.Admissible.{IsShut, admissible};
 ghost use Rattle.live_office.specs.Importing.{IsImported};
 
 use delta_wire::{WireFault, read_message};
@@ -25,15 +27,17 @@ pub enum ImportFault {
 
 /// Takes the message that the bytes spell, and gives the acknowledgement that is to go back.
 ///
-/// Errors are those of `read_message`, which change nothing, and of `Desk::take`.
+/// Errors are those of `read_message`, which change nothing, and of `Desk::take`: after `Store` the book is closed.
 pub fn import_at<T: Wait, K: Keeper, L: Opens>(
     rt: &T,
     alloc: Global,
     desk: &Desk<K, L>,
     bytes: &[u8],
 ) -> Result<Taken, ImportFault>
-    ensures { IsImported (admissible L.office L.began K.failed K.is_trusted K.kept K.may_leave)
-        bytes.now result }
+    ensures imported { IsImported (admissible L.office L.began K.failed K.is_trusted K.kept
+        K.may_leave) bytes.now result }
+    ensures shut { result ≡ Err (Refused Store) → IsShut (admissible L.office L.began K.failed
+        K.is_trusted K.kept K.may_leave) }
 {
     let message = match read_message(alloc, bytes) {
         Ok(message) => message,

@@ -2,17 +2,23 @@
 //!
 //! `open_office` serves callers at two doors, each in a thread, until one of them says `close` or the store fails. At a
 //! `TcpDoor` a caller has the lines of a session. At a `UnixDoor` a caller has these and the lines of the office:
-//! `export`, `import`, `close` (`OfficeLine`). A new line is a variant there, with a function of `office_line.rt` and
-//! a row of `specs/Grammar.antt`, `Lines.antt` and `Handling.antt`; a new answer is a variant of `OfficeAnswer`.
+//! `export`, `import`, `find`, `list`, `status`, `close` (`OfficeLine`). A new line is a variant there, with a function
+//! of `office_line.rt` and a row of `specs/Grammar.antt`, `Lines.antt` and `Handling.antt`; a new answer is a variant of
+//! `OfficeAnswer`.
 //!
 //! Guaranteed: what a served caller is sent is exactly the texts of the answers to the lines that were read, in order,
 //! up to a failed write (`Served`). A line of a session is answered as in any session, each answer is that of an
 //! admissible book, and the book that is returned extends the one that was passed. Of a session only the count of its
-//! seat is kept. Not proved: that callers are served and in which order, that a line does nothing else to the book
-//! than its answer tells, who may close an office, and that `close` ends the threads.
+//! seat is kept. A caller that came in can only be served (`Call`), and a line that was cut off is not asked (`WholeLines`).
+//! `Closing` closes for a caller who was served and said `close`, for a desk at which a closed book may stand, or where
+//! this crate could not start a thread.
+//!
+//! Not proved: that callers are served and in which order, that a line does nothing else to the book than its answer
+//! tells, the count of callers that `status` tells, who may use the socket, and that `close` ends the threads.
 #![tactic(auto)]
 
 mod caller;
+mod callers;
 mod closing;
 mod desk_seat;
 mod door;
@@ -22,23 +28,26 @@ mod office;
 mod office_answer;
 mod office_line;
 mod office_seat;
+mod record_lines;
 mod serving;
 mod socket_file;
 mod sockets;
 mod talking;
 mod workers;
 
-pub use caller::{Caller, Connection};
+pub use caller::{Caller, Connection, WholeLines};
+pub use callers::Callers;
 pub use closing::Closing;
 pub use desk_seat::DeskSeat;
-pub use door::{Access, Call, Door};
+pub use door::{Access, Door};
 pub use handler::{Handler, Last};
 pub use importing::{ImportFault, import_at};
 pub use office::{OfficeFault, open_office};
 pub use office_answer::{OfficeAnswer, write_answer};
 pub use office_line::{OfficeLine, read_office_line};
 pub use office_seat::OfficeSeat;
-pub use serving::Served;
+pub use record_lines::{found_line, listed_line};
+pub use serving::{Call, Served};
 pub use socket_file::{SocketFault, check_socket, remove_socket};
 pub use sockets::{TcpDoor, UnixDoor};
 pub use talking::office_talk;

@@ -7,6 +7,7 @@ ghost use Rattle.live_office.specs.Handed.{book_in};
 ghost use Rattle.live_office.specs.declared.office.OfficeFault.TheVariants.{Memory};
 ghost use Rattle.live_office.specs.declared.office.TheConstants.{WORKERS};
 
+use crate::callers::Callers;
 use crate::closing::Closing;
 use crate::door::Door;
 use crate::workers::{CLERKS, OPERATORS, Office, work_all};
@@ -115,12 +116,14 @@ fn at_desk<
         return Err((book, OfficeFault::Memory));
     };
     let (desk, seat) = Desk::<K, L>::new(book, blank);
+    let callers = Callers::new();
     let office = Office {
         alloc,
         desk: &desk,
         clerks,
         operators,
         closing,
+        callers: &callers,
     };
     let (all, seats) = staffed(rt, &office, seat, seats);
     if all {
@@ -130,7 +133,7 @@ fn at_desk<
 }
 
 /// Opens a site's office: callers at the two doors are served, each by a thread, until one of them says `close`, the
-/// store fails, or `closing` is closed otherwise. Then all threads are joined, and the book is returned. It is closed
+/// store fails, or a thread could not be started. Then all threads are joined, and the book is returned. It is closed
 /// where the store failed.
 ///
 /// Errors return the book too: with `Memory` as it was; with `NotStarted` it may have new entries.

@@ -1,18 +1,22 @@
 //! What an open office answers, and its text.
 
 ghost use Rattle.std.specs.Prelude.{◌≡◌, ◌≤◌, ◌++◌, ◌∷◌, []};
+ghost use Rattle.std.specs.List.{flat_map};
 ghost use Rattle.arrayvec.specs.ArrayVec.{array_vec_len};
 ghost use Rattle.plain_words.specs.Input.{longest_line};
 ghost use Rattle.plain_words.specs.Writing.{Writes};
 ghost use Rattle.delta_wire.specs.Grammar.{message_text};
-ghost use Rattle.live_office.specs.Answers.{answer_text, exported_text, import_fault_text, imported_text, next_fault_text, wire_fault_text};
+ghost use Rattle.live_office.specs.RecordLines.{row_line};
+ghost use Rattle.live_office.specs.Answers.{answer_text, ended_rows, exported_text, found_text, import_fault_text, imported_text, listed_text, look_up_fault_text, next_fault_text, rows_text, status_text, wire_fault_text};
 
 use crate::importing::ImportFault;
+use crate::record_lines::{found_line, listed_line};
 use delta_wire::{WireFault, write_message};
 use desk_lines::{Answered, reply_line, take_fault_text};
-use plain_words::{Text, WriteFault, numbered, put, word, write_bytes};
-use site_desk::{NextFault, Taken};
+use plain_words::{Text, WriteFault, numbered, put, put_number, word, write_bytes};
+use site_desk::{LookUpFault, NextFault, Standing, Taken};
 use site_exchange::Message;
+use sql_records::{Found, Listed};
 use std::io::Write;
 
 /// What a line is answered.
@@ -29,6 +33,19 @@ pub enum OfficeAnswer {
     /// What was done with a message.
     Imported {
         result: Result<Taken, ImportFault>,
+    },
+    /// What is kept under a number, if anything.
+    Found {
+        result: Result<Option<Found>, LookUpFault>,
+    },
+    /// The requests that name an event.
+    Listed {
+        result: Result<Vec<Listed>, LookUpFault>,
+    },
+    /// Where the book stands, and how many callers are served.
+    Status {
+        standing: Standing,
+        callers: u64,
     },
     /// Nothing yet: a message comes.
     Quiet,
@@ -114,6 +131,87 @@ fn write_imported<W: Write>(
     }
 }
 
+fn look_up_fault_text(fault: LookUpFault) -> Text
+    ensures value { result.items ≡ look_up_fault_text fault }
+    ensures len { array_vec_len result ≤ longest_line }
+{
+    match fault {
+        LookUpFault::Closed => word(b"closed"),
+        LookUpFault::Memory => word(b"memory"),
+    }
+}
+
+fn write_found<W: Write>(
+    found: &Result<Option<Found>, LookUpFault>,
+    out: &mut W,
+) -> Result<(), WriteFault>
+    ensures { Writes (W.contents out.old) (W.contents out.new) result (found_text found.now) }
+{
+    match found {
+        Ok(Some(found)) => write_bytes(found_line(found.place, found.reply).as_slice(), out),
+        Ok(None) => write_bytes(b"none\n", out),
+        Err(fault) => write_text(look_up_fault_text(*fault), out),
+    }
+}
+
+// Writes a line for each request.
+fn write_rows<W: Write>(rows: &[Listed], out: &mut W) -> Result<(), WriteFault>
+    ensures { Writes (W.contents out.old) (W.contents out.new) result (flat_map row_line rows.now) }
+{
+    'rows: for row in rows {
+        let line = listed_line(row.place, row.number, row.request, row.reply);
+        write_bytes(line.as_slice(), out)?;
+    }
+    Ok(())
+}
+
+// Writes a line for each request, and the line `end`.
+fn write_ended<W: Write>(rows: &[Listed], out: &mut W) -> Result<(), WriteFault>
+    ensures { Writes (W.contents out.old) (W.contents out.new) result (ended_rows rows.now) }
+{
+    write_rows(rows, out)?;
+    write_bytes(b"end\n", out)
+}
+
+// The same, or `none` where there is none.
+fn write_all<W: Write>(rows: &[Listed], out: &mut W) -> Result<(), WriteFault>
+    ensures { Writes (W.contents out.old) (W.contents out.new) result (rows_text rows.now) }
+{
+    if rows.is_empty() {
+        write_bytes(b"none\n", out)
+    } else {
+        write_ended(rows, out)
+    }
+}
+
+fn write_listed<W: Write>(
+    listed: &Result<Vec<Listed>, LookUpFault>,
+    out: &mut W,
+) -> Result<(), WriteFault>
+    ensures { Writes (W.contents out.old) (W.contents out.new) result (listed_text listed.now) }
+{
+    match listed {
+        Ok(rows) => write_all(rows.as_slice(), out),
+        Err(fault) => write_text(look_up_fault_text(*fault), out),
+    }
+}
+
+fn status_line(standing: Standing, callers: u64) -> Text
+    ensures { result.items ≡ status_text standing callers }
+{
+    let mut text = numbered(b"site ", standing.me.number());
+    put(&mut text, b" sites ");
+    put_number(&mut text, standing.sites.count());
+    put(&mut text, b" entries ");
+    put_number(&mut text, standing.entries as u64);
+    put(&mut text, b" limit ");
+    put_number(&mut text, standing.limit.entries());
+    put(&mut text, b" callers ");
+    put_number(&mut text, callers);
+    put(&mut text, b"\n");
+    text
+}
+
 /// Writes an answer, with its line breaks. A failed write leaves a prefix of it.
 pub fn write_answer<W: Write>(answer: &OfficeAnswer, out: &mut W) -> Result<(), WriteFault>
     ensures { Writes (W.contents out.old) (W.contents out.new) result (answer_text answer.now) }
@@ -122,6 +220,11 @@ pub fn write_answer<W: Write>(answer: &OfficeAnswer, out: &mut W) -> Result<(), 
         OfficeAnswer::Reply { answered } => reply_line(answered, out),
         OfficeAnswer::Exported { result } => write_exported(result, out),
         OfficeAnswer::Imported { result } => write_imported(result, out),
+        OfficeAnswer::Found { result } => write_found(result, out),
+        OfficeAnswer::Listed { result } => write_listed(result, out),
+        OfficeAnswer::Status { standing, callers } => {
+            write_bytes(status_line(*standing, *callers).as_slice(), out)
+        }
         OfficeAnswer::Quiet => write_bytes(b"", out),
     }
 }

@@ -1,15 +1,18 @@
 //! The lines of a caller who may use all lines of an office.
 
 ghost use Rattle.std.specs.Prelude.{◌≡◌, Ok, IfOk};
+ghost use Rattle.std.specs.Option.{option_map};
 ghost use Rattle.std.specs.Result.{result_ok};
+ghost use Rattle.delta_wire.specs.Fields.{natural_at};
 ghost use Rattle.live_office.specs.declared.office_line.OfficeLine.{OfficeLine};
 ghost use Rattle.live_office.specs.Grammar.{IsOfficeLine, office_line_text};
-ghost use Rattle.live_office.specs.Lines.{close_in, export_in, import_in, office_line_of, own_in};
+ghost use Rattle.live_office.specs.Lines.{close_in, export_in, find_in, import_in, list_in, office_line_of, own_in, status_in};
 
-use delta_wire::site_at;
+use delta_wire::{event_at, natural_at, site_at};
 use desk_lines::{BadLine, Line, read_line};
 use plain_words::Words;
-use rights_lattice::SiteId;
+use request_ledger::RequestNumber;
+use rights_lattice::{Event, SiteId};
 
 /// What a line asks of an open office.
 #[derive(Clone, Copy, PartialEq, Eq, Debug)]
@@ -20,6 +23,12 @@ pub enum OfficeLine {
     Export { to: SiteId },
     /// To take the message that the lines after it spell, up to `end`.
     Import,
+    /// The place and the reply that are kept under a number.
+    Find { number: RequestNumber },
+    /// The requests that name an event.
+    List { event: Event },
+    /// Which site it is, and how much it has to do.
+    Status,
     /// That the office closes.
     Close,
 }
@@ -47,6 +56,49 @@ fn import_in(words: &mut Words<'_>) -> Option<OfficeLine>
     }
 }
 
+fn request_number_at(words: &mut Words<'_>) -> Option<RequestNumber>
+    ensures { option_map (λ number. (number, words.new)) result ≡ natural_at words.old }
+{
+    let number = natural_at(words)?;
+    let number = RequestNumber::of(number)?;
+    Some(number)
+}
+
+#[tactic(auto, unfolding(crate::specs::Lines::find_in))]
+fn find_in(words: &mut Words<'_>) -> Option<OfficeLine>
+    ensures { result ≡ find_in words.old }
+{
+    let number = request_number_at(words)?;
+    if words.is_empty() {
+        Some(OfficeLine::Find { number })
+    } else {
+        None
+    }
+}
+
+#[tactic(auto, unfolding(crate::specs::Lines::list_in))]
+fn list_in(words: &mut Words<'_>) -> Option<OfficeLine>
+    ensures { result ≡ list_in words.old }
+{
+    let event = event_at(words)?;
+    if words.is_empty() {
+        Some(OfficeLine::List { event })
+    } else {
+        None
+    }
+}
+
+#[tactic(auto, unfolding(crate::specs::Lines::status_in))]
+fn status_in(words: &mut Words<'_>) -> Option<OfficeLine>
+    ensures { result ≡ status_in words.old }
+{
+    if words.is_empty() {
+        Some(OfficeLine::Status)
+    } else {
+        None
+    }
+}
+
 #[tactic(auto, unfolding(crate::specs::Lines::close_in))]
 fn close_in(words: &mut Words<'_>) -> Option<OfficeLine>
     ensures { result ≡ close_in words.old }
@@ -67,6 +119,12 @@ fn own_in(words: &mut Words<'_>) -> Option<OfficeLine>
         export_in(words)
     } else if word == b"import".as_slice() {
         import_in(words)
+    } else if word == b"find".as_slice() {
+        find_in(words)
+    } else if word == b"list".as_slice() {
+        list_in(words)
+    } else if word == b"status".as_slice() {
+        status_in(words)
     } else if word == b"close".as_slice() {
         close_in(words)
     } else {

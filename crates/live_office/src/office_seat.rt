@@ -1,15 +1,17 @@
 //! A seat at a desk for callers who may use all lines of an office.
 
-ghost use Rattle.std.specs.Prelude.{◌≡◌, [], ◌∷◌, ◌++◌, true, Some, IfSome, MatchResult};
-ghost use Rattle.site_desk.specs.Moments.{Sends};
+ghost use Rattle.std.specs.Prelude.{◌≡◌, [], ◌∷◌, ◌++◌, true, Some, Err, IfSome, MatchResult};
+ghost use Rattle.site_exchange.specs.declared.message.TakeFault.TheVariants.{Store};
+ghost use Rattle.live_office.specs.declared.importing.ImportFault.TheVariants.{Refused};
 ghost use Rattle.desk_lines.specs.declared.answered.Answered.TheVariants.{Unread};
 ghost use Rattle.desk_lines.specs.Replies.{reply_line};
-ghost use Rattle.live_office.specs.declared.office_line.OfficeLine.TheVariants.{Export, Session};
+ghost use Rattle.live_office.specs.declared.office_line.OfficeLine.TheVariants.{Export, Find, List as ListLine, Session, Status};
 ghost use Rattle.live_office.specs.Admissible.{admissible};
 ghost use Rattle.live_office.specs.Answers.{answer_text};
 ghost use Rattle.live_office.specs.Handling.{HandlesLine, HandlesLost, HandlesPart, HandlesSession, IsLast, Nothing, ends_message, seat_state};
 ghost use Rattle.live_office.specs.Lines.{office_line_of};
 
+use crate::callers::Callers;
 use crate::closing::Closing;
 use crate::desk_seat::DeskSeat;
 use crate::handler::{Handler, Last};
@@ -18,9 +20,10 @@ use crate::office_answer::OfficeAnswer;
 use crate::office_line::{OfficeLine, read_office_line};
 use delta_wire::WireFault;
 use desk_lines::{Answered, BadLine, Line};
-use rights_lattice::SiteId;
+use request_ledger::RequestNumber;
+use rights_lattice::{Event, SiteId};
 use session_server::Answerer;
-use site_desk::{Desk, Opens, Seat};
+use site_desk::{Desk, Opens, Seat, Taken};
 use site_exchange::TakeFault;
 use sql_records::Keeper;
 use std::alloc::Global;
@@ -43,6 +46,7 @@ pub struct OfficeSeat<'a, K: Keeper, L: Opens> {
     alloc: Global,
     desk: &'a Desk<K, L>,
     closing: &'a Closing,
+    callers: &'a Callers,
     seat: DeskSeat<'a, K, L>,
     gathered: Gathered,
 }
@@ -69,6 +73,15 @@ fn with_line(mut bytes: Vec<u8>, line: &[u8]) -> Option<Vec<u8>>
     Some(bytes)
 }
 
+fn is_failed_store(imported: &Result<Taken, ImportFault>) -> bool
+    ensures { result ≡ true → imported.now ≡ Err (Refused Store) }
+{
+    match imported {
+        Err(ImportFault::Refused { fault }) => *fault == TakeFault::Store,
+        _ => false,
+    }
+}
+
 fn unread() -> OfficeAnswer
     ensures { answer_text result ≡ reply_line Unread }
 {
@@ -84,11 +97,12 @@ fn ends_message(line: &[u8]) -> bool
 }
 
 impl<'a, K: Keeper, L: Opens> OfficeSeat<'a, K, L> {
-    /// The seat answers at this desk. No message comes.
+    /// The seat answers at this desk, and tells the count of callers from here. No message comes.
     pub fn new(
         alloc: Global,
         desk: &'a Desk<K, L>,
         closing: &'a Closing,
+        callers: &'a Callers,
         seat: Seat<L>,
     ) -> OfficeSeat<'a, K, L>
         ensures { result ≡ seat_state seat Nothing }
@@ -97,6 +111,7 @@ impl<'a, K: Keeper, L: Opens> OfficeSeat<'a, K, L> {
             alloc,
             desk,
             closing,
+            callers,
             seat: DeskSeat::new(alloc, desk, closing, seat),
             gathered: Gathered::Nothing,
         }
@@ -140,6 +155,31 @@ impl<'a, K: Keeper, L: Opens> OfficeSeat<'a, K, L> {
         OfficeAnswer::Exported { result }
     }
 
+    fn find<T: Wait>(&mut self, rt: &T, number: RequestNumber) -> OfficeAnswer
+        ensures { HandlesLine (admissible L.office L.began K.failed K.is_trusted K.kept K.may_leave)
+            self.old (Some (Find number)) (answer_text result) self.new }
+    {
+        let result = self.desk.find(rt, number);
+        OfficeAnswer::Found { result }
+    }
+
+    fn list<T: Wait>(&mut self, rt: &T, event: Event) -> OfficeAnswer
+        ensures { HandlesLine (admissible L.office L.began K.failed K.is_trusted K.kept K.may_leave)
+            self.old (Some (ListLine event)) (answer_text result) self.new }
+    {
+        let result = self.desk.list(rt, self.alloc, event);
+        OfficeAnswer::Listed { result }
+    }
+
+    fn status<T: Wait>(&mut self, rt: &T) -> OfficeAnswer
+        ensures { HandlesLine (admissible L.office L.began K.failed K.is_trusted K.kept K.may_leave)
+            self.old (Some Status) (answer_text result) self.new }
+    {
+        let standing = self.desk.standing(rt);
+        let callers = self.callers.count();
+        OfficeAnswer::Status { standing, callers }
+    }
+
     // What a line asks where no message comes.
     fn handle_asked<T: Wait>(&mut self, rt: &T, line: &OfficeLine) -> Result<OfficeAnswer, Last>
         requires { self.old.gathering ≡ Nothing }
@@ -156,6 +196,9 @@ impl<'a, K: Keeper, L: Opens> OfficeSeat<'a, K, L> {
                 };
                 Ok(OfficeAnswer::Quiet)
             }
+            OfficeLine::Find { number } => Ok(self.find(rt, *number)),
+            OfficeLine::List { event } => Ok(self.list(rt, *event)),
+            OfficeLine::Status => Ok(self.status(rt)),
             OfficeLine::Close => Err(Last::Close),
         }
     }
@@ -179,13 +222,8 @@ impl<'a, K: Keeper, L: Opens> OfficeSeat<'a, K, L> {
             self.now.held bytes.now true (answer_text result) (seat_state self.now.held Nothing) }
     {
         let result = import_at(rt, self.alloc, self.desk, bytes);
-        if let Err(
-            ImportFault::Refused {
-                fault: TakeFault::Store,
-            },
-        ) = result
-        {
-            self.closing.close();
+        if is_failed_store(&result) {
+            self.closing.failed(self.desk);
         }
         OfficeAnswer::Imported { result }
     }

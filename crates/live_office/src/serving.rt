@@ -5,9 +5,10 @@ ghost use Rattle.live_office.specs.declared.door.Access.TheVariants.{Session, Of
 ghost use Rattle.live_office.specs.Admissible.{admissible};
 ghost use Rattle.live_office.specs.Served.{IsServed, ended_as};
 
+use crate::callers::Callers;
 use crate::closing::Closing;
 use crate::desk_seat::DeskSeat;
-use crate::door::{Access, Call};
+use crate::door::Access;
 use crate::handler::Last;
 use crate::office_seat::OfficeSeat;
 use crate::talking::office_talk;
@@ -18,6 +19,28 @@ use std::alloc::Global;
 use std::io::{Read, Write};
 use std::snapshot::Snapshot;
 use std::sync::Wait;
+
+/// A caller that came in. It has neither `Drop` nor `Clone`: nothing but serving it uses it up.
+pub struct Call<R: Read + Drop, W: Write + Drop> {
+    access: Access,
+    reader: R,
+    writer: W,
+}
+
+impl<R: Read + Drop, W: Write + Drop> Call<R, W> {
+    /// A caller with this access, whose lines come from the reader, and whose answers go to the writer.
+    pub fn new(access: Access, reader: R, writer: W) -> Call<R, W>
+        ensures access { result.access ≡ access }
+        ensures reader { result.reader ≡ reader }
+        ensures writer { result.writer ≡ writer }
+    {
+        Call {
+            access,
+            reader,
+            writer,
+        }
+    }
+}
 
 /// A caller that was served. What it was sent is what its lines were answered, one by one.
 ///
@@ -70,6 +93,7 @@ fn answer_office<T: Wait, R: Read + Drop, W: Write, K: Keeper, L: Opens>(
     alloc: Global,
     desk: &Desk<K, L>,
     closing: &Closing,
+    callers: &Callers,
     seat: Seat<L>,
     reader: R,
     out: &mut W,
@@ -78,7 +102,7 @@ fn answer_office<T: Wait, R: Read + Drop, W: Write, K: Keeper, L: Opens>(
         Office (R.remaining reader) (W.contents out.old) (W.contents out.new) result.0 }
     ensures parts { result.1.parts ≡ seat.parts }
 {
-    let mut at = OfficeSeat::new(alloc, desk, closing, seat);
+    let mut at = OfficeSeat::new(alloc, desk, closing, callers, seat);
     let ended = office_talk(rt, alloc, reader, out, &mut at);
     (ended, at.into_seat())
 }
@@ -89,6 +113,7 @@ fn answer<T: Wait, R: Read + Drop, W: Write, K: Keeper, L: Opens>(
     alloc: Global,
     desk: &Desk<K, L>,
     closing: &Closing,
+    callers: &Callers,
     seat: Seat<L>,
     access: Access,
     reader: R,
@@ -100,16 +125,17 @@ fn answer<T: Wait, R: Read + Drop, W: Write, K: Keeper, L: Opens>(
 {
     match access {
         Access::Session => answer_session(rt, alloc, desk, closing, seat, reader, out),
-        Access::Office => answer_office(rt, alloc, desk, closing, seat, reader, out),
+        Access::Office => answer_office(rt, alloc, desk, closing, callers, seat, reader, out),
     }
 }
 
-// Serves a caller, from the first line to the last.
+// Serves a caller, from the first line to the last, and counts it meanwhile.
 pub(crate) fn serve<'a, T: Wait, R: Read + Drop, W: Write + Drop, K: Keeper, L: Opens>(
     rt: &T,
     alloc: Global,
     desk: &'a Desk<K, L>,
     closing: &Closing,
+    callers: &Callers,
     seat: Seat<L>,
     call: Call<R, W>,
 ) -> (Served<'a, R, W, K, L>, Seat<L>)
@@ -125,7 +151,19 @@ pub(crate) fn serve<'a, T: Wait, R: Read + Drop, W: Write + Drop, K: Keeper, L: 
     } = call;
     let reader_began = Snapshot::of(&reader);
     let writer_began = Snapshot::of(&writer);
-    let (ended, seat) = answer(rt, alloc, desk, closing, seat, access, reader, &mut writer);
+    callers.come();
+    let (ended, seat) = answer(
+        rt,
+        alloc,
+        desk,
+        closing,
+        callers,
+        seat,
+        access,
+        reader,
+        &mut writer,
+    );
+    callers.go();
     (
         Served {
             _desk: desk,

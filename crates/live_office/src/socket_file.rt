@@ -42,15 +42,26 @@ pub fn check_socket<F: Files>(files: &F, path: &str) -> Result<(), SocketFault> 
     }
 }
 
+// Turns away who waits at a listener that does not block.
+fn turn_away(listener: &UnixListener) -> io::Result<()> {
+    for _ in 0..u64::MAX {
+        match listener.accept() {
+            Ok(_) => {}
+            Err(error) => match error.kind() {
+                ErrorKind::WouldBlock => return Ok(()),
+                ErrorKind::Interrupted | ErrorKind::ConnectionAborted => {}
+                _ => return Err(error),
+            },
+        }
+    }
+    Err(io::Error::from(ErrorKind::TimedOut))
+}
+
 // Callers who came while others than the owner could connect are turned away.
 fn owner_only<H: Files>(host: &H, path: &str, listener: &UnixListener) -> io::Result<()> {
     fs::set_permissions(host, path, fs::Permissions::from_mode(OWNER_ONLY))?;
     listener.set_nonblocking(true)?;
-    for _ in 0..u64::MAX {
-        if listener.accept().is_err() {
-            break;
-        }
-    }
+    turn_away(listener)?;
     listener.set_nonblocking(false)
 }
 

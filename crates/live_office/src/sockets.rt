@@ -5,7 +5,8 @@ ghost use Rattle.live_office.specs.declared.door.Access.TheVariants.{Session, Of
 
 use crate::caller::{Caller, Connection, TURN};
 use crate::closing::Closing;
-use crate::door::{Access, Call, Door};
+use crate::door::{Access, Door};
+use crate::serving::Call;
 use crate::socket_file::{SocketFault, bind_socket};
 use session_server::ListenFault;
 use std::net::{Ipv4Addr, Net, SocketAddr, TcpListener, TcpStream};

@@ -3,6 +3,7 @@
 ghost use Rattle.std.specs.Prelude.{◌≡◌, ◌+◌, ◌≤◌, ◌<◌, true, vec_len, vec_capacity};
 ghost use Rattle.site_desk.specs.Seats.{parts_of};
 
+use crate::callers::Callers;
 use crate::closing::Closing;
 use crate::door::Door;
 use crate::handler::Last;
@@ -20,7 +21,7 @@ use std::time::Clock;
 pub const CLERKS: u32 = 64;
 
 /// How many are served at once at the operators' door.
-pub const OPERATORS: u32 = 4;
+pub const OPERATORS: u32 = 8;
 
 // What the threads of an office share.
 #[derive(Drop)]
@@ -30,6 +31,7 @@ pub(crate) struct Office<'a, K: Keeper, L: Opens, C, O> {
     pub(crate) clerks: &'a C,
     pub(crate) operators: &'a O,
     pub(crate) closing: &'a Closing,
+    pub(crate) callers: &'a Callers,
 }
 
 // Serves one caller after another at a door, until there is none.
@@ -38,6 +40,7 @@ fn work_at<T: Wait + Clock, R: Read + Drop, W: Write + Drop, D: Door<R, W>, K: K
     alloc: Global,
     desk: &Desk<K, L>,
     closing: &Closing,
+    callers: &Callers,
     seat: Seat<L>,
     door: &D,
 ) -> Seat<L>
@@ -48,10 +51,10 @@ fn work_at<T: Wait + Clock, R: Read + Drop, W: Write + Drop, D: Door<R, W>, K: K
         let Some(call) = door.next(rt) else {
             break;
         };
-        let (served, own) = serve(rt, alloc, desk, closing, seat, call);
+        let (served, own) = serve(rt, alloc, desk, closing, callers, seat, call);
         seat = own;
         if let Ok(Some(Last::Close)) = served.ended {
-            closing.close();
+            closing.asked(&served);
         }
     }
     seat
@@ -75,11 +78,12 @@ fn work<
         clerks,
         operators,
         closing,
+        callers,
     } = office;
     if number <= OPERATORS {
-        work_at(rt, *alloc, desk, closing, seat, *operators)
+        work_at(rt, *alloc, desk, closing, callers, seat, *operators)
     } else {
-        work_at(rt, *alloc, desk, closing, seat, *clerks)
+        work_at(rt, *alloc, desk, closing, callers, seat, *clerks)
     }
 }
 
@@ -125,7 +129,7 @@ pub(crate) fn work_all<
     let (rest, own) = seat.split();
     let begun = Begun(Snapshot::of(&own));
     let Ok(thread) = scope.spawn_with(begun, move || work(rt, office, own, count)) else {
-        office.closing.close();
+        office.closing.not_staffed();
         seats.push_reserved(rest);
         return false;
     };

@@ -12,3 +12,5 @@ pub mod Promised
 pub mod ScriptLaws
 pub mod SessionLaws
 pub mod Serves
+pub mod VisitLaws
+pub mod AskLaws

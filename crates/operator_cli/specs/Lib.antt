@@ -15,3 +15,5 @@ pub mod Exchanged
 pub mod Opened
 pub mod Serving
 pub mod Offices
+pub mod Visits
+pub mod Asking

@@ -32,7 +32,8 @@ abbrev pub of_close_fault : CloseFault → StoreFault
 of_close_fault closing.NotOpen = fault.NotOpen
 of_close_fault closing.StillOpen = fault.StillOpen
 
--- A book that goes on from this history was open at the end. Where all is done, the connection holds its history, and a crash leaves that.
+-- Some book goes on from this history. Where all is done, it is that of the end: the connection holds its history, and a crash leaves that.
+-- Of a fault this says nothing about the records.
 abbrev pub WasOpen : {S : Type 0} → Ghosts S → Office → List Entry → Held S → Status → Type 0
 WasOpen g office began after status =
     (book : BookView) × IsLater office began book × (status ≡ Done → HasCleanDisk (state g after) → HoldsOnly (state g after) book.history)

@@ -81,6 +81,9 @@ open_app = taking (taking (new_app (codes "open")) (codes "PORT")) (codes "FILE"
 abbrev pub close_app : App
 close_app = taking (new_app (codes "close")) (codes "FILE")
 
+abbrev pub status_app : App
+status_app = taking (new_app (codes "status")) (codes "FILE")
+
 -- a command that is not used alone
 abbrev pub needing : App → App
 needing a = record a { top = record a.top { subcommand_required = true } }
@@ -90,7 +93,7 @@ abbrev pub above : App → App → App
 above a b = with_subcommand a b.top
 
 abbrev pub boxoffice : App
-boxoffice = above (above (above (above (above (above (above (above (above (above (above (above (above (needing (new_app (codes "boxoffice"))) world_app) init_app) migrate_app) grow_app) ask_app) find_app) list_app) export_app) import_app) audit_app) serve_app) open_app) close_app
+boxoffice = above (above (above (above (above (above (above (above (above (above (above (above (above (above (needing (new_app (codes "boxoffice"))) world_app) init_app) migrate_app) grow_app) ask_app) find_app) list_app) export_app) import_app) audit_app) serve_app) open_app) close_app) status_app
 
 -- What is ordered: a command with its values, words as bytes and numbers as themselves.
 pub data Said : Type 0 where
@@ -107,6 +110,7 @@ pub data Said : Type 0 where
   SaysServe : (port sessions rounds : ℕ) (files : List Text) → Said
   SaysOpen : (port : ℕ) (file : Text) → Said
   SaysClose : (file : Text) → Said
+  SaysStatus : (file : Text) → Said
 
 abbrev pub said_by : Order → Said
 said_by order.World = SaysWorld
@@ -122,6 +126,7 @@ said_by (order.Audit files) = SaysAudit (map (λ file. file.now) files.items)
 said_by (order.Serve port sessions rounds files) = SaysServe port sessions rounds (map (λ file. file.now) files.items)
 said_by (order.Open port file) = SaysOpen port file.now
 said_by (order.Close file) = SaysClose file.now
+said_by (order.Status file) = SaysStatus file.now
 
 -- the number from low to high that the value of this name spells
 unfoldable pub number_in : Text → ℕ → ℕ → List Row → Option ℕ
@@ -210,6 +215,11 @@ close_in rows = do
   file ← first_of (codes "FILE") rows
   Some (SaysClose file)
 
+unfoldable pub status_in : List Row → Option Said
+status_in rows = do
+  file ← first_of (codes "FILE") rows
+  Some (SaysStatus file)
+
 -- the order that the command of this name gives with these values
 unfoldable pub named_order : Text → List Row → Option Said
 named_order name rows =
@@ -225,7 +235,8 @@ named_order name rows =
     if bytes_eq name (codes "audit") then audit_in rows else (
     if bytes_eq name (codes "serve") then serve_in rows else (
     if bytes_eq name (codes "open") then open_in rows else (
-    if bytes_eq name (codes "close") then close_in rows else None))))))))))))
+    if bytes_eq name (codes "close") then close_in rows else (
+    if bytes_eq name (codes "status") then status_in rows else None)))))))))))))
 
 -- the order of the subcommand that was met
 abbrev pub order_in : Option (Text × List Row) → Option Said
@@ -259,7 +270,8 @@ values_of name =
     if bytes_eq name (codes "audit") then Files ∷ [] else (
     if bytes_eq name (codes "serve") then Port ∷ Sessions ∷ Rounds ∷ Desks ∷ [] else (
     if bytes_eq name (codes "open") then Port ∷ File ∷ [] else (
-    if bytes_eq name (codes "close") then File ∷ [] else Command ∷ []))))))))))))
+    if bytes_eq name (codes "close") then File ∷ [] else (
+    if bytes_eq name (codes "status") then File ∷ [] else Command ∷ [])))))))))))))
 
 -- whether a value is given and in its range
 abbrev pub fits : List Row → Misfit → Bool

@@ -17,7 +17,9 @@ use Rattle.operator_cli.specs.declared.status.Status.{Status}
 use Rattle.operator_cli.specs.declared.status.Status.TheVariants.{Done, Refused, NotUnderstood, Failed}
 use Rattle.operator_cli.specs.declared.store_fault.StoreFault.{StoreFault}
 use Rattle.operator_cli.specs.declared.store_fault.StoreFault.TheVariants as fault
-use Rattle.operator_cli.specs.Records.{found_line, listed_line}
+use Rattle.book_core.specs.Decision.{Office, sites_of}
+use Rattle.live_office.specs.RecordLines.{found_line, row_line}
+use Rattle.operator_cli.specs.Records.{standing_line}
 use Rattle.operator_cli.specs.Told.{ended_by_grow, ended_by_take, ended_by_wire, told_line, told_status}
 
 -- what went out is a text that goes with the status; of status 3 nothing is said
@@ -102,9 +104,6 @@ abbrev pub IsFoundIn : List Entry → ℕ → Status → List ℕ → Type 0
 IsFoundIn h number Done text = (found : Found) × (found_in h number ≡ Some found) × (text ≡ found_line found.place found.reply)
 IsFoundIn h number status text = (found_in h number ≡ None) × IsTellingOf IsOfLooking status text
 
-abbrev pub row_line : Listed → List ℕ
-row_line row = listed_line row.place row.number row.request row.reply
-
 -- one line or more, or none
 abbrev pub IsListText : Status → List ℕ → Type 0
 IsListText Done text = (rows : List Listed) × (0 < length rows) × (text ≡ flat_map row_line rows)
@@ -129,3 +128,8 @@ IsMessageText status text = IsTellingOf IsOfSending status text
 abbrev pub IsSentText : Status → List ℕ → Type 0
 IsSentText Done text = (message : Message) × IsMessage message × (text ≡ message_text message)
 IsSentText status text = IsTellingOf IsOfSending status text
+
+-- how long the history of a site is
+abbrev pub IsStandingText : Office → List Entry → Status → List ℕ → Type 0
+IsStandingText office h Done text = text ≡ standing_line office.me (sites_of office h) (length h) office.limit
+IsStandingText office h _ text = ⊥

@@ -1,15 +1,8 @@
--- What is printed of a request in the records. (Our own.)
-use Rattle.std.specs.Prelude.{ℕ, List, [], ◌∷◌, ◌++◌}
+-- What is printed of the records as a whole. (Our own.)
+use Rattle.std.specs.Prelude.{ℕ, List, [], ◌∷◌, ◌++◌, codes}
 use Rattle.std.specs.Fmt.{decimal}
-use Rattle.request_ledger.specs.declared.request.Request.{Request}
-use Rattle.request_ledger.specs.declared.reply.Reply.{Reply}
-use Rattle.desk_lines.specs.Grammar.{request_line}
-use Rattle.desk_lines.specs.Replies.{reply_text}
 
--- where the reply stands in the history, and the reply
-abbrev pub found_line : ℕ → Reply → List ℕ
-found_line place reply = decimal place ++ 32 ∷ [] ++ reply_text reply ++ 10 ∷ []
-
--- where the request stands in the history, its session line and its reply
-abbrev pub listed_line : ℕ → ℕ → Request → Reply → List ℕ
-listed_line place number request reply = decimal place ++ 32 ∷ [] ++ request_line number request ++ 32 ∷ [] ++ reply_text reply ++ 10 ∷ []
+-- which site it is, how many it counts, and how long its history is and may become
+abbrev pub standing_line : ℕ → ℕ → ℕ → ℕ → List ℕ
+standing_line me sites entries limit =
+    codes "site " ++ decimal me ++ codes " sites " ++ decimal sites ++ codes " entries " ++ decimal entries ++ codes " limit " ++ decimal limit ++ 10 ∷ []

@@ -12,10 +12,10 @@ ghost use Rattle.operator_cli.specs.Opened.{FailsFor, FailsIfIllegal, FailsOpene
 
 use crate::ending::{ended, write_line};
 use crate::opening::open_book;
-use crate::record_lines::found_line;
 use crate::status::Status;
 use crate::store_fault::StoreFault;
 use crate::told::{Told, tell};
+use live_office::found_line;
 use request_ledger::RequestNumber;
 use sql_records::{FindFault, Records};
 use sqlite::{Alter, Connection};

@@ -3,7 +3,7 @@
 ghost use Rattle.std.specs.Prelude.{◌≡◌, IfOk, false, codes};
 ghost use Rattle.clap.specs.Words.{app_of, new_app, rule_of};
 ghost use Rattle.clap.specs.declared.builder.command.Command.TheViews.{out-Command as fields_of};
-ghost use Rattle.operator_cli.specs.Orders.{operand, boxoffice, init_app, migrate_app, grow_app, ask_app, find_app, list_app, export_app, import_app, audit_app, serve_app, open_app, close_app, most_desks, repeated_operand};
+ghost use Rattle.operator_cli.specs.Orders.{operand, boxoffice, init_app, migrate_app, grow_app, ask_app, find_app, list_app, export_app, import_app, audit_app, serve_app, open_app, close_app, status_app, most_desks, repeated_operand};
 ghost use Rattle.rights_lattice.specs.Limits.{most_sites};
 
 use crate::orders::{MOST_DESKS, MOST_FILES};
@@ -201,6 +201,18 @@ fn close<'a>(alloc: Global) -> Result<Command<'a>, AllocError>
     named(alloc, "close", "Closes the office of a site").arg(file(alloc))
 }
 
+fn status<'a>(alloc: Global) -> Result<Command<'a>, AllocError>
+    ensures app { IfOk result (λ command. app_of command ≡ status_app) }
+    ensures local { IfOk result (λ command. (fields_of command).has_globals ≡ false) }
+{
+    named(
+        alloc,
+        "status",
+        "Prints how many entries the records of a site have",
+    )
+    .arg(file(alloc))
+}
+
 /// The program's command line.
 pub(crate) fn boxoffice<'a>(alloc: Global) -> Result<Command<'a>, AllocError>
     ensures { IfOk result (λ command. app_of command ≡ boxoffice) }
@@ -224,6 +236,7 @@ pub(crate) fn boxoffice<'a>(alloc: Global) -> Result<Command<'a>, AllocError>
     .subcommand(audit(alloc)?)?
     .subcommand(serve(alloc)?)?
     .subcommand(open(alloc)?)?
-    .subcommand(close(alloc)?)?;
+    .subcommand(close(alloc)?)?
+    .subcommand(status(alloc)?)?;
     Ok(whole)
 }

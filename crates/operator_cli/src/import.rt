@@ -28,8 +28,11 @@ use sqlite::{Alter, Connection};
 use std::alloc::Global;
 use std::io::{ErrorKind, Read, Write};
 
-// All of the input, or None where it is longer than a message may be.
-fn read_input<R: Read + Drop>(alloc: Global, input: R) -> Result<Option<Vec<u8>>, StoreFault>
+/// All of the input, or None where it is longer than a message may be.
+pub(crate) fn read_input<R: Read + Drop>(
+    alloc: Global,
+    input: R,
+) -> Result<Option<Vec<u8>>, StoreFault>
     ensures few { IfOk result (λ read. IfSome read (λ bytes. vec_len bytes ≤ most_bytes)) }
     ensures read { IfOk result (λ read. IfSome (R.remaining input)
         (λ bytes. IsInputRead bytes (option_map (λ v. v.items) read))) }

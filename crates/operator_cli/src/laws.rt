@@ -2,7 +2,7 @@
 
 ghost use Rattle.std.specs.Prelude.{◌∷◌, [], codes};
 ghost use Rattle.operator_cli.specs.Laws.{ScriptsMakeSteps, TotalsAreThose, TotalsAreNotOversold};
-ghost use Rattle.operator_cli.specs.Orders.{boxoffice, AreUnderstood, Give, SaysWorld, SaysInit, SaysMigrate, SaysGrow, SaysAsk, SaysFind, SaysList, SaysExport, SaysImport, SaysAudit, SaysServe, SaysOpen, SaysClose};
+ghost use Rattle.operator_cli.specs.Orders.{boxoffice, AreUnderstood, Give, SaysWorld, SaysInit, SaysMigrate, SaysGrow, SaysAsk, SaysFind, SaysList, SaysExport, SaysImport, SaysAudit, SaysServe, SaysOpen, SaysClose, SaysStatus};
 
 /// The totals of a script are those of a world that its steps lead to, and none is oversold.
 pub fn totals_are_not_oversold()
@@ -27,6 +27,7 @@ pub fn each_command_has_words()
     ensures serve { Give (codes "serve" ∷ codes "7000" ∷ codes "2" ∷ codes "9" ∷ codes "a.db" ∷ codes "b.db" ∷ []) (SaysServe 7000 2 9 (codes "a.db" ∷ codes "b.db" ∷ [])) }
     ensures open { Give (codes "open" ∷ codes "7000" ∷ codes "a.db" ∷ []) (SaysOpen 7000 (codes "a.db")) }
     ensures close { Give (codes "close" ∷ codes "a.db" ∷ []) (SaysClose (codes "a.db")) }
+    ensures status { Give (codes "status" ∷ codes "a.db" ∷ []) (SaysStatus (codes "a.db")) }
     ensures no_file { AreUnderstood (codes "boxoffice" ∷ codes "audit" ∷ []) → ⊥ }
     ensures word_too_many { AreUnderstood (codes "boxoffice" ∷ codes "world" ∷ codes "extra" ∷ []) → ⊥ }
     ensures help { AreUnderstood (codes "boxoffice" ∷ codes "world" ∷ codes "--help" ∷ []) → ⊥ }

@@ -2,19 +2,24 @@
 //!
 //! `read_words` reads the arguments as an `Order`. Each command is one function over a connection to any store, a
 //! reader and writers, and returns its `Status`: `init_store`, `migrate_store`, `grow_store`, `ask_store`,
-//! `export_store`, `import_store`, `find_store`, `list_store`, `audit_stores`, `serve_stores`; `world_script` runs a
-//! script.
+//! `export_store`, `import_store`, `find_store`, `list_store`, `status_store`, `audit_stores`, `serve_stores`;
+//! `world_script` runs a script. Where an office has the file open, `ask_office`, `export_office`, `import_office`,
+//! `find_office`, `list_office` and `status_office` go to it, over a reader and a writer.
 //!
 //! Guaranteed: what is printed is defined by the input and by the entries that the store held (`specs/Script.antt`,
 //! `specs/Audited.antt` and others), and after a fault at most a prefix of it; a command with status 1 changes no
-//! entry, and of commands over one site's records the contracts say what a crash leaves.
+//! entry, and of commands over one site's records the contracts say what a crash leaves. Of a command at an office: which
+//! bytes it asks, and that it prints what the office sent, or why it asks nothing (`specs/Visits.antt`,
+//! `specs/Asking.antt`).
 //! `laws::totals_are_not_oversold` says that no script prints totals with more outstanding than released. What a
 //! contract says of bytes read or written it says where it knows them, as of a slice and a `Vec`.
 #![tactic(auto)]
 
 mod answering;
 mod ask;
+mod asking;
 mod audit;
+mod bringing;
 mod ending;
 mod export;
 mod fault;
@@ -31,14 +36,19 @@ mod opening;
 mod orders;
 mod record_lines;
 mod serve;
+mod standing;
 mod status;
 mod store_fault;
 mod told;
 mod totals;
+mod visiting;
+mod visits;
 mod world;
 
 pub use ask::ask_store;
+pub use asking::ask_office;
 pub use audit::{audit_stores, refuse_parts};
+pub use bringing::import_office;
 pub use export::export_store;
 pub use fault::ScriptFault;
 pub use find::find_store;
@@ -51,5 +61,7 @@ pub use office::{CloseFault, office_store, tell_close_fault, tell_socket_fault};
 pub use opening::open_store;
 pub use orders::{FileNames, Order, WordsFault, read_words};
 pub use serve::{serve_stores, tell_listen_fault};
+pub use standing::status_store;
 pub use status::Status;
+pub use visits::{export_office, find_office, list_office, status_office, tell_open};
 pub use world::{run_script, world_script};

@@ -14,10 +14,10 @@ ghost use Rattle.operator_cli.specs.Opened.{FailsFor, FailsIfIllegal, FailsOpene
 use crate::ending::{ended, write_line};
 use crate::find::of_find_fault;
 use crate::opening::open_book;
-use crate::record_lines::listed_line;
 use crate::status::Status;
 use crate::store_fault::StoreFault;
 use crate::told::{Told, tell};
+use live_office::listed_line;
 use rights_lattice::Event;
 use sql_records::{Listed, Records};
 use sqlite::{Alter, Connection};

@@ -1,6 +1,6 @@
 //! The commands `open` and `close`: an office that stays open, and its end.
 
-ghost use Rattle.std.specs.Prelude.{◌≡◌, ◌⊎◌, IfOk, IfErr, IfSome, OnOk, codes, false};
+ghost use Rattle.std.specs.Prelude.{◌≡◌, ◌⊎◌, IfOk, IfErr, IfSome, IsSome, OnOk, codes, false};
 ghost use Rattle.std.specs.Io.KnownBytes.{Appends};
 ghost use Rattle.plain_words.specs.Writing.{AppendsFront, Writes};
 ghost use Rattle.operator_cli.specs.declared.status.Status.TheVariants.{Done, Failed};
@@ -71,8 +71,8 @@ fn office_end<K: Keeper>(book: &SiteBook<K>) -> Result<Status, StoreFault>
 /// Keeps the office of a site open at two doors, until a caller says `close` or the store fails: prints `open`, serves,
 /// and comes back once all threads are joined.
 ///
-/// `memory`, `not-started`, `closed S` or `write` is told on `err`, with status 3. The connection comes back; what was
-/// answered is in its records.
+/// `memory`, `not-started`, `closed S` or `write` is told on `err`, with status 3. The connection comes back. Where all is
+/// done, its records hold the history of the book as it was at the end; of a fault nothing is said of them.
 pub fn office_store<
     T: Threads + Wait + Clock + Sync,
     S: Alter + Drop + Send,
@@ -94,6 +94,7 @@ pub fn office_store<
 ) -> (Status, Option<Connection<S>>)
     ensures line { AppendsFront (W.contents out.old) (W.contents out.new) (codes "open\n") }
     ensures all { result.0 ≡ Done → Appends (W.contents out.old) (W.contents out.new) (codes "open\n") }
+    ensures back { IsSome result.1 }
     ensures left { IfSome result.1 (λ after.
         WasOpen S.Store book.book.office book.book.history after result.0) }
     ensures told { FaultTold (E.contents err.old) (E.contents err.new) result.0 }

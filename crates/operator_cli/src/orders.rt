@@ -6,7 +6,7 @@ ghost use Rattle.clap.specs.Words.{subcommand_of, subcommand_rows_of, kind_of, a
 ghost use Rattle.rights_lattice.specs.Cells.{greatest_value};
 ghost use Rattle.rights_lattice.specs.Limits.{greatest_site, most_sites};
 ghost use Rattle.book_core.specs.Limits.{greatest_limit};
-ghost use Rattle.operator_cli.specs.Orders.{boxoffice, greatest_port, most_sessions, AreUnderstood, order_in, said_by, number_in, init_in, migrate_in, grow_in, ask_in, find_in, list_in, export_in, import_in, files_in, audit_in, serve_in, open_in, close_in, named_order, values_of, first_misfit, misfit_in, misfit_line, TellsMisfit, IsWordsRefusal};
+ghost use Rattle.operator_cli.specs.Orders.{boxoffice, greatest_port, most_sessions, AreUnderstood, order_in, said_by, number_in, init_in, migrate_in, grow_in, ask_in, find_in, list_in, export_in, import_in, files_in, audit_in, serve_in, open_in, close_in, status_in, named_order, values_of, first_misfit, misfit_in, misfit_line, TellsMisfit, IsWordsRefusal};
 
 use crate::grammar::boxoffice;
 use arrayvec::ArrayVec;
@@ -96,6 +96,10 @@ pub enum Order<'a> {
     },
     /// Closes the office of a site.
     Close {
+        file: &'a str,
+    },
+    /// Prints how many entries the records of a site have.
+    Status {
         file: &'a str,
     },
 }
@@ -358,6 +362,15 @@ fn close_of<'a>(values: &ArgMatches<'a>) -> Result<Order<'a>, Misfit>
     Ok(Order::Close { file })
 }
 
+#[tactic(auto, unfolding(crate::specs::Orders::status_in))]
+fn status_of<'a>(values: &ArgMatches<'a>) -> Result<Order<'a>, Misfit>
+    ensures order { MatchResult result (λ order. status_in (rows_of (found_of values.now)) ≡ Some (said_by order)) (λ _. status_in (rows_of (found_of values.now)) ≡ None) }
+    ensures misfit { IfErr result (λ misfit. first_misfit (Misfit.File ∷ []) (rows_of (found_of values.now)) ≡ Some misfit) }
+{
+    let file = value_of(values, "FILE").ok_or(Misfit::File)?;
+    Ok(Order::Status { file })
+}
+
 #[tactic(auto, unfolding(crate::specs::Orders::named_order, crate::specs::Orders::values_of))]
 fn named_order<'a>(name: &str, values: &ArgMatches<'a>) -> Result<Order<'a>, Misfit>
     ensures order { MatchResult result (λ order. named_order name.now (rows_of (found_of values.now)) ≡ Some (said_by order)) (λ _. named_order name.now (rows_of (found_of values.now)) ≡ None) }
@@ -389,6 +402,8 @@ fn named_order<'a>(name: &str, values: &ArgMatches<'a>) -> Result<Order<'a>, Mis
         open_of(values)
     } else if name == "close" {
         close_of(values)
+    } else if name == "status" {
+        status_of(values)
     } else {
         Err(Misfit::Command)
     }

@@ -1,34 +1,23 @@
-//! The lines that tell of requests in the records.
+//! The line that tells how long a site's history is.
 
 ghost use Rattle.std.specs.Prelude.{◌≡◌};
-ghost use Rattle.operator_cli.specs.Records.{found_line, listed_line};
+ghost use Rattle.operator_cli.specs.Records.{standing_line};
 
-use desk_lines::{reply_text, request_text};
-use plain_words::{Text, put, put_number};
-use request_ledger::{Reply, Request, RequestNumber};
+use plain_words::{Text, put, put_number, word};
+use rights_lattice::{SiteId, Sites};
 
-/// The line of a reply that was found, with its line break.
-pub(crate) fn found_line(place: u64, reply: Reply) -> Text
-    ensures value { result.items ≡ found_line place reply }
+/// The line that says how long a site's history is, with its line break.
+pub(crate) fn standing_line(me: SiteId, sites: Sites, entries: u64, limit: u64) -> Text
+    ensures value { result.items ≡ standing_line me sites entries limit }
 {
-    let mut text = Text::new();
-    put_number(&mut text, place);
-    put(&mut text, b" ");
-    put(&mut text, reply_text(reply).as_slice());
-    put(&mut text, b"\n");
-    text
-}
-
-/// The line of a request in a list, with its line break.
-pub(crate) fn listed_line(place: u64, number: RequestNumber, request: Request, reply: Reply) -> Text
-    ensures value { result.items ≡ listed_line place number request reply }
-{
-    let mut text = Text::new();
-    put_number(&mut text, place);
-    put(&mut text, b" ");
-    put(&mut text, request_text(number, request).as_slice());
-    put(&mut text, b" ");
-    put(&mut text, reply_text(reply).as_slice());
+    let mut text = word(b"site ");
+    put_number(&mut text, me.number());
+    put(&mut text, b" sites ");
+    put_number(&mut text, sites.count());
+    put(&mut text, b" entries ");
+    put_number(&mut text, entries);
+    put(&mut text, b" limit ");
+    put_number(&mut text, limit);
     put(&mut text, b"\n");
     text
 }

@@ -1,6 +1,6 @@
 -- What a call at a desk answers, by the book that it found.
 use Rattle.std.proofs.Common.{◌≡◌, ◌⊎◌, inl, inr, ℕ, Bool, true, false, List, Option, Result, Ok, Err, length, refl, ap, subst, sym, ◌∙◌}
-use Rattle.std.specs.Prelude.{IfOk, IfErr, IsSome, OnOk, ◌↔◌}
+use Rattle.std.specs.Prelude.{IfOk, IsSome, ◌↔◌}
 use Rattle.rights_lattice.specs.State.{AtOrBelow, knows}
 use Rattle.rights_lattice.proofs.SpotLaws.{within_at_or_below}
 use Rattle.rights_lattice.proofs.StateLaws.{upper}
@@ -16,7 +16,7 @@ use Rattle.site_exchange.specs.declared.message.TakeFault.{TakeFault}
 use Rattle.site_exchange.specs.declared.message.TakeFault.TheVariants as take_fault
 use Rattle.site_exchange.specs.Exchange as exchange
 use Rattle.site_exchange.specs.Exchange.{SitePart, Verdict, ack_for, check, next, verdict}
-use Rattle.site_exchange.specs.Taking.{MayTake, site_after, with_entry}
+use Rattle.site_exchange.specs.Taking.{MayTake, site_after}
 use Rattle.site_exchange.proofs.Verdicts.{verdict_nothing}
 use Rattle.site_desk.specs.declared.answer.Answer.{Answer}
 use Rattle.site_desk.specs.declared.answer.Seen.{Seen}
@@ -29,12 +29,12 @@ use Rattle.site_desk.specs.declared.fault.LookFault.TheVariants as look_fault
 use Rattle.site_desk.specs.declared.fault.NextFault.{NextFault}
 use Rattle.site_desk.specs.declared.fault.NextFault.TheVariants as next_fault
 use Rattle.site_desk.specs.declared.receipt.Receipt.{Receipt}
-use Rattle.site_desk.specs.Answers.{IsAnswer, IsAskFault, IsTaken, IsTakeFault, is_peer}
+use Rattle.site_desk.specs.Answers.{IsAskFault, IsTaken, IsTakeFault, is_peer}
 use Rattle.site_desk.specs.Looks.{IsSeenAt}
 use Rattle.site_desk.specs.Calls.{AskCall, Keeping, TakeCall, answer_in}
 use Rattle.site_desk.specs.Finish.{StandsIn, receipt_of}
 use Rattle.site_desk.specs.Moments.{AtOneMoment, HasDelta, HoldsDelta, HoldsReceipt, IsAtDesk, Looks, Replies, Sends, Takes}
-use Rattle.site_desk.specs.SiteView.{SiteView, decision_in, entry_in, site_of, verdict_in}
+use Rattle.site_desk.specs.SiteView.{SiteView, decision_in, site_of, verdict_in}
 use Rattle.site_desk.proofs.Receipts.{stands_then}
 use Rattle.site_desk.proofs.Sent.{none_sent}
 

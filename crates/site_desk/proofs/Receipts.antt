@@ -14,11 +14,10 @@ use Rattle.request_ledger.specs.Ledger.{kept_under}
 use Rattle.request_ledger.specs.Requests.{same_request}
 use Rattle.book_core.specs.declared.entry.Entry.{Entry}
 use Rattle.book_core.specs.declared.entry.Entry.TheVariants.{Asked, Joined, Grown}
-use Rattle.book_core.specs.Decision.{Decision, Again, Reused, Full, Fresh, Office, decision, decision_if, delta_for, entry_if, entry_of_ask, reply_to}
+use Rattle.book_core.specs.Decision.{Decision, Again, Reused, Full, Fresh, Office, decision, decision_if, delta_for, entry_if, reply_to}
 use Rattle.book_core.specs.History.{asked_from, kept}
 use Rattle.site_exchange.specs.Taking.{extended}
 use Rattle.site_desk.specs.declared.answer.Answer.{Answer}
-use Rattle.site_desk.specs.declared.receipt.Receipt.{Receipt}
 use Rattle.site_desk.specs.Answers.{IsAnswer}
 use Rattle.site_desk.specs.Finish.{StandsIn, receipt_of}
 

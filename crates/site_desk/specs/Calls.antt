@@ -32,7 +32,7 @@ abbrev pub keeping : {K : Type 0} → (K → ℕ) → (K → Type 0) → (K → 
 keeping failed is_trusted kept may_leave is_of = record { failed = failed; is_trusted = is_trusted; kept = kept; may_leave = may_leave; is_of = is_of }
 
 -- A call that may add an entry: it made what is due, or it left the site as it was and, where the store failed, closed. Of an open site
--- a crash leaves the history alone; of one whose store failed, the history with the entry or without.
+-- a crash leaves the history and nothing else; of one whose store failed, the history with the entry or without.
 pub record SiteCall {K T F : Type 0} (k : Keeping K) (old new : SiteView K) (entry : Option Entry) (due : SitePart) (closed store : F) (result : Result T F) : Type 0 where
   pub office : new.book.office ≡ old.book.office
   pub made : OnOk result (site_of new ≡ due)

@@ -1,5 +1,5 @@
 -- What the book under a desk's lock is at one moment, and what is answered by it then. (Our own.)
-use Rattle.std.specs.Prelude.{◌≡◌, ℕ, true, false, List, take, length, Option, Result, Ok, Err}
+use Rattle.std.specs.Prelude.{◌≡◌, ℕ, true, false, List, Vec, take, length, Option, Result, Ok, Err}
 use Rattle.rights_lattice.specs.State.{AtOrBelow, knows}
 use Rattle.request_ledger.specs.declared.request.Request.{Request}
 use Rattle.book_core.specs.declared.entry.Entry.{Entry}
@@ -7,6 +7,9 @@ use Rattle.book_core.specs.BookView.{BookView}
 use Rattle.book_core.specs.Decision.{Office, sites_of}
 use Rattle.book_core.specs.History.{state_of}
 use Rattle.book_core.specs.Legal.{IsLegal}
+use Rattle.sql_records.specs.declared.lookup.Found.{Found}
+use Rattle.sql_records.specs.declared.lookup.Listed.{Listed}
+use Rattle.sql_records.specs.Lookups.{found_in, listed_in}
 use Rattle.site_exchange.specs.declared.message.Message.{Message}
 use Rattle.site_exchange.specs.declared.message.Message.TheVariants.{Delta, Ack}
 use Rattle.site_exchange.specs.declared.message.TakeFault.{TakeFault}
@@ -14,9 +17,12 @@ use Rattle.site_exchange.specs.Exchange.{ack_for, next}
 use Rattle.site_exchange.specs.Taking.{MayTake}
 use Rattle.site_desk.specs.declared.answer.Answer.{Answer}
 use Rattle.site_desk.specs.declared.answer.Seen.{Seen}
+use Rattle.site_desk.specs.declared.answer.Standing.{Standing}
 use Rattle.site_desk.specs.declared.answer.Taken.{Taken}
 use Rattle.site_desk.specs.declared.fault.AskFault.{AskFault}
 use Rattle.site_desk.specs.declared.fault.LookFault.{LookFault}
+use Rattle.site_desk.specs.declared.fault.LookUpFault.{LookUpFault}
+use Rattle.site_desk.specs.declared.fault.LookUpFault.TheVariants as look_up
 use Rattle.site_desk.specs.declared.fault.NextFault.{NextFault}
 use Rattle.site_desk.specs.declared.receipt.Receipt.{Receipt}
 use Rattle.site_desk.specs.Answers.{IsAnswer, IsAskFault, IsNextFault, IsTaken, IsTakeFault, is_peer}
@@ -59,7 +65,7 @@ HoldsDelta message site = (site.closed ≡ false) × HasDelta message site.book.
 abbrev pub HoldsReceipt : {K : Type 0} → Receipt → SiteView K → Type 0
 HoldsReceipt receipt site = (site.closed ≡ false) × StandsIn site.book.history receipt
 
--- A site answers this to a request, a look, a message, or a peer that asks for its message: what is due where it is open, or the
+-- A site answers this to a request, a look, a look-up, a message, or a peer that asks for its message: what is due where it is open, or the
 -- reason why it gives nothing. What its keeper tells behind the call is not said: 1, as behind an append that failed, stands in its
 -- place; of the faults `Store` alone reads it.
 
@@ -71,6 +77,15 @@ abbrev pub Looks : {K : Type 0} → List ℕ → Result Seen LookFault → SiteV
 Looks event (Ok seen) site = (site.closed ≡ false) × (knows (state_of site.book.history).names event ≡ true) × (seen.at ≡ length site.book.history) × IsSeenAt site.book.office site.book.history event seen
 Looks event (Err fault) site = IsLookFault site.closed (knows (state_of site.book.history).names event) fault
 
+abbrev pub Finds : {K : Type 0} → ℕ → Result (Option Found) LookUpFault → SiteView K → Type 0
+Finds number (Ok found) site = (site.closed ≡ false) × (found ≡ found_in site.book.history number)
+Finds number (Err fault) site = (site.closed ≡ true) × (fault ≡ look_up.Closed)
+
+abbrev pub Lists : {K Z : Type 0} → List ℕ → Result (Vec Listed Z) LookUpFault → SiteView K → Type 0
+Lists event (Ok listed) site = (site.closed ≡ false) × (listed.items ≡ listed_in site.book.history event)
+Lists event (Err look_up.Closed) site = site.closed ≡ true
+Lists event (Err look_up.Memory) site = site.closed ≡ false
+
 abbrev pub Takes : {K : Type 0} → (K → ℕ) → Message → Result Taken TakeFault → SiteView K → Type 0
 Takes failed message (Ok taken) site = (site.closed ≡ false) × IsTaken (verdict_in site.book message) (ack_for message) taken
 Takes failed message (Err fault) site = IsTakeFault site.closed (verdict_in site.book message) (MayTake (verdict_in site.book message) (site_of site) message) (failed site.keeper) 1 fault
@@ -78,3 +93,10 @@ Takes failed message (Err fault) site = IsTakeFault site.closed (verdict_in site
 abbrev pub Sends : {K : Type 0} → ℕ → Result (Option Message) NextFault → SiteView K → Type 0
 Sends to (Ok message) site = (site.closed ≡ false) × (is_peer site.book.office site.book.history to ≡ true) × (message ≡ next site.book.office.me (site_of site) to)
 Sends to (Err fault) site = IsNextFault site.closed (is_peer site.book.office site.book.history to) (next site.book.office.me (site_of site) to) fault
+
+-- what the site is, counts and holds, closed or not
+pub record IsStanding {K : Type 0} (standing : Standing) (site : SiteView K) : Type 0 where
+  pub me : standing.me ≡ site.book.office.me
+  pub sites : standing.sites ≡ sites_of site.book.office site.book.history
+  pub entries : standing.entries ≡ length site.book.history
+  pub limit : standing.limit ≡ site.book.office.limit

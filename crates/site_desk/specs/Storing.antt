@@ -1,5 +1,5 @@
 -- An entry is stored before it is entered, and a book is started from what is stored. (Our own: a write-ahead log.)
-use Rattle.std.specs.Prelude.{◌≡◌, ◌≢◌, ℕ, false, List, Option, Result, Err, IfErr, OnOk, OnErr, MatchResult}
+use Rattle.std.specs.Prelude.{◌≡◌, ◌≢◌, false, List, Option, Result, Err, IfErr, OnOk, OnErr, MatchResult}
 use Rattle.book_core.specs.declared.entry.Entry.{Entry}
 use Rattle.book_core.specs.BookView.{BookView}
 use Rattle.site_exchange.specs.Exchange.{zeros}

@@ -1,7 +1,8 @@
 //! What a site's book answers.
+use book_core::Limit;
 use local_rights::ViewTotals;
 use request_ledger::Reply;
-use rights_lattice::Event;
+use rights_lattice::{Event, SiteId, Sites};
 use site_exchange::Message;
 
 /// The reply to a request, and where its entry stands in the history, counted from 0.
@@ -32,4 +33,15 @@ pub struct Seen {
     pub left: u64,
     pub totals: ViewTotals,
     pub at: usize,
+}
+
+/// Which site a book is of, and how long its history is.
+#[derive(Clone, Copy, PartialEq, Eq, Debug)]
+pub struct Standing {
+    pub me: SiteId,
+    /// How many sites it counts.
+    pub sites: Sites,
+    /// The entries of its history, of which there are never more than `limit`.
+    pub entries: usize,
+    pub limit: Limit,
 }

@@ -4,12 +4,12 @@ ghost use Rattle.site_exchange.specs.Exchange.{ack_for, receiver};
 ghost use Rattle.site_desk.specs.Answers.{ack_of};
 ghost use Rattle.site_desk.specs.Count.{asked_since};
 ghost use Rattle.site_desk.specs.Finish.{FindsFirst, StandsIn, WasSeen, handed_back, receipt_of};
-ghost use Rattle.site_desk.specs.Moments.{AtOneMoment, HoldsDelta, HoldsReceipt, IsAtDesk, Looks, Replies, Sends, Takes};
+ghost use Rattle.site_desk.specs.Moments.{AtOneMoment, Finds, HoldsDelta, HoldsReceipt, IsAtDesk, IsStanding, Lists, Looks, Replies, Sends, Takes};
 ghost use Rattle.site_desk.specs.Seats.{held, parts_of, shares_of};
 ghost use Rattle.site_desk.specs.SiteView.{SiteInStep, SiteView};
 
-use crate::answer::{Answer, Seen, Taken};
-use crate::fault::{AskFault, LookFault, NextFault};
+use crate::answer::{Answer, Seen, Standing, Taken};
+use crate::fault::{AskFault, LookFault, LookUpFault, NextFault};
 use crate::finish::FinishFault;
 use crate::gate::{Gate, Place};
 use crate::locked::Locked;
@@ -19,7 +19,7 @@ use crate::site_book::SiteBook;
 use request_ledger::{Request, RequestNumber};
 use rights_lattice::{Event, SiteId};
 use site_exchange::{Message, TakeFault};
-use sql_records::Keeper;
+use sql_records::{Found, Keeper, Listed};
 use std::alloc::Global;
 use std::sync::ledger::Blank;
 use std::sync::{Mutex, Wait};
@@ -99,6 +99,39 @@ impl<K: Keeper, L: Opens> Desk<K, L> {
             }
         }
         unreachable!()
+    }
+
+    /// What the history keeps under a number: the place and the reply. It wants no memory.
+    ///
+    /// `Closed` where the book is closed, since what it could not store may be found when it is started again.
+    pub fn find<R: Wait>(&self, rt: &R, number: RequestNumber) -> Result<Option<Found>, LookUpFault>
+        ensures found { AtOneMoment L.office L.began (SiteInStep K.failed K.is_trusted K.kept
+            K.may_leave) (Finds number result) }
+    {
+        self.lock.lock(rt).find(number)
+    }
+
+    /// The requests in the history that name an event, by place. Others wait for as long as it takes to read the history.
+    ///
+    /// `Closed` as for `find`, and `Memory`.
+    pub fn list<R: Wait>(
+        &self,
+        rt: &R,
+        alloc: Global,
+        event: Event,
+    ) -> Result<Vec<Listed>, LookUpFault>
+        ensures listed { AtOneMoment L.office L.began (SiteInStep K.failed K.is_trusted K.kept
+            K.may_leave) (Lists event result) }
+    {
+        self.lock.lock(rt).list(alloc, event)
+    }
+
+    /// Which site it is, and how long its history is, also where the book is closed.
+    pub fn standing<R: Wait>(&self, rt: &R) -> Standing
+        ensures standing { AtOneMoment L.office L.began (SiteInStep K.failed K.is_trusted K.kept
+            K.may_leave) (IsStanding result) }
+    {
+        self.lock.lock(rt).standing()
     }
 
     /// Takes a peer's message as the book does, with its errors. The acknowledgement that is given is the one for the

@@ -47,6 +47,28 @@ impl From<AllocError> for NextFault {
     }
 }
 
+/// Why nothing is told of the requests in the history.
+#[derive(Clone, Copy, PartialEq, Eq, Debug, Error)]
+pub enum LookUpFault {
+    /// The book takes nothing more until it is started again from what was kept.
+    #[error("the book is closed")]
+    Closed,
+    /// Room was wanted and refused.
+    #[error("out of memory")]
+    Memory,
+}
+
+impl From<AllocError> for LookUpFault {
+    ghost use Rattle.std.specs.Prelude.{◌≡◌};
+    ghost use Rattle.site_desk.specs.declared.fault.LookUpFault.TheVariants.{Memory};
+
+    ghost from_gives = { λ _ fault. fault ≡ Memory };
+
+    fn from(_error: AllocError) -> LookUpFault {
+        LookUpFault::Memory
+    }
+}
+
 /// Why nothing is shown of an event.
 #[derive(Clone, Copy, PartialEq, Eq, Debug, Error)]
 pub enum LookFault {

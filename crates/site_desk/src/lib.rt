@@ -21,15 +21,16 @@ mod gate;
 mod growing;
 mod joining;
 mod locked;
+mod looking_up;
 mod receipt;
 mod seat;
 mod site_book;
 mod storing;
 mod walk;
 
-pub use answer::{Answer, Seen, Taken};
+pub use answer::{Answer, Seen, Standing, Taken};
 pub use desk::Desk;
-pub use fault::{AskFault, LookFault, NextFault};
+pub use fault::{AskFault, LookFault, LookUpFault, NextFault};
 pub use finish::FinishFault;
 pub use gate::{Gate, NoGate, Place};
 pub use receipt::Receipt;

@@ -8,20 +8,21 @@ ghost use Rattle.site_desk.specs.Looks.{IsSeenAt};
 ghost use Rattle.site_desk.specs.Calls.{AskCall, TakeCall, answer_in, keeping};
 ghost use Rattle.site_desk.specs.SiteView.{SiteInStep, site_of};
 ghost use Rattle.site_desk.specs.Count.{asked_since};
-ghost use Rattle.site_desk.specs.Moments.{IsAtDesk};
+ghost use Rattle.site_desk.specs.Moments.{Finds, IsAtDesk, IsStanding, Lists};
 ghost use Rattle.site_desk.specs.Finish.{FindsFirst, StandsIn, WasSeen, handed_back, receipt_of};
 ghost use Rattle.site_desk.specs.Seats.{held, parts_of, shares_of};
 
-use crate::answer::{Answer, Seen, Taken};
-use crate::fault::{AskFault, LookFault, NextFault};
+use crate::answer::{Answer, Seen, Standing, Taken};
+use crate::fault::{AskFault, LookFault, LookUpFault, NextFault};
 use crate::finish::{FinishFault, first_stranger, first_stranger_seen, gather};
+use crate::looking_up::{found_in, listed_in};
 use crate::receipt::Receipt;
 use crate::seat::{Opens, Seat};
 use crate::site_book::SiteBook;
 use request_ledger::{Request, RequestNumber};
 use rights_lattice::{Event, SiteId};
 use site_exchange::{Message, TakeFault};
-use sql_records::Keeper;
+use sql_records::{Found, Keeper, Listed};
 use std::alloc::Global;
 use std::marker::Model;
 use std::sync::ledger::{Blank, Book as Tally, Share};
@@ -149,6 +150,50 @@ impl<K: Keeper, L: Opens> Locked<K, L> {
         // What the book says of its history.
         let _book = self.book.book();
         self.book.look(event)
+    }
+
+    /// What is kept under a number.
+    pub fn find(&self, number: RequestNumber) -> Result<Option<Found>, LookUpFault>
+        ensures at_desk { IsAtDesk L.office L.began (SiteInStep K.failed K.is_trusted K.kept
+            K.may_leave) self.now }
+        ensures found { Finds number result self.now }
+    {
+        // What the book says of its history.
+        let _book = self.book.book();
+        if self.book.is_closed() {
+            return Err(LookUpFault::Closed);
+        }
+        Ok(found_in(self.book.book(), number))
+    }
+
+    /// The requests that name an event, by place.
+    pub fn list(&self, alloc: Global, event: Event) -> Result<Vec<Listed>, LookUpFault>
+        ensures at_desk { IsAtDesk L.office L.began (SiteInStep K.failed K.is_trusted K.kept
+            K.may_leave) self.now }
+        ensures listed { Lists event result self.now }
+    {
+        // What the book says of its history.
+        let _book = self.book.book();
+        if self.book.is_closed() {
+            return Err(LookUpFault::Closed);
+        }
+        let listed = listed_in(self.book.book(), alloc, event)?;
+        Ok(listed)
+    }
+
+    /// Which site it is, and how long its history is.
+    pub fn standing(&self) -> Standing
+        ensures at_desk { IsAtDesk L.office L.began (SiteInStep K.failed K.is_trusted K.kept
+            K.may_leave) self.now }
+        ensures standing { IsStanding result self.now }
+    {
+        let book = self.book.book();
+        Standing {
+            me: book.me(),
+            sites: book.sites(),
+            entries: book.len(),
+            limit: book.limit(),
+        }
     }
 
     /// Takes a peer's message.

@@ -4,7 +4,7 @@ use Rattle.plain_words.specs.Writing.{AppendsFront}
 use Rattle.operator_cli.specs.declared.status.Status.{Status}
 use Rattle.operator_cli.specs.declared.status.Status.TheVariants.{Done}
 use Rattle.operator_cli.specs.declared.store_fault.StoreFault.{StoreFault}
-use Rattle.operator_cli.specs.Records.{found_line}
+use Rattle.live_office.specs.RecordLines.{found_line}
 use Rattle.sql_records.specs.Held.{kept_in}
 use Rattle.operator_cli.specs.declared.told.Told.TheVariants.{NotFound}
 use Rattle.operator_cli.specs.Printed.{IsFoundText, IsFoundIn, Unsaid}

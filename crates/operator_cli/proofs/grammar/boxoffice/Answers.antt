@@ -23,4 +23,5 @@ returns c =
     let audit = c.in_ok-subcommand-10.ensures.shape c.in_ok-audit.ensures.local ∙ ap₂ with_subcommand import (ap top_of c.in_ok-audit.ensures.app) in
     let serve = c.in_ok-subcommand-11.ensures.shape c.in_ok-serve.ensures.local ∙ ap₂ with_subcommand audit (ap top_of c.in_ok-serve.ensures.app) in
     let opened = c.in_ok-subcommand-12.ensures.shape c.in_ok-open.ensures.local ∙ ap₂ with_subcommand serve (ap top_of c.in_ok-open.ensures.app) in
-    c.in_ok-whole.ensures.shape c.in_ok-close.ensures.local ∙ ap₂ with_subcommand opened (ap top_of c.in_ok-close.ensures.app)
+    let closed = c.in_ok-subcommand-13.ensures.shape c.in_ok-close.ensures.local ∙ ap₂ with_subcommand opened (ap top_of c.in_ok-close.ensures.app) in
+    c.in_ok-whole.ensures.shape c.in_ok-status.ensures.local ∙ ap₂ with_subcommand closed (ap top_of c.in_ok-status.ensures.app)

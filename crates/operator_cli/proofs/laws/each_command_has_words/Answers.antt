@@ -1,7 +1,7 @@
 use Rattle.std.proofs.Common.{refl}
 use Rattle.clap.proofs.OnLiterals.{clap_on_literals}
 use Rattle.plain_words.specs.Number.{number_of}
-use Rattle.operator_cli.specs.Orders.{named_order, number_in, init_in, migrate_in, grow_in, ask_in, find_in, list_in, export_in, import_in, files_in, audit_in, serve_in, open_in, close_in}
+use Rattle.operator_cli.specs.Orders.{named_order, number_in, init_in, migrate_in, grow_in, ask_in, find_in, list_in, export_in, import_in, files_in, audit_in, serve_in, open_in, close_in, status_in}
 use Rattle.operator_cli.proofs.laws.each_command_has_words.Goals as goal
 
 pub returns-clause-world : goal.returns-clause-world
@@ -55,6 +55,10 @@ returns-clause-open c = (refl, refl)
 pub returns-clause-close : goal.returns-clause-close
 unfolding clap_on_literals named_order close_in
 returns-clause-close c = (refl, refl)
+
+pub returns-clause-status : goal.returns-clause-status
+unfolding clap_on_literals named_order status_in
+returns-clause-status c = (refl, refl)
 
 pub returns-clause-no_file : goal.returns-clause-no_file
 unfolding clap_on_literals

@@ -7,7 +7,8 @@ use Rattle.operator_cli.specs.declared.status.Status.{Status}
 use Rattle.operator_cli.specs.declared.status.Status.TheVariants.{Done}
 use Rattle.operator_cli.specs.declared.store_fault.StoreFault.{StoreFault}
 use Rattle.operator_cli.specs.declared.told.Told.TheVariants.{NotFound}
-use Rattle.operator_cli.specs.Printed.{AreListed, Unsaid, row_line}
+use Rattle.live_office.specs.RecordLines.{row_line}
+use Rattle.operator_cli.specs.Printed.{AreListed, Unsaid}
 use Rattle.operator_cli.proofs.EndLaws.{for_write, told_lives}
 use Rattle.operator_cli.proofs.PrintLaws.{told_printed, told_unsaid, no_rows}
 use Rattle.operator_cli.proofs.ScriptLaws.{at_err}

@@ -1,7 +1,7 @@
 use Rattle.std.proofs.Common.{take}
 use Rattle.std.specs.List.{flat_map}
 use Rattle.std.specs.Io.KnownBytes.{Appends}
-use Rattle.operator_cli.specs.Printed.{row_line}
+use Rattle.live_office.specs.RecordLines.{row_line}
 use Rattle.operator_cli.proofs.list.write_all.Given as goal
 
 abbrev pub invariant-rows : goal.invariant-rows

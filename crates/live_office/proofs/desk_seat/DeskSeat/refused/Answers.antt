@@ -1,0 +1,4 @@
+use Rattle.live_office.proofs.desk_seat.DeskSeat.refused.Goals as goal
+
+pub failed-requires : goal.failed-requires
+failed-requires g c = c.requires c.in-Store.is

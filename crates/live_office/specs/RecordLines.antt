@@ -1,0 +1,19 @@
+-- The lines that tell of requests in a history. (Our own.)
+use Rattle.std.specs.Prelude.{ℕ, List, [], ◌∷◌, ◌++◌}
+use Rattle.std.specs.Fmt.{decimal}
+use Rattle.request_ledger.specs.declared.request.Request.{Request}
+use Rattle.request_ledger.specs.declared.reply.Reply.{Reply}
+use Rattle.sql_records.specs.declared.lookup.Listed.{Listed}
+use Rattle.desk_lines.specs.Grammar.{request_line}
+use Rattle.desk_lines.specs.Replies.{reply_text}
+
+-- where the reply stands in the history, and the reply
+abbrev pub found_line : ℕ → Reply → List ℕ
+found_line place reply = decimal place ++ 32 ∷ [] ++ reply_text reply ++ 10 ∷ []
+
+-- where the request stands in the history, its session line and its reply
+abbrev pub listed_line : ℕ → ℕ → Request → Reply → List ℕ
+listed_line place number request reply = decimal place ++ 32 ∷ [] ++ request_line number request ++ 32 ∷ [] ++ reply_text reply ++ 10 ∷ []
+
+abbrev pub row_line : Listed → List ℕ
+row_line row = listed_line row.place row.number row.request row.reply

@@ -1,0 +1,159 @@
+//! Lines that go to an open office, and lines that come from it.
+
+ghost use Rattle.std.specs.Prelude.{◌≡◌, ◌≤◌, ◌⊎◌, ◌∷◌, [], IfErr, IfSome, OnOk, length};
+ghost use Rattle.std.specs.Io.KnownBytes.{Consumes, Keeps};
+ghost use Rattle.plain_words.specs.Input.{IsPartOfLine, longest_line};
+ghost use Rattle.plain_words.specs.Writing.{Writes};
+ghost use Rattle.operator_cli.specs.declared.store_fault.StoreFault.TheVariants.{NotOpen, Write as WriteFailed};
+ghost use Rattle.operator_cli.specs.Visits.{PassedAll, PassedNext, PassesOn, ending, heard, is_nothing, line_text, trouble};
+
+use crate::ending::write_line;
+use crate::status::Status;
+use crate::store_fault::StoreFault;
+use plain_words::{LineBytes, put, word, write_bytes};
+use std::io::{BufRead, Write};
+
+/// What was asked is at the office; `NotOpen` where it may not be.
+pub(crate) fn reach<Q: Write>(questions: &mut Q) -> Result<(), StoreFault>
+    ensures kept { Keeps (Q.contents questions.old) (Q.contents questions.new) }
+    ensures fault { IfErr result (λ fault. fault ≡ NotOpen) }
+{
+    match questions.flush() {
+        Ok(()) => Ok(()),
+        Err(_) => Err(StoreFault::NotOpen),
+    }
+}
+
+/// Asks a line, with its line break; `NotOpen` where it does not reach the office, and a prefix may have.
+pub(crate) fn say<Q: Write>(line: &[u8], questions: &mut Q) -> Result<(), StoreFault>
+    requires { length line.now ≤ longest_line }
+    ensures said { Writes (Q.contents questions.old) (Q.contents questions.new) result
+        (line_text line.now) }
+    ensures fault { IfErr result (λ fault. fault ≡ NotOpen) }
+{
+    let mut text = word(line);
+    put(&mut text, b"\n");
+    match write_bytes(text.as_slice(), questions) {
+        Ok(()) => reach(questions),
+        Err(_) => Err(StoreFault::NotOpen),
+    }
+}
+
+// The next byte; None where none comes.
+fn next_byte<A: BufRead>(answers: &mut A) -> Option<u8>
+    ensures { IfSome result (λ byte. Consumes (A.remaining answers.old) (A.remaining answers.new) (byte ∷ [])) }
+{
+    let mut byte = [0u8; 1];
+    match answers.read(&mut byte) {
+        Err(_) | Ok(0) => None,
+        Ok(_) => Some(byte[0]),
+    }
+}
+
+/// Reads the next line of an answer, without its line break; `NotOpen` where no whole line comes, or one of more than 200
+/// bytes.
+pub(crate) fn hear<A: BufRead>(answers: &mut A, line: &mut LineBytes) -> Result<(), StoreFault>
+    ensures heard { OnOk result (IsPartOfLine line.new.items × Consumes
+        (A.remaining answers.old) (A.remaining answers.new) (line_text line.new.items)) }
+    ensures fault { IfErr result (λ fault. fault ≡ NotOpen) }
+{
+    line.clear();
+    'bytes: loop {
+        let Some(byte) = next_byte(answers) else {
+            return Err(StoreFault::NotOpen);
+        };
+        if byte == b'\n' {
+            return Ok(());
+        }
+        if line.is_full() {
+            return Err(StoreFault::NotOpen);
+        }
+        line.push(byte);
+    }
+}
+
+fn trouble(line: &[u8]) -> Option<StoreFault>
+    ensures { result ≡ trouble line.now }
+{
+    if line == b"memory".as_slice() {
+        Some(StoreFault::Memory)
+    } else if line == b"closed".as_slice() {
+        Some(StoreFault::Store)
+    } else if line == b"store".as_slice() {
+        Some(StoreFault::Store)
+    } else if line == b"bad-line".as_slice() {
+        Some(StoreFault::NotOpen)
+    } else {
+        None
+    }
+}
+
+/// How a command ends by this line, where it says whether what was asked is refused.
+pub(crate) fn ending(line: &[u8], refused: bool) -> Result<Status, StoreFault>
+    ensures { result ≡ ending (trouble line.now) refused }
+{
+    match trouble(line) {
+        Some(fault) => Err(fault),
+        None if refused => Ok(Status::Refused),
+        None => Ok(Status::Done),
+    }
+}
+
+fn is_nothing(line: &[u8]) -> bool
+    ensures { result ≡ is_nothing line.now }
+{
+    line == b"none".as_slice() || line == b"nothing".as_slice() || line == b"no-site".as_slice()
+}
+
+/// How a command ends by the first line of an answer.
+pub(crate) fn heard(line: &[u8]) -> Result<Status, StoreFault>
+    ensures { result ≡ heard line.now }
+{
+    ending(line, is_nothing(line))
+}
+
+/// Prints a line, with its line break.
+pub(crate) fn print_line<W: Write>(line: &[u8], out: &mut W) -> Result<(), StoreFault>
+    requires { length line.now ≤ longest_line }
+    ensures written { Writes (W.contents out.old) (W.contents out.new) result
+        (line_text line.now) }
+    ensures fault { IfErr result (λ fault. fault ≡ WriteFailed) }
+{
+    let mut text = word(line);
+    put(&mut text, b"\n");
+    write_line(&text, out)
+}
+
+// Passes the next line on; false where it is `end`, which is not passed on.
+fn pass_next<A: BufRead, W: Write>(answers: &mut A, out: &mut W) -> Result<bool, StoreFault>
+    ensures passed { PassedNext (A.remaining answers.old) (A.remaining answers.new)
+        (W.contents out.old) (W.contents out.new) result }
+    ensures fault { IfErr result (λ fault. (fault ≡ NotOpen) ⊎ (fault ≡ WriteFailed)) }
+{
+    let mut line = LineBytes::new();
+    hear(answers, &mut line)?;
+    let bytes = line.as_slice();
+    if bytes == b"end".as_slice() {
+        return Ok(false);
+    }
+    print_line(bytes, out)?;
+    Ok(true)
+}
+
+/// Passes the lines of an answer on, each as it comes, up to `end`, which is read too.
+pub(crate) fn pass_on<A: BufRead, W: Write>(answers: &mut A, out: &mut W) -> Result<(), StoreFault>
+    ensures all { OnOk result (PassedAll (A.remaining answers.old) (A.remaining answers.new)
+        (W.contents out.old) (W.contents out.new)) }
+    ensures some { IfErr result (λ _. PassesOn (A.remaining answers.old)
+        (W.contents out.old) (W.contents out.new)) }
+    ensures fault { IfErr result (λ fault. (fault ≡ NotOpen) ⊎ (fault ≡ WriteFailed)) }
+{
+    'lines: for _count in 0..u64::MAX {
+        match pass_next(answers, out) {
+            Ok(true) => {}
+            Ok(false) => return Ok(()),
+            Err(fault) => return Err(fault),
+        }
+    }
+    Err(StoreFault::NotOpen)
+}

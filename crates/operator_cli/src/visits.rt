@@ -1,0 +1,350 @@
+//! The commands `find`, `list`, `export` and `status` where an office is open.
+
+ghost use Rattle.std.specs.Prelude.{◌≡◌, ◌≢◌, ◌≤◌, ◌⊎◌, IfOk, IfErr, OnOk, codes, length};
+ghost use Rattle.std.specs.Io.KnownBytes.{Appends, Consumes};
+ghost use Rattle.plain_words.specs.Input.{IsPartOfLine, longest_line};
+ghost use Rattle.plain_words.specs.Writing.{AppendsFront};
+ghost use Rattle.rights_lattice.specs.EventName.{IsEventName};
+ghost use Rattle.operator_cli.specs.declared.status.Status.TheVariants.{Done, Failed};
+ghost use Rattle.operator_cli.specs.declared.store_fault.StoreFault.TheVariants.{NotOpen, StillOpen, Write as WriteFailed};
+ghost use Rattle.operator_cli.specs.Opened.{FailsFor};
+ghost use Rattle.operator_cli.specs.Printed.{Printed};
+ghost use Rattle.operator_cli.specs.Told.{FaultTold, store_fault_line};
+ghost use Rattle.operator_cli.specs.Visits.{AreRowsOf, FirstPrinted, IsAnswer, IsVisitEnd, PassesOn, RestPrinted, export_question, find_question, line_text, list_question};
+
+use crate::ending::{ended, tell_fault};
+use crate::status::Status;
+use crate::store_fault::StoreFault;
+use crate::told::{Told, tell};
+use crate::visiting::{hear, heard, pass_on, print_line, say};
+use plain_words::{LineBytes, Text, numbered, put, word};
+use request_ledger::RequestNumber;
+use rights_lattice::{Event, SiteId};
+use std::alloc::Global;
+use std::io::{BufRead, BufReader, Read, Write};
+
+/// What an office answers a line by, unless there is nothing.
+#[derive(Clone, Copy, Debug)]
+pub(crate) enum Expected {
+    /// One line.
+    Line,
+    /// Lines, and then `end`, which is none of them.
+    Rows,
+    /// The lines of a message, of which `end` is the last.
+    Message,
+}
+
+// Asks a line, and reads the first line of the answer.
+fn ask_first<A: BufRead, Q: Write>(
+    question: &[u8],
+    answers: &mut A,
+    questions: &mut Q,
+    line: &mut LineBytes,
+) -> Result<(), StoreFault>
+    requires { length question.now ≤ longest_line }
+    ensures asked { AppendsFront (Q.contents questions.old) (Q.contents questions.new)
+        (line_text question.now) }
+    ensures whole { OnOk result (Appends (Q.contents questions.old) (Q.contents questions.new)
+        (line_text question.now)) }
+    ensures heard { OnOk result (IsPartOfLine line.new.items × Consumes
+        (A.remaining answers.old) (A.remaining answers.new) (line_text line.new.items)) }
+    ensures fault { IfErr result (λ fault. fault ≡ NotOpen) }
+{
+    say(question, questions)?;
+    hear(answers, line)
+}
+
+// Prints the first line of the answer, unless it tells a fault.
+fn print_first<A: BufRead, Q: Write, W: Write>(
+    question: &[u8],
+    answers: &mut A,
+    questions: &mut Q,
+    out: &mut W,
+) -> Result<Status, StoreFault>
+    requires { length question.now ≤ longest_line }
+    ensures asked { AppendsFront (Q.contents questions.old) (Q.contents questions.new)
+        (line_text question.now) }
+    ensures whole { OnOk result (Appends (Q.contents questions.old) (Q.contents questions.new)
+        (line_text question.now)) }
+    ensures first { IfOk result (FirstPrinted (A.remaining answers.old) (A.remaining answers.new)
+        (W.contents out.old) (W.contents out.new)) }
+    ensures passes { IfErr result (λ _. PassesOn (A.remaining answers.old)
+        (W.contents out.old) (W.contents out.new)) }
+    ensures cause { IfErr result (IsVisitEnd (A.remaining answers.old)) }
+{
+    let mut line = LineBytes::new();
+    ask_first(question, answers, questions, &mut line)?;
+    let bytes = line.as_slice();
+    let status = heard(bytes)?;
+    print_line(bytes, out)?;
+    Ok(status)
+}
+
+// Prints the lines behind the first.
+fn print_rest<A: BufRead, W: Write>(
+    expected: Expected,
+    answers: &mut A,
+    out: &mut W,
+) -> Result<(), StoreFault>
+    ensures rest { OnOk result (RestPrinted expected
+        (A.remaining answers.old) (A.remaining answers.new)
+        (W.contents out.old) (W.contents out.new)) }
+    ensures passes { IfErr result (λ _. PassesOn (A.remaining answers.old)
+        (W.contents out.old) (W.contents out.new)) }
+    ensures fault { IfErr result (λ fault. (fault ≡ NotOpen) ⊎ (fault ≡ WriteFailed)) }
+{
+    match expected {
+        Expected::Line => Ok(()),
+        Expected::Rows => pass_on(answers, out),
+        Expected::Message => {
+            pass_on(answers, out)?;
+            print_line(b"end", out)
+        }
+    }
+}
+
+// Prints the whole answer.
+fn print_answer<A: BufRead, Q: Write, W: Write>(
+    expected: Expected,
+    question: &[u8],
+    answers: &mut A,
+    questions: &mut Q,
+    out: &mut W,
+) -> Result<Status, StoreFault>
+    requires { length question.now ≤ longest_line }
+    ensures asked { AppendsFront (Q.contents questions.old) (Q.contents questions.new)
+        (line_text question.now) }
+    ensures whole { OnOk result (Appends (Q.contents questions.old) (Q.contents questions.new)
+        (line_text question.now)) }
+    ensures printed { IfOk result (Printed (IsAnswer expected (A.remaining answers.old))
+        (W.contents out.old) (W.contents out.new)) }
+    ensures passes { PassesOn (A.remaining answers.old)
+        (W.contents out.old) (W.contents out.new) }
+    ensures cause { IfErr result (IsVisitEnd (A.remaining answers.old)) }
+    ensures ends { IfOk result (λ status. status ≢ Failed) }
+{
+    let status = print_first(question, answers, questions, out)?;
+    match status {
+        Status::Done => {
+            print_rest(expected, answers, out)?;
+            Ok(status)
+        }
+        _ => Ok(status),
+    }
+}
+
+// Asks a line, prints its answer, and tells a fault.
+fn visit_over<A: BufRead, Q: Write, W: Write, E: Write>(
+    expected: Expected,
+    question: &[u8],
+    answers: &mut A,
+    questions: &mut Q,
+    out: &mut W,
+    err: &mut E,
+) -> Status
+    requires { length question.now ≤ longest_line }
+    ensures asked { AppendsFront (Q.contents questions.old) (Q.contents questions.new)
+        (line_text question.now) }
+    ensures whole { result ≢ Failed → Appends (Q.contents questions.old)
+        (Q.contents questions.new) (line_text question.now) }
+    ensures printed { Printed (IsAnswer expected (A.remaining answers.old))
+        (W.contents out.old) (W.contents out.new) result }
+    ensures passes { PassesOn (A.remaining answers.old) (W.contents out.old) (W.contents out.new) }
+    ensures err { FaultTold (E.contents err.old) (E.contents err.new) result }
+    ensures cause { FailsFor (IsVisitEnd (A.remaining answers.old))
+        (E.contents err.old) (E.contents err.new) result }
+{
+    let came = print_answer(expected, question, answers, questions, out);
+    ended(came, out, err)
+}
+
+// The same over a reader that has no buffer.
+fn visit<A: Read + Drop, Q: Write, W: Write, E: Write>(
+    alloc: Global,
+    expected: Expected,
+    question: &[u8],
+    answers: A,
+    questions: &mut Q,
+    out: &mut W,
+    err: &mut E,
+) -> Status
+    requires { length question.now ≤ longest_line }
+    ensures asked { AppendsFront (Q.contents questions.old) (Q.contents questions.new)
+        (line_text question.now) }
+    ensures whole { result ≢ Failed → Appends (Q.contents questions.old)
+        (Q.contents questions.new) (line_text question.now) }
+    ensures printed { Printed (IsAnswer expected (A.remaining answers))
+        (W.contents out.old) (W.contents out.new) result }
+    ensures passes { PassesOn (A.remaining answers) (W.contents out.old) (W.contents out.new) }
+    ensures err { FaultTold (E.contents err.old) (E.contents err.new) result }
+    ensures cause { FailsFor (IsVisitEnd (A.remaining answers))
+        (E.contents err.old) (E.contents err.new) result }
+{
+    let Ok(mut buffered) = BufReader::new(alloc, answers) else {
+        return tell_fault(StoreFault::Memory, err);
+    };
+    visit_over(expected, question, &mut buffered, questions, out, err)
+}
+
+/// Tells that an office has the file open: `open`, with status 3.
+pub fn tell_open<E: Write>(err: &mut E) -> Status
+    ensures line { AppendsFront (E.contents err.old) (E.contents err.new)
+        (store_fault_line StillOpen) }
+    ensures status { result ≡ Failed }
+{
+    tell_fault(StoreFault::StillOpen, err)
+}
+
+/// Asks an open office for the place and the reply that are kept under a number, and prints what `find_store` prints of a
+/// file.
+///
+/// A fault is told on `err`, with status 3: `not-open` where no whole answer comes, `store` where the office's records
+/// failed, `memory` or `write`. What is printed then is a prefix of what the office sent.
+pub fn find_office<A: Read + Drop, Q: Write, W: Write, E: Write>(
+    alloc: Global,
+    number: RequestNumber,
+    answers: A,
+    questions: &mut Q,
+    out: &mut W,
+    err: &mut E,
+) -> Status
+    ensures asked { AppendsFront (Q.contents questions.old) (Q.contents questions.new)
+        (line_text (find_question number)) }
+    ensures whole { result ≢ Failed → Appends (Q.contents questions.old)
+        (Q.contents questions.new) (line_text (find_question number)) }
+    ensures printed { Printed (IsAnswer Expected.Line (A.remaining answers))
+        (W.contents out.old) (W.contents out.new) result }
+    ensures passes { PassesOn (A.remaining answers) (W.contents out.old) (W.contents out.new) }
+    ensures err { FaultTold (E.contents err.old) (E.contents err.new) result }
+    ensures cause { FailsFor (IsVisitEnd (A.remaining answers))
+        (E.contents err.old) (E.contents err.new) result }
+{
+    let question = numbered(b"find ", number.get());
+    visit(
+        alloc,
+        Expected::Line,
+        question.as_slice(),
+        answers,
+        questions,
+        out,
+        err,
+    )
+}
+
+/// Asks an open office how many entries its records have, and prints the line that it answers.
+///
+/// Faults are those of `find_office`.
+pub fn status_office<A: Read + Drop, Q: Write, W: Write, E: Write>(
+    alloc: Global,
+    answers: A,
+    questions: &mut Q,
+    out: &mut W,
+    err: &mut E,
+) -> Status
+    ensures asked { AppendsFront (Q.contents questions.old) (Q.contents questions.new)
+        (line_text (codes "status")) }
+    ensures whole { result ≢ Failed → Appends (Q.contents questions.old)
+        (Q.contents questions.new) (line_text (codes "status")) }
+    ensures printed { Printed (IsAnswer Expected.Line (A.remaining answers))
+        (W.contents out.old) (W.contents out.new) result }
+    ensures passes { PassesOn (A.remaining answers) (W.contents out.old) (W.contents out.new) }
+    ensures err { FaultTold (E.contents err.old) (E.contents err.new) result }
+    ensures cause { FailsFor (IsVisitEnd (A.remaining answers))
+        (E.contents err.old) (E.contents err.new) result }
+{
+    visit(
+        alloc,
+        Expected::Line,
+        b"status",
+        answers,
+        questions,
+        out,
+        err,
+    )
+}
+
+/// Asks an open office for the message that is due to a site, and prints it, with its `end`; or `nothing` or `no-site`,
+/// with status 1.
+///
+/// Faults are those of `find_office`.
+pub fn export_office<A: Read + Drop, Q: Write, W: Write, E: Write>(
+    alloc: Global,
+    to: SiteId,
+    answers: A,
+    questions: &mut Q,
+    out: &mut W,
+    err: &mut E,
+) -> Status
+    ensures asked { AppendsFront (Q.contents questions.old) (Q.contents questions.new)
+        (line_text (export_question to)) }
+    ensures whole { result ≢ Failed → Appends (Q.contents questions.old)
+        (Q.contents questions.new) (line_text (export_question to)) }
+    ensures printed { Printed (IsAnswer Expected.Message (A.remaining answers))
+        (W.contents out.old) (W.contents out.new) result }
+    ensures passes { PassesOn (A.remaining answers) (W.contents out.old) (W.contents out.new) }
+    ensures err { FaultTold (E.contents err.old) (E.contents err.new) result }
+    ensures cause { FailsFor (IsVisitEnd (A.remaining answers))
+        (E.contents err.old) (E.contents err.new) result }
+{
+    let question = numbered(b"export ", to.number());
+    visit(
+        alloc,
+        Expected::Message,
+        question.as_slice(),
+        answers,
+        questions,
+        out,
+        err,
+    )
+}
+
+// The line that asks for the requests that name an event.
+fn list_question(event: Event) -> Text
+    ensures value { result.items ≡ list_question event }
+    ensures few { length result.items ≤ longest_line }
+{
+    let mut text = word(b"list ");
+    put(&mut text, event.bytes());
+    text
+}
+
+/// Asks an open office for the requests that name an event, and prints what `list_store` prints of a file; `none` for a
+/// word that is no event name, of which nothing is asked.
+///
+/// Faults are those of `find_office`.
+pub fn list_office<A: Read + Drop, Q: Write, W: Write, E: Write>(
+    alloc: Global,
+    event: &str,
+    answers: A,
+    questions: &mut Q,
+    out: &mut W,
+    err: &mut E,
+) -> Status
+    ensures asked { AppendsFront (Q.contents questions.old) (Q.contents questions.new)
+        (line_text (list_question event.now)) }
+    ensures whole { IsEventName event.now → result ≢ Failed → Appends
+        (Q.contents questions.old) (Q.contents questions.new) (line_text (list_question event.now)) }
+    ensures unasked { (IsEventName event.now → ⊥) → questions.new ≡ questions.old }
+    ensures printed { Printed (AreRowsOf event.now (A.remaining answers))
+        (W.contents out.old) (W.contents out.new) result }
+    ensures passes { IsEventName event.now → PassesOn (A.remaining answers)
+        (W.contents out.old) (W.contents out.new) }
+    ensures err { FaultTold (E.contents err.old) (E.contents err.new) result }
+    ensures cause { FailsFor (IsVisitEnd (A.remaining answers))
+        (E.contents err.old) (E.contents err.new) result }
+{
+    let Some(event) = Event::read(event.as_bytes()) else {
+        let came = tell(&Told::NotFound, out);
+        return ended(came, out, err);
+    };
+    let question = list_question(event);
+    visit(
+        alloc,
+        Expected::Rows,
+        question.as_slice(),
+        answers,
+        questions,
+        out,
+        err,
+    )
+}

@@ -1,0 +1,578 @@
+#!/usr/bin/env python3
+"""Tills sell at three sites, two at each, while lines are cut and slowed, old messages come again, and offices, brokers and scripts
+are killed (SIGKILL), in rounds of some seconds. By a folder, and by brokers in network namespaces.
+
+Usage: tests/partition.py [PROGRAM [folder|brokers ..]] [--rounds=N] [--within=SECONDS] [--pause=SECONDS] [--seed=N]
+       (PROGRAM: crates/boxoffice/out/boxoffice; 3 rounds of each; within 30 seconds; tills pause up to 0.03 seconds)
+
+At each look no site knows of more seats sold than released, and neither do the tills' journals. When all is whole again, all sites
+have to agree within so many SECONDS. Then each reply that a till read has to be in its site's file once, under its number, and no
+request beside them; and by C SQLite's sums each seat is sold or left somewhere.
+
+The seed, printed first, gives what happens, though not at which moment of a request. Says what differs and ends with status 1
+where anything does. Without mosquitto, or the right to make network namespaces (root and iproute2), brokers are not tried: it says
+so and passes. It has no loss of single packets: messages are delayed by a relay that each site's connections go through.
+"""
+
+import collections
+import contextlib
+import ctypes
+import itertools
+import os
+import random
+import re
+import shutil
+import signal
+import socket
+import subprocess
+import sys
+import tempfile
+import threading
+import time
+
+# `trial` takes the first word for the program.
+GIVEN = dict(word[2:].split("=") for word in sys.argv if word.startswith("--"))
+SEED = int(GIVEN.get("seed", random.SystemRandom().randrange(10**9)))
+ROUNDS, WITHIN, PAUSE = int(GIVEN.get("rounds", 3)), float(GIVEN.get("within", 30)), float(GIVEN.get("pause", 0.03))
+sys.argv = [word for word in sys.argv if not word.startswith("--")]
+
+from exchange import CITIES, FOLDER, NEEDED, Brokers, quiet_port
+from serving import Office, Operator
+from trial import HERE, SECONDS, call, intact, opened, same, try_each
+
+sys.path.insert(0, os.path.join(HERE, "..", "clients", "python"))
+import boxoffice
+from boxoffice import Done
+
+tempfile.tempdir = "/dev/shm" if os.path.isdir("/dev/shm") else None
+SITES, TILLS, FIRST_RELEASE, RELEASE = range(3), range(2), 300, 40
+EVERY, PORT = "0.2", 8883
+TOTALS = re.compile("totals released ([0-9]+) sold ([0-9]+) refunded ([0-9]+) open ([0-9]+|none)")
+
+
+class Space:
+    """A network namespace of a site's own, with a line to a switch."""
+
+    def __init__(self, me):
+        self.name, self.line = f"box-{os.getpid()}-{me}", f"line{me}"
+        self.words = ["ip", "netns", "exec", self.name]
+
+    def make(self, hub, address):
+        ip("netns", "add", self.name)
+        ip("link", "add", "line", "netns", self.name, "type", "veth", "peer", "name", self.line, "netns", hub)
+        ip("-n", hub, "link", "set", self.line, "master", "switch", "up")
+        ip("-n", self.name, "address", "add", address + "/24", "dev", "line")
+        ip("-n", self.name, "link", "set", "lo", "up")
+        ip("-n", self.name, "link", "set", "line", "up")
+
+    def enter(self):
+        """This thread's sockets belong to the namespace from here on."""
+        handle = os.open(f"/run/netns/{self.name}", os.O_RDONLY)
+        failed = ctypes.CDLL(None, use_errno=True).setns(handle, 0x40000000)
+        os.close(handle)
+        if failed:
+            raise OSError(ctypes.get_errno(), "setns")
+
+
+def ip(*words):
+    subprocess.run(["ip", *words], check=True, capture_output=True)
+
+
+class Relay(threading.Thread):
+    """Passes on the connections of a site to one broker, and delays each piece by up to `delay` seconds."""
+
+    def __init__(self, space, target):
+        super().__init__(daemon=True)
+        self.space, self.target, self.delay, self.is_ready = space, target, 0.0, threading.Event()
+        self.port = 0
+        self.start()
+        self.is_ready.wait(SECONDS)
+
+    def run(self):
+        self.space.enter()
+        listener = socket.create_server(("127.0.0.1", 0))
+        self.port = listener.getsockname()[1]
+        self.is_ready.set()
+        while True:
+            threading.Thread(target=self.serve, args=(listener.accept()[0],), daemon=True).start()
+
+    def serve(self, near):
+        self.space.enter()
+        with near, contextlib.suppress(OSError), socket.create_connection(self.target, 20) as far:
+            far.settimeout(None)
+            back = threading.Thread(target=self.pump, args=(far, near), daemon=True)
+            back.start()
+            self.pump(near, far)
+            back.join(20)
+
+    def pump(self, source, sink):
+        with contextlib.suppress(OSError):
+            while piece := source.recv(4096):
+                time.sleep(random.uniform(0, self.delay))
+                sink.sendall(piece)
+        with contextlib.suppress(OSError):
+            sink.shutdown(socket.SHUT_WR)
+
+
+class ByFolder:
+    """Each site has a folder of its own. What a site wrote is copied to the others, unless either is cut off."""
+
+    def __init__(self, folder, chance):
+        self.folder, self.chance, self.is_over = folder, chance, threading.Event()
+        # Sites that are cut off; to which nothing comes; and what was in their folders some rounds ago.
+        self.cut, self.held, self.late = set(), set(), {}
+        for me in SITES:
+            os.mkdir(self.place(me))
+        self.thread = threading.Thread(target=self.run, daemon=True)
+        self.thread.start()
+
+    def place(self, me):
+        return os.path.join(self.folder, f"shared-{me}")
+
+    def enter(self, me):
+        """What a thread or a program of a site does first."""
+
+    def port(self, me):
+        return quiet_port()
+
+    def script(self, me):
+        return [FOLDER, str(me), str(len(SITES)), f"{CITIES[me]}.db", self.place(me), "--every", EVERY], {}
+
+    def run(self):
+        while not self.is_over.wait(0.05):
+            for me, peer in itertools.permutations(SITES, 2):
+                if not {me, peer} & self.cut and peer not in self.held:
+                    for name in os.listdir(self.place(me)):
+                        if name.startswith(f"{me}-"):
+                            self.copy(me, peer, name)
+
+    def copy(self, me, peer, name):
+        with open(os.path.join(self.place(me), name), "rb") as file:
+            text = file.read()
+        with contextlib.suppress(FileNotFoundError), open(os.path.join(self.place(peer), name), "rb") as file:
+            if file.read() == text:
+                return
+        with open(os.path.join(self.place(peer), name), "wb") as file:
+            file.write(text)
+
+    def faults(self):
+        return [self.is_cut, self.is_torn, self.comes_late]
+
+    @contextlib.contextmanager
+    def is_cut(self, me):
+        self.cut.add(me)
+        yield f"{CITIES[me]} is cut off"
+        self.cut.discard(me)
+
+    def came(self, me):
+        """The files of others in the folder of a site, to which nothing comes from here on."""
+        self.held.add(me)
+        time.sleep(0.1)
+        return [os.path.join(self.place(me), name) for name in os.listdir(self.place(me)) if name[0] not in f"{me}."]
+
+    @contextlib.contextmanager
+    def is_torn(self, me):
+        for path in self.came(me):
+            os.truncate(path, os.path.getsize(path) // 2)
+        yield f"what came to {CITIES[me]} is torn"
+        self.held.discard(me)
+
+    @contextlib.contextmanager
+    def comes_late(self, me):
+        """What others wrote some rounds ago takes the place of what they wrote last."""
+        for path in self.came(me):
+            with open(path, "r+b") as file:
+                now = file.read()
+                file.seek(0)
+                file.write(self.late.setdefault(path, now))
+                file.truncate()
+            if self.chance.random() < 0.5:
+                self.late[path] = now
+        yield f"older messages come to {CITIES[me]}"
+        self.held.discard(me)
+
+    def end(self):
+        self.is_over.set()
+        self.thread.join(SECONDS)
+
+
+class ByBrokers:
+    """Each site has a network namespace, with a broker, and a relay to each other broker."""
+
+    def __init__(self, folder, chance):
+        self.folder, self.chance, self.old = folder, chance, {}
+        self.hub, self.spaces = f"box-{os.getpid()}-hub", [Space(me) for me in SITES]
+        ip("netns", "add", self.hub)
+        ip("-n", self.hub, "link", "add", "switch", "type", "bridge")
+        ip("-n", self.hub, "link", "set", "switch", "up")
+        hosts = [(f"10.79.0.{me + 1}", PORT) for me in SITES]
+        for me, space in enumerate(self.spaces):
+            space.make(self.hub, hosts[me][0])
+        self.brokers = Brokers(folder, hosts, [space.words for space in self.spaces])
+        self.relays = {(me, peer): Relay(self.spaces[me], hosts[peer]) for me, peer in itertools.permutations(SITES, 2)}
+
+    def enter(self, me):
+        self.spaces[me].enter()
+
+    def port(self, me):
+        return 7000
+
+    def script(self, me):
+        words, place = self.brokers.script(me, f"{CITIES[me]}.db")
+        peers = [f"{peer}=127.0.0.1:{self.relays[me, peer].port}" for peer in SITES if peer != me]
+        return [*words[: -len(peers)], *peers], place
+
+    def faults(self):
+        return [self.is_cut, self.is_slow, self.is_killed, self.comes_late]
+
+    def set_line(self, me, state):
+        ip("-n", self.hub, "link", "set", self.spaces[me].line, state)
+
+    @contextlib.contextmanager
+    def is_cut(self, me):
+        self.set_line(me, "down")
+        yield f"{CITIES[me]} is cut off"
+        self.set_line(me, "up")
+
+    @contextlib.contextmanager
+    def is_slow(self, me):
+        relays = [relay for pair, relay in self.relays.items() if me in pair]
+        for relay in relays:
+            relay.delay = 0.6
+        yield f"the lines of {CITIES[me]} are slow"
+        for relay in relays:
+            relay.delay = 0.0
+
+    @contextlib.contextmanager
+    def is_killed(self, me):
+        self.brokers.kill(me)
+        yield f"the broker of {CITIES[me]} is killed"
+        self.brokers.start(me)
+
+    @contextlib.contextmanager
+    def comes_late(self, me):
+        """A message that is due now is published a second time, some rounds later."""
+        peer = self.chance.choice([peer for peer in SITES if peer != me])
+        with contextlib.suppress(OSError):
+            now = Operator(os.path.join(self.folder, f"{CITIES[me]}.db-sock")).export(peer)
+            earlier = self.old.setdefault((me, peer), now)
+            if now.startswith("delta "):
+                self.old[me, peer] = now
+            if earlier.startswith("delta "):
+                words = ["mosquitto_pub", "-k", "5", "-q", "1", "-r", "-h", f"10.79.0.{peer + 1}", "-p", str(PORT), "-s"]
+                place = {**os.environ, "XDG_CONFIG_HOME": os.path.join(self.folder, str(me))}
+                words = [*self.spaces[me].words, *words, "-t", f"sites/{peer}/{me}/delta"]
+                with contextlib.suppress(subprocess.TimeoutExpired):
+                    subprocess.run(words, input=earlier.encode(), env=place, timeout=5, capture_output=True, check=False)
+        yield f"an older message of {CITIES[me]} comes to {CITIES[peer]}"
+
+    def end(self):
+        self.brokers.end()
+        for name in [self.hub, *(space.name for space in self.spaces)]:
+            subprocess.run(["ip", "netns", "del", name], check=False, capture_output=True)
+
+
+class Seller(threading.Thread):
+    """A till of a site. It sells and gives back for as long as it may, and ends with no request open."""
+
+    def __init__(self, world, me, first):
+        super().__init__()
+        self.world, self.me, self.first, self.chance = world, me, first, random.Random(SEED + first)
+        self.path, self.sales, self.failed = os.path.join(world.folder, f"till-{first}.journal"), [], None
+
+    def run(self):
+        try:
+            self.world.line.enter(self.me)
+            with self.world.till(self.me, self.path, self.first) as till:
+                while not self.world.is_over.is_set():
+                    self.once(till)
+                    time.sleep(self.chance.uniform(0, PAUSE))
+        except Exception as error:
+            self.failed = error
+
+    def once(self, till):
+        if self.sales and self.chance.random() < 0.25:
+            self.world.asked(till, till.refund, self.sales.pop(self.chance.randrange(len(self.sales))), 1)
+            return
+        seats = self.chance.randrange(1, 4)
+        result = self.world.asked(till, till.sell, "gala", seats)
+        if isinstance(result, Done):
+            self.sales.append(result.number)
+        else:
+            time.sleep(0.1)
+
+
+class World:
+    """Three sites with their offices, scripts and tills."""
+
+    def __init__(self, folder, kind):
+        self.folder, self.chance, self.is_over = folder, random.Random(SEED), threading.Event()
+        self.line, self.offices, self.scripts, self.looked, self.kills = kind(folder, self.chance), {}, {}, 0, 0
+        self.released, self.ports = FIRST_RELEASE, [self.line.port(me) for me in SITES]
+
+    def till(self, me, path, first, seconds=SECONDS):
+        return boxoffice.Till(self.ports[me], path, first, first + 999_999, seconds)
+
+    def asked(self, till, ask, *words):
+        """The result, however long the office is away."""
+        end = time.monotonic() + 4 * SECONDS
+        while True:
+            try:
+                return till.resume()[1] if till.journal.open else ask(*words)
+            except boxoffice.Unanswered:
+                if time.monotonic() > end:
+                    raise
+
+    def open(self, me):
+        self.offices[me] = Office(self.folder, f"{CITIES[me]}.db", self.ports[me], preexec_fn=lambda: self.line.enter(me))
+
+    def start(self, me):
+        words, place = self.line.script(me)
+        with open(os.path.join(self.folder, f"{me}.said"), "ab") as said:
+            more = {"env": {**os.environ, **place}, "stderr": said, "preexec_fn": lambda: self.line.enter(me)}
+            self.scripts[me] = subprocess.Popen([sys.executable, *words], cwd=self.folder, start_new_session=True, **more)
+
+    def stop(self, me):
+        """Kills the script of a site with what it had started."""
+        os.killpg(self.scripts[me].pid, signal.SIGKILL)
+        self.scripts[me].wait(SECONDS)
+
+    @contextlib.contextmanager
+    def office_killed(self, me):
+        self.offices[me].kill()
+        yield f"the office of {CITIES[me]} is killed"
+        self.open(me)
+
+    @contextlib.contextmanager
+    def script_killed(self, me):
+        self.stop(me)
+        yield f"the script of {CITIES[me]} is killed"
+        self.start(me)
+
+    def ask(self, me, line):
+        """The reply of a site at its socket; nothing where its office is away."""
+        with contextlib.suppress(OSError), contextlib.closing(Operator(self.offices[me].path)) as operator:
+            operator.close = operator.go_away
+            return operator.ask(line)
+        return ""
+
+    def look(self):
+        """No site knows of more sold than released."""
+        for me in SITES:
+            if found := TOTALS.fullmatch(self.ask(me, "totals gala")):
+                released, sold, back = (int(found[k]) for k in (1, 2, 3))
+                enough = sold - back <= released <= self.released and found[4] != "none"
+                same(f"{CITIES[me]}: sold at most released: {found[0]}", enough, True)
+                self.looked += 1
+
+    def journals(self):
+        """By sites the requests of the journals with their replies; an open one has none."""
+        asked = {me: [] for me in SITES}
+        for name in os.listdir(self.folder):
+            if name.startswith("till-"):
+                with open(os.path.join(self.folder, name), encoding="ascii") as file:
+                    asked[int(name[5]) - 1] += re.findall("ask (.*)\n(?:reply [0-9]+ (.*)\n)?", file.read())
+        return asked
+
+    def taken(self):
+        """What became of how many messages, as the scripts said it."""
+        words = collections.Counter()
+        for me in SITES:
+            with open(os.path.join(self.folder, f"{me}.said"), encoding="utf-8") as said:
+                words.update(re.findall("(?:delta|ack) from [0-9]: ([a-z-]+)", said.read()))
+        return words
+
+    def sold(self):
+        """How many seats the tills sold, and how many they gave back, by what they read. (Sales are counted first.)"""
+        lines = [line.split() for asked in self.journals().values() for line, reply in asked if reply == "done"]
+        return [sum(int(words[3]) for words in lines if words[0] == verb) for verb in ("sell", "refund")]
+
+
+def clerks_move(world, clerks):
+    """More seats are released, and some are ceded from site to site."""
+    world.released += RELEASE
+    same("a release", type(world.asked(clerks[0], clerks[0].release, "gala", RELEASE)), Done)
+    me = world.chance.choice(SITES)
+    left = world.ask(me, "left gala").split()
+    if left[:1] == ["left"] and int(left[1]) > 1:
+        peer = world.chance.choice([peer for peer in SITES if peer != me])
+        world.asked(clerks[me], clerks[me].cede, "gala", int(left[1]) // 2 or 1, peer)
+
+
+def one_round(world, clerks, at, is_said):
+    """Two or three things break, for a second or two; meanwhile clerks go on at the sites that are there."""
+    faults = world.chance.sample([*world.line.faults(), world.office_killed, world.script_killed], world.chance.choice([2, 3]))
+    with contextlib.ExitStack() as stack:
+        told = [stack.enter_context(fault(world.chance.choice(SITES))) for fault in faults]
+        if is_said:
+            print(f"    round {at}: {'; '.join(told)}", flush=True)
+        end = time.monotonic() + world.chance.uniform(1, 2.5)
+        while time.monotonic() < end:
+            world.look()
+            time.sleep(0.2)
+    clerks_move(world, clerks)
+    sold, back = world.sold()
+    same(f"round {at}: the tills sold at most what was released", sold - back <= world.released, True)
+
+
+def agreed(world, begin):
+    """How long after the last fault all sites agree on what the tills sold."""
+    sold, back = world.sold()
+    wanted = f"totals released {world.released} sold {sold} refunded {back} open {world.released - sold + back}"
+    while (found := [world.ask(me, "totals gala") for me in SITES]) != [wanted] * 3 and time.monotonic() < begin + SECONDS:
+        time.sleep(0.05)
+    took = time.monotonic() - begin
+    same("all sites agree", found, [wanted] * 3)
+    same(f"they agree after {took:.1f} s, within {WITHIN:.0f}", took <= WITHIN, True)
+    return took, sold, back
+
+
+def in_file(db):
+    """The requests of a file with their replies, by C SQLite."""
+    names = "CASE verb WHEN 'announce' THEN event WHEN 'refund' THEN target || ' ' || amount"
+    names += " WHEN 'cede' THEN event || ' ' || amount || ' ' || target ELSE event || ' ' || amount END"
+    columns = f"verb || ' ' || number || ' ' || {names}, reply || coalesce(' ' || rest, '')"
+    return db.execute(f"SELECT {columns} FROM entries WHERE number IS NOT NULL").fetchall()
+
+
+def summed(world, left, sold, back):
+    """Files against journals; and each seat is sold or left somewhere."""
+    journals, sums = world.journals(), {}
+    for me in SITES:
+        with opened(world.folder, f"{CITIES[me]}.db") as db:
+            intact(CITIES[me], db)
+            found = in_file(db)
+            same(f"{CITIES[me]}: each reply that was read is in the file once", sorted(found), sorted(journals[me]))
+            same(f"{CITIES[me]}: no number twice", len({line.split()[1] for line, _ in found}), len(found))
+            query = "SELECT verb, sum(amount) FROM entries WHERE reply = 'done' AND amount IS NOT NULL GROUP BY verb"
+            for verb, amount in db.execute(query):
+                sums[verb] = sums.get(verb, 0) + amount
+    found = [sums.get(verb, 0) for verb in ("release", "sell", "refund")]
+    same("released, sold and refunded by the sums of the files", found, [world.released, sold, back])
+    same("each seat is sold or left", sold - back + sum(left), world.released)
+    text = f"gala released {world.released} sold {sold} refunded {back} outstanding {sold - back}\n"
+    # (A program that checks itself, as one unproved does, sums up slowly.)
+    same("the audit", call(world.folder, ["audit", *(f"{city}.db" for city in CITIES)], "", 20 * SECONDS), (0, text, ""))
+    return sum(len(asked) for asked in journals.values())
+
+
+def begun(world):
+    """Offices, scripts, and for each site a clerk's till, with the seats given out."""
+    for me in SITES:
+        same("init", call(world.folder, ["init", f"{CITIES[me]}.db", str(me), "3", "1000000"]), (0, "done\n", ""))
+        world.open(me)
+        world.start(me)
+    clerks, seats = [Clerk(world, me) for me in SITES], FIRST_RELEASE // 3
+    same("announced", type(clerks[0].announce("gala")), Done)
+    same("released", type(clerks[0].release("gala", FIRST_RELEASE)), Done)
+    same("ceded", [type(clerks[0].cede("gala", seats, peer)) for peer in (1, 2)], [Done] * 2)
+    return clerks
+
+
+class Clerk:
+    """A till that the main thread, which is in no namespace, asks in the namespace of its site."""
+
+    def __init__(self, world, me):
+        self.world, self.me, self.path = world, me, os.path.join(world.folder, f"till-{me + 1}000000.journal")
+        self.till = self.inside(lambda: world.till(me, self.path, (me + 1) * 1_000_000))
+        self.journal = self.till.journal
+
+    def inside(self, ask):
+        """What a call gives, in a thread that is in the namespace."""
+        found = []
+
+        def run():
+            self.world.line.enter(self.me)
+            try:
+                found.append((ask(), None))
+            except boxoffice.TillError as error:
+                found.append((None, error))
+
+        thread = threading.Thread(target=run)
+        thread.start()
+        thread.join()
+        if found[0][1]:
+            raise found[0][1]
+        return found[0][0]
+
+    def __getattr__(self, verb):
+        return lambda *words: self.inside(lambda: getattr(self.till, verb)(*words))
+
+
+def tried(folder, kind, is_said):
+    world, clerks, begin = None, [], time.monotonic()
+    try:
+        world = World(folder, kind)
+        clerks = begun(world)
+        sellers = [Seller(world, me, (me + 1) * 1_000_000 + (till + 1) * 100_000) for me in SITES for till in TILLS]
+        for seller in sellers:
+            seller.start()
+        for at in range(ROUNDS):
+            one_round(world, clerks, at, is_said)
+        healed = time.monotonic()
+        world.is_over.set()
+        for seller in sellers:
+            seller.join(5 * SECONDS)
+            same(f"how till {seller.first} ended", (seller.is_alive(), seller.failed), (False, None))
+        took, sold, back = agreed(world, healed)
+        left = settled(world, sold, back)
+        for clerk in clerks:
+            clerk.close()
+        for me in SITES:
+            world.stop(me)
+            world.offices[me].close()
+        count = summed(world, left, sold, back)
+        print(f"{ROUNDS} rounds in {time.monotonic() - begin:.0f} s: {count} requests, {sold} seats sold, {back} given back, "
+              f"{world.released} released; {world.looked} looks; all agreed after {took:.1f} s")
+        print("messages:", ", ".join(f"{word} {count}" for word, count in world.taken().most_common()))
+    finally:
+        ended(world)
+
+
+def settled(world, sold, back):
+    """What is left at each site once nothing is under way."""
+    end = time.monotonic() + SECONDS
+    while True:
+        left = [int(world.ask(me, "left gala").removeprefix("left ") or 0) for me in SITES]
+        if sum(left) + sold - back == world.released or time.monotonic() > end:
+            return left
+        time.sleep(0.1)
+
+
+def ended(world):
+    if world:
+        world.is_over.set()
+        for me in SITES:
+            if me in world.scripts and world.scripts[me].poll() is None:
+                world.stop(me)
+            if me in world.offices:
+                world.offices[me].program.kill()
+        world.line.end()
+
+
+def folder_trial(folder):
+    print("by a folder:", flush=True)
+    tried(folder, ByFolder, ROUNDS > 3)
+
+
+def broker_trial(folder):
+    lacks = [name for name in (*NEEDED, "ip") if not shutil.which(name)]
+    if not lacks and os.geteuid() != 0:
+        lacks = ["the right to make network namespaces"]
+    if not lacks:
+        probe = f"box-{os.getpid()}-probe"
+        words = ["ip", "netns", "add", probe]
+        if subprocess.run(words, capture_output=True, check=False).returncode:
+            lacks = ["the right to make network namespaces"]
+        subprocess.run(["ip", "netns", "del", probe], capture_output=True, check=False)
+    if lacks:
+        print(f"by brokers: not tried, without {', '.join(lacks)}")
+        return
+    print("by brokers:", flush=True)
+    tried(folder, ByBrokers, ROUNDS > 3)
+
+
+TRIALS = {"folder": folder_trial, "brokers": broker_trial}
+print(f"the seed is {SEED}", flush=True)
+chosen = [TRIALS[word] for word in sys.argv[1:] if word in TRIALS] or TRIALS.values()
+sys.exit(try_each(chosen, "partition: 0 differ", "partition: {} differ"))
