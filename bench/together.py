@@ -134,7 +134,7 @@ class Redis:
         self.server.wait(60)
 
 
-def begun(stack, programs, folder, slower):
+def started(stack, programs, folder, slower):
     """How each sells, by its name; what runs then ends with the stack."""
     env, caller = slowed(folder, slower), compiled(folder)
     sellers = {name: functools.partial(office_rate, program, caller, folder, env) for name, program in programs.items()}
@@ -209,7 +209,7 @@ def main():
         with tempfile.TemporaryDirectory(dir=given.folder) as folder, contextlib.ExitStack() as stack:
             disk = '%g ms more a sync' % (slower / 1000) if slower else 'the disk as it is'
             print('%s (4 kB and a sync took %.0f microseconds before)' % (disk, sync_time(folder)), flush=True)
-            sellers = begun(stack, programs, folder, slower)
+            sellers = started(stack, programs, folder, slower)
             for callers in given.callers:
                 print('%d callers' % callers)
                 tell(timed(sellers, given.rounds, callers), programs)
