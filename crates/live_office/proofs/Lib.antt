@@ -1,5 +1,5 @@
+pub mod AskedAs
 pub mod Handled
 pub mod OfficeLines
 pub mod Seats
 pub mod Talks
-pub mod Together
