@@ -1,4 +1,6 @@
 pub mod Acknowledged
+pub mod Ahead
+pub mod Batch
 pub mod EventTables
 pub mod Growth
 pub mod Listing

@@ -1,5 +1,5 @@
 -- What the book under a desk's lock is at one moment, and what is answered by it then. (Our own.)
-use Rattle.std.specs.Prelude.{◌≡◌, ℕ, true, false, List, Vec, take, length, Option, Result, Ok, Err}
+use Rattle.std.specs.Prelude.{◌≡◌, ℕ, ◌≤◌, true, false, List, Vec, take, length, Option, Result, Ok, Err, IfOk}
 use Rattle.rights_lattice.specs.State.{AtOrBelow, knows}
 use Rattle.request_ledger.specs.declared.request.Request.{Request}
 use Rattle.book_core.specs.declared.entry.Entry.{Entry}
@@ -25,6 +25,7 @@ use Rattle.site_desk.specs.declared.fault.LookUpFault.{LookUpFault}
 use Rattle.site_desk.specs.declared.fault.LookUpFault.TheVariants as look_up
 use Rattle.site_desk.specs.declared.fault.NextFault.{NextFault}
 use Rattle.site_desk.specs.declared.receipt.Receipt.{Receipt}
+use Rattle.site_desk.specs.Calls.{AskAllCall, Keeping, answers_in}
 use Rattle.site_desk.specs.Answers.{IsAnswer, IsAskFault, IsNextFault, IsTaken, IsTakeFault, is_peer}
 use Rattle.site_desk.specs.Looks.{IsLookFault, IsSeenAt}
 use Rattle.site_desk.specs.Finish.{StandsIn}
@@ -52,6 +53,29 @@ pub record AtOneMoment {K : Type 0} (office : Office) (began : List Entry) (InSt
   pub at_desk : IsAtDesk office began InStep site
   pub holds : Holds site
 
+-- the site as the first entries of its history show it
+abbrev pub first_of : {K : Type 0} → ℕ → SiteView K → SiteView K
+first_of len site = record site { book = record site.book { history = take len site.book.history } }
+
+-- it holds of a beginning of some site that may stand there, no shorter than what the desk began with: of a site that had entries ahead
+-- of its store, which no keeper ever held without those behind them
+pub record AtABeginning {K : Type 0} (office : Office) (began : List Entry) (InStep : SiteView K → Type 0) (Holds : SiteView K → Type 0) : Type 0 where
+  pub site : SiteView K
+  pub at_desk : IsAtDesk office began InStep site
+  pub len : ℕ
+  pub longer : length began ≤ len
+  pub within : len ≤ length site.book.history
+  pub holds : Holds (first_of len site)
+
+-- a site that may stand there became another one that may, by just these requests
+pub record AsksAtDesk {K Z : Type 0} (k : Keeping K) (office : Office) (began : List Entry) (InStep : SiteView K → Type 0) (requests : List (ℕ × Request))
+    (result : Result (Vec (Result (Answer × Receipt) AskFault) Z) AskFault) : Type 0 where
+  pub old : SiteView K
+  pub new : SiteView K
+  pub began_at : IsAtDesk office began InStep old
+  pub ended_at : IsAtDesk office began InStep new
+  pub asked : AskAllCall k old new requests (answers_in result)
+
 -- the history has all of the delta that the message brings, if it brings one
 abbrev pub HasDelta : Message → List Entry → Type 0
 HasDelta (Delta by to upto delta) history = AtOrBelow delta (state_of history)
@@ -72,6 +96,18 @@ HoldsReceipt receipt site = (site.closed ≡ false) × StandsIn site.book.histor
 abbrev pub Replies : {K : Type 0} → (K → ℕ) → ℕ → Request → Result (Answer × Receipt) AskFault → SiteView K → Type 0
 Replies failed number request (Ok given) site = (site.closed ≡ false) × IsAnswer (decision_in site.book number request) (length site.book.history) given.0
 Replies failed number request (Err fault) site = IsAskFault site.closed (decision_in site.book number request) (failed site.keeper) 1 fault
+
+-- what is answered to a request that is asked with others: what is due by a beginning of a site that may stand at the desk
+abbrev pub RepliesAhead : {K : Type 0} → Office → List Entry → (SiteView K → Type 0) → (K → ℕ) → ℕ × Request → Result (Answer × Receipt) AskFault → Type 0
+RepliesAhead office began InStep failed asked given = AtABeginning office began InStep (Replies failed asked.0 asked.1 given)
+
+-- the answer, if it is fresh, stands at this place or behind it
+abbrev pub IsPlacedFrom : ℕ → Result (Answer × Receipt) AskFault → Type 0
+IsPlacedFrom from given = IfOk given (λ g. g.0.fresh ≡ true → from ≤ g.0.place)
+
+-- what the receipt names, if there is one, stands in some open site that may be there
+abbrev pub StandsGiven : {K : Type 0} → Office → List Entry → (SiteView K → Type 0) → Result (Answer × Receipt) AskFault → Type 0
+StandsGiven office began InStep given = IfOk given (λ g. AtOneMoment office began InStep (HoldsReceipt g.1))
 
 abbrev pub Looks : {K : Type 0} → List ℕ → Result Seen LookFault → SiteView K → Type 0
 Looks event (Ok seen) site = (site.closed ≡ false) × (knows (state_of site.book.history).names event ≡ true) × (seen.at ≡ length site.book.history) × IsSeenAt site.book.office site.book.history event seen
