@@ -1,7 +1,7 @@
 //! Requests of callers who wait at the same moment, which one of them asks for all.
 
 ghost use Rattle.std.specs.Prelude.{◌≡◌, All, IfOk, IfSome};
-ghost use Rattle.site_desk.specs.Moments.{IsGivenAt};
+ghost use Rattle.site_desk.specs.Moments.{StandsGiven};
 ghost use Rattle.site_desk.specs.SiteView.{SiteInStep};
 ghost use Rattle.live_office.specs.Admissible.{IsShut, admissible};
 ghost use Rattle.live_office.specs.Together.{IsAskedAs, IsGiven};
@@ -46,38 +46,36 @@ enum Turn {
     Beside,
 }
 
-// What was given for a request, without the answer.
-fn tell<K: Keeper, L: Opens>(ticket: u64, given: &Given) -> Told<K, L>
-    requires { IsGivenAt L.office L.began (SiteInStep K.failed K.is_trusted K.kept K.may_leave)
+// What was given for a request, for its caller; None for a refusal, since the caller asks again.
+fn tell<K: Keeper, L: Opens>(ticket: u64, given: &Given) -> Option<Told<K, L>>
+    requires { StandsGiven L.office L.began (SiteInStep K.failed K.is_trusted K.kept K.may_leave)
         given.now }
 {
     match given {
-        Ok((_, receipt)) => Told {
+        Ok((_, receipt)) => Some(Told {
             ticket,
             result: Ok(*receipt),
             of: PhantomData,
-        },
-        Err(fault) => Told {
-            ticket,
-            result: Err(*fault),
-            of: PhantomData,
-        },
+        }),
+        Err(_) => None,
     }
 }
 
-// What was given for requests, for their callers; for fewer of them where memory is refused.
+// What was given for requests, for their callers. Where memory is refused, these ask again too.
 fn tell_all<K: Keeper, L: Opens>(
     alloc: Global,
     tickets: &[u64],
     given: &[Given],
 ) -> Vec<Told<K, L>>
-    requires { All (IsGivenAt L.office L.began (SiteInStep K.failed K.is_trusted K.kept
+    requires { All (StandsGiven L.office L.began (SiteInStep K.failed K.is_trusted K.kept
         K.may_leave)) given.now }
 {
     let mut all = Vec::new(alloc);
     'requests: for (at, given) in given.iter().enumerate() {
         if at < tickets.len() {
-            let _ = all.push(tell(tickets[at], given));
+            if let Some(told) = tell(tickets[at], given) {
+                let _ = all.push(told);
+            }
         }
     }
     all

@@ -1,4 +1,5 @@
 pub mod Acknowledged
+pub mod Batch
 pub mod EventTables
 pub mod Growth
 pub mod Listing
@@ -6,3 +7,4 @@ pub mod Moments
 pub mod Receipts
 pub mod Sent
 pub mod Shown
+pub mod Stands

@@ -42,7 +42,7 @@ apart : {T E : Type 0} (x : T) (e : E) → ◌≡◌ {A = Result T E} (Ok x) (Er
 apart x e h = cc
 
 -- a closed book answers nothing
-open_if_ok : {T E : Type 0} (x : T) (shut : E) (closed : Bool) → ((◌≡◌ {A = Result T E} (Ok x) (Err shut)) ↔ (closed ≡ true)) → closed ≡ false
+pub open_if_ok : {T E : Type 0} (x : T) (shut : E) (closed : Bool) → ((◌≡◌ {A = Result T E} (Ok x) (Err shut)) ↔ (closed ≡ true)) → closed ≡ false
 open_if_ok x shut true both = absurd (apart x shut (both.1 refl))
 open_if_ok x shut false both = refl
 
@@ -133,7 +133,7 @@ has_delta given office message old new is now = subst (λ (s : SitePart). HasDel
     by_answer taken.Acked is = subst (λ (v : Verdict). HasDelta message (site_after v message old).history) (sym is) (has_acked office message old is)
 
 -- a book that was open and whose store did not fail is open
-still_open : {T E : Type 0} (x : T) (fault : E) (old new : Bool) → old ≡ false → ((new ≡ true) ↔ ((old ≡ true) ⊎ (◌≡◌ {A = Result T E} (Ok x) (Err fault)))) → new ≡ false
+pub still_open : {T E : Type 0} (x : T) (fault : E) (old new : Bool) → old ≡ false → ((new ≡ true) ↔ ((old ≡ true) ⊎ (◌≡◌ {A = Result T E} (Ok x) (Err fault)))) → new ≡ false
 still_open {T} {E} x fault old false is both = refl
 still_open {T} {E} x fault old true is both = absurd (by_cause (both.0 refl))
   where

@@ -1,5 +1,5 @@
 -- What a call of a site's book makes of the site. (Our own; what is stored before it is answered: a write-ahead log.)
-use Rattle.std.specs.Prelude.{◌≡◌, ◌≢◌, ◌⊎◌, ◌↔◌, ℕ, true, false, List, length, Option, Some, Result, Ok, Err, IfOk, IfErr, OnOk, OnErr}
+use Rattle.std.specs.Prelude.{◌≡◌, ◌≢◌, ◌⊎◌, ◌↔◌, ℕ, true, false, List, Vec, length, map, Option, Some, Result, Ok, Err, IfOk, IfErr, OnOk, OnErr}
 use Rattle.request_ledger.specs.declared.request.Request.{Request}
 use Rattle.book_core.specs.declared.entry.Entry.{Entry}
 use Rattle.book_core.specs.declared.entry.Entry.TheVariants.{Grown}
@@ -18,6 +18,7 @@ use Rattle.site_desk.specs.declared.fault.AskFault.{AskFault}
 use Rattle.site_desk.specs.declared.fault.AskFault.TheVariants as ask
 use Rattle.site_desk.specs.declared.receipt.Receipt.{Receipt}
 use Rattle.site_desk.specs.Answers.{IsAnswer, IsAskFault, IsGrowFault, IsTakeFault, IsTaken}
+use Rattle.site_desk.specs.Batch.{AreAnswered, IsAskAllFault, LeavesAsked, fresh_in}
 use Rattle.site_desk.specs.SiteView.{SiteView, decision_in, entry_in, grow_decision_in, growth_in, site_of, verdict_in}
 
 -- what a keeper shows: how often it failed, when it is to be trusted, what it stores, and the list and the site that a crash may leave
@@ -58,6 +59,36 @@ pub record AskCall {K : Type 0} (k : Keeping K) (old new : SiteView K) (number :
 abbrev pub answer_in : Result (Answer × Receipt) AskFault → Result Answer AskFault
 answer_in (Ok given) = Ok given.0
 answer_in (Err fault) = Err fault
+
+-- several requests, one after another: each is answered by the history that those before it left, and all new entries are stored at once,
+-- before any is answered. Where the store failed nothing is entered, and a crash leaves the history or all that they would have made of it.
+pub record AskAllCall {K : Type 0} (k : Keeping K) (old new : SiteView K) (requests : List (ℕ × Request)) (result : Result (List (Result Answer AskFault)) AskFault) : Type 0 where
+  pub office : new.book.office ≡ old.book.office
+  pub acked : new.acked ≡ old.acked
+  pub answered : IfOk result (λ answers. AreAnswered old.book.office old.book.history requests answers new.book.history)
+  pub unchanged : OnErr result (new.book.history ≡ old.book.history)
+  pub fault : IfErr result (IsAskAllFault old.closed (k.failed old.keeper) (k.failed new.keeper))
+  pub shut : (result ≡ Err ask.Closed) ↔ (old.closed ≡ true)
+  pub closes : (new.closed ≡ true) ↔ ((old.closed ≡ true) ⊎ (result ≡ Err ask.Store))
+  pub untouched : IfErr result (λ fault. fault ≢ ask.Store → new ≡ old)
+  pub stored : new.closed ≡ false → k.is_trusted new.keeper → new.book.history ≡ k.kept new.keeper
+  pub rests : new.closed ≡ false → k.is_trusted new.keeper → LeavesOnly new.book.history (k.may_leave new.keeper)
+  pub stopped : result ≡ Err ask.Store → k.is_trusted new.keeper → LeavesAsked old.book.office old.book.history requests (k.may_leave new.keeper)
+  pub site : k.is_trusted new.keeper → (meta : Meta) → k.is_of old.keeper meta → k.is_of new.keeper meta
+  pub trusted : k.is_trusted new.keeper → k.is_trusted old.keeper
+
+-- the answers as a list, and those beside receipts
+abbrev pub listed : {A Z F : Type 0} → Result (Vec A Z) F → Result (List A) F
+listed (Ok all) = Ok all.items
+listed (Err fault) = Err fault
+
+abbrev pub answers_in : {Z : Type 0} → Result (Vec (Result (Answer × Receipt) AskFault) Z) AskFault → Result (List (Result Answer AskFault)) AskFault
+answers_in (Ok given) = Ok (map answer_in given.items)
+answers_in (Err fault) = Err fault
+
+-- how many of the answers beside receipts are fresh
+abbrev pub fresh_given : List (Result (Answer × Receipt) AskFault) → ℕ
+fresh_given given = fresh_in (map answer_in given)
 
 -- a message: the verdict on it is answered, with the acknowledgement that is due; what brings nothing new and what is refused change nothing
 pub record TakeCall {K : Type 0} (k : Keeping K) (old new : SiteView K) (message : Message) (result : Result Taken TakeFault) : Type 0 where

@@ -1,5 +1,5 @@
 -- What a desk's sessions were given, beside what its history holds. (Our own.)
-use Rattle.std.specs.Prelude.{◌≡◌, ◌≢◌, ℕ, ◌≤◌, true, List, All, take, length, Result, Ok, Err, Some, slice_get}
+use Rattle.std.specs.Prelude.{◌≡◌, ◌≢◌, ℕ, ◌≤◌, true, List, All, take, length, Result, Ok, Err, Some, slice_get, IfOk}
 use Rattle.rights_lattice.specs.State.{State, knows}
 use Rattle.book_core.specs.declared.entry.Entry.{Entry}
 use Rattle.book_core.specs.declared.entry.Entry.TheVariants.{Asked}
@@ -8,6 +8,7 @@ use Rattle.book_core.specs.History.{state_of}
 use Rattle.request_ledger.specs.declared.request.Request.{Request}
 use Rattle.site_desk.specs.declared.answer.Answer.{Answer}
 use Rattle.site_desk.specs.declared.answer.Seen.{Seen}
+use Rattle.site_desk.specs.declared.fault.AskFault.{AskFault}
 use Rattle.site_desk.specs.declared.finish.FinishFault.{FinishFault}
 use Rattle.site_desk.specs.declared.finish.FinishFault.TheVariants.{SeatsOut, Stranger, StrangerSeen}
 use Rattle.site_desk.specs.declared.receipt.Receipt.{Receipt}
@@ -21,6 +22,10 @@ FirstNot {X} P xs n = All P (take n xs) × ((x : X) × (slice_get xs n ≡ Some 
 -- the receipt of an answer to a request under its number
 abbrev pub receipt_of : ℕ → Request → Answer → Receipt
 receipt_of number request answer = record { number = number; request = request; reply = answer.reply; place = answer.place }
+
+-- what is given for a request under its number, if it is answered, has the receipt of the answer
+abbrev pub HasItsReceipt : ℕ × Request → Result (Answer × Receipt) AskFault → Type 0
+HasItsReceipt asked given = IfOk given (λ g. g.1 ≡ receipt_of asked.0 asked.1 g.0)
 
 -- the entry at the receipt's place is its request, under its number and with its reply
 abbrev pub StandsIn : List Entry → Receipt → Type 0

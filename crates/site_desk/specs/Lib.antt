@@ -1,4 +1,5 @@
 pub mod Answers
+pub mod Batch
 pub mod Calls
 pub mod Count
 pub mod EventCells

@@ -1,5 +1,5 @@
 -- What the book under a desk's lock is at one moment, and what is answered by it then. (Our own.)
-use Rattle.std.specs.Prelude.{◌≡◌, ℕ, true, false, List, Vec, take, length, Option, Result, Ok, Err}
+use Rattle.std.specs.Prelude.{◌≡◌, ℕ, true, false, List, Vec, take, length, Option, Result, Ok, Err, IfOk}
 use Rattle.rights_lattice.specs.State.{AtOrBelow, knows}
 use Rattle.request_ledger.specs.declared.request.Request.{Request}
 use Rattle.book_core.specs.declared.entry.Entry.{Entry}
@@ -20,12 +20,12 @@ use Rattle.site_desk.specs.declared.answer.Seen.{Seen}
 use Rattle.site_desk.specs.declared.answer.Standing.{Standing}
 use Rattle.site_desk.specs.declared.answer.Taken.{Taken}
 use Rattle.site_desk.specs.declared.fault.AskFault.{AskFault}
-use Rattle.site_desk.specs.declared.fault.AskFault.TheVariants as ask
 use Rattle.site_desk.specs.declared.fault.LookFault.{LookFault}
 use Rattle.site_desk.specs.declared.fault.LookUpFault.{LookUpFault}
 use Rattle.site_desk.specs.declared.fault.LookUpFault.TheVariants as look_up
 use Rattle.site_desk.specs.declared.fault.NextFault.{NextFault}
 use Rattle.site_desk.specs.declared.receipt.Receipt.{Receipt}
+use Rattle.site_desk.specs.Calls.{AskAllCall, Keeping, answers_in}
 use Rattle.site_desk.specs.Answers.{IsAnswer, IsAskFault, IsNextFault, IsTaken, IsTakeFault, is_peer}
 use Rattle.site_desk.specs.Looks.{IsLookFault, IsSeenAt}
 use Rattle.site_desk.specs.Finish.{StandsIn}
@@ -53,6 +53,15 @@ pub record AtOneMoment {K : Type 0} (office : Office) (began : List Entry) (InSt
   pub at_desk : IsAtDesk office began InStep site
   pub holds : Holds site
 
+-- a site that may stand there became another one that may, by just these requests
+pub record AsksAtDesk {K Z : Type 0} (k : Keeping K) (office : Office) (began : List Entry) (InStep : SiteView K → Type 0) (requests : List (ℕ × Request))
+    (result : Result (Vec (Result (Answer × Receipt) AskFault) Z) AskFault) : Type 0 where
+  pub old : SiteView K
+  pub new : SiteView K
+  pub began_at : IsAtDesk office began InStep old
+  pub ended_at : IsAtDesk office began InStep new
+  pub asked : AskAllCall k old new requests (answers_in result)
+
 -- the history has all of the delta that the message brings, if it brings one
 abbrev pub HasDelta : Message → List Entry → Type 0
 HasDelta (Delta by to upto delta) history = AtOrBelow delta (state_of history)
@@ -66,13 +75,6 @@ HoldsDelta message site = (site.closed ≡ false) × HasDelta message site.book.
 abbrev pub HoldsReceipt : {K : Type 0} → Receipt → SiteView K → Type 0
 HoldsReceipt receipt site = (site.closed ≡ false) × StandsIn site.book.history receipt
 
--- What is given for a request that was asked with others: what its receipt names stands in an open site that may stand there, and behind
--- `Store` one that may stand there is closed.
-abbrev pub IsGivenAt : {K : Type 0} → Office → List Entry → (SiteView K → Type 0) → Result (Answer × Receipt) AskFault → Type 0
-IsGivenAt office began InStep (Ok given) = AtOneMoment office began InStep (HoldsReceipt given.1)
-IsGivenAt {K} office began InStep (Err ask.Store) = AtOneMoment office began InStep (λ (s : SiteView K). s.closed ≡ true)
-IsGivenAt office began InStep (Err fault) = Unit {0}
-
 -- A site answers this to a request, a look, a look-up, a message, or a peer that asks for its message: what is due where it is open, or the
 -- reason why it gives nothing. What its keeper tells behind the call is not said: 1, as behind an append that failed, stands in its
 -- place; of the faults `Store` alone reads it.
@@ -80,6 +82,10 @@ IsGivenAt office began InStep (Err fault) = Unit {0}
 abbrev pub Replies : {K : Type 0} → (K → ℕ) → ℕ → Request → Result (Answer × Receipt) AskFault → SiteView K → Type 0
 Replies failed number request (Ok given) site = (site.closed ≡ false) × IsAnswer (decision_in site.book number request) (length site.book.history) given.0
 Replies failed number request (Err fault) site = IsAskFault site.closed (decision_in site.book number request) (failed site.keeper) 1 fault
+
+-- what the receipt names, if there is one, stands in some open site that may be there
+abbrev pub StandsGiven : {K : Type 0} → Office → List Entry → (SiteView K → Type 0) → Result (Answer × Receipt) AskFault → Type 0
+StandsGiven office began InStep given = IfOk given (λ g. AtOneMoment office began InStep (HoldsReceipt g.1))
 
 abbrev pub Looks : {K : Type 0} → List ℕ → Result Seen LookFault → SiteView K → Type 0
 Looks event (Ok seen) site = (site.closed ≡ false) × (knows (state_of site.book.history).names event ≡ true) × (seen.at ≡ length site.book.history) × IsSeenAt site.book.office site.book.history event seen

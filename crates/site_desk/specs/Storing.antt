@@ -1,5 +1,6 @@
 -- An entry is stored before it is entered, and a book is started from what is stored. (Our own: a write-ahead log.)
-use Rattle.std.specs.Prelude.{◌≡◌, ◌≢◌, false, List, Option, Result, Err, IfErr, OnOk, OnErr, MatchResult}
+use Rattle.std.specs.Prelude.{◌≡◌, ◌≢◌, ℕ, false, List, Option, Result, Err, IfOk, IfErr, OnOk, OnErr, MatchResult}
+use Rattle.request_ledger.specs.declared.request.Request.{Request}
 use Rattle.book_core.specs.declared.entry.Entry.{Entry}
 use Rattle.book_core.specs.BookView.{BookView}
 use Rattle.site_exchange.specs.Exchange.{zeros}
@@ -8,6 +9,10 @@ use Rattle.sql_records.specs.declared.keeper.KeepFault.{KeepFault}
 use Rattle.sql_records.specs.declared.meta.Meta.{Meta}
 use Rattle.sql_records.specs.Keeping.{Keeps, LeavesEither, LeavesOnly, LeavesWithOrWithout}
 use Rattle.sql_records.specs.Layout.{office_of}
+use Rattle.site_desk.specs.declared.answer.Answer.{Answer}
+use Rattle.site_desk.specs.declared.fault.AskFault.{AskFault}
+use Rattle.site_desk.specs.declared.fault.AskFault.TheVariants as ask
+use Rattle.site_desk.specs.Batch.{AreAnswered, IsAskAllFault, LeavesAsked}
 use Rattle.site_desk.specs.Calls.{Keeping}
 use Rattle.site_desk.specs.SiteView.{SiteView}
 
@@ -42,5 +47,17 @@ pub record Enters {K T F : Type 0} (k : Keeping K) (book book_now : BookView) (k
   pub untouched : IfErr result (λ fault. fault ≢ store → keeper_now ≡ keeper)
   pub stored : OnOk result (IsStoredBy k keeper_now book_now.history)
   pub stopped : result ≡ Err store → k.is_trusted keeper_now → LeavesEither book.history entry (k.may_leave keeper_now)
+  pub site : k.is_trusted keeper_now → (meta : Meta) → k.is_of keeper meta → k.is_of keeper_now meta
+  pub trusted : k.is_trusted keeper_now → k.is_trusted keeper
+
+-- at an open book several requests were answered in turn, and all that is new was stored at once; or nothing was entered
+pub record EntersAll {K : Type 0} (k : Keeping K) (book book_now : BookView) (keeper keeper_now : K) (requests : List (ℕ × Request)) (result : Result (List (Result Answer AskFault)) AskFault) : Type 0 where
+  pub office : book_now.office ≡ book.office
+  pub answered : IfOk result (λ answers. AreAnswered book.office book.history requests answers book_now.history)
+  pub unchanged : OnErr result (book_now.history ≡ book.history)
+  pub fault : IfErr result (IsAskAllFault false (k.failed keeper) (k.failed keeper_now))
+  pub untouched : IfErr result (λ fault. fault ≢ ask.Store → (book_now ≡ book) × (keeper_now ≡ keeper))
+  pub stored : OnOk result (IsStoredBy k keeper_now book_now.history)
+  pub stopped : result ≡ Err ask.Store → k.is_trusted keeper_now → LeavesAsked book.office book.history requests (k.may_leave keeper_now)
   pub site : k.is_trusted keeper_now → (meta : Meta) → k.is_of keeper meta → k.is_of keeper_now meta
   pub trusted : k.is_trusted keeper_now → k.is_trusted keeper

@@ -1,10 +1,12 @@
 //! A site's book that threads share.
-ghost use Rattle.std.specs.Prelude.{◌≡◌, ◌≢◌, ◌+◌, ◌<◌, ◌≤◌, All, Err, true, false, length, IfOk, IfErr, IfSome, OnErr, if◌then◌else◌};
+ghost use Rattle.std.specs.Prelude.{◌≡◌, ◌≢◌, ◌+◌, ◌<◌, ◌≤◌, All, Err, None, true, false, length, IfOk, IfErr, IfSome, OnErr, if◌then◌else◌};
+ghost use Rattle.std.specs.List.{AllZip};
 ghost use Rattle.site_exchange.specs.Exchange.{ack_for, receiver};
 ghost use Rattle.site_desk.specs.Answers.{ack_of};
+ghost use Rattle.site_desk.specs.Calls.{fresh_given, keeping};
 ghost use Rattle.site_desk.specs.Count.{asked_since};
-ghost use Rattle.site_desk.specs.Finish.{FindsFirst, StandsIn, WasSeen, handed_back, receipt_of};
-ghost use Rattle.site_desk.specs.Moments.{AtOneMoment, Finds, HoldsDelta, HoldsReceipt, IsAtDesk, IsGivenAt, IsStanding, Lists, Looks, Replies, Sends, Takes};
+ghost use Rattle.site_desk.specs.Finish.{FindsFirst, HasItsReceipt, StandsIn, WasSeen, handed_back, receipt_of};
+ghost use Rattle.site_desk.specs.Moments.{AsksAtDesk, AtOneMoment, Finds, HoldsDelta, HoldsReceipt, IsAtDesk, IsStanding, Lists, Looks, Replies, Sends, StandsGiven, Takes};
 ghost use Rattle.site_desk.specs.Seats.{held, parts_of, shares_of};
 ghost use Rattle.site_desk.specs.SiteView.{SiteInStep, SiteView};
 
@@ -82,41 +84,31 @@ impl<K: Keeper, L: Opens> Desk<K, L> {
         locked.ask(alloc, seat, number, request)
     }
 
-    /// Answers several requests, one after another, as the book does, with one store of all that they enter, and gives the
-    /// receipts for the answers. The seat's share is raised by one for each fresh answer.
+    /// Answers several requests, one after another, as `ask` would, and stores all new entries by one sync, before any is
+    /// answered. The seat's share is raised by the number of the fresh answers. What the receipts name stands in an open
+    /// book that may be this desk's.
     ///
-    /// Errors of a request are those of `SiteBook::ask`. `Memory` for all of them leaves the seat and the book as they were.
+    /// Errors are those of `SiteBook::ask_all`, one for all; they leave the seat as it was.
     pub fn ask_all<R: Wait>(
         &self,
         rt: &R,
         alloc: Global,
         seat: &mut Seat<L>,
-        asks: &[(RequestNumber, Request)],
+        requests: &[(RequestNumber, Request)],
     ) -> Result<Vec<Result<(Answer, Receipt), AskFault>>, AskFault>
-        ensures parts { seat.new.parts ≡ seat.old.parts }
-        ensures given { IfOk result (λ all. All (IsGivenAt L.office L.began (SiteInStep K.failed
-            K.is_trusted K.kept K.may_leave)) all.items) }
+        ensures asked { AsksAtDesk (keeping K.failed K.is_trusted K.kept K.may_leave K.is_of)
+            L.office L.began (SiteInStep K.failed K.is_trusted K.kept K.may_leave)
+            requests.now result }
+        ensures receipts { IfOk result (λ given. AllZip HasItsReceipt requests.now given.items) }
+        ensures share { IfOk result (λ given. seat.new
+            ≡ held seat.old.parts (seat.old.count + fresh_given given.items)) }
+        ensures kept { OnErr result (seat.new ≡ seat.old) }
+        ensures stands { IfOk result (λ given. All (StandsGiven L.office L.began (SiteInStep
+            K.failed K.is_trusted K.kept K.may_leave)) given.items) }
         ensures shut { result ≡ Err AskFault.Store → AtOneMoment L.office L.began (SiteInStep
             K.failed K.is_trusted K.kept K.may_leave) (λ (s : SiteView K). s.closed ≡ true) }
     {
-        for _ in rt.forever() {}
-        unreachable!()
-    }
-
-    /// The same as `look`, once the history has an entry at this place, for which it waits.
-    pub fn look_past<R: Wait>(
-        &self,
-        rt: &R,
-        place: Option<usize>,
-        event: Event,
-    ) -> Result<Seen, LookFault>
-        ensures event { IfOk result (λ seen. seen.event ≡ event) }
-        ensures past { IfOk result (λ seen. IfSome place (λ p. p < seen.at)) }
-        ensures seen { AtOneMoment L.office L.began (SiteInStep K.failed K.is_trusted K.kept
-            K.may_leave) (Looks event result) }
-    {
-        for _ in rt.forever() {}
-        unreachable!()
+        self.lock.lock(rt).ask_all(rt, alloc, seat, requests)
     }
 
     /// What the history shows of an event that it knows, once it has all that was newly entered for this seat (the
@@ -129,9 +121,42 @@ impl<K: Keeper, L: Opens> Desk<K, L> {
         ensures seen { AtOneMoment L.office L.began (SiteInStep K.failed K.is_trusted K.kept
             K.may_leave) (Looks event result) }
     {
+        self.look_when(rt, seat.count(), None, event)
+    }
+
+    /// The same, once the history has an entry at this place, as of a sale that another seat asked for. Without a place it
+    /// waits for nothing.
+    pub fn look_past<R: Wait>(
+        &self,
+        rt: &R,
+        place: Option<usize>,
+        event: Event,
+    ) -> Result<Seen, LookFault>
+        ensures event { IfOk result (λ seen. seen.event ≡ event) }
+        ensures past { IfOk result (λ seen. IfSome place (λ p. p < seen.at)) }
+        ensures seen { AtOneMoment L.office L.began (SiteInStep K.failed K.is_trusted K.kept
+            K.may_leave) (Looks event result) }
+    {
+        self.look_when(rt, 0, place, event)
+    }
+
+    // What the history shows once it has so many newly entered requests, and an entry at the place.
+    fn look_when<R: Wait>(
+        &self,
+        rt: &R,
+        count: u64,
+        place: Option<usize>,
+        event: Event,
+    ) -> Result<Seen, LookFault>
+        ensures event { IfOk result (λ seen. seen.event ≡ event) }
+        ensures own { IfOk result (λ seen. length L.began + count ≤ seen.at) }
+        ensures past { IfOk result (λ seen. IfSome place (λ p. p < seen.at)) }
+        ensures seen { AtOneMoment L.office L.began (SiteInStep K.failed K.is_trusted K.kept
+            K.may_leave) (Looks event result) }
+    {
         for _ in rt.forever() {
             let locked = self.lock.lock(rt);
-            if locked.shows(seat.count()) {
+            if locked.shows(count) && locked.is_past(place) {
                 return locked.look(event);
             }
         }

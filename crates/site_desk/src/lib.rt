@@ -3,21 +3,24 @@
 //! `SiteBook` stores an entry before it applies it: `ask` a request, `take` a message, `grow` a count of sites. Where
 //! an entry is not known to be stored the book is closed until it is started again from what the store holds. `Desk`
 //! is that book behind one `Mutex`, with a count of new entries in which each `Seat` has a share; `finish` gives the
-//! book back.
+//! book back. `ask_all` of both answers several requests, whose entries are stored by one sync.
 //!
 //! Guaranteed: an open book's history is what its store holds, as far as that is trusted, and a crash leaves just
 //! that. A call at a desk is answered as some admissible book would: legal, of this site, extending the initial
-//! history, and consistent with its store; which one it was, no contract says. `finish` returns the first receipt or
-//! look that the history does not hold.
+//! history, and consistent with its store; which one it was, no contract says. Several requests, asked together, made
+//! another such book of one (`Moments.AsksAtDesk`). `finish` returns the first receipt or look that the history does not
+//! hold.
 #![tactic(auto)]
 
 mod answer;
 mod asking;
+mod asking_all;
 mod desk;
 mod event_cells;
 mod fault;
 mod finish;
 mod gate;
+mod given;
 mod growing;
 mod joining;
 mod locked;

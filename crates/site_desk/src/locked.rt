@@ -1,20 +1,22 @@
 //! What lies under a desk's lock.
 ghost use Rattle.std.specs.Prelude.{◌≡◌, ◌↔◌, All, Err, IsSome, ◌+◌, ◌<◌, ◌≤◌, true, false, length, IsTrue, IfOk, IfErr, OnErr, OnOk, if◌then◌else◌};
+ghost use Rattle.std.specs.List.{AllZip};
 ghost use Rattle.rights_lattice.specs.State.{knows};
 ghost use Rattle.book_core.specs.History.{state_of};
 ghost use Rattle.site_exchange.specs.Exchange.{next};
 ghost use Rattle.site_desk.specs.Answers.{is_peer};
 ghost use Rattle.site_desk.specs.Looks.{IsSeenAt};
-ghost use Rattle.site_desk.specs.Calls.{AskCall, TakeCall, answer_in, keeping};
+ghost use Rattle.site_desk.specs.Calls.{AskAllCall, AskCall, TakeCall, answer_in, answers_in, fresh_given, keeping};
 ghost use Rattle.site_desk.specs.SiteView.{SiteInStep, site_of};
 ghost use Rattle.site_desk.specs.Count.{asked_since};
 ghost use Rattle.site_desk.specs.Moments.{Finds, IsAtDesk, IsStanding, Lists};
-ghost use Rattle.site_desk.specs.Finish.{FindsFirst, StandsIn, WasSeen, handed_back, receipt_of};
+ghost use Rattle.site_desk.specs.Finish.{FindsFirst, HasItsReceipt, StandsIn, WasSeen, handed_back, receipt_of};
 ghost use Rattle.site_desk.specs.Seats.{held, parts_of, shares_of};
 
 use crate::answer::{Answer, Seen, Standing, Taken};
 use crate::fault::{AskFault, LookFault, LookUpFault, NextFault};
 use crate::finish::{FinishFault, first_stranger, first_stranger_seen, gather};
+use crate::given::give_all;
 use crate::looking_up::{found_in, listed_in};
 use crate::receipt::Receipt;
 use crate::seat::{Opens, Seat};
@@ -25,6 +27,7 @@ use site_exchange::{Message, TakeFault};
 use sql_records::{Found, Keeper, Listed};
 use std::alloc::Global;
 use std::marker::Model;
+use std::sync::Wait;
 use std::sync::ledger::{Blank, Book as Tally, Share};
 
 /// A site's book, with the count of the requests that were newly entered since it lies here: what they are in its
@@ -120,6 +123,50 @@ impl<K: Keeper, L: Opens> Locked<K, L> {
         Ok((answer, receipt))
     }
 
+    /// Answers several requests. The seat's share is raised by the number of the fresh answers.
+    #[tactic(auto, using(crate::proofs::Growth::asked_since_below))]
+    pub fn ask_all<R: Wait>(
+        &mut self,
+        rt: &R,
+        alloc: Global,
+        seat: &mut Seat<L>,
+        requests: &[(RequestNumber, Request)],
+    ) -> Result<Vec<Result<(Answer, Receipt), AskFault>>, AskFault>
+        ensures at_desk { IsAtDesk L.office L.began
+            (SiteInStep K.failed K.is_trusted K.kept K.may_leave) self.old }
+        ensures stays { IsAtDesk L.office L.began
+            (SiteInStep K.failed K.is_trusted K.kept K.may_leave) self.new }
+        ensures asked { AskAllCall (keeping K.failed K.is_trusted K.kept K.may_leave K.is_of)
+            self.old self.new requests.now (answers_in result) }
+        ensures receipts { IfOk result
+            (λ given. AllZip HasItsReceipt requests.now given.items) }
+        ensures share { IfOk result (λ given. seat.new
+            ≡ held seat.old.parts (seat.old.count + fresh_given given.items)) }
+        ensures kept { OnErr result (seat.new ≡ seat.old) }
+    {
+        // What the book says of its history, before and after.
+        let _before = self.book.book().len();
+        self.tally.audit(&mut seat.share);
+        if self.book.is_closed() {
+            return Err(AskFault::Closed);
+        }
+        let Ok(mut given) = Vec::with_capacity(alloc, requests.len()) else {
+            return Err(AskFault::Memory);
+        };
+        let came = self.book.ask_all(rt, alloc, requests);
+        // What the book says of its length, which the total is not above.
+        let _after = self.book.book().len();
+        let answers = match came {
+            Ok(answers) => answers,
+            Err(fault) => return Err(fault),
+        };
+        let fresh = give_all(requests, &answers, &mut given);
+        self.tally.add(&mut seat.share, fresh);
+        self.total += fresh;
+        seat.count += fresh;
+        Ok(given)
+    }
+
     /// The site whose book it is.
     pub fn site(&self) -> SiteId
         ensures { result ≡ self.now.book.office.me }
@@ -135,6 +182,16 @@ impl<K: Keeper, L: Opens> Locked<K, L> {
         ensures within { IsTrue result → length L.began + count ≤ length self.now.book.history }
     {
         count <= self.total
+    }
+
+    /// Whether the history has an entry at the place, if there is one.
+    pub fn is_past(&self, place: Option<usize>) -> bool
+        ensures { IsTrue result → IfSome place (λ p. p < length self.now.book.history) }
+    {
+        match place {
+            Some(place) => place < self.book.book().len(),
+            None => true,
+        }
     }
 
     /// What the history shows of an event that it knows.

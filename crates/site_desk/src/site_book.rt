@@ -13,13 +13,14 @@ ghost use Rattle.sql_records.specs.Keeping.{LeavesOnly};
 ghost use Rattle.sql_records.specs.Layout.{office_of};
 ghost use Rattle.site_desk.specs.Answers.{is_peer};
 ghost use Rattle.site_desk.specs.Looks.{IsSeenAt};
-ghost use Rattle.site_desk.specs.Calls.{AskCall, GrowCall, TakeCall, keeping};
+ghost use Rattle.site_desk.specs.Calls.{AskAllCall, AskCall, GrowCall, TakeCall, keeping, listed};
 ghost use Rattle.site_desk.specs.Storing.{IsStarted};
 ghost use Rattle.site_desk.specs.Count.{HasOneMoreIf};
 ghost use Rattle.site_desk.specs.SiteView.{SiteInStep, site_of};
 
 use crate::answer::{Answer, Seen, Taken};
 use crate::asking::answer;
+use crate::asking_all::answer_all;
 use crate::fault::{AskFault, LookFault, NextFault};
 use crate::growing::grow;
 use crate::joining::join;
@@ -30,6 +31,7 @@ use site_exchange::{Exchange, Message, TakeFault, check};
 use sql_records::{Keeper, Meta};
 use std::alloc::Global;
 use std::marker::Model;
+use std::sync::Wait;
 
 /// The book of a site, what its peers have acknowledged, and the keeper of its history.
 ///
@@ -156,6 +158,32 @@ impl<K: Keeper> SiteBook<K> {
         let answer = answer(&mut self.book, &mut self.keeper, alloc, number, request);
         self.is_closed = matches!(answer, Err(AskFault::Store));
         answer
+    }
+
+    /// Answers several requests under their numbers, one after another, as `ask` would, and keeps all new entries at once,
+    /// before any is answered. Where nothing is new the keeper is not called.
+    ///
+    /// An error is one for all. `Store` where the new entries are not known to be kept: the history is as it was, and the
+    /// book is closed. For that it is built again from its entries, and waits for the memory. `Memory` where there is no
+    /// room for the answers. Both leave nobody answered, and all but `Store` change nothing.
+    pub fn ask_all<R: Wait>(
+        &mut self,
+        rt: &R,
+        alloc: Global,
+        requests: &[(RequestNumber, Request)],
+    ) -> Result<Vec<Result<Answer, AskFault>>, AskFault>
+        ensures asked { AskAllCall (keeping K.failed K.is_trusted K.kept K.may_leave K.is_of)
+            self.old self.new requests.now (listed result) }
+        ensures sites { sites_of self.new.book.office self.new.book.history
+            ≡ sites_of self.old.book.office self.old.book.history }
+        ensures has_rights { HasOwnRights self.new.book }
+    {
+        if self.is_closed {
+            return Err(AskFault::Closed);
+        }
+        let asked = answer_all(rt, &mut self.book, &mut self.keeper, alloc, requests);
+        self.is_closed = matches!(asked, Err(AskFault::Store));
+        asked
     }
 
     /// Takes a peer's message: joins its delta where it holds something new, or notes what it acknowledges.

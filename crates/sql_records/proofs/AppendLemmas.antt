@@ -1,7 +1,7 @@
 -- What one INSERT makes of the history, and what a stop may leave.
 use Rattle.std.proofs.Common.{◌≡◌, ◌⊎◌, inl, inr, ℕ, ◌+◌, pos, List, [], ◌∷◌, ◌++◌, map, length, None, Some, Option, Ok, Err, Result, IsTrue, OnOk, refl, sym, ap, subst, subst₂, ◌∙◌, arith, append-nil}
 use Rattle.std.specs.List.{filter_map}
-use Rattle.std.proofs.lemmas.List.{length-append}
+use Rattle.std.proofs.lemmas.List.{append_assoc, length-append}
 use Rattle.sqlite.specs.declared.types.Value.TheVariants.{Null, Int}
 use Rattle.sqlite.specs.Kind.TheVariants.{Integer, Text}
 use Rattle.sqlite.specs.Cast.{cast}
@@ -15,7 +15,7 @@ use Rattle.sqlite.specs.Effect.{Database, IsDatabase}
 use Rattle.sqlite.specs.declared.run.Mode.{Mode}
 use Rattle.sqlite.specs.declared.error.Error.{Error}
 use Rattle.sqlite.specs.Listing.{understood}
-use Rattle.sqlite.specs.State.{State, HasCleanDisk, Survives, Executes, CommitsBy, MayCommit, mode_of, IsNewestNamed, names_in, begins_at}
+use Rattle.sqlite.specs.State.{State, HasCleanDisk, Survives, Executes, ExecutesInside, CommitsBy, MayCommit, mode_of, IsNewestNamed, names_in, begins_at}
 use Rattle.sqlite.proofs.Callers.{IsPlain, command_of, statement_of, runs_as}
 use Rattle.request_ledger.specs.declared.request.Request.{Request}
 use Rattle.request_ledger.specs.declared.request.Request.TheVariants.{Announce, Release as ReleaseSeats, Sell, Refund, Cede}
@@ -27,7 +27,7 @@ use Rattle.sql_records.specs.declared.meta.Meta.{Meta}
 use Rattle.sql_records.specs.Texts.{insert_text}
 use Rattle.sql_records.specs.Layout.{IsOurs, ours_and, HasMeta, meta_shown}
 use Rattle.sql_records.specs.Rows.{event_column, amount_column, target_column, rest_column, columns_of, stored, shown, IsStorable, entry_of, in_order, AreWhole}
-use Rattle.sql_records.specs.Held.{IsAtRest, IsSiteIn, MayLeaveIn, LeavesSite, history_in, opened_in, rows_in}
+use Rattle.sql_records.specs.Held.{IsAdding, IsAtRest, IsSiteIn, MayLeaveIn, LeavesSite, history_in, opened_in, rows_in}
 use Rattle.sql_records.specs.Keeping.{LeavesWithOrWithout}
 use Rattle.sql_records.proofs.MakeLemmas.{was_clean}
 use Rattle.sql_records.proofs.EntryBack.{entry_back}
@@ -214,3 +214,24 @@ module _ (place : ℕ) (entry : Entry) (fits : IsStorable entry) (row : Row) (is
   pub insert_meta : (r : Result ℕ Error) → (HasCleanDisk new → Executes insert_text row old new r) → HasCleanDisk new → OnOk r (new.now.trees 0 ≡ old.now.trees 0)
   insert_meta (Ok count) runs clean = (insert_ok place entry fits old new (rest (was_clean old new _ survives clean)) count (subst (λ p. Executes insert_text p old new (Ok count)) is (runs clean))).2
   insert_meta (Err e) runs clean = tt
+
+-- the same INSERT in a transaction, which shows one entry more and commits nothing
+module _ (place : ℕ) (entry : Entry) (fits : IsStorable entry) (row : Row) (is : row ≡ columns_of place entry) (old new : State) where
+  pub insert_inside : (count : ℕ) → ExecutesInside 0 insert_text row old new (Ok count) → (begun : Database) (added : List Entry) → IsAdding begun old place added → IsAdding begun new (place + 1) (added ++ entry ∷ [])
+  insert_inside count h begun added rest =
+      let ours = rest.schema in
+      let all = ours_and ours.tables ours.indexes ours.views in
+      let command = insert_is ours.tables ours.indexes ours.views in
+      let plain = insert_plain ours.tables ours.indexes ours.views in
+      let w = runs_as insert_text (columns_of place entry) old new all ours.is insert_command command plain count (subst (λ p. Executes insert_text p old new (Ok count)) is h.0) in
+      let it = appends place entry old.step_limit (mode_of old) old.now.schema old.now.trees new.now (statement_of insert_text (understood all insert_text)) w.tally ours fits rest.whole rest.counted w.changed in
+      record {
+        is_open = h.1.is_open;
+        inside = h.1.mode;
+        schema = it.schema;
+        sound = w.sound;
+        whole = it.whole;
+        counted = it.counted;
+        history = it.history ∙ ap (λ xs. xs ++ entry ∷ []) rest.history ∙ append_assoc (history_in begun.trees) added (entry ∷ []);
+        meta = it.meta ∙ rest.meta;
+      }

@@ -1,6 +1,8 @@
 pub mod EntryBack
 pub mod RowLemmas
 pub mod InsertLemmas
+pub mod AddingLemmas
+pub mod AppendAllLemmas
 pub mod AppendLemmas
 pub mod FindLemmas
 pub mod LookupLemmas

@@ -1,5 +1,5 @@
 -- What the records hold, and what a stop may leave of them. (Our own.)
-use Rattle.std.specs.Prelude.{◌≡◌, ◌≢◌, ◌⊎◌, ◌≤◌, ◌^◌, ℕ, Err, false, List, [], length, map, Option, Some, IsTrue, refl}
+use Rattle.std.specs.Prelude.{◌≡◌, ◌≢◌, ◌⊎◌, ◌≤◌, ◌^◌, ◌+◌, ℕ, Err, false, true, List, [], ◌++◌, length, map, Option, Some, IsTrue, refl}
 use Rattle.std.specs.Coded.{Coded, code_by, coded×, coded_ℕ}
 use Rattle.book_core.specs.declared.entry.Entry.{Entry}
 use Rattle.sqlite.specs.Store.{Ghosts}
@@ -19,7 +19,7 @@ use Rattle.sql_records.specs.declared.keeper.KeepFault.{KeepFault}
 use Rattle.sql_records.specs.declared.keeper.KeepFault.TheVariants.{Memory, Disk, Shut}
 use Rattle.sql_records.specs.Texts.{insert_text}
 use Rattle.sql_records.specs.declared.meta.Meta.{Meta}
-use Rattle.sql_records.specs.Layout.{our_schema, IsOurs, HasMeta, AreNumbers}
+use Rattle.sql_records.specs.Layout.{our_schema, meta_tree, IsOurs, HasMeta, AreNumbers}
 use Rattle.sql_records.specs.Rows.{shown, columns_of, HasRoom, in_order, history_of, entries_from, AreWhole}
 
 abbrev pub entries_tree : ℕ
@@ -45,6 +45,26 @@ pub record IsAtRest (s : State) (count : ℕ) : Type 0 where
   pub sound : IsDatabase s.now
   pub whole : AreWhole 0 (rows_in s.now.trees)
   pub counted : length (rows_in s.now.trees) ≡ count
+
+-- in a transaction these were added to the records that a database holds, which have so many now, and nothing else was changed
+pub record IsAdding (begun : Database) (s : State) (count : ℕ) (added : List Entry) : Type 0 where
+  pub is_open : IsTrue s.is_open
+  pub inside : s.in_transaction ≡ true
+  pub schema : IsOurs s.now.schema
+  pub sound : IsDatabase s.now
+  pub whole : AreWhole 0 (rows_in s.now.trees)
+  pub counted : length (rows_in s.now.trees) ≡ count
+  pub history : history_in s.now.trees ≡ history_in begun.trees ++ added
+  pub meta : s.now.trees meta_tree ≡ begun.trees meta_tree
+
+-- a transaction that had added some entries, with which there were so many, has added these behind them
+abbrev pub Adds : State → State → ℕ → List Entry → Type 0
+Adds old new count entries = (begun : Database) (added : List Entry) → IsAdding begun old count added → IsAdding begun new (count + length entries) (added ++ entries)
+
+-- the records are at rest, as they were when they had so many entries, and have these more
+pub record HasMore (old new : State) (count : ℕ) (entries : List Entry) : Type 0 where
+  pub rest : IsAtRest new (count + length entries)
+  pub added : history_in new.now.trees ≡ history_in old.now.trees ++ entries
 
 -- a connection that is open still shows what it showed, in a transaction only if it was in one
 abbrev pub IsUndisturbed : State → State → Type 0
@@ -87,6 +107,10 @@ LeavesNoMore old new = (db : Trees) → new.may_leave db → old.may_leave db
 -- each database that a stop may leave is that of a site with these numbers
 abbrev pub LeavesSite : State → Meta → Type 0
 LeavesSite s meta = (db : Trees) → s.may_leave db → IsSiteIn meta db
+
+-- of each site of which this was before, it is so now
+abbrev pub KeepsSite : State → State → Type 0
+KeepsSite old new = (meta : Meta) → LeavesSite old meta → LeavesSite new meta
 
 -- each database that a stop may leave is one that it could leave before, or the new one
 abbrev pub LeavesAsBeforeOrNew : Meta → State → State → Type 0

@@ -18,6 +18,10 @@ pub record Keeps (list kept : List Entry) (may_leave : Option (List Entry) → T
 abbrev pub LeavesWithOrWithout : List Entry → Entry → (Option (List Entry) → Type 0) → Type 0
 LeavesWithOrWithout list entry may_leave = (left : Option (List Entry)) → may_leave left → (left ≡ Some list) ⊎ (left ≡ Some (list ++ entry ∷ []))
 
+-- a stop leaves the list, with all of these entries at its end or with none of them
+abbrev pub LeavesAllOrNone : List Entry → List Entry → (Option (List Entry) → Type 0) → Type 0
+LeavesAllOrNone list more may_leave = (left : Option (List Entry)) → may_leave left → (left ≡ Some list) ⊎ (left ≡ Some (list ++ more))
+
 -- there is an entry to add, and a stop leaves the list with it at the end or without it
 abbrev pub LeavesEither : List Entry → Option Entry → (Option (List Entry) → Type 0) → Type 0
 LeavesEither list None may_leave = ⊥

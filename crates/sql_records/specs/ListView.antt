@@ -26,7 +26,11 @@ abbrev pub one_less : Option Failing → Option Failing
 one_less None = None
 one_less (Some failing) = Some (record failing { append = failing.append - 1 })
 
--- what is kept once an append failed that was to fail: the entry too, where it is stored
+-- what is kept once an append failed that was to fail: these entries too, where they are stored
+abbrev pub left_by_all : Option Failing → List Entry → List Entry → List Entry
+left_by_all None kept entries = kept
+left_by_all (Some failing) kept entries = if failing.is_stored then kept ++ entries else kept
+
+-- the same of one entry
 abbrev pub left_by : Option Failing → List Entry → Entry → List Entry
-left_by None kept entry = kept
-left_by (Some failing) kept entry = if failing.is_stored then kept ++ entry ∷ [] else kept
+left_by failing kept entry = left_by_all failing kept (entry ∷ [])

@@ -1,8 +1,8 @@
 //! What every keeper promises.
-ghost use Rattle.std.specs.Prelude.{◌≡◌, ◌≢◌, ℕ, List, Option, [], ◌∷◌, ◌++◌, OnOk, OnErr, IsErrOf};
+ghost use Rattle.std.specs.Prelude.{◌≡◌, ◌≢◌, ℕ, List, Option, [], ◌∷◌, ◌++◌, OnOk, OnErr, IsErrOf, MatchResult};
 ghost use Rattle.book_core.specs.declared.entry.Entry.{Entry as Entered};
 ghost use Rattle.sql_records.specs.declared.meta.Meta.{Meta};
-ghost use Rattle.sql_records.specs.Keeping.{Keeps, LeavesOnly, LeavesWithOrWithout};
+ghost use Rattle.sql_records.specs.Keeping.{Keeps, LeavesOnly, LeavesAllOrNone, LeavesWithOrWithout};
 
 use crate::fault::told;
 use book_core::Entry;
@@ -74,6 +74,22 @@ pub trait Keeper {
         ensures named { failed self.old ≡ 0 → IsErrOf result KeepFault.Shut → ⊥ }
         ensures shut { failed self.old ≢ 0 → (result ≡ Err KeepFault.Shut) × (self.new ≡ self.old) }
         ensures site { is_trusted self.new → (meta : Meta) → is_of self.old meta → is_of self.new meta }
+        ensures trusted { is_trusted self.new → is_trusted self.old };
+
+    /// Adds the entries at the end, all at once. After the first error a stop leaves the list with all of them or with none,
+    /// and the keeper is shut, as behind `append`.
+    fn append_all(&mut self, entries: &[Entry]) -> Result<(), KeepFault>
+        ensures kept { OnOk result (is_trusted self.new
+            → Keeps (kept self.old ++ entries.now) (kept self.new) (may_leave self.new)) }
+        ensures stopped { failed self.old ≡ 0 → OnErr result (is_trusted self.new
+            → LeavesAllOrNone (kept self.old) entries.now (may_leave self.new)) }
+        ensures counted { failed self.old ≡ 0
+            → MatchResult result (λ _. failed self.new ≡ 0) (λ _. failed self.new ≡ 1) }
+        ensures named { failed self.old ≡ 0 → IsErrOf result KeepFault.Shut → ⊥ }
+        ensures shut { failed self.old ≢ 0
+            → (result ≡ Err KeepFault.Shut) × (self.new ≡ self.old) }
+        ensures site { is_trusted self.new → (meta : Meta)
+            → is_of self.old meta → is_of self.new meta }
         ensures trusted { is_trusted self.new → is_trusted self.old };
 
     /// 0, or 1 once a call has failed: the keeper is shut. As long as none has, a stop leaves what is kept.

@@ -1,7 +1,7 @@
 //! A keeper in memory.
 ghost use Rattle.std.specs.Prelude.{◌≡◌, ◌≢◌, ◌⊎◌, ◌++◌, [], ◌∷◌, Some, None, IsErr, false, true, refl};
 ghost use Rattle.std.specs.Prelude.{OnOk, OnErr};
-ghost use Rattle.sql_records.specs.ListView.{FailsNext, left_by, one_less};
+ghost use Rattle.sql_records.specs.ListView.{FailsNext, left_by, left_by_all, one_less};
 
 use crate::keeper::{KeepFault, Keeper};
 use book_core::Entry;
@@ -101,6 +101,43 @@ impl ListKeeper {
         }
         Ok(())
     }
+
+    // As `append_all` of a keeper that is not shut, and which of them answers what.
+    fn put_all(&mut self, entries: &[Entry]) -> Result<(), KeepFault>
+        requires { self.old.failures ≡ 0 }
+        ensures ok { OnOk result (self.new ≡ record self.old {
+          kept = self.old.kept ++ entries.now;
+          failing = one_less self.old.failing;
+        }) }
+        ensures due { FailsNext self.old.failing → IsErr result }
+        ensures disk { result ≡ Err KeepFault.Disk → FailsNext self.old.failing
+            × (self.new.kept ≡ left_by_all self.old.failing self.old.kept entries.now) }
+        ensures memory { result ≡ Err KeepFault.Memory → self.new.kept ≡ self.old.kept }
+        ensures either { OnErr result ((self.new.kept ≡ self.old.kept)
+            ⊎ (self.new.kept ≡ self.old.kept ++ entries.now)) }
+        ensures counted { OnErr result (self.new.failures ≡ 1) }
+        ensures named { result ≢ Err KeepFault.Shut }
+    {
+        let (is_due, is_stored) = match self.failing {
+            Some(Failing { append, is_stored }) if append <= 1 => (true, is_stored),
+            _ => (false, true),
+        };
+        if is_stored && push_copies(self.alloc, &mut self.entries, entries).is_err() {
+            self.failures = 1;
+            return Err(KeepFault::Memory);
+        }
+        if is_due {
+            self.failures = 1;
+            return Err(KeepFault::Disk);
+        }
+        if let Some(Failing { append, is_stored }) = self.failing {
+            self.failing = Some(Failing {
+                append: append.saturating_sub(1),
+                is_stored,
+            });
+        }
+        Ok(())
+    }
 }
 
 // Adds a copy of the entry.
@@ -110,6 +147,21 @@ fn push_copy(alloc: Global, entries: &mut Vec<Entry>, entry: &Entry) -> Result<(
 {
     let copy = entry.copy(alloc)?;
     entries.push(copy)?;
+    Ok(())
+}
+
+// Adds copies of the entries, all or none.
+fn push_copies(alloc: Global, entries: &mut Vec<Entry>, more: &[Entry]) -> Result<(), AllocError>
+    ensures ok { OnOk result (entries.new.items ≡ entries.old.items ++ more.now) }
+    ensures err { OnErr result (entries.new.items ≡ entries.old.items) }
+{
+    let before = entries.len();
+    for entry in more {
+        if push_copy(alloc, entries, entry).is_err() {
+            entries.truncate(before);
+            return Err(AllocError);
+        }
+    }
     Ok(())
 }
 
@@ -142,6 +194,30 @@ impl Keeper for ListKeeper {
             return Err(KeepFault::Shut);
         }
         self.put(entry)
+    }
+
+    /// As of every keeper; and `Disk` only where `fail_at` says so of the next append, with all entries kept where it says so.
+    /// There it is never Ok.
+    fn append_all(&mut self, entries: &[Entry]) -> Result<(), KeepFault>
+        ensures added { OnOk result ((self.old.failures ≡ 0) × (self.new ≡ record self.old {
+          kept = self.old.kept ++ entries.now;
+          failing = one_less self.old.failing;
+        })) }
+        ensures due { FailsNext self.old.failing → IsErr result }
+        ensures disk { result ≡ Err KeepFault.Disk → FailsNext self.old.failing
+            × (self.new.kept ≡ left_by_all self.old.failing self.old.kept entries.now) }
+        ensures memory { result ≡ Err KeepFault.Memory → self.new.kept ≡ self.old.kept }
+        ensures stopped { OnErr result ((self.new.kept ≡ self.old.kept)
+            ⊎ (self.new.kept ≡ self.old.kept ++ entries.now)) }
+        ensures counted { self.old.failures ≡ 0 → OnErr result (self.new.failures ≡ 1) }
+        ensures named { self.old.failures ≡ 0 → result ≢ Err KeepFault.Shut }
+        ensures shut { self.old.failures ≢ 0
+            → (result ≡ Err KeepFault.Shut) × (self.new ≡ self.old) }
+    {
+        if self.failures > 0 {
+            return Err(KeepFault::Shut);
+        }
+        self.put_all(entries)
     }
 
     fn failures(&self) -> u64 {

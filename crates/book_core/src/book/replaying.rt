@@ -1,5 +1,5 @@
 //! A book from the entries of its history.
-ghost use Rattle.std.specs.Prelude.{IfOk, IfErr, OnOk, IsTrue, ◌↔◌, ◌≡◌, ◌<◌};
+ghost use Rattle.std.specs.Prelude.{IfOk, IfErr, OnOk, IsTrue, ◌↔◌, ◌≡◌, ◌<◌, ◌++◌, ◌∷◌, [], take};
 ghost use Rattle.delta_mutators.specs.Items.{item_state};
 ghost use Rattle.book_core.specs.Decision.{state_of_item};
 ghost use Rattle.book_core.specs.Legal.{IsLegal, IsNext, IsNextAsked, IsNextGrown, IsNextJoined};
@@ -14,7 +14,7 @@ use crate::plan::{Planned, ReplayFault};
 use delta_mutators::{Delta, Item};
 use request_ledger::{Reply, Request, RequestNumber};
 use rights_lattice::{Event, Mark, SiteId, Sites};
-use std::alloc::Global;
+use std::alloc::{AllocError, Global};
 
 impl Book {
     /// The book with this history. An error drops the entries.
@@ -46,6 +46,21 @@ impl Book {
             book.enter(Planned { entry });
         }
         Ok(book)
+    }
+
+    /// The book of the first entries of this one, or of all where it has no more. It wants memory for each of them.
+    pub fn beginning(&self, alloc: Global, length: usize) -> Result<Book, AllocError>
+        ensures office { IfOk result (λ book. book.office ≡ self.now.office) }
+        ensures history { IfOk result (λ book. book.history ≡ take length self.now.history) }
+        ensures has_rights { IfOk result HasOwnRights }
+    {
+        let mut first = Vec::new(alloc);
+        let length = length.min(self.history.len());
+        push_copies(alloc, &mut first, &self.history.as_slice()[..length])?;
+        match Book::replay(alloc, self.me(), self.first, self.limit, first) {
+            Ok(book) => Ok(book),
+            Err(_) => Err(AllocError),
+        }
     }
 
     // Whether the entry may follow the history.
@@ -146,4 +161,22 @@ fn are_marks(marks: &[Mark], wanted: &[Mark]) -> bool
     ensures { IsTrue result ↔ (marks.now ≡ wanted.now) }
 {
     marks == wanted
+}
+
+// Adds copies of the entries.
+fn push_copies(alloc: Global, copies: &mut Vec<Entry>, entries: &[Entry]) -> Result<(), AllocError>
+    ensures { OnOk result (copies.new.items ≡ copies.old.items ++ entries.now) }
+{
+    for entry in entries {
+        push_copy(alloc, copies, entry)?;
+    }
+    Ok(())
+}
+
+fn push_copy(alloc: Global, copies: &mut Vec<Entry>, entry: &Entry) -> Result<(), AllocError>
+    ensures { OnOk result (copies.new.items ≡ copies.old.items ++ entry.now ∷ []) }
+{
+    let copy = entry.copy(alloc)?;
+    copies.push(copy)?;
+    Ok(())
 }

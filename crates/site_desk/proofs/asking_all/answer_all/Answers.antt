@@ -1,0 +1,28 @@
+use Rattle.std.proofs.Common.{refl, subst, sym, ◌∙◌}
+use Rattle.site_desk.specs.Calls.{keeping}
+use Rattle.site_desk.specs.Storing.{IsStoredBy}
+use Rattle.site_desk.proofs.Batch.{leaves_asked, taken_back}
+use Rattle.site_desk.proofs.asking_all.answer_all.Goals as goal
+
+pub store_from-requires : goal.store_from-requires
+store_from-requires g c = record {
+  begun = subst (IsStoredBy (keeping g.K.Keeper.failed g.K.Keeper.is_trusted g.K.Keeper.kept g.K.Keeper.may_leave g.K.Keeper.is_of) c.args.keeper.now)
+      (sym (taken_back c.args.book.now.office c.args.book.now.history c.answer_each.new.book.history c.args.requests.now c.answer_each.new.answers.items c.len-place.result c.len-place.ensures.len c.answer_each.ensures.answered)) c.requires.stored;
+}
+
+pub returns-in-Err-clause-enters : goal.returns-in-Err-clause-enters
+returns-in-Err-clause-enters g c =
+    let book = c.args.book.now in
+    let mid = c.answer_each.new.book.history in
+    let answers = c.answer_each.new.answers.items in
+    record {
+      office = c.rewound.ensures.office ∙ c.answer_each.ensures.office;
+      answered = tt;
+      unchanged = c.rewound.ensures.history ∙ taken_back book.office book.history mid c.args.requests.now answers c.len-place.result c.len-place.ensures.len c.answer_each.ensures.answered;
+      fault = (refl, c.requires.stored.sound, c.in-Err.ensures.failed);
+      untouched = λ other. absurd (other refl);
+      stored = tt;
+      stopped = λ _ trusted. leaves_asked book.office book.history mid c.args.requests.now answers c.len-place.result (g.K.Keeper.may_leave c.store_from.new.keeper) c.len-place.ensures.len c.answer_each.ensures.answered (c.in-Err.ensures.stopped trusted);
+      site = c.store_from.ensures.site;
+      trusted = c.store_from.ensures.trusted;
+    }
