@@ -1,5 +1,5 @@
 //! What lies under a desk's lock.
-ghost use Rattle.std.specs.Prelude.{◌≡◌, ◌↔◌, All, Err, IsSome, ◌+◌, ◌<◌, ◌≤◌, true, false, length, IsTrue, IfOk, IfErr, OnErr, OnOk, if◌then◌else◌};
+ghost use Rattle.std.specs.Prelude.{◌≡◌, ◌↔◌, All, Err, IsSome, ◌+◌, ◌<◌, ◌≤◌, true, false, length, IsTrue, IfOk, IfErr, IfSome, OnErr, OnOk, if◌then◌else◌};
 ghost use Rattle.std.specs.List.{AllZip};
 ghost use Rattle.rights_lattice.specs.State.{knows};
 ghost use Rattle.book_core.specs.History.{state_of};
