@@ -88,6 +88,7 @@ fn turned_away<H: Files + Net>(
 }
 
 /// What a command asks of an open office.
+#[derive(Drop)]
 enum Question<'a> {
     Session,
     Find { number: RequestNumber },
