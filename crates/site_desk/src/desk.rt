@@ -26,7 +26,7 @@ use std::alloc::Global;
 use std::sync::ledger::Blank;
 use std::sync::{Mutex, Wait};
 
-/// A site's book behind its one lock, for which `ask`, `look`, `take` and `next` may wait.
+/// A site's book behind its one lock, for which each call but `new` and `finish` may wait.
 ///
 /// Whenever the lock is free the book's history is legal, its own rights are not negative and, unless it is closed,
 /// its history is what its keeper holds, as far as that is to be trusted. What these calls answer fits some such book, of
