@@ -1,5 +1,5 @@
 -- What several requests make of a history, and one request more behind them.
-use Rattle.std.proofs.Common.{◌≡◌, inl, inr, ℕ, suc, Bool, true, false, cond, ◌+◌, ◌<◌, ◌≤◌, get_or, Option, Some, None, arith, append-nil, length-append, List, [], ◌∷◌, ◌++◌, length, take, drop, Result, Ok, Err, refl, sym, subst, ap, ◌∙◌}
+use Rattle.std.proofs.Common.{◌≡◌, inl, inr, ℕ, zero, suc, Bool, true, false, cond, ◌+◌, ◌<◌, ◌≤◌, get_or, Option, Some, None, arith, append-nil, length-append, List, [], ◌∷◌, ◌++◌, length, take, drop, Result, Ok, Err, refl, sym, subst, ap, ◌∙◌}
 use Rattle.request_ledger.specs.declared.request.Request.{Request}
 use Rattle.book_core.specs.declared.entry.Entry.{Entry}
 use Rattle.book_core.specs.Decision.{Office, decision, entry_of_ask, sites_of}
@@ -86,19 +86,6 @@ pub taken_back : (office : Office) (old mid : List Entry) (requests : List (ℕ 
     → take place mid ≡ old
 taken_back office old mid requests answers place at is = rw at (answered_goes_on office old mid requests answers is)
 
--- the store has all of it or none
-pub leaves_asked : (office : Office) (old mid : List Entry) (requests : List (ℕ × Request)) (answers : List (Result Answer AskFault)) (place : ℕ) (may_leave : Option (List Entry) → Type 0) → place ≡ length old
-    → AreAnswered office old requests answers mid → LeavesAllOrNone (take place mid) (drop place mid) may_leave → LeavesAsked office old requests may_leave
-leaves_asked office old mid requests answers place may_leave at is stopped = record {
-  answers = answers;
-  after = mid;
-  answered = is;
-  leaves = λ left h. elim (stopped left h) [
-    | inl none ↦ inl (none ∙ ap Some (taken_back office old mid requests answers place at is))
-    | inr all ↦ inr (all ∙ ap Some (take-append-drop place mid))
-  ];
-}
-
 pub as_many : (office : Office) (old new : List Entry) (requests : List (ℕ × Request)) (answers : List (Result Answer AskFault)) → AreAnswered office old requests answers new → length answers ≡ length requests
 as_many office old new [] [] is = refl
 as_many office old new [] (b ∷ answers) is = absurd is
@@ -173,3 +160,44 @@ pub goes_on_from : (office : Office) (began old new : List Entry) (requests : Li
 goes_on_from office began old new requests answers within goes_on is =
     let it = answered_more office old new requests answers is in
     rw it.1 (take-append-le (length began) old it.0 within ∙ goes_on)
+
+-- where no answer is fresh the history stays
+unchanged_one : (fresh : Bool) (place : ℕ) (old new : List Entry) → HasOneMoreIf fresh place old new → ◌≡◌ {A = ℕ} (cond fresh 1 0) 0 → new ≡ old
+unchanged_one true place old new is none = absurd (omega (arith, none))
+unchanged_one false place old new is none = is
+
+pub none_fresh : (office : Office) (old new : List Entry) (requests : List (ℕ × Request)) (answers : List (Result Answer AskFault)) → AreAnswered office old requests answers new → fresh_in answers ≡ 0 → new ≡ old
+none_fresh office old new [] [] is none = is
+none_fresh office old new [] (b ∷ answers) is none = absurd is
+none_fresh office old new (q ∷ requests) [] is none = absurd is
+none_fresh office old new (q ∷ requests) (Ok b ∷ answers) is none =
+    let mid = extended (entry_of_ask office old q.0 q.1) old in
+    let first = sum_by-cons (λ a. cond (is_fresh a) 1 0) (Ok b) answers in
+    let here : ◌≡◌ {A = ℕ} (cond b.fresh 1 0) 0 = omega (arith, none, first) in
+    let rest : fresh_in answers ≡ 0 = omega (arith, none, first) in
+    none_fresh office mid new requests answers is.1 rest ∙ unchanged_one b.fresh b.place old mid (one_more_if_fresh (Ok b) office old mid q.0 q.1 is.0 refl) here
+none_fresh office old new (q ∷ requests) (Err fault ∷ answers) is none =
+    let first = sum_by-cons (λ a. cond (is_fresh a) 1 0) (Err fault) answers in
+    let rest : fresh_in answers ≡ 0 = omega (arith, none, first) in
+    none_fresh office old new requests answers is.1 rest
+
+pub no_longer : (office : Office) (old mid : List Entry) (requests : List (ℕ × Request)) (answers : List (Result Answer AskFault)) (place : ℕ) → place ≡ length old → AreAnswered office old requests answers mid → fresh_in answers ≡ 0 → length mid ≤ place
+no_longer office old mid requests answers place at is none = omega (arith, at, ap length (none_fresh office old mid requests answers is none))
+
+-- the store has all of it or none, where it was called
+pub leaves_asked : (office : Office) (old mid : List Entry) (requests : List (ℕ × Request)) (answers : List (Result Answer AskFault)) (place : ℕ) (is_trusted : Type 0) (may_leave : Option (List Entry) → Type 0) → place ≡ length old
+    → AreAnswered office old requests answers mid → (length mid ≤ place → ⊥) → (is_trusted → LeavesAllOrNone (take place mid) (drop place mid) may_leave) → LeavesAsked office old requests is_trusted may_leave
+leaves_asked office old mid requests answers place is_trusted may_leave at is called stopped = record {
+  answers = answers;
+  after = mid;
+  answered = is;
+  something_new = more_than_none (fresh_in answers) refl;
+  leaves = λ trusted left h. elim (stopped trusted left h) [
+    | inl none ↦ inl (none ∙ ap Some (taken_back office old mid requests answers place at is))
+    | inr all ↦ inr (all ∙ ap Some (take-append-drop place mid))
+  ];
+}
+  where
+    more_than_none : (n : ℕ) → fresh_in answers ≡ n → 0 < n
+    more_than_none zero none = absurd (called (no_longer office old mid requests answers place at is none))
+    more_than_none (suc n) some = omega arith

@@ -1,5 +1,5 @@
 -- What several requests are answered, one after another. (Our own.)
-use Rattle.std.specs.Prelude.{◌≡◌, ◌⊎◌, ℕ, Bool, true, false, List, [], ◌∷◌, length, count_by, Option, Some, Result, Ok, Err}
+use Rattle.std.specs.Prelude.{◌≡◌, ◌⊎◌, ◌<◌, ℕ, Bool, true, false, List, [], ◌∷◌, length, count_by, Option, Some, Result, Ok, Err}
 use Rattle.request_ledger.specs.declared.request.Request.{Request}
 use Rattle.book_core.specs.declared.entry.Entry.{Entry}
 use Rattle.book_core.specs.Decision.{Office, decision, entry_of_ask}
@@ -26,13 +26,6 @@ IsAskAllFault closed before after ask_fault.Memory = closed ≡ false
 IsAskAllFault closed before after ask_fault.Store = (closed ≡ false) × (before ≡ 0) × (after ≡ 1)
 IsAskAllFault closed before after _ = ⊥
 
--- a crash leaves this history, or the whole of one that answers to these requests make of it
-pub record LeavesAsked (office : Office) (history : List Entry) (requests : List (ℕ × Request)) (may_leave : Option (List Entry) → Type 0) : Type 0 where
-  pub answers : List (Result Answer AskFault)
-  pub after : List Entry
-  pub answered : AreAnswered office history requests answers after
-  pub leaves : (left : Option (List Entry)) → may_leave left → (left ≡ Some history) ⊎ (left ≡ Some after)
-
 -- the answer is fresh, and how many of these are
 abbrev pub is_fresh : Result Answer AskFault → Bool
 is_fresh (Ok answer) = answer.fresh
@@ -40,3 +33,12 @@ is_fresh (Err fault) = false
 
 abbrev pub fresh_in : List (Result Answer AskFault) → ℕ
 fresh_in answers = count_by is_fresh answers
+
+-- the store failed where these requests would have been answered so, something of that is new, and, where the store is trusted, a crash leaves
+-- this history or the whole of what the answers would have made of it
+pub record LeavesAsked (office : Office) (history : List Entry) (requests : List (ℕ × Request)) (is_trusted : Type 0) (may_leave : Option (List Entry) → Type 0) : Type 0 where
+  pub answers : List (Result Answer AskFault)
+  pub after : List Entry
+  pub answered : AreAnswered office history requests answers after
+  pub something_new : 0 < fresh_in answers
+  pub leaves : is_trusted → (left : Option (List Entry)) → may_leave left → (left ≡ Some history) ⊎ (left ≡ Some after)

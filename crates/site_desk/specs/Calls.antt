@@ -61,7 +61,8 @@ answer_in (Ok given) = Ok given.0
 answer_in (Err fault) = Err fault
 
 -- several requests, one after another: each is answered by the history that those before it left, and all new entries are stored at once,
--- before any is answered. Where the store failed nothing is entered, and a crash leaves the history or all that they would have made of it.
+-- before any is answered; where nothing is new the keeper is left alone. Where the store failed nothing is entered, and a crash leaves the
+-- history or all that they would have made of it.
 pub record AskAllCall {K : Type 0} (k : Keeping K) (old new : SiteView K) (requests : List (ℕ × Request)) (result : Result (List (Result Answer AskFault)) AskFault) : Type 0 where
   pub office : new.book.office ≡ old.book.office
   pub acked : new.acked ≡ old.acked
@@ -73,7 +74,8 @@ pub record AskAllCall {K : Type 0} (k : Keeping K) (old new : SiteView K) (reque
   pub untouched : IfErr result (λ fault. fault ≢ ask.Store → new ≡ old)
   pub stored : new.closed ≡ false → k.is_trusted new.keeper → new.book.history ≡ k.kept new.keeper
   pub rests : new.closed ≡ false → k.is_trusted new.keeper → LeavesOnly new.book.history (k.may_leave new.keeper)
-  pub stopped : result ≡ Err ask.Store → k.is_trusted new.keeper → LeavesAsked old.book.office old.book.history requests (k.may_leave new.keeper)
+  pub still : IfOk result (λ answers. fresh_in answers ≡ 0 → new.keeper ≡ old.keeper)
+  pub stopped : result ≡ Err ask.Store → LeavesAsked old.book.office old.book.history requests (k.is_trusted new.keeper) (k.may_leave new.keeper)
   pub site : k.is_trusted new.keeper → (meta : Meta) → k.is_of old.keeper meta → k.is_of new.keeper meta
   pub trusted : k.is_trusted new.keeper → k.is_trusted old.keeper
 

@@ -12,7 +12,7 @@ use Rattle.sql_records.specs.Layout.{office_of}
 use Rattle.site_desk.specs.declared.answer.Answer.{Answer}
 use Rattle.site_desk.specs.declared.fault.AskFault.{AskFault}
 use Rattle.site_desk.specs.declared.fault.AskFault.TheVariants as ask
-use Rattle.site_desk.specs.Batch.{AreAnswered, IsAskAllFault, LeavesAsked}
+use Rattle.site_desk.specs.Batch.{AreAnswered, IsAskAllFault, LeavesAsked, fresh_in}
 use Rattle.site_desk.specs.Calls.{Keeping}
 use Rattle.site_desk.specs.SiteView.{SiteView}
 
@@ -58,6 +58,7 @@ pub record EntersAll {K : Type 0} (k : Keeping K) (book book_now : BookView) (ke
   pub fault : IfErr result (IsAskAllFault false (k.failed keeper) (k.failed keeper_now))
   pub untouched : IfErr result (λ fault. fault ≢ ask.Store → (book_now ≡ book) × (keeper_now ≡ keeper))
   pub stored : OnOk result (IsStoredBy k keeper_now book_now.history)
-  pub stopped : result ≡ Err ask.Store → k.is_trusted keeper_now → LeavesAsked book.office book.history requests (k.may_leave keeper_now)
+  pub still : IfOk result (λ answers. fresh_in answers ≡ 0 → keeper_now ≡ keeper)
+  pub stopped : result ≡ Err ask.Store → LeavesAsked book.office book.history requests (k.is_trusted keeper_now) (k.may_leave keeper_now)
   pub site : k.is_trusted keeper_now → (meta : Meta) → k.is_of keeper meta → k.is_of keeper_now meta
   pub trusted : k.is_trusted keeper_now → k.is_trusted keeper

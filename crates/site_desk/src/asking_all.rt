@@ -1,5 +1,5 @@
 //! Several requests at an open book, whose new entries are kept all at once.
-ghost use Rattle.std.specs.Prelude.{false, ◌≡◌, ◌+◌, ◌≤◌, [], drop, take, length, vec_len, vec_capacity, IfOk, IfErr, OnOk, OnErr};
+ghost use Rattle.std.specs.Prelude.{false, ◌≡◌, ◌+◌, ◌≤◌, [], drop, take, length, vec_len, vec_capacity, IsOk, IfOk, IfErr, OnOk, OnErr};
 ghost use Rattle.book_core.specs.OwnRow.{HasOwnRights};
 ghost use Rattle.site_exchange.specs.Taking.{extended};
 ghost use Rattle.sql_records.specs.declared.meta.Meta.{Meta as Numbers};
@@ -90,6 +90,7 @@ fn store_from<K: Keeper>(book: &Book, keeper: &mut K, place: usize) -> Result<()
     ensures site { K.is_trusted keeper.new → (meta : Numbers)
         → K.is_of keeper.old meta → K.is_of keeper.new meta }
     ensures trusted { K.is_trusted keeper.new → K.is_trusted keeper.old }
+    ensures none { length book.now.history ≤ place → IsOk result × (keeper.new ≡ keeper.old) }
 {
     let entries = book.entries_from(place);
     if entries.is_empty() {
