@@ -26,7 +26,7 @@ OFFICE, FOLDER, MQTT, SSH = (
     os.path.join(HERE, "..", "exchange", name) for name in ("office.py", "folder/boxoffice-exchange", "mqtt", "ssh")
 )
 BOARD = os.path.join(HERE, "..", "examples", "board.py")
-BOARD_WORDS = ["--events", "gala", "expo", "--output", "page.html"]
+BOARD_WORDS = ["--ceded", "--events", "gala", "expo", "--output", "page.html"]
 CITIES, NEEDED = ["north", "south", "east"], ("mosquitto", "mosquitto_pub", "mosquitto_sub", "openssl")
 OPENING = ["announce 1 gala", "release 2 gala 100", "cede 3 gala 40 1"]
 CESSION = "delta 0 1 3\nname gala\ngave gala 0 0 100\ngave gala 0 1 40\nend\n"
@@ -137,6 +137,7 @@ def asked_by_office(folder):
         with open(os.path.join(folder, "page.html"), encoding="utf-8") as page:
             text = page.read()
         shown = ["left at north: 60<", "left at south: 40<", "not given back: 0<", "not heard of: 0<"]
+        shown += ["<td>north</td><td>60</td><td>40</td><td>100</td>", "<td>south</td><td>40</td><td>0</td><td>100</td>"]
         shown += ["2 of 3 answer", "no answer yet"]
         same("what it shows", [part for part in shown if part not in text], [])
         audited([north, south], 0)
