@@ -87,8 +87,9 @@ def ago(site):
 def bar(parts, total):
     """A bar of parts, each with its name, count and colour, and a legend under it."""
     drawn, begin, legend, x = [], 0.0, [], 0
+    most = max(900, sum(40 + 8 * len(f"{name} {count}") for name, count, _ in parts))
     for name, count, shade in parts:
-        width = 900 * count / max(total, 1)
+        width = most * count / max(total, 1)
         shape = f'x="{begin:.1f}" width="{width:.1f}" height="34"'
         drawn.append(f'<rect {shape} fill="{shade}"><title>{name}: {count}</title></rect>')
         if width > 45:
@@ -96,7 +97,7 @@ def bar(parts, total):
         legend.append(f'<rect x="{x}" y="46" width="12" height="12" fill="{shade}"/>')
         legend.append(f'<text x="{x + 17}" y="57" font-size="13">{name} {count}</text>')
         begin, x = begin + width, x + 40 + 8 * len(f"{name} {count}")
-    box = f'<svg viewBox="0 0 {max(900, x)} 64" role="img"><rect width="900" height="34" fill="#eee"/>'
+    box = f'<svg viewBox="0 0 {most} 64" role="img"><rect width="{most}" height="34" fill="#eee"/>'
     return box + "".join(drawn + legend) + "</svg>"
 
 
@@ -113,7 +114,7 @@ def of_event(event, sites):
     parts = [("sold and not given back", sold - back, "#444")]
     for at, site in enumerate(sites):
         parts.append((f"left at {html.escape(site.name)}", site.left.get(event) or 0, SHADES[at % len(SHADES)]))
-    parts.append(("under way or not heard of", max(0, released - sum(count for _, count, _ in parts)), "#bbb"))
+    parts.append(("under way or not heard of", max(0, released - sum(count for _, count, _ in parts)), "#888"))
     ceded = ["ceded"] if any(site.ceded for site in sites) else []
     rows = [row(["site", "left", *ceded, "released", "sold", "given back", "open", "last heard"], "th")]
     for site in sites:
