@@ -131,8 +131,8 @@ def contents(path):
 
 
 class ByFolder:
-    """Each site has a folder of its own. What a site wrote is copied to the others, unless either is cut off. To a site whose line is
-    slow each text comes twice, up to a second late: so it comes again, and after a newer one."""
+    """Each site has a folder of its own. What a site wrote is copied to the others, unless either is cut off. To a site whose line
+    is slow each text comes twice, up to a second late: so it comes again, and after a newer one."""
 
     def __init__(self, folder, chance):
         self.folder, self.chance, self.is_over, self.came = folder, chance, threading.Event(), collections.Counter()
@@ -312,18 +312,23 @@ class ByBrokers:
 
     @contextlib.contextmanager
     def comes_late(self, me):
-        """What a site had published some rounds ago comes to the others again, after what it published last."""
-        for peer, kind in itertools.product([peer for peer in SITES if peer != me], ["delta", "ack"]):
-            topic = f"sites/{peer}/{me}/{kind}"
-            now = self.mosquitto(peer, ["mosquitto_sub", "-k", "5", "-C", "1", "-W", "1", "-N", "-t", topic])
-            earlier = self.old.get(topic, now)
-            if earlier:
-                words = ["mosquitto_pub", "-k", "5", "-q", "1", "-r", "-h", f"10.79.0.{peer + 1}", "-p", str(PORT), "-s"]
-                self.mosquitto(me, [*words, "-t", topic], earlier)
-                self.came["after a newer one" if earlier != now else "twice"] += 1
-            if now and (topic not in self.old or self.chance.random() < 0.5):
-                self.old[topic] = now
+        """What a site had published, at first or some rounds ago, comes to the others again after what it published last."""
+        topics = [(peer, f"sites/{peer}/{me}/{kind}") for peer in SITES if peer != me for kind in ("delta", "ack")]
+        for peer, topic in topics:
+            self.old[topic] = self.old.get(topic) or self.retained(peer, topic)
         yield f"older messages of {CITIES[me]} come to the others"
+        for peer, topic in topics:
+            earlier, now = self.old[topic], self.retained(peer, topic)
+            if earlier:
+                words = ["mosquitto_pub", "-k", "5", "-q", "1", "-r", "-h", f"10.79.0.{peer + 1}", "-p", str(PORT), "-t", topic]
+                self.mosquitto(me, [*words, "-s"], earlier)
+                self.came["after a newer one" if earlier != now else "twice"] += 1
+            if self.chance.random() < 0.5:
+                self.old[topic] = now
+
+    def retained(self, me, topic):
+        """What a site's own broker holds for it; nothing where that is away."""
+        return self.mosquitto(me, ["mosquitto_sub", "-k", "5", "-C", "1", "-W", "1", "-N", "-t", topic])
 
     def mosquitto(self, me, words, given=b""):
         """What a client of a site prints, unless it takes long."""
@@ -376,7 +381,7 @@ class World:
     def __init__(self, folder, kind):
         self.folder, self.chance, self.is_over = folder, random.Random(SEED), threading.Event()
         self.line, self.offices, self.scripts, self.looked = kind(folder, self.chance), {}, {}, 0
-        self.released, self.ports = FIRST_RELEASE, [self.line.port(me) for me in SITES]
+        self.released, self.ports, self.deck = FIRST_RELEASE, [self.line.port(me) for me in SITES], []
 
     def till(self, me, path, first, seconds=SECONDS):
         return boxoffice.Till(self.ports[me], path, first, first + 999_999, seconds)
@@ -417,6 +422,14 @@ class World:
         yield f"the script of {CITIES[me]} is killed"
         self.start(me)
 
+    def draw(self, count):
+        """So many kinds of fault, each in its turn."""
+        if len(self.deck) < count:
+            rest = [fault for fault in [*self.line.faults(), self.office_killed, self.script_killed] if fault not in self.deck]
+            self.deck += self.chance.sample(rest, len(rest))
+        drawn, self.deck = self.deck[:count], self.deck[count:]
+        return drawn
+
     def ask(self, me, line):
         """The reply of a site at its socket; nothing where its office is away."""
         with contextlib.suppress(OSError), contextlib.closing(Operator(self.offices[me].path)) as operator:
@@ -453,8 +466,8 @@ class World:
         return words
 
     def sold(self):
-        """How many seats the tills sold, by what they read, and how many they gave back. (What is open may have been given back, and
-        sold again to a till that has read of it. So sales are counted first.)"""
+        """How many seats the tills sold, by what they read, and how many they gave back. (What is open may have been given back,
+        and sold again to a till that has read of it. So sales are counted first.)"""
         found = []
         for verb, replies in [("sell", ["done"]), ("refund", ["done", ""])]:
             lines = [line.split() for asked in self.journals().values() for line, reply in asked if reply in replies]
@@ -475,7 +488,7 @@ def clerks_move(world, clerks):
 
 def one_round(world, clerks, at, is_said):
     """Two or three things break, for a second or two; meanwhile clerks go on at the sites that are there."""
-    faults = world.chance.sample([*world.line.faults(), world.office_killed, world.script_killed], world.chance.choice([2, 3]))
+    faults = world.draw(world.chance.choice([2, 3]))
     with contextlib.ExitStack() as stack:
         told = [stack.enter_context(fault(world.chance.choice(SITES))) for fault in faults]
         if is_said:
