@@ -662,6 +662,7 @@ def probed():
         ip("netns", "add", probe)
         ip("-n", probe, "link", "add", "switch", "type", "bridge")
         ip("-n", probe, "link", "add", "line", "type", "veth", "peer", "name", "end")
+        ip("netns", "exec", probe, "true")
         with contextlib.suppress(FileNotFoundError, subprocess.CalledProcessError):
             ip("-n", probe, "qdisc", "add", "dev", "line", "root", *NETEM, program="tc")
             return [], True
