@@ -1,54 +1,82 @@
 #!/usr/bin/env python3
-"""Draws what bench/serve.py printed, from standard input, as bars in an SVG on standard output.
+"""Draws what bench/serve.py or bench/together.py printed, from standard input, as bars in an SVG on standard output.
 
 usage: serve.py PROGRAM > bench/serve.run; chart.py < bench/serve.run > docs/sales.svg
+       together.py --slower 0,2000 NAME=PROGRAM .. > bench/together.run; chart.py < bench/together.run > docs/together.svg
 """
+import itertools
 import re
 import sys
 
-WIDTH, HEIGHT, LEFT, BASE = 640, 300, 60, 250
-INKS = {'boxoffice': '#1f5f99', 'PostgreSQL, two statements': '#c2703d', 'PostgreSQL, one statement': '#dfb08c'}
-NAMES = dict(zip(('a transaction of two statements', 'one statement'), list(INKS)[1:]))
+WIDTH, HEIGHT, LEFT, BASE, TALLEST = 640, 270, 60, 250, 190
+TITLE = 'Durable sales a second at one site, by callers'
+INKS = {
+    'boxoffice': '#1f5f99', 'PostgreSQL, two statements': '#c2703d', 'PostgreSQL, one statement': '#dfb08c',
+    'PostgreSQL': '#c2703d', 'Redis': '#8a9a5b',
+}
+# For programs under other names.
+BLUES = ('#9dbfe0', '#5c8fc0', '#143d63')
 
 
 def read(lines):
-    """For each count of callers the rates by their names, in the order in which they were printed."""
-    groups = []
+    """A chart for each disk: its title, and for each count of callers the rates by their names, as they were printed."""
+    charts = []
     for line in lines:
-        ours = re.match(r'(\d+) callers: (\d+) ', line)
-        theirs = re.match(r'  PostgreSQL, (.+): (\d+), ', line)
-        if ours:
-            groups.append((ours.group(1), {'boxoffice': int(ours.group(2))}))
-        elif theirs:
-            groups[-1][1][NAMES[theirs.group(1)]] = int(theirs.group(2))
-    return groups
+        disk = re.match(r'(\S.+) \(4 kB and a sync ', line)
+        callers = re.match(r'(\d+) callers(?:: (\d+) )?', line)
+        rate = re.match(r'  (.+?): (\d+)[ ,]', line)
+        if disk:
+            charts.append(('%s: %s' % (TITLE, disk.group(1)), []))
+        elif callers:
+            charts = charts or [(TITLE, [])]
+            charts[-1][1].append((callers.group(1), {'boxoffice': int(callers.group(2))} if callers.group(2) else {}))
+        elif rate:
+            charts[-1][1][-1][1][rate.group(1).replace('a transaction of ', '')] = int(rate.group(2))
+    return charts
 
 
-def main():
-    groups = read(sys.stdin)
-    if not groups:
-        sys.exit(__doc__)
-    inks = {name: ink for name, ink in INKS.items() if any(name in rates for _, rates in groups)}
-    step = 2000
+def step_of(most):
+    """The least of 1, 2, 5, 10, 20 .. that reaches it in at most five steps."""
+    return next(step for step in (unit * 10**k for k in itertools.count() for unit in (1, 2, 5)) if 5 * step >= most)
+
+
+def chart(title, groups, inks, width):
+    step = step_of(max(max(rates.values()) for _, rates in groups))
     top = -(-max(max(rates.values()) for _, rates in groups) // step) * step
-    out = ['<svg xmlns="http://www.w3.org/2000/svg" viewBox="0 0 %d %d" font-family="sans-serif" font-size="12">' % (WIDTH, HEIGHT)]
-    out.append('<rect width="100%" height="100%" fill="white"/><text x="10" y="20">Durable sales a second at one site, by callers</text>')
+    yield '<text x="10" y="20">%s</text>' % title
     for rate in range(0, top + 1, step):
-        y = BASE - rate / top * 190
-        out.append('<path d="M%d %.1fH%d" stroke="#ddd"/>' % (LEFT, y, WIDTH - 20))
-        out.append('<text x="%d" y="%.1f" text-anchor="end">%s</text>' % (LEFT - 6, y + 4, format(rate, ',')))
-    room = (WIDTH - 20 - LEFT) / len(groups)
+        y = BASE - rate / top * TALLEST
+        yield '<path d="M%d %.1fH%d" stroke="#ddd"/>' % (LEFT, y, width - 20)
+        yield '<text x="%d" y="%.1f" text-anchor="end">%s</text>' % (LEFT - 6, y + 4, format(rate, ','))
+    room = (width - 20 - LEFT) / len(groups)
     for k, (callers, rates) in enumerate(groups):
         x = LEFT + k * room + 20
         bar = (room - 40) / len(inks)
         for name, rate in rates.items():
-            at, tall = x + list(inks).index(name) * bar, rate / top * 190
-            out.append('<rect x="%.1f" y="%.1f" width="%.1f" height="%.1f" fill="%s"/>' % (at, BASE - tall, bar - 4, tall, INKS[name]))
-            out.append('<text x="%.1f" y="%.1f" text-anchor="middle" font-size="10">%s</text>' % (at + bar / 2 - 2, BASE - tall - 3, format(rate, ',')))
-        out.append('<text x="%.1f" y="%d" text-anchor="middle">%s</text>' % (x + (room - 40) / 2, BASE + 16, callers))
+            at, tall = x + list(inks).index(name) * bar, rate / top * TALLEST
+            yield '<rect x="%.1f" y="%.1f" width="%.1f" height="%.1f" fill="%s"/>' % (at, BASE - tall, bar - 4, tall, inks[name])
+            yield '<text x="%.1f" y="%.1f" text-anchor="middle" font-size="10">%s</text>' % (at + bar / 2 - 2, BASE - tall - 3, format(rate, ','))
+        yield '<text x="%.1f" y="%d" text-anchor="middle">%s</text>' % (x + (room - 40) / 2, BASE + 16, callers)
+
+
+def main():
+    charts = read(sys.stdin)
+    if not charts:
+        sys.exit(__doc__)
+    names = dict.fromkeys(name for _, groups in charts for _, rates in groups for name in rates)
+    blues = itertools.cycle(BLUES)
+    inks = {name: INKS.get(name) or next(blues) for name in names}
+    width = max(WIDTH, LEFT + 20 + max(len(groups) for _, groups in charts) * (40 + 38 * len(inks)))
+    size = (width, HEIGHT * len(charts) + 30)
+    print('<svg xmlns="http://www.w3.org/2000/svg" viewBox="0 0 %d %d" font-family="sans-serif" font-size="12">' % size)
+    print('<rect width="100%" height="100%" fill="white"/>')
+    for k, (title, groups) in enumerate(charts):
+        print('\n'.join(['<g transform="translate(0 %d)">' % (k * HEIGHT), *chart(title, groups, inks, width), '</g>']))
+    y = HEIGHT * len(charts) + 8
     for k, (name, ink) in enumerate(inks.items()):
-        out.append('<rect x="%d" y="%d" width="10" height="10" fill="%s"/><text x="%d" y="%d">%s</text>' % (60 + 190 * k, 278, ink, 75 + 190 * k, 287, name))
-    print('\n'.join(out + ['</svg>']))
+        x = LEFT + 190 * k
+        print('<rect x="%d" y="%d" width="10" height="10" fill="%s"/><text x="%d" y="%d">%s</text>' % (x, y, ink, x + 15, y + 9, name))
+    print('</svg>')
 
 
 main()

@@ -19,29 +19,12 @@ import tempfile
 import time
 
 from memory import memory
+from offices import begun, fresh, released
 
 TABLE = (
     'CREATE TABLE entries (pos INTEGER PRIMARY KEY, peer INTEGER, number INTEGER UNIQUE, verb TEXT, event TEXT, amount INTEGER,'
     ' target INTEGER, reply TEXT, rest INTEGER, delta TEXT NOT NULL) STRICT'
 )
-
-
-def fresh(path):
-    for end in ('', '-wal', '-shm'):
-        if os.path.exists(path + end):
-            os.remove(path + end)
-
-
-def begun(program, path, sites):
-    """New records of the first of so many sites."""
-    fresh(path)
-    subprocess.run([program, 'init', path, '0', str(sites), '1000000'], stdout=subprocess.DEVNULL, check=True)
-
-
-def released(program, path):
-    begun(program, path, 1)
-    lines = 'announce 1 gala\nrelease 2 gala 1000000\n'
-    subprocess.run([program, 'ask', path], input=lines, text=True, stdout=subprocess.DEVNULL, check=True)
 
 
 def piped(program, path, sales):

@@ -36,7 +36,7 @@ tempfile.tempdir = "/dev/shm" if os.path.isdir("/dev/shm") else None
 MOST_CALLERS, MOST_OPERATORS, MOST_PATH = 64, 8, 107
 # The bytes of a log that may not grow further.
 MOST_LOG = 1 << 20
-KILLS, KILLED_CALLERS, SEATS = 5, 6, 100_000
+KILLS, KILLED_CALLERS, SEATS = 5, 64, 100_000
 OPENING = ["announce 1 gala", "release 2 gala 100", "cede 3 gala 40 1"]
 CESSION = "delta 0 1 3\nname gala\ngave gala 0 0 100\ngave gala 0 1 40\nend\n"
 
@@ -416,6 +416,30 @@ def storing_fails(folder):
     same("asked again", call(folder, ["ask", FILE], lines), (0, "done\n" * number, ""))
 
 
+def storing_fails_together(folder):
+    """Of sixteen callers each whose request was stored with the one that cannot be gets `store`; all of these are kept, or none."""
+    office = until_full(folder)
+    asked(Caller(office.port), ["announce 1 gala", "release 2 gala 1000000"], ["done", "done"])
+
+    def sells(caller):
+        session, done = Caller(office.port), []
+        for number in range(10_000 * caller, 10_000 * (caller + 1)):
+            if (reply := session.ask(f"sell {number} gala 1")) != "done":
+                return done, number, reply
+            done.append(number)
+
+    with concurrent.futures.ThreadPoolExecutor(16) as pool:
+        told = list(pool.map(sells, range(1, 17)))
+    last = {reply: {number for _, number, what in told if what == reply} for reply in ("store", "closed", "")}
+    same("how many got no reply that a failed store explains", len(told) - sum(map(len, last.values())), 0)
+    same("one got `store`", len(last["store"]) > 0, True)
+    same("the end", ended(office.program), (3, "", "closed 0\n"))
+    sold, doubtful = {1, 2}.union(*(done for done, _, _ in told)), last["store"]
+    numbers = set(kept(folder)[0])
+    same("what is kept", numbers in (sold, sold | doubtful), True)
+    print(f"a store failed behind {len(sold) - 2} sales, for {len(doubtful)} callers at once")
+
+
 def storing_a_message_fails(folder):
     """So does the message that cannot be stored, and what it brought may be in the file."""
     office, count = until_full(folder), 0
@@ -429,6 +453,6 @@ def storing_a_message_fails(folder):
 
 
 TRIALS = [forty_callers, two_doors, looked_up, commands, piped, exchange, killed, cut_off, places_of_sockets, refused, sessions]
-TRIALS += [storing_fails, storing_a_message_fails]
+TRIALS += [storing_fails, storing_fails_together, storing_a_message_fails]
 print(f"the seed is {SEED}", flush=True)
 sys.exit(try_each(TRIALS, "an open office: 0 differ", "an open office: {} differ"))

@@ -1,5 +1,5 @@
 //! The book of a site.
-ghost use Rattle.std.specs.Prelude.{IsSome, IfSome, pos, vec_len, vec_capacity, nat_le, IsTrue, ◌↔◌, IsOk, OnOk, ◌++◌, ◌∷◌, ◌≡◌, ◌<◌, ◌≤◌, [], ◌+◌, length, slice_get};
+ghost use Rattle.std.specs.Prelude.{drop, IsSome, IfSome, pos, vec_len, vec_capacity, nat_le, IsTrue, ◌↔◌, IsOk, OnOk, ◌++◌, ◌∷◌, ◌≡◌, ◌<◌, ◌≤◌, [], ◌+◌, length, slice_get};
 ghost use Rattle.std.specs.Option.{option_copied};
 ghost use Rattle.rights_lattice.specs.Cells.{value_at, raise_all, greatest_value};
 ghost use Rattle.rights_lattice.specs.State.{knows};
@@ -120,6 +120,13 @@ impl Book {
         ensures { option_copied result ≡ slice_get self.now.history place }
     {
         self.history.get(place)
+    }
+
+    /// The entries from a place on; none where the history is no longer than that.
+    pub fn entries_from(&self, place: usize) -> &[Entry]
+        ensures { result.now ≡ drop place self.now.history }
+    {
+        &self.history.as_slice()[place.min(self.history.len())..]
     }
 
     /// The value of a cell: the greatest that an entry's delta gives it.

@@ -98,6 +98,11 @@ pub(crate) fn out_of_memory(rt: &HostRuntime) -> Status {
     Status::Failed
 }
 
+pub(crate) fn not_read(rt: &HostRuntime) -> Status {
+    let _ = eprintln!(rt; "read");
+    Status::Failed
+}
+
 fn not_unicode(rt: &HostRuntime) -> Status {
     let _ = eprintln!(rt; "error: invalid UTF-8 was detected in one or more arguments");
     Status::NotUnderstood

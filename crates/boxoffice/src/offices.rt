@@ -1,12 +1,15 @@
 //! The commands on a file whose office is open, which go to it by its socket.
 
 use crate::doors::Socket;
-use crate::{buffered, out_of_memory};
+use crate::{buffered, not_read, out_of_memory};
+use delta_wire::MOST_BYTES;
 use operator_cli::{
     CloseFault, Order, Status, ask_office, export_office, find_office, import_office, list_office,
     status_office, tell_close_fault, tell_open,
 };
-use std::io::{self, BufWriter};
+use request_ledger::RequestNumber;
+use rights_lattice::SiteId;
+use std::io::{self, BufWriter, ErrorKind, Read};
 use std::net::Net;
 use std::os::unix::net::UnixStream;
 use std::rt::Files;
@@ -84,26 +87,80 @@ fn turned_away<H: Files + Net>(
     Ok(None)
 }
 
-// What a command comes to at the office of its file.
-fn at_office(rt: &HostRuntime, order: &Order<'_>, office: Office) -> Result<Status, Status> {
+/// What a command asks of an open office.
+enum Question<'a> {
+    Session,
+    Find { number: RequestNumber },
+    List { event: &'a str },
+    Export { to: SiteId },
+    Import { bytes: Vec<u8> },
+    Status,
+}
+
+// What a question comes to at an office.
+fn at_office(
+    rt: &HostRuntime,
+    question: Question<'_>,
+    office: Office,
+) -> Result<Status, Status> {
     let Office {
         answers,
         mut questions,
     } = office;
-    let to = &mut questions;
+    let alloc = rt.alloc();
+    let asked = &mut questions;
     let err = &mut rt.stderr();
     let mut out = buffered(rt)?;
-    let status = match order {
-        Order::Ask { .. } => ask_office(rt.alloc(), rt.stdin(), answers, to, &mut out, err),
-        Order::Find { number, .. } => find_office(rt.alloc(), *number, answers, to, &mut out, err),
-        Order::List { event, .. } => list_office(rt.alloc(), event, answers, to, &mut out, err),
-        Order::Export { to: site, .. } => {
-            export_office(rt.alloc(), *site, answers, to, &mut out, err)
+    let status = match question {
+        Question::Session => ask_office(alloc, rt.stdin(), answers, asked, &mut out, err),
+        Question::Find { number } => find_office(alloc, number, answers, asked, &mut out, err),
+        Question::List { event } => list_office(alloc, event, answers, asked, &mut out, err),
+        Question::Export { to } => export_office(alloc, to, answers, asked, &mut out, err),
+        Question::Import { bytes } => {
+            import_office(alloc, bytes.as_slice(), answers, asked, &mut out, err)
         }
-        Order::Import { .. } => import_office(rt.alloc(), rt.stdin(), answers, to, &mut out, err),
-        _ => status_office(rt.alloc(), answers, to, &mut out, err),
+        Question::Status => status_office(alloc, answers, asked, &mut out, err),
     };
     Ok(status)
+}
+
+// What a question comes to at the office of a file, if one is open.
+fn visit<H: Files + Net>(
+    rt: &HostRuntime,
+    host: &H,
+    file: &str,
+    question: Question<'_>,
+) -> Result<Option<Status>, Status> {
+    match office_of(rt, host, file)? {
+        Some(office) => Ok(Some(at_office(rt, question, office)?)),
+        None => Ok(None),
+    }
+}
+
+// The input, or so much of it as is too long for a message.
+fn input_of(rt: &HostRuntime) -> Result<Vec<u8>, Status> {
+    let mut bytes = Vec::new(rt.alloc());
+    match rt.stdin().take(MOST_BYTES as u64 + 1).read_to_end(&mut bytes) {
+        Ok(_) => Ok(bytes),
+        Err(error) if error.kind() == ErrorKind::OutOfMemory => Err(out_of_memory(rt)),
+        Err(_) => Err(not_read(rt)),
+    }
+}
+
+// `import` has read its message before it is connected: whoever is holds one of the office's few places.
+fn bring<H: Files + Net>(
+    rt: &HostRuntime,
+    host: &H,
+    file: &str,
+) -> Result<Option<Status>, Status> {
+    if !is_open(rt, host, &[file])? {
+        return Ok(None);
+    }
+    let bytes = input_of(rt)?;
+    match visit(rt, host, file, Question::Import { bytes })? {
+        Some(status) => Ok(Some(status)),
+        None => Ok(Some(tell_close_fault(CloseFault::NotOpen, &mut rt.stderr()))),
+    }
 }
 
 /// What a command comes to where an office has its file open; None where the command is to open the file itself.
@@ -120,14 +177,13 @@ pub(crate) fn visited<H: Files + Net>(
         Order::Audit { files } | Order::Serve { files, .. } => {
             turned_away(rt, host, files.as_slice())
         }
-        Order::Ask { file }
-        | Order::Find { file, .. }
-        | Order::List { file, .. }
-        | Order::Export { file, .. }
-        | Order::Import { file }
-        | Order::Status { file } => match office_of(rt, host, file)? {
-            Some(office) => Ok(Some(at_office(rt, order, office)?)),
-            None => Ok(None),
-        },
+        Order::Ask { file } => visit(rt, host, file, Question::Session),
+        Order::Find { file, number } => {
+            visit(rt, host, file, Question::Find { number: *number })
+        }
+        Order::List { file, event } => visit(rt, host, file, Question::List { event }),
+        Order::Export { file, to } => visit(rt, host, file, Question::Export { to: *to }),
+        Order::Import { file } => bring(rt, host, file),
+        Order::Status { file } => visit(rt, host, file, Question::Status),
     }
 }

@@ -10,6 +10,8 @@ use Rattle.site_desk.specs.declared.fault.AskFault.{AskFault}
 use Rattle.site_desk.specs.declared.fault.AskFault.TheVariants as ask
 use Rattle.site_exchange.specs.declared.message.TakeFault.{TakeFault}
 use Rattle.site_exchange.specs.declared.message.TakeFault.TheVariants as take
+use Rattle.delta_wire.specs.declared.fault.WireFault.{WireFault}
+use Rattle.delta_wire.specs.declared.fault.WireFault.TheVariants as wire
 use Rattle.local_rights.specs.declared.seat_totals.ViewTotals.{ViewTotals}
 use Rattle.desk_lines.specs.declared.answered.Answered.{Answered}
 use Rattle.desk_lines.specs.declared.answered.Answered.TheVariants.{Kept, LeftIs, TotalsAre, NotKnown, Refused, Unread}
@@ -29,6 +31,14 @@ ask_fault_text (ask.Reused place) = codes "reused"
 ask_fault_text ask.Full = codes "history-full"
 ask_fault_text ask.Memory = codes "memory"
 ask_fault_text ask.Store = codes "store"
+
+-- the word, and the number of the line, of a text that is no message
+abbrev pub wire_fault_text : WireFault → List ℕ
+wire_fault_text wire.Truncated = codes "truncated"
+wire_fault_text (wire.BadLine line) = codes "bad-line " ++ decimal line
+wire_fault_text (wire.OutOfOrder line) = codes "out-of-order " ++ decimal line
+wire_fault_text wire.Trailing = codes "trailing"
+wire_fault_text wire.Memory = codes "memory"
 
 -- why a message is not taken
 abbrev pub take_fault_text : TakeFault → List ℕ

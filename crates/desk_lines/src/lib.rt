@@ -34,4 +34,4 @@ pub use script::ScriptLine;
 pub use script_answer::{ScriptAnswer, write_answer};
 pub use script_lines::{read_limit, read_sites, read_step};
 pub use session_lines::read_line;
-pub use texts::{grow_fault_text, reply_text, take_fault_text};
+pub use texts::{grow_fault_text, reply_text, take_fault_text, wire_fault_text};

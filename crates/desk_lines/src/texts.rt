@@ -3,9 +3,10 @@
 ghost use Rattle.std.specs.Prelude.{◌≡◌, ◌+◌, ◌++◌, ◌≤◌};
 ghost use Rattle.arrayvec.specs.ArrayVec.{array_vec_len};
 ghost use Rattle.plain_words.specs.Input.{longest_line};
-ghost use Rattle.desk_lines.specs.Replies.{grow_fault_text, open_text, reply_text, ask_fault_text, take_fault_text, totals_text};
+ghost use Rattle.desk_lines.specs.Replies.{grow_fault_text, open_text, reply_text, ask_fault_text, take_fault_text, totals_text, wire_fault_text};
 
 use book_core::GrowFault;
+use delta_wire::WireFault;
 use local_rights::ViewTotals;
 use plain_words::{Text, numbered, put, put_number, word};
 use request_ledger::Reply;
@@ -36,6 +37,20 @@ pub(crate) fn ask_fault_text(fault: AskFault) -> Text
         AskFault::Full => word(b"history-full"),
         AskFault::Memory => word(b"memory"),
         AskFault::Store => word(b"store"),
+    }
+}
+
+/// The text of why bytes are no message, without a line break.
+pub fn wire_fault_text(fault: WireFault) -> Text
+    ensures value { result.items ≡ wire_fault_text fault }
+    ensures len { array_vec_len result ≤ longest_line }
+{
+    match fault {
+        WireFault::Truncated => word(b"truncated"),
+        WireFault::BadLine { line } => numbered(b"bad-line ", line),
+        WireFault::OutOfOrder { line } => numbered(b"out-of-order ", line),
+        WireFault::Trailing => word(b"trailing"),
+        WireFault::Memory => word(b"memory"),
     }
 }
 

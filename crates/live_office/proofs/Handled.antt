@@ -1,7 +1,7 @@
 -- What handling a line leaves of a seat.
 use Rattle.std.proofs.Common.{◌≡◌, inl, inr, ◌⊎◌, ℕ, Bool, true, false, List, Option, Some, None, Result, Err, refl, ap, subst, sym, ◌∙◌}
 use Rattle.delta_wire.specs.declared.fault.WireFault.TheVariants.{Memory}
-use Rattle.site_desk.specs.Seats.{Held}
+use Rattle.live_office.specs.Sitting.{Sitting}
 use Rattle.desk_lines.specs.declared.line.Line.TheVariants.{Ask, Left, Totals, Quit as QuitLine}
 use Rattle.session_server.specs.declared.fault.TalkFault.{TalkFault}
 use Rattle.live_office.specs.declared.door.Access.{Access}
@@ -18,47 +18,47 @@ use Rattle.live_office.proofs.Seats.{given_parts}
 use Rattle.live_office.proofs.Talks.{chain_keeps}
 
 -- a message for which memory was refused
-pub lost_part : {K : Type 0} (d : Admissible K) (held : Held) (message : List ℕ) (is_last : Bool) (text : List ℕ) (new : SeatState) → HandlesLost held is_last text new → HandlesPart d held message is_last text new
-lost_part d held message true text new h = (Err (Unread Memory), tt, h.0, h.1)
-lost_part d held message false text new h = (h.0, inr h.1)
+pub lost_part : {K : Type 0} (d : Admissible K) (seat : Sitting) (message : List ℕ) (is_last : Bool) (text : List ℕ) (new : SeatState) → HandlesLost seat is_last text new → HandlesPart d seat message is_last text new
+lost_part d seat message true text new h = (Err (Unread Memory), tt, h.0, h.1)
+lost_part d seat message false text new h = (h.0, inr h.1)
 
-parts_of_same : (old new : SeatState) → new ≡ old → new.held.parts ≡ old.held.parts
-parts_of_same old new is = ap (λ (s : SeatState). s.held.parts) is
+parts_of_same : (old new : SeatState) → new ≡ old → new.seat.parts ≡ old.seat.parts
+parts_of_same old new is = ap (λ (s : SeatState). s.seat.parts) is
 
-line_parts : {K : Type 0} (d : Admissible K) (old : SeatState) (line : Option OfficeLine) (text : List ℕ) (new : SeatState) → HandlesLine d old line text new → new.held.parts ≡ old.held.parts
+line_parts : {K : Type 0} (d : Admissible K) (old : SeatState) (line : Option OfficeLine) (text : List ℕ) (new : SeatState) → HandlesLine d old line text new → new.seat.parts ≡ old.seat.parts
 line_parts d old (Some (office_line.Session QuitLine)) text new h = absurd h
-line_parts d old (Some (office_line.Session (Ask number request))) text new h = given_parts d old.held (Ask number request) h.0 new.held h.1
-line_parts d old (Some (office_line.Session (Left event))) text new h = given_parts d old.held (Left event) h.0 new.held h.1
-line_parts d old (Some (office_line.Session (Totals event))) text new h = given_parts d old.held (Totals event) h.0 new.held h.1
+line_parts d old (Some (office_line.Session (Ask number request))) text new h = given_parts d old.seat (Ask number request) h.0 new.seat h.1
+line_parts d old (Some (office_line.Session (Left event))) text new h = given_parts d old.seat (Left event) h.0 new.seat h.1
+line_parts d old (Some (office_line.Session (Totals event))) text new h = given_parts d old.seat (Totals event) h.0 new.seat h.1
 line_parts d old (Some (office_line.Export to)) text new h = parts_of_same old new h.3
-line_parts d old (Some office_line.Import) text new h = ap (λ (s : SeatState). s.held.parts) h.1
+line_parts d old (Some office_line.Import) text new h = ap (λ (s : SeatState). s.seat.parts) h.1
 line_parts d old (Some (office_line.Find number)) text new h = parts_of_same old new h.3
 line_parts d old (Some (office_line.List event)) text new h = parts_of_same old new h.3
 line_parts d old (Some office_line.Status) text new h = parts_of_same old new h.4
 line_parts d old (Some office_line.Close) text new h = absurd h
 line_parts d old None text new h = parts_of_same old new h.1
 
-either_parts : (held : Held) (a b : Gathering) (new : SeatState) → (new ≡ seat_state held a) ⊎ (new ≡ seat_state held b) → new.held.parts ≡ held.parts
-either_parts held a b new (inl is) = ap (λ (s : SeatState). s.held.parts) is
-either_parts held a b new (inr is) = ap (λ (s : SeatState). s.held.parts) is
+either_parts : (seat : Sitting) (a b : Gathering) (new : SeatState) → (new ≡ seat_state seat a) ⊎ (new ≡ seat_state seat b) → new.seat.parts ≡ seat.parts
+either_parts seat a b new (inl is) = ap (λ (s : SeatState). s.seat.parts) is
+either_parts seat a b new (inr is) = ap (λ (s : SeatState). s.seat.parts) is
 
-part_parts : {K : Type 0} (d : Admissible K) (held : Held) (message : List ℕ) (is_last : Bool) (text : List ℕ) (new : SeatState) → HandlesPart d held message is_last text new → new.held.parts ≡ held.parts
-part_parts d held message true text new h = ap (λ (s : SeatState). s.held.parts) h.3
-part_parts d held message false text new h = either_parts held (Text message) Lost new h.1
+part_parts : {K : Type 0} (d : Admissible K) (seat : Sitting) (message : List ℕ) (is_last : Bool) (text : List ℕ) (new : SeatState) → HandlesPart d seat message is_last text new → new.seat.parts ≡ seat.parts
+part_parts d seat message true text new h = ap (λ (s : SeatState). s.seat.parts) h.3
+part_parts d seat message false text new h = either_parts seat (Text message) Lost new h.1
 
-lost_parts : (held : Held) (is_last : Bool) (text : List ℕ) (new : SeatState) → HandlesLost held is_last text new → new.held.parts ≡ held.parts
-lost_parts held true text new h = ap (λ (s : SeatState). s.held.parts) h.1
-lost_parts held false text new h = ap (λ (s : SeatState). s.held.parts) h.1
+lost_parts : (seat : Sitting) (is_last : Bool) (text : List ℕ) (new : SeatState) → HandlesLost seat is_last text new → new.seat.parts ≡ seat.parts
+lost_parts seat true text new h = ap (λ (s : SeatState). s.seat.parts) h.1
+lost_parts seat false text new h = ap (λ (s : SeatState). s.seat.parts) h.1
 
-by_parts : {K : Type 0} (d : Admissible K) (old : SeatState) (gathering : Gathering) (line text : List ℕ) (new : SeatState) → HandlesBy d old gathering line text new → new.held.parts ≡ old.held.parts
+by_parts : {K : Type 0} (d : Admissible K) (old : SeatState) (gathering : Gathering) (line text : List ℕ) (new : SeatState) → HandlesBy d old gathering line text new → new.seat.parts ≡ old.seat.parts
 by_parts d old Nothing line text new h = line_parts d old (office_line_of line) text new h
-by_parts d old (Text so_far) line text new h = part_parts d old.held _ (ends_message line) text new h
-by_parts d old Lost line text new h = lost_parts old.held (ends_message line) text new h
+by_parts d old (Text so_far) line text new h = part_parts d old.seat _ (ends_message line) text new h
+by_parts d old Lost line text new h = lost_parts old.seat (ends_message line) text new h
 
 -- a seat that served a session has the parts that it had
-pub handled_parts : {K : Type 0} (d : Admissible K) (input old new : Option (List ℕ)) (before after : SeatState) (result : Result (Option Last) TalkFault) → OfficeTalked (Handles d) LastHandled input old new before after result → after.held.parts ≡ before.held.parts
+pub handled_parts : {K : Type 0} (d : Admissible K) (input old new : Option (List ℕ)) (before after : SeatState) (result : Result (Option Last) TalkFault) → OfficeTalked (Handles d) LastHandled input old new before after result → after.seat.parts ≡ before.seat.parts
 handled_parts d input old new before after result talked =
-    chain_keeps (Handles d) (λ s. s.held.parts ≡ before.held.parts) (λ a line text b h is. by_parts d a a.gathering line text b h ∙ is) before talked.lines talked.texts after talked.chain refl
+    chain_keeps (Handles d) (λ s. s.seat.parts ≡ before.seat.parts) (λ a line text b h is. by_parts d a a.gathering line text b h ∙ is) before talked.lines talked.texts after talked.chain refl
 
 -- a caller who was served, by what its reader and writer were as it began
 pub served_by : {K : Type 0} (d : Admissible K) (access : Access) (a b c a_now b_now : Option (List ℕ)) (result : Result (Option Last) TalkFault)

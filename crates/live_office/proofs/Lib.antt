@@ -2,3 +2,4 @@ pub mod Handled
 pub mod OfficeLines
 pub mod Seats
 pub mod Talks
+pub mod Together

@@ -1,15 +1,12 @@
 -- What a session leaves of a seat that serves one after another.
-use Rattle.std.proofs.Common.{◌≡◌, inl, inr, ℕ, ◌+◌, ◌≤◌, Bool, true, false, List, [], ◌∷◌, ◌++◌, length, Option, Some, None, Result, refl, sym, ap, subst, ◌∙◌}
-use Rattle.std.specs.Prelude.{if◌then◌else◌}
+use Rattle.std.proofs.Common.{◌≡◌, ℕ, ◌+◌, ◌<◌, List, [], ◌∷◌, ◌++◌, Option, Some, None, Result, refl, sym, ap, subst, ◌∙◌}
+use Rattle.std.specs.Prelude.{IfSome}
 use Rattle.std.proofs.lemmas.List.Sums.{sum_by_push}
 use Rattle.local_rights.specs.declared.seat_totals.ViewTotals.{ViewTotals}
-use Rattle.request_ledger.specs.declared.request.Request.{Request}
-use Rattle.site_desk.specs.declared.answer.Answer.{Answer}
 use Rattle.site_desk.specs.declared.answer.Seen.{Seen}
 use Rattle.site_desk.specs.declared.fault.LookFault.{LookFault}
 use Rattle.site_desk.specs.declared.fault.LookFault.TheVariants as look
-use Rattle.site_desk.specs.declared.receipt.Receipt.{Receipt}
-use Rattle.site_desk.specs.Seats.{Held, held, parts_of}
+use Rattle.site_desk.specs.Seats.{Held, parts_of}
 use Rattle.desk_lines.specs.declared.line.Line.{Line}
 use Rattle.desk_lines.specs.declared.line.Line.TheVariants.{Ask, Left, Totals, Quit}
 use Rattle.desk_lines.specs.declared.answered.Answered.{Answered}
@@ -17,79 +14,64 @@ use Rattle.desk_lines.specs.declared.answered.Answered.TheVariants.{Kept, LeftIs
 use Rattle.session_server.specs.declared.fault.Ended.{Ended}
 use Rattle.session_server.specs.declared.fault.TalkFault.{TalkFault}
 use Rattle.session_server.specs.BookStep.{not_shown}
-use Rattle.session_server.specs.SeatStep.{IsRaisedAt}
 use Rattle.session_server.specs.Session.{Answers, Talked}
 use Rattle.session_server.proofs.Sessions.{chain_keeps}
 use Rattle.live_office.specs.Admissible.{Admissible, telling}
 use Rattle.live_office.specs.SeatAnswers.{SeatAnswers}
+use Rattle.live_office.specs.Sitting.{Sitting}
 
-raised : (opening place : ℕ) (old new : Held) (fresh : Bool) → new ≡ held old.parts (if fresh then old.count + 1 else old.count) → (fresh ≡ true → opening + old.count ≤ place) → IsRaisedAt opening place old new
-raised opening place old new true is at = inr (is, at refl)
-raised opening place old new false is at = inl is
-
--- a desk answered the request
-pub asked : {K : Type 0} (d : Admissible K) (old new : Held) (number : ℕ) (request : Request) (answer : Answer) (receipt : Receipt)
-    → receipt ≡ record { number = number; request = request; reply = answer.reply; place = answer.place } → new ≡ held old.parts (if answer.fresh then old.count + 1 else old.count)
-    → (answer.fresh ≡ true → length d.began + old.count ≤ answer.place) → (telling d).receipts receipt → SeatAnswers d old (Ask number request) (Kept answer.reply) new
-asked d old new number request answer receipt is_receipt is_seat place told =
-    (answer.place, subst (telling d).receipts is_receipt told, raised (length d.began) answer.place old new answer.fresh is_seat place)
-
-raised_parts : (opening place : ℕ) (old new : Held) → IsRaisedAt opening place old new → new.parts ≡ old.parts
-raised_parts opening place old new (inl is) = ap (λ (h : Held). h.parts) is
-raised_parts opening place old new (inr is) = ap (λ (h : Held). h.parts) is.0
-
-pub given_parts : {K : Type 0} (d : Admissible K) (old : Held) (line : Line) (answered : Answered) (new : Held) → SeatAnswers d old line answered new → new.parts ≡ old.parts
-given_parts d old (Ask number request) (Kept reply) new h = raised_parts (length d.began) h.0 old new h.2
+pub given_parts : {K : Type 0} (d : Admissible K) (old : Sitting) (line : Line) (answered : Answered) (new : Sitting) → SeatAnswers d old line answered new → new.parts ≡ old.parts
+given_parts d old (Ask number request) (Kept reply) new h = ap (λ (s : Sitting). s.parts) h.2
 given_parts d old (Ask number request) (LeftIs left) new h = absurd h
 given_parts d old (Ask number request) (TotalsAre totals) new h = absurd h
 given_parts d old (Ask number request) NotKnown new h = absurd h
-given_parts d old (Ask number request) (Refused fault) new h = ap (λ (h : Held). h.parts) h.0
+given_parts d old (Ask number request) (Refused fault) new h = ap (λ (s : Sitting). s.parts) h.0
 given_parts d old (Ask number request) Unread new h = absurd h
 given_parts d old (Left event) (Kept reply) new h = absurd h
-given_parts d old (Left event) (LeftIs left) new h = ap (λ (h : Held). h.parts) h.0
+given_parts d old (Left event) (LeftIs left) new h = ap (λ (s : Sitting). s.parts) h.0
 given_parts d old (Left event) (TotalsAre totals) new h = absurd h
-given_parts d old (Left event) NotKnown new h = ap (λ (h : Held). h.parts) h.0
-given_parts d old (Left event) (Refused fault) new h = ap (λ (h : Held). h.parts) h.0
+given_parts d old (Left event) NotKnown new h = ap (λ (s : Sitting). s.parts) h.0
+given_parts d old (Left event) (Refused fault) new h = ap (λ (s : Sitting). s.parts) h.0
 given_parts d old (Left event) Unread new h = absurd h
 given_parts d old (Totals event) (Kept reply) new h = absurd h
 given_parts d old (Totals event) (LeftIs left) new h = absurd h
-given_parts d old (Totals event) (TotalsAre totals) new h = ap (λ (h : Held). h.parts) h.0
-given_parts d old (Totals event) NotKnown new h = ap (λ (h : Held). h.parts) h.0
-given_parts d old (Totals event) (Refused fault) new h = ap (λ (h : Held). h.parts) h.0
+given_parts d old (Totals event) (TotalsAre totals) new h = ap (λ (s : Sitting). s.parts) h.0
+given_parts d old (Totals event) NotKnown new h = ap (λ (s : Sitting). s.parts) h.0
+given_parts d old (Totals event) (Refused fault) new h = ap (λ (s : Sitting). s.parts) h.0
 given_parts d old (Totals event) Unread new h = absurd h
 given_parts d old Quit (Kept reply) new h = absurd h
 given_parts d old Quit (LeftIs left) new h = absurd h
 given_parts d old Quit (TotalsAre totals) new h = absurd h
-given_parts d old Quit NotKnown new h = ap (λ (h : Held). h.parts) h
+given_parts d old Quit NotKnown new h = ap (λ (s : Sitting). s.parts) h
 given_parts d old Quit (Refused fault) new h = absurd h
 given_parts d old Quit Unread new h = absurd h
 
-answered_parts : {K : Type 0} (d : Admissible K) (first old : Held) (o : Option Line) (given : Answered) (new : Held) → Answers (SeatAnswers d) old o given new → old.parts ≡ first.parts → new.parts ≡ first.parts
+answered_parts : {K : Type 0} (d : Admissible K) (first old : Sitting) (o : Option Line) (given : Answered) (new : Sitting) → Answers (SeatAnswers d) old o given new → old.parts ≡ first.parts → new.parts ≡ first.parts
 answered_parts d first old (Some (Ask number request)) given new h is = given_parts d old (Ask number request) given new h ∙ is
 answered_parts d first old (Some (Left event)) given new h is = given_parts d old (Left event) given new h ∙ is
 answered_parts d first old (Some (Totals event)) given new h is = given_parts d old (Totals event) given new h ∙ is
 answered_parts d first old (Some Quit) given new h is = absurd h
-answered_parts d first old None given new h is = ap (λ (h : Held). h.parts) h.1 ∙ is
+answered_parts d first old None given new h is = ap (λ (s : Sitting). s.parts) h.1 ∙ is
 
 -- a seat that answered a session has the parts that it had
-pub talked_parts : {K : Type 0} (d : Admissible K) (input old new : Option (List ℕ)) (before after : Held) (result : Result Ended TalkFault) → Talked (SeatAnswers d) input old new before after result → after.parts ≡ before.parts
+pub talked_parts : {K : Type 0} (d : Admissible K) (input old new : Option (List ℕ)) (before after : Sitting) (result : Result Ended TalkFault) → Talked (SeatAnswers d) input old new before after result → after.parts ≡ before.parts
 talked_parts d input old new before after result talked =
     chain_keeps (SeatAnswers d) (λ s. s.parts ≡ before.parts) (answered_parts d before) before talked.lines talked.answers after talked.chain refl
 
 -- a look showed nothing
-pub left_hidden : {K : Type 0} (d : Admissible K) (old : Held) (event : List ℕ) (fault : LookFault) (answered : Answered) → answered ≡ not_shown fault → (telling d).hides event fault → SeatAnswers d old (Left event) answered old
+pub left_hidden : {K : Type 0} (d : Admissible K) (old : Sitting) (event : List ℕ) (fault : LookFault) (answered : Answered) → answered ≡ not_shown fault → (telling d).hides event fault → SeatAnswers d old (Left event) answered old
 left_hidden d old event look.Unknown answered is hides = subst (λ a. SeatAnswers d old (Left event) a old) (sym is) (refl, hides)
 left_hidden d old event look.Closed answered is hides = subst (λ a. SeatAnswers d old (Left event) a old) (sym is) (refl, refl, hides)
 
-pub totals_hidden : {K : Type 0} (d : Admissible K) (old : Held) (event : List ℕ) (fault : LookFault) (answered : Answered) → answered ≡ not_shown fault → (telling d).hides event fault → SeatAnswers d old (Totals event) answered old
+pub totals_hidden : {K : Type 0} (d : Admissible K) (old : Sitting) (event : List ℕ) (fault : LookFault) (answered : Answered) → answered ≡ not_shown fault → (telling d).hides event fault → SeatAnswers d old (Totals event) answered old
 totals_hidden d old event look.Unknown answered is hides = subst (λ a. SeatAnswers d old (Totals event) a old) (sym is) (refl, hides)
 totals_hidden d old event look.Closed answered is hides = subst (λ a. SeatAnswers d old (Totals event) a old) (sym is) (refl, refl, hides)
 
 -- a look showed the event
-pub left_shown : {K : Type 0} (d : Admissible K) (old : Held) (event : List ℕ) (seen : Seen) (left : ℕ) → left ≡ seen.left → seen.event ≡ event → length d.began + old.count ≤ seen.at → (telling d).shows seen → SeatAnswers d old (Left event) (LeftIs left) old
+pub left_shown : {K : Type 0} (d : Admissible K) (old : Sitting) (event : List ℕ) (seen : Seen) (left : ℕ) → left ≡ seen.left → seen.event ≡ event → IfSome old.latest (λ place. place < seen.at) → (telling d).shows seen → SeatAnswers d old (Left event) (LeftIs left) old
 left_shown d old event seen left is at_event own shown = (refl, (seen, record { of_event = at_event; has_own = own; shown = shown }, sym is))
 
-pub totals_shown : {K : Type 0} (d : Admissible K) (old : Held) (event : List ℕ) (seen : Seen) (totals : ViewTotals) → totals ≡ seen.totals → seen.event ≡ event → length d.began + old.count ≤ seen.at → (telling d).shows seen → SeatAnswers d old (Totals event) (TotalsAre totals) old
+pub totals_shown : {K : Type 0} (d : Admissible K) (old : Sitting) (event : List ℕ) (seen : Seen) (totals : ViewTotals) → totals ≡ seen.totals → seen.event ≡ event → IfSome old.latest (λ place. place < seen.at) → (telling d).shows seen → SeatAnswers d old (Totals event) (TotalsAre totals) old
 totals_shown d old event seen totals is at_event own shown = (refl, (seen, record { of_event = at_event; has_own = own; shown = shown }, sym is))
 
 -- the parts of one seat more

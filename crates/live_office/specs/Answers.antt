@@ -6,8 +6,6 @@ use Rattle.sql_records.specs.declared.lookup.Found.{Found}
 use Rattle.sql_records.specs.declared.lookup.Listed.{Listed}
 use Rattle.site_exchange.specs.declared.message.Message.{Message}
 use Rattle.delta_wire.specs.Grammar.{message_text}
-use Rattle.delta_wire.specs.declared.fault.WireFault.{WireFault}
-use Rattle.delta_wire.specs.declared.fault.WireFault.TheVariants.{Truncated, BadLine, OutOfOrder, Trailing, Memory}
 use Rattle.site_desk.specs.declared.answer.Standing.{Standing}
 use Rattle.site_desk.specs.declared.answer.Taken.{Taken}
 use Rattle.site_desk.specs.declared.answer.Taken.TheVariants.{Joined, NothingNew, Acked}
@@ -15,20 +13,12 @@ use Rattle.site_desk.specs.declared.fault.LookUpFault.{LookUpFault}
 use Rattle.site_desk.specs.declared.fault.LookUpFault.TheVariants as look_up
 use Rattle.site_desk.specs.declared.fault.NextFault.{NextFault}
 use Rattle.site_desk.specs.declared.fault.NextFault.TheVariants as next
-use Rattle.desk_lines.specs.Replies.{reply_line, take_fault_text}
+use Rattle.desk_lines.specs.Replies.{reply_line, take_fault_text, wire_fault_text}
 use Rattle.live_office.specs.declared.importing.ImportFault.{ImportFault}
 use Rattle.live_office.specs.declared.importing.ImportFault.TheVariants.{Unread, Refused}
 use Rattle.live_office.specs.declared.office_answer.OfficeAnswer.{OfficeAnswer}
 use Rattle.live_office.specs.declared.office_answer.OfficeAnswer.TheVariants as answer
-use Rattle.live_office.specs.RecordLines.{found_line, row_line}
-
--- the word, and the number of the line, of a text that is no message
-abbrev pub wire_fault_text : WireFault → List ℕ
-wire_fault_text Truncated = codes "truncated"
-wire_fault_text (BadLine line) = codes "bad-line " ++ decimal line
-wire_fault_text (OutOfOrder line) = codes "out-of-order " ++ decimal line
-wire_fault_text Trailing = codes "trailing"
-wire_fault_text Memory = codes "memory"
+use Rattle.live_office.specs.RecordLines.{found_line, row_line, standing_text}
 
 -- why no message is given
 abbrev pub next_fault_text : NextFault → List ℕ
@@ -79,9 +69,7 @@ listed_text (Err fault) = look_up_fault_text fault ++ 10 ∷ []
 
 -- which site it is, how many it counts, how long its history is and may become, and how many callers are served
 abbrev pub status_text : Standing → ℕ → List ℕ
-status_text s callers =
-    codes "site " ++ decimal s.me ++ codes " sites " ++ decimal s.sites ++ codes " entries " ++ decimal s.entries ++ codes " limit " ++ decimal s.limit
-    ++ codes " callers " ++ decimal callers ++ 10 ∷ []
+status_text s callers = standing_text s ++ codes " callers " ++ decimal callers ++ 10 ∷ []
 
 -- the whole answer to a line, with its line breaks; nothing while a message comes
 abbrev pub answer_text : OfficeAnswer → List ℕ

@@ -11,7 +11,6 @@ use Rattle.site_desk.specs.declared.answer.Taken.{Taken}
 use Rattle.site_desk.specs.declared.fault.LookUpFault.{LookUpFault}
 use Rattle.site_desk.specs.declared.fault.NextFault.{NextFault}
 use Rattle.site_desk.specs.Moments.{Finds, IsStanding, Lists, Sends}
-use Rattle.site_desk.specs.Seats.{Held}
 use Rattle.desk_lines.specs.declared.line.Line.{Line}
 use Rattle.desk_lines.specs.declared.line.Line.TheVariants.{Ask, Left, Totals, Quit as QuitLine}
 use Rattle.desk_lines.specs.declared.answered.Answered.{Answered}
@@ -28,6 +27,7 @@ use Rattle.live_office.specs.Answers.{exported_text, found_text, imported_text, 
 use Rattle.live_office.specs.Importing.{IsImported}
 use Rattle.live_office.specs.Lines.{office_line_of}
 use Rattle.live_office.specs.SeatAnswers.{SeatAnswers}
+use Rattle.live_office.specs.Sitting.{Sitting}
 
 -- what has come of a message after `import`: no message comes, its text so far, or memory was refused for it
 pub data Gathering : Type 0 where
@@ -37,16 +37,16 @@ pub data Gathering : Type 0 where
 
 -- a seat, and what has come of a message
 pub record SeatState : Type 0 where
-  pub held : Held
+  pub seat : Sitting
   pub gathering : Gathering
 
-abbrev pub seat_state : Held → Gathering → SeatState
-seat_state held gathering = record { held = held; gathering = gathering }
+abbrev pub seat_state : Sitting → Gathering → SeatState
+seat_state seat gathering = record { seat = seat; gathering = gathering }
 
 -- a line of a session is answered as the seat answers it
 abbrev pub HandlesSession : {K : Type 0} → Admissible K → SeatState → Line → List ℕ → SeatState → Type 0
 HandlesSession d old line text new =
-    (given : Answered) × SeatAnswers d old.held line given new.held × (text ≡ reply_line given) × (new.gathering ≡ old.gathering)
+    (given : Answered) × SeatAnswers d old.seat line given new.seat × (text ≡ reply_line given) × (new.gathering ≡ old.gathering)
 
 -- A line where no message comes. `quit` and `close` have no answer. The count of callers is not pinned.
 abbrev pub HandlesLine : {K : Type 0} → Admissible K → SeatState → Option OfficeLine → List ℕ → SeatState → Type 0
@@ -56,7 +56,7 @@ HandlesLine d old (Some (office_line.Session (Totals event))) text new = Handles
 HandlesLine d old (Some (office_line.Session QuitLine)) text new = ⊥
 HandlesLine d old (Some (office_line.Export to)) text new =
     (result : Result (Option Message) NextFault) × SomeAdmissible d (Sends to result) × (text ≡ exported_text result) × (new ≡ old)
-HandlesLine d old (Some office_line.Import) text new = (text ≡ []) × (new ≡ seat_state old.held (Text []))
+HandlesLine d old (Some office_line.Import) text new = (text ≡ []) × (new ≡ seat_state old.seat (Text []))
 HandlesLine d old (Some (office_line.Find number)) text new =
     (result : Result (Option Found) LookUpFault) × SomeAdmissible d (Finds number result) × (text ≡ found_text result) × (new ≡ old)
 HandlesLine d old (Some (office_line.List event)) text new =
@@ -67,15 +67,15 @@ HandlesLine d old (Some office_line.Close) text new = ⊥
 HandlesLine d old None text new = (text ≡ reply_line answered.Unread) × (new ≡ old)
 
 -- A line of a message, which is this text with it. With its last line the message is taken; before, nothing is answered.
-abbrev pub HandlesPart : {K : Type 0} → Admissible K → Held → List ℕ → Bool → List ℕ → SeatState → Type 0
-HandlesPart d held message true text new =
-    (result : Result Taken ImportFault) × IsImported d message result × (text ≡ imported_text result) × (new ≡ seat_state held Nothing)
-HandlesPart d held message false text new = (text ≡ []) × ((new ≡ seat_state held (Text message)) ⊎ (new ≡ seat_state held Lost))
+abbrev pub HandlesPart : {K : Type 0} → Admissible K → Sitting → List ℕ → Bool → List ℕ → SeatState → Type 0
+HandlesPart d seat message true text new =
+    (result : Result Taken ImportFault) × IsImported d message result × (text ≡ imported_text result) × (new ≡ seat_state seat Nothing)
+HandlesPart d seat message false text new = (text ≡ []) × ((new ≡ seat_state seat (Text message)) ⊎ (new ≡ seat_state seat Lost))
 
 -- a line of a message for which memory was refused: `memory` is answered with its last line
-abbrev pub HandlesLost : Held → Bool → List ℕ → SeatState → Type 0
-HandlesLost held true text new = (text ≡ imported_text (Err (Unread Memory))) × (new ≡ seat_state held Nothing)
-HandlesLost held false text new = (text ≡ []) × (new ≡ seat_state held Lost)
+abbrev pub HandlesLost : Sitting → Bool → List ℕ → SeatState → Type 0
+HandlesLost seat true text new = (text ≡ imported_text (Err (Unread Memory))) × (new ≡ seat_state seat Nothing)
+HandlesLost seat false text new = (text ≡ []) × (new ≡ seat_state seat Lost)
 
 -- the line is the last of a message
 abbrev pub ends_message : List ℕ → Bool
@@ -84,8 +84,8 @@ ends_message line = bytes_eq line (codes "end")
 -- a line, by what has come of a message before it
 abbrev pub HandlesBy : {K : Type 0} → Admissible K → SeatState → Gathering → List ℕ → List ℕ → SeatState → Type 0
 HandlesBy d old Nothing line text new = HandlesLine d old (office_line_of line) text new
-HandlesBy d old (Text so_far) line text new = HandlesPart d old.held (so_far ++ line ++ 10 ∷ []) (ends_message line) text new
-HandlesBy d old Lost line text new = HandlesLost old.held (ends_message line) text new
+HandlesBy d old (Text so_far) line text new = HandlesPart d old.seat (so_far ++ line ++ 10 ∷ []) (ends_message line) text new
+HandlesBy d old Lost line text new = HandlesLost old.seat (ends_message line) text new
 
 -- a seat handles a line by this text, and then has this state
 abbrev pub Handles : {K : Type 0} → Admissible K → SeatState → List ℕ → List ℕ → SeatState → Type 0

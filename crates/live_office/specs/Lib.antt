@@ -10,4 +10,6 @@ pub mod Lines
 pub mod RecordLines
 pub mod SeatAnswers
 pub mod Served
+pub mod Sitting
 pub mod Talks
+pub mod Together

@@ -1,9 +1,10 @@
--- The lines that tell of requests in a history. (Our own.)
-use Rattle.std.specs.Prelude.{ℕ, List, [], ◌∷◌, ◌++◌}
+-- The lines that tell of a history. (Our own.)
+use Rattle.std.specs.Prelude.{ℕ, List, [], ◌∷◌, ◌++◌, codes}
 use Rattle.std.specs.Fmt.{decimal}
 use Rattle.request_ledger.specs.declared.request.Request.{Request}
 use Rattle.request_ledger.specs.declared.reply.Reply.{Reply}
 use Rattle.sql_records.specs.declared.lookup.Listed.{Listed}
+use Rattle.site_desk.specs.declared.answer.Standing.{Standing}
 use Rattle.desk_lines.specs.Grammar.{request_line}
 use Rattle.desk_lines.specs.Replies.{reply_text}
 
@@ -17,3 +18,7 @@ listed_line place number request reply = decimal place ++ 32 ∷ [] ++ request_l
 
 abbrev pub row_line : Listed → List ℕ
 row_line row = listed_line row.place row.number row.request row.reply
+
+-- which site it is, how many it counts, and how long its history is and may become
+abbrev pub standing_text : Standing → List ℕ
+standing_text s = codes "site " ++ decimal s.me ++ codes " sites " ++ decimal s.sites ++ codes " entries " ++ decimal s.entries ++ codes " limit " ++ decimal s.limit

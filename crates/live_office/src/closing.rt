@@ -9,9 +9,10 @@ use site_desk::{Desk, Opens};
 use sql_records::Keeper;
 use std::io::{Read, Write};
 use std::sync::atomic::{AtomicBool, Ordering};
+use std::thread::SpawnError;
 
 /// Whether an office closes. Once it does, it does for good: no caller is let in any more, and a session ends once the
-/// lines that have come are answered. Threads share it.
+/// lines that were read are answered. Threads share it.
 #[derive(Drop)]
 pub struct Closing {
     is_closing: AtomicBool,
@@ -29,8 +30,8 @@ impl Closing {
         self.is_closing.store(true, Ordering::SeqCst);
     }
 
-    /// The office closes, as a caller asked whose last line was `close`.
-    pub fn asked<R: Read + Drop, W: Write + Drop, K: Keeper, L: Opens>(
+    // The office closes, as a caller asked whose last line was `close`.
+    pub(crate) fn asked<R: Read + Drop, W: Write + Drop, K: Keeper, L: Opens>(
         &self,
         _served: &Served<'_, R, W, K, L>,
     )
@@ -39,15 +40,16 @@ impl Closing {
         self.close();
     }
 
-    /// The office closes, since the book at its desk closed when its store failed.
-    pub fn failed<K: Keeper, L: Opens>(&self, _desk: &Desk<K, L>)
-        requires { IsShut (admissible L.office L.began K.failed K.is_trusted K.kept K.may_leave) }
+    // The office closes, since the book at its desk closed when its store failed.
+    pub(crate) fn failed<K: Keeper, L: Opens>(&self, _desk: &Desk<K, L>)
+        requires { ∥ IsShut (admissible L.office L.began K.failed K.is_trusted K.kept
+            K.may_leave) ∥₁ }
     {
         self.close();
     }
 
     // The office closes, since a thread of it could not be started.
-    pub(crate) fn not_staffed(&self) {
+    pub(crate) fn not_staffed<F: Drop>(&self, _refused: SpawnError<F>) {
         self.close();
     }
 

@@ -1,63 +1,70 @@
 //! A seat at a desk that serves one session after another.
 
-ghost use Rattle.std.specs.Prelude.{◌≡◌};
+ghost use Rattle.std.specs.Prelude.{◌≡◌, None};
 ghost use Rattle.desk_lines.specs.declared.line.Line.TheVariants.{Ask, Left, Totals as TotalsOf};
 ghost use Rattle.desk_lines.specs.declared.answered.Answered.TheVariants.{Refused};
 ghost use Rattle.session_server.specs.BookStep.{not_shown};
 ghost use Rattle.live_office.specs.Admissible.{IsShut, admissible};
 ghost use Rattle.live_office.specs.SeatAnswers.{SeatAnswers};
+ghost use Rattle.live_office.specs.Sitting.{later, sitting};
 ghost use Rattle.site_desk.specs.declared.fault.AskFault.TheVariants.{Store};
 
 use crate::closing::Closing;
+use crate::together::Together;
 use desk_lines::{Answered, Line};
 use request_ledger::{Request, RequestNumber};
 use rights_lattice::Event;
 use session_server::Answerer;
-use site_desk::{AskFault, Desk, LookFault, NoGate, Opens, Seat};
+use site_desk::{AskFault, Desk, LookFault, Opens, Seat};
 use sql_records::Keeper;
 use std::alloc::Global;
 use std::marker::Model;
 use std::sync::Wait;
 
 /// A seat at a desk that serves one session after another. It keeps neither receipts nor looks, so that its memory
-/// does not grow. Where the store fails, it closes the office.
+/// does not grow: of its replies it knows the last place. Where the store fails, it closes the office.
 #[derive(Drop)]
 pub struct DeskSeat<'a, K: Keeper, L: Opens> {
     alloc: Global,
     desk: &'a Desk<K, L>,
+    together: &'a Together<K, L>,
     closing: &'a Closing,
     seat: Seat<L>,
+    latest: Option<usize>,
 }
 
 impl<'a, K: Keeper, L: Opens> Model for DeskSeat<'a, K, L> {
-    ghost use Rattle.site_desk.specs.Seats.{Held};
+    ghost use Rattle.live_office.specs.Sitting.{Sitting, sitting};
 
-    ghost Value = { Held };
+    ghost Value = { Sitting };
 
-    ghost view = { λ a. a.seat };
+    ghost view = { λ a. sitting a.seat.parts a.latest };
 }
 
 impl<'a, K: Keeper, L: Opens> DeskSeat<'a, K, L> {
-    /// The seat answers at this desk.
+    /// The seat answers at this desk, and has no reply yet. Its requests may be asked together with others.
     pub fn new(
         alloc: Global,
         desk: &'a Desk<K, L>,
+        together: &'a Together<K, L>,
         closing: &'a Closing,
         seat: Seat<L>,
     ) -> DeskSeat<'a, K, L>
-        ensures { result ≡ seat }
+        ensures { result ≡ sitting seat.parts None }
     {
         DeskSeat {
             alloc,
             desk,
+            together,
             closing,
             seat,
+            latest: None,
         }
     }
 
     /// The seat, which answers no more.
     pub fn into_seat(self) -> Seat<L>
-        ensures { result ≡ self.entry }
+        ensures { result.parts ≡ self.entry.parts }
     {
         let DeskSeat { seat, .. } = self;
         seat
@@ -65,8 +72,8 @@ impl<'a, K: Keeper, L: Opens> DeskSeat<'a, K, L> {
 
     // Why a request is not answered. After a failed store the office closes.
     fn refused(&self, fault: AskFault) -> Answered
-        requires { fault ≡ Store → IsShut (admissible L.office L.began K.failed K.is_trusted K.kept
-            K.may_leave) }
+        requires { fault ≡ Store → ∥ IsShut (admissible L.office L.began K.failed K.is_trusted
+            K.kept K.may_leave) ∥₁ }
         ensures { result ≡ Refused fault }
     {
         if let AskFault::Store = fault {
@@ -80,10 +87,13 @@ impl<'a, K: Keeper, L: Opens> DeskSeat<'a, K, L> {
             self.old (Ask number request.now) result self.new }
     {
         match self
-            .desk
-            .ask(rt, self.alloc, &NoGate, &mut self.seat, number, request)
+            .together
+            .ask(rt, self.alloc, self.desk, &mut self.seat, number, request)
         {
-            Ok((answer, _receipt)) => Answered::Kept(answer.reply),
+            Ok(receipt) => {
+                self.latest = Some(later(self.latest, receipt.place));
+                Answered::Kept(receipt.reply)
+            }
             Err(fault) => self.refused(fault),
         }
     }
@@ -92,7 +102,7 @@ impl<'a, K: Keeper, L: Opens> DeskSeat<'a, K, L> {
         ensures { SeatAnswers (admissible L.office L.began K.failed K.is_trusted K.kept K.may_leave)
             self.old (Left event) result self.new }
     {
-        let seen = match self.desk.look(rt, &self.seat, event) {
+        let seen = match self.desk.look_past(rt, self.latest, event) {
             Ok(seen) => seen,
             Err(fault) => return not_shown(fault),
         };
@@ -103,11 +113,21 @@ impl<'a, K: Keeper, L: Opens> DeskSeat<'a, K, L> {
         ensures { SeatAnswers (admissible L.office L.began K.failed K.is_trusted K.kept K.may_leave)
             self.old (TotalsOf event) result self.new }
     {
-        let seen = match self.desk.look(rt, &self.seat, event) {
+        let seen = match self.desk.look_past(rt, self.latest, event) {
             Ok(seen) => seen,
             Err(fault) => return not_shown(fault),
         };
         Answered::TotalsAre(seen.totals)
+    }
+}
+
+// The later of two places.
+fn later(latest: Option<usize>, place: usize) -> usize
+    ensures { result ≡ later latest place }
+{
+    match latest {
+        None => place,
+        Some(before) => before.max(place),
     }
 }
 

@@ -10,6 +10,7 @@ ghost use Rattle.live_office.specs.declared.office.TheConstants.{WORKERS};
 use crate::callers::Callers;
 use crate::closing::Closing;
 use crate::door::Door;
+use crate::together::Together;
 use crate::workers::{CLERKS, OPERATORS, Office, work_all};
 use site_desk::{Desk, Opens, Seat, SiteBook};
 use sql_records::Keeper;
@@ -116,10 +117,12 @@ fn at_desk<
         return Err((book, OfficeFault::Memory));
     };
     let (desk, seat) = Desk::<K, L>::new(book, blank);
+    let together = Together::new(alloc);
     let callers = Callers::new();
     let office = Office {
         alloc,
         desk: &desk,
+        together: &together,
         clerks,
         operators,
         closing,

@@ -7,13 +7,13 @@ ghost use Rattle.plain_words.specs.Input.{longest_line};
 ghost use Rattle.plain_words.specs.Writing.{Writes};
 ghost use Rattle.delta_wire.specs.Grammar.{message_text};
 ghost use Rattle.live_office.specs.RecordLines.{row_line};
-ghost use Rattle.live_office.specs.Answers.{answer_text, ended_rows, exported_text, found_text, import_fault_text, imported_text, listed_text, look_up_fault_text, next_fault_text, rows_text, status_text, wire_fault_text};
+ghost use Rattle.live_office.specs.Answers.{answer_text, ended_rows, exported_text, found_text, import_fault_text, imported_text, listed_text, look_up_fault_text, next_fault_text, rows_text, status_text};
 
 use crate::importing::ImportFault;
-use crate::record_lines::{found_line, listed_line};
-use delta_wire::{WireFault, write_message};
-use desk_lines::{Answered, reply_line, take_fault_text};
-use plain_words::{Text, WriteFault, numbered, put, put_number, word, write_bytes};
+use crate::record_lines::{found_line, listed_line, standing_text};
+use delta_wire::write_message;
+use desk_lines::{Answered, reply_line, take_fault_text, wire_fault_text};
+use plain_words::{Text, WriteFault, put, put_number, word, write_bytes};
 use site_desk::{LookUpFault, NextFault, Standing, Taken};
 use site_exchange::Message;
 use sql_records::{Found, Listed};
@@ -49,19 +49,6 @@ pub enum OfficeAnswer {
     },
     /// Nothing yet: a message comes.
     Quiet,
-}
-
-fn wire_fault_text(fault: WireFault) -> Text
-    ensures value { result.items ≡ wire_fault_text fault }
-    ensures len { array_vec_len result ≤ longest_line }
-{
-    match fault {
-        WireFault::Truncated => word(b"truncated"),
-        WireFault::BadLine { line } => numbered(b"bad-line ", line),
-        WireFault::OutOfOrder { line } => numbered(b"out-of-order ", line),
-        WireFault::Trailing => word(b"trailing"),
-        WireFault::Memory => word(b"memory"),
-    }
 }
 
 fn next_fault_text(fault: NextFault) -> Text
@@ -199,13 +186,7 @@ fn write_listed<W: Write>(
 fn status_line(standing: Standing, callers: u64) -> Text
     ensures { result.items ≡ status_text standing callers }
 {
-    let mut text = numbered(b"site ", standing.me.number());
-    put(&mut text, b" sites ");
-    put_number(&mut text, standing.sites.count());
-    put(&mut text, b" entries ");
-    put_number(&mut text, standing.entries as u64);
-    put(&mut text, b" limit ");
-    put_number(&mut text, standing.limit.entries());
+    let mut text = standing_text(standing);
     put(&mut text, b" callers ");
     put_number(&mut text, callers);
     put(&mut text, b"\n");

@@ -1,6 +1,6 @@
 //! A seat at a desk for callers who may use all lines of an office.
 
-ghost use Rattle.std.specs.Prelude.{◌≡◌, [], ◌∷◌, ◌++◌, true, Some, Err, IfSome, MatchResult};
+ghost use Rattle.std.specs.Prelude.{◌≡◌, [], ◌∷◌, ◌++◌, true, None, Some, Err, IfSome, MatchResult};
 ghost use Rattle.site_exchange.specs.declared.message.TakeFault.TheVariants.{Store};
 ghost use Rattle.live_office.specs.declared.importing.ImportFault.TheVariants.{Refused};
 ghost use Rattle.desk_lines.specs.declared.answered.Answered.TheVariants.{Unread};
@@ -10,6 +10,7 @@ ghost use Rattle.live_office.specs.Admissible.{admissible};
 ghost use Rattle.live_office.specs.Answers.{answer_text};
 ghost use Rattle.live_office.specs.Handling.{HandlesLine, HandlesLost, HandlesPart, HandlesSession, IsLast, Nothing, ends_message, seat_state};
 ghost use Rattle.live_office.specs.Lines.{office_line_of};
+ghost use Rattle.live_office.specs.Sitting.{sitting};
 
 use crate::callers::Callers;
 use crate::closing::Closing;
@@ -18,6 +19,7 @@ use crate::handler::{Handler, Last};
 use crate::importing::{ImportFault, import_at};
 use crate::office_answer::OfficeAnswer;
 use crate::office_line::{OfficeLine, read_office_line};
+use crate::together::Together;
 use delta_wire::WireFault;
 use desk_lines::{Answered, BadLine, Line};
 use request_ledger::RequestNumber;
@@ -101,25 +103,26 @@ impl<'a, K: Keeper, L: Opens> OfficeSeat<'a, K, L> {
     pub fn new(
         alloc: Global,
         desk: &'a Desk<K, L>,
+        together: &'a Together<K, L>,
         closing: &'a Closing,
         callers: &'a Callers,
         seat: Seat<L>,
     ) -> OfficeSeat<'a, K, L>
-        ensures { result ≡ seat_state seat Nothing }
+        ensures { result ≡ seat_state (sitting seat.parts None) Nothing }
     {
         OfficeSeat {
             alloc,
             desk,
             closing,
             callers,
-            seat: DeskSeat::new(alloc, desk, closing, seat),
+            seat: DeskSeat::new(alloc, desk, together, closing, seat),
             gathered: Gathered::Nothing,
         }
     }
 
     /// The seat, which answers no more.
     pub fn into_seat(self) -> Seat<L>
-        ensures { result ≡ self.entry.held }
+        ensures { result.parts ≡ self.entry.seat.parts }
     {
         let OfficeSeat { seat, .. } = self;
         seat.into_seat()
@@ -219,7 +222,7 @@ impl<'a, K: Keeper, L: Opens> OfficeSeat<'a, K, L> {
     // Takes the message of this text. After a failed store the office closes.
     fn import<T: Wait>(&self, rt: &T, bytes: &[u8]) -> OfficeAnswer
         ensures { HandlesPart (admissible L.office L.began K.failed K.is_trusted K.kept K.may_leave)
-            self.now.held bytes.now true (answer_text result) (seat_state self.now.held Nothing) }
+            self.now.seat bytes.now true (answer_text result) (seat_state self.now.seat Nothing) }
     {
         let result = import_at(rt, self.alloc, self.desk, bytes);
         if is_failed_store(&result) {
@@ -232,7 +235,7 @@ impl<'a, K: Keeper, L: Opens> OfficeSeat<'a, K, L> {
     fn handle_part<T: Wait>(&mut self, rt: &T, bytes: Vec<u8>, line: &[u8]) -> OfficeAnswer
         requires { self.old.gathering ≡ Nothing }
         ensures { HandlesPart (admissible L.office L.began K.failed K.is_trusted K.kept K.may_leave)
-            self.old.held (bytes.items ++ line.now ++ 10 ∷ []) (ends_message line.now)
+            self.old.seat (bytes.items ++ line.now ++ 10 ∷ []) (ends_message line.now)
             (answer_text result) self.new }
     {
         let is_last = ends_message(line);
@@ -249,7 +252,7 @@ impl<'a, K: Keeper, L: Opens> OfficeSeat<'a, K, L> {
     // A line of a message for which memory was refused.
     fn lose(&mut self, is_last: bool) -> OfficeAnswer
         requires { self.old.gathering ≡ Nothing }
-        ensures { HandlesLost self.old.held is_last (answer_text result) self.new }
+        ensures { HandlesLost self.old.seat is_last (answer_text result) self.new }
     {
         if is_last {
             return OfficeAnswer::Imported {

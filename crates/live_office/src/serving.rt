@@ -12,6 +12,7 @@ use crate::door::Access;
 use crate::handler::Last;
 use crate::office_seat::OfficeSeat;
 use crate::talking::office_talk;
+use crate::together::Together;
 use session_server::{Ended, TalkFault, talk};
 use site_desk::{Desk, Opens, Seat};
 use sql_records::Keeper;
@@ -73,6 +74,7 @@ fn answer_session<T: Wait, R: Read + Drop, W: Write, K: Keeper, L: Opens>(
     rt: &T,
     alloc: Global,
     desk: &Desk<K, L>,
+    together: &Together<K, L>,
     closing: &Closing,
     seat: Seat<L>,
     reader: R,
@@ -82,7 +84,7 @@ fn answer_session<T: Wait, R: Read + Drop, W: Write, K: Keeper, L: Opens>(
         Session (R.remaining reader) (W.contents out.old) (W.contents out.new) result.0 }
     ensures parts { result.1.parts ≡ seat.parts }
 {
-    let mut at = DeskSeat::new(alloc, desk, closing, seat);
+    let mut at = DeskSeat::new(alloc, desk, together, closing, seat);
     let ended = talk(rt, alloc, reader, out, &mut at);
     (ended_as(ended), at.into_seat())
 }
@@ -92,6 +94,7 @@ fn answer_office<T: Wait, R: Read + Drop, W: Write, K: Keeper, L: Opens>(
     rt: &T,
     alloc: Global,
     desk: &Desk<K, L>,
+    together: &Together<K, L>,
     closing: &Closing,
     callers: &Callers,
     seat: Seat<L>,
@@ -102,7 +105,7 @@ fn answer_office<T: Wait, R: Read + Drop, W: Write, K: Keeper, L: Opens>(
         Office (R.remaining reader) (W.contents out.old) (W.contents out.new) result.0 }
     ensures parts { result.1.parts ≡ seat.parts }
 {
-    let mut at = OfficeSeat::new(alloc, desk, closing, callers, seat);
+    let mut at = OfficeSeat::new(alloc, desk, together, closing, callers, seat);
     let ended = office_talk(rt, alloc, reader, out, &mut at);
     (ended, at.into_seat())
 }
@@ -112,6 +115,7 @@ fn answer<T: Wait, R: Read + Drop, W: Write, K: Keeper, L: Opens>(
     rt: &T,
     alloc: Global,
     desk: &Desk<K, L>,
+    together: &Together<K, L>,
     closing: &Closing,
     callers: &Callers,
     seat: Seat<L>,
@@ -124,8 +128,8 @@ fn answer<T: Wait, R: Read + Drop, W: Write, K: Keeper, L: Opens>(
     ensures parts { result.1.parts ≡ seat.parts }
 {
     match access {
-        Access::Session => answer_session(rt, alloc, desk, closing, seat, reader, out),
-        Access::Office => answer_office(rt, alloc, desk, closing, callers, seat, reader, out),
+        Access::Session => answer_session(rt, alloc, desk, together, closing, seat, reader, out),
+        Access::Office => answer_office(rt, alloc, desk, together, closing, callers, seat, reader, out),
     }
 }
 
@@ -134,6 +138,7 @@ pub(crate) fn serve<'a, T: Wait, R: Read + Drop, W: Write + Drop, K: Keeper, L: 
     rt: &T,
     alloc: Global,
     desk: &'a Desk<K, L>,
+    together: &Together<K, L>,
     closing: &Closing,
     callers: &Callers,
     seat: Seat<L>,
@@ -156,6 +161,7 @@ pub(crate) fn serve<'a, T: Wait, R: Read + Drop, W: Write + Drop, K: Keeper, L: 
         rt,
         alloc,
         desk,
+        together,
         closing,
         callers,
         seat,

@@ -8,6 +8,7 @@ use crate::closing::Closing;
 use crate::door::Door;
 use crate::handler::Last;
 use crate::serving::serve;
+use crate::together::Together;
 use site_desk::{Desk, Opens, Seat};
 use sql_records::Keeper;
 use std::alloc::Global;
@@ -28,6 +29,7 @@ pub const OPERATORS: u32 = 8;
 pub(crate) struct Office<'a, K: Keeper, L: Opens, C, O> {
     pub(crate) alloc: Global,
     pub(crate) desk: &'a Desk<K, L>,
+    pub(crate) together: &'a Together<K, L>,
     pub(crate) clerks: &'a C,
     pub(crate) operators: &'a O,
     pub(crate) closing: &'a Closing,
@@ -39,6 +41,7 @@ fn work_at<T: Wait + Clock, R: Read + Drop, W: Write + Drop, D: Door<R, W>, K: K
     rt: &T,
     alloc: Global,
     desk: &Desk<K, L>,
+    together: &Together<K, L>,
     closing: &Closing,
     callers: &Callers,
     seat: Seat<L>,
@@ -51,7 +54,7 @@ fn work_at<T: Wait + Clock, R: Read + Drop, W: Write + Drop, D: Door<R, W>, K: K
         let Some(call) = door.next(rt) else {
             break;
         };
-        let (served, own) = serve(rt, alloc, desk, closing, callers, seat, call);
+        let (served, own) = serve(rt, alloc, desk, together, closing, callers, seat, call);
         seat = own;
         if let Ok(Some(Last::Close)) = served.ended {
             closing.asked(&served);
@@ -75,15 +78,16 @@ fn work<
     let Office {
         alloc,
         desk,
+        together,
         clerks,
         operators,
         closing,
         callers,
     } = office;
     if number <= OPERATORS {
-        work_at(rt, *alloc, desk, closing, callers, seat, *operators)
+        work_at(rt, *alloc, desk, together, closing, callers, seat, *operators)
     } else {
-        work_at(rt, *alloc, desk, closing, callers, seat, *clerks)
+        work_at(rt, *alloc, desk, together, closing, callers, seat, *clerks)
     }
 }
 
@@ -128,10 +132,13 @@ pub(crate) fn work_all<
     }
     let (rest, own) = seat.split();
     let begun = Begun(Snapshot::of(&own));
-    let Ok(thread) = scope.spawn_with(begun, move || work(rt, office, own, count)) else {
-        office.closing.not_staffed();
-        seats.push_reserved(rest);
-        return false;
+    let thread = match scope.spawn_with(begun, move || work(rt, office, own, count)) {
+        Ok(thread) => thread,
+        Err(refused) => {
+            office.closing.not_staffed(refused);
+            seats.push_reserved(rest);
+            return false;
+        }
     };
     let all = work_all(scope, rt, office, rest, count - 1, seats);
     seats.push_reserved(thread.join(rt));

@@ -9,6 +9,7 @@ use Rattle.std.proofs.lemmas.Bool.{cond-false, cond-true, le-ltb, lt-ltb}
 use Rattle.std.specs.List.{AllByRecursion}
 use Rattle.std.proofs.lemmas.List.{flat_map_more}
 use Rattle.std.proofs.lemmas.List.Elements.{All-from_recursion}
+use Rattle.plain_words.specs.Input.{IsPartOfLine}
 use Rattle.plain_words.specs.Writing.{AppendsFront, Writes}
 use Rattle.plain_words.proofs.TextLaws.{all_end}
 use Rattle.plain_words.proofs.WriteLaws.{AppendsFront-after, AppendsFront-nothing, AppendsFront-kept, AppendsFront-longer}
@@ -29,7 +30,7 @@ use Rattle.operator_cli.specs.declared.told.Told.{Told}
 use Rattle.operator_cli.specs.declared.told.Told.TheVariants.{TooLong, Unread}
 use Rattle.operator_cli.specs.Told.{ended_by_wire, store_fault_line, told_line}
 use Rattle.operator_cli.proofs.PrintLaws.{ok_unless_failed, printed_told}
-use Rattle.operator_cli.specs.Visits.{Begins, ComeBeforeEnd, FirstPrinted, IsAnswer, IsBringEnd, IsBroughtOf, IsBroughtText, IsOneLine, IsUnreadOf, IsVisitEnd, IsWholeAnswer, PassedAll, PassedNext, PassesOn, RestPrinted, ending, heard, trouble, line_text, lines_text, question_of_bytes, question_of_read, rest_printed, rest_sent}
+use Rattle.operator_cli.specs.Visits.{Begins, ComeBeforeEnd, ComesBeforeEnd, FirstPrinted, IsAnswer, IsBringEnd, IsBroughtOf, IsBroughtText, IsOneLine, IsUnreadOf, IsVisitEnd, IsWholeAnswer, PassedAll, PassedNext, PassesOn, RestPrinted, ending, heard, trouble, line_text, lines_text, question_of_bytes, question_of_read, rest_printed, rest_sent}
 
 abbrev Bytes : Type 0
 Bytes = Option (List ℕ)
@@ -71,7 +72,7 @@ passes_kept sent old new newer h k = (h.0, h.1, AppendsFront-kept old new newer 
 
 pub record PassedSome (sent left old new : Bytes) : Type 0 where
   pub lines : List (List ℕ)
-  pub none_is_end : AllByRecursion (λ line. line ≢ codes "end") lines
+  pub none_is_end : AllByRecursion ComesBeforeEnd lines
   pub read : Consumes sent left (lines_text lines)
   pub printed : Appends old new (lines_text lines)
 
@@ -84,7 +85,7 @@ more_text lines line = flat_map_more line_text [] lines line
 pub passed_more : (sent left left' old new new' : Bytes) → PassedSome sent left old new → PassedNext left left' new new' (Ok true) → PassedSome sent left' old new'
 passed_more sent left left' old new new' h k = record {
   lines = h.lines ++ k.0 ∷ [];
-  none_is_end = all_end (λ line. line ≢ codes "end") h.lines k.0 h.none_is_end k.1;
+  none_is_end = all_end ComesBeforeEnd h.lines k.0 h.none_is_end k.1;
   read = subst (Consumes sent left') (more_text h.lines k.0) (Consumes-trans sent left left' (lines_text h.lines) (line_text k.0) h.read k.2);
   printed = subst (Appends old new') (more_text h.lines k.0) (Appends-trans old new new' (lines_text h.lines) (line_text k.0) h.printed k.3);
 }
@@ -92,7 +93,7 @@ passed_more sent left left' old new new' h k = record {
 pub passed_all : (sent left left' old new new' : Bytes) → PassedSome sent left old new → PassedNext left left' new new' (Ok false) → PassedAll sent left' old new'
 passed_all sent left left' old new new' h k = record {
   lines = h.lines;
-  none_is_end = All-from_recursion (λ line. line ≢ codes "end") h.lines h.none_is_end;
+  none_is_end = All-from_recursion ComesBeforeEnd h.lines h.none_is_end;
   read = Consumes-trans sent left left' (lines_text h.lines) (line_text (codes "end")) h.read k.0;
   printed = subst (λ (n : Bytes). Appends old n (lines_text h.lines)) (sym k.1) h.printed;
 }
@@ -112,8 +113,8 @@ passed_some sent left old new h = passes_whole sent left old new (lines_text h.l
 -- one line that is not the first of more
 one_line : (kind : Expected) (sent left old new : Bytes) (status : Status) → FirstPrinted sent left old new status → status ≢ Done → Printed (IsAnswer kind sent) old new status
 one_line kind sent left old new Done h other = absurd (other refl)
-one_line kind sent left old new Refused h other = (line_text h.line, record { line = h.line; sent_first = begins sent left (line_text h.line) h.read; ends_so = h.ends_so; is_text = refl }, h.printed)
-one_line kind sent left old new NotUnderstood h other = (line_text h.line, record { line = h.line; sent_first = begins sent left (line_text h.line) h.read; ends_so = h.ends_so; is_text = refl }, h.printed)
+one_line kind sent left old new Refused h other = (line_text h.line, record { line = h.line; is_line = h.is_line; sent_first = begins sent left (line_text h.line) h.read; ends_so = h.ends_so; is_text = refl }, h.printed)
+one_line kind sent left old new NotUnderstood h other = (line_text h.line, record { line = h.line; is_line = h.is_line; sent_first = begins sent left (line_text h.line) h.read; ends_so = h.ends_so; is_text = refl }, h.printed)
 one_line kind sent left old new Failed h other = tt
 
 pub only_first : (kind : Expected) (sent left old new : Bytes) (status : Status) → FirstPrinted sent left old new status → status ≢ Done → Printed (IsAnswer kind sent) old new status
@@ -125,6 +126,7 @@ all_lines kind sent left last old mid new status is h k =
       line_text h.line ++ rest_printed kind k.lines,
       record {
         first = h.line;
+        is_line = h.is_line;
         lines = k.lines;
         none_is_end = k.none_is_end;
         ends_so = h.ends_so ∙ ap Ok is;
@@ -144,8 +146,8 @@ troubled None refused f e = cc
 troubled (Some g) refused f e = let same : g ≡ f = cc in ap Some same
 
 -- what the first line says
-pub said_end : (sent left : Bytes) (line : List ℕ) (refused : Bool) (f : StoreFault) → Consumes sent left (line_text line) → ending (trouble line) refused ≡ Err f → IsVisitEnd sent f
-said_end sent left line refused f read says = inr (inr (inr (line, begins sent left (line_text line) read, troubled (trouble line) refused f says)))
+pub said_end : (sent left : Bytes) (line : List ℕ) (refused : Bool) (f : StoreFault) → IsPartOfLine line × Consumes sent left (line_text line) → ending (trouble line) refused ≡ Err f → IsVisitEnd sent f
+said_end sent left line refused f (is_line, read) says = inr (inr (inr (line, is_line, begins sent left (line_text line) read, troubled (trouble line) refused f says)))
 
 pub lost_end : (sent : Bytes) (f : StoreFault) → f ≡ fault.NotOpen → IsVisitEnd sent f
 lost_end sent f e = inr (inr (inl e))
@@ -156,6 +158,10 @@ write_end sent f e = inr (inl e)
 pub write_ends : (r : Result Status StoreFault) (sent : Bytes) → OnOk r (IsVisitEnd sent fault.Write)
 write_ends (Ok s) sent = write_end sent fault.Write refl
 write_ends (Err f) sent = tt
+
+pub fails_only : (r : Result Status StoreFault) → OnOk r (fault.Write ≡ fault.Write)
+fails_only (Ok s) = refl
+fails_only (Err f) = tt
 
 pub memory_end : (sent : Bytes) (f : StoreFault) → f ≡ fault.Memory → IsVisitEnd sent f
 memory_end sent f e = inl e

@@ -1,6 +1,7 @@
 -- A session that goes to an open office, line by line. (Our own.)
-use Rattle.std.specs.Prelude.{◌≡◌, ℕ, List, [], ◌∷◌, ◌++◌, Option, Some, None, Result, Ok, Err, MatchResult, codes}
+use Rattle.std.specs.Prelude.{◌≡◌, ◌≢◌, ℕ, List, [], ◌∷◌, ◌++◌, Option, Some, None, Result, Ok, Err, MatchResult, codes}
 use Rattle.std.specs.Io.KnownBytes.{Appends, Consumes}
+use Rattle.plain_words.specs.Input.{IsPartOfLine}
 use Rattle.plain_words.specs.Writing.{AppendsFront}
 use Rattle.desk_lines.specs.declared.line.Line.{Line}
 use Rattle.desk_lines.specs.declared.line.Line.TheVariants.{Ask, Left, Totals, Quit}
@@ -28,7 +29,7 @@ channel asked coming = record { asked = asked; coming = coming }
 -- the line was asked, and the next line of the office is its answer
 abbrev pub IsPutTo : Channel → List ℕ → List ℕ → Channel → Type 0
 IsPutTo before line text after =
-    Appends before.asked after.asked (line_text line) × ((reply : List ℕ) × (text ≡ line_text reply) × Consumes before.coming after.coming text)
+    Appends before.asked after.asked (line_text line) × ((reply : List ℕ) × IsPartOfLine reply × (text ≡ line_text reply) × Consumes before.coming after.coming text)
 
 -- A line of a session is put to the office; what is none is not asked.
 abbrev pub IsAnsweredAs : Option Line → Channel → List ℕ → List ℕ → Channel → Type 0
@@ -41,14 +42,14 @@ IsAnsweredAs (Some (Totals event)) before line text after = IsPutTo before line 
 abbrev pub IsAnsweredBy : Channel → List ℕ → List ℕ → Channel → Type 0
 IsAnsweredBy before line text after = IsAnsweredAs (session_line_of line) before line text after
 
--- `quit` is the last line, and so is one of a session over which the office is lost
+-- `quit` is the last line, and so is one that asks, over which the office is lost: `Close` stands for that
 abbrev pub IsLastAsked : Channel → List ℕ → Last → Type 0
 IsLastAsked before line last.Quit = session_line_of line ≡ Some Quit
-IsLastAsked before line last.Close = (asks : Line) × (session_line_of line ≡ Some asks)
+IsLastAsked before line last.Close = (asks : Line) × (asks ≢ Quit) × (session_line_of line ≡ Some asks)
 
 -- The line over which the office is lost was asked, or a prefix of it.
 abbrev pub IsLeft : Option Last → Channel → Channel → Type 0
-IsLeft (Some last.Close) before now = (line : List ℕ) × ((asks : Line) × (session_line_of line ≡ Some asks)) × AppendsFront before.asked now.asked (line_text line)
+IsLeft (Some last.Close) before now = (line : List ℕ) × IsLastAsked before line last.Close × AppendsFront before.asked now.asked (line_text line)
 IsLeft (Some last.Quit) before now = now ≡ before
 IsLeft None before now = now ≡ before
 

@@ -7,7 +7,6 @@ pub mod Session
 pub mod Ran
 pub mod Orders
 pub mod Laws
-pub mod Records
 pub mod Told
 pub mod Printed
 pub mod Dealt

@@ -1,5 +1,5 @@
 -- What the commands over records print on standard output, status by status. (Our own.)
-use Rattle.std.specs.Prelude.{◌≡◌, ℕ, ◌<◌, Bool, nat_le, if◌then◌else◌, ⊤, List, [], length, Option, Some, None, Ok}
+use Rattle.std.specs.Prelude.{◌≡◌, ℕ, ◌<◌, Bool, nat_le, if◌then◌else◌, ⊤, List, [], ◌∷◌, ◌++◌, length, Option, Some, None, Ok}
 use Rattle.std.specs.List.{flat_map}
 use Rattle.std.specs.Io.KnownBytes.{Appends, Keeps}
 use Rattle.plain_words.specs.Writing.{AppendsFront}
@@ -18,8 +18,8 @@ use Rattle.operator_cli.specs.declared.status.Status.TheVariants.{Done, Refused,
 use Rattle.operator_cli.specs.declared.store_fault.StoreFault.{StoreFault}
 use Rattle.operator_cli.specs.declared.store_fault.StoreFault.TheVariants as fault
 use Rattle.book_core.specs.Decision.{Office, sites_of}
-use Rattle.live_office.specs.RecordLines.{found_line, row_line}
-use Rattle.operator_cli.specs.Records.{standing_line}
+use Rattle.live_office.specs.RecordLines.{found_line, row_line, standing_text}
+use Rattle.site_desk.specs.declared.answer.Standing.{Standing}
 use Rattle.operator_cli.specs.Told.{ended_by_grow, ended_by_take, ended_by_wire, told_line, told_status}
 
 -- what went out is a text that goes with the status; of status 3 nothing is said
@@ -130,6 +130,9 @@ IsSentText Done text = (message : Message) × IsMessage message × (text ≡ mes
 IsSentText status text = IsTellingOf IsOfSending status text
 
 -- how long the history of a site is
+abbrev pub standing_in : Office → List Entry → Standing
+standing_in office h = record { me = office.me; sites = sites_of office h; entries = length h; limit = office.limit }
+
 abbrev pub IsStandingText : Office → List Entry → Status → List ℕ → Type 0
-IsStandingText office h Done text = text ≡ standing_line office.me (sites_of office h) (length h) office.limit
+IsStandingText office h Done text = text ≡ standing_text (standing_in office h) ++ 10 ∷ []
 IsStandingText office h _ text = ⊥

@@ -26,7 +26,7 @@ use Rattle.operator_cli.specs.declared.told.Told.{Told}
 use Rattle.operator_cli.specs.declared.told.Told.TheVariants.{Made, Migrated, Joined, NothingNew, Acked, AlreadyThere, NoSite, Nothing, NotFound, TooLong, Unread, NotTaken, NotWhole, Ahead, Grown, NotGrown}
 use Rattle.operator_cli.specs.declared.status.Status.{Status}
 use Rattle.operator_cli.specs.declared.status.Status.TheVariants.{Done, Refused, NotUnderstood, Failed}
-use Rattle.desk_lines.specs.Replies.{reply_text, take_fault_text, grow_fault_text}
+use Rattle.desk_lines.specs.Replies.{reply_text, take_fault_text, grow_fault_text, wire_fault_text}
 
 -- the cause of status 3, one line on standard error
 abbrev pub store_fault_text : StoreFault → List ℕ
@@ -54,13 +54,6 @@ store_fault_text fault.StillOpen = codes "open"
 
 abbrev pub store_fault_line : StoreFault → List ℕ
 store_fault_line f = store_fault_text f ++ 10 ∷ []
-
-abbrev pub wire_fault_text : WireFault → List ℕ
-wire_fault_text wire.Truncated = codes "truncated"
-wire_fault_text (wire.BadLine line) = codes "bad-line " ++ decimal line
-wire_fault_text (wire.OutOfOrder line) = codes "out-of-order " ++ decimal line
-wire_fault_text wire.Trailing = codes "trailing"
-wire_fault_text wire.Memory = codes "memory"
 
 abbrev pub told_text : Told → List ℕ
 told_text Made = reply_text reply.Done

@@ -15,11 +15,12 @@ use Rattle.site_exchange.specs.declared.message.Message.{Message}
 use Rattle.delta_wire.specs.declared.fault.WireFault.{WireFault}
 use Rattle.delta_wire.specs.Grammar.{message_text, most_bytes}
 use Rattle.delta_wire.specs.Wire.{message_of}
-use Rattle.operator_cli.specs.Told.{ended_by_wire}
+use Rattle.operator_cli.specs.Told.{FaultTold, ended_by_wire}
 use Rattle.operator_cli.specs.declared.told.Told.TheVariants.{TooLong, Unread}
 use Rattle.operator_cli.specs.declared.visits.Expected.{Expected}
 use Rattle.operator_cli.specs.declared.visits.Expected.TheVariants as expected
-use Rattle.operator_cli.specs.Printed.{IsTellingOf, IsOfLooking}
+use Rattle.operator_cli.specs.Opened.{FailsFor}
+use Rattle.operator_cli.specs.Printed.{IsOfLooking, IsTellingOf, Printed}
 
 -- a line with its line break, and several
 abbrev pub line_text : List ℕ → List ℕ
@@ -69,13 +70,17 @@ PassesOn sent old new = (text : List ℕ) × Begins sent text × AppendsFront ol
 -- the one line of an answer
 pub record IsOneLine (sent : Option (List ℕ)) (status : Status) (text : List ℕ) : Type 0 where
   pub line : List ℕ
+  pub is_line : IsPartOfLine line
   pub sent_first : Begins sent text
   pub ends_so : heard line ≡ Ok status
   pub is_text : text ≡ line_text line
 
--- lines that come before `end`
+-- a line that comes before `end`, and several
+abbrev pub ComesBeforeEnd : List ℕ → Type 0
+ComesBeforeEnd line = IsPartOfLine line × (line ≢ codes "end")
+
 abbrev pub ComeBeforeEnd : List (List ℕ) → Type 0
-ComeBeforeEnd lines = All (λ line. line ≢ codes "end") lines
+ComeBeforeEnd lines = All ComesBeforeEnd lines
 
 -- of the lines behind the first: what the office sends, and what of it is printed
 abbrev pub rest_sent : Expected → List (List ℕ) → List ℕ
@@ -91,6 +96,7 @@ rest_printed expected.Message lines = lines_text lines ++ line_text (codes "end"
 -- a whole answer: one line, or lines up to `end`
 pub record IsWholeAnswer (kind : Expected) (sent : Option (List ℕ)) (text : List ℕ) : Type 0 where
   pub first : List ℕ
+  pub is_line : IsPartOfLine first
   pub lines : List (List ℕ)
   pub none_is_end : ComeBeforeEnd lines
   pub ends_so : heard first ≡ Ok Done
@@ -105,6 +111,7 @@ IsAnswer kind sent status text = IsOneLine sent status text
 -- the first line was printed
 pub record FirstPrinted (sent left old new : Option (List ℕ)) (status : Status) : Type 0 where
   pub line : List ℕ
+  pub is_line : IsPartOfLine line
   pub ends_so : heard line ≡ Ok status
   pub read : Consumes sent left (line_text line)
   pub printed : Appends old new (line_text line)
@@ -125,7 +132,7 @@ pub record PassedAll (sent left old new : Option (List ℕ)) : Type 0 where
 
 -- the next line was passed on, or was the last; it could not be written, or none came
 abbrev pub PassedNext : Option (List ℕ) → Option (List ℕ) → Option (List ℕ) → Option (List ℕ) → Result Bool StoreFault → Type 0
-PassedNext sent left old new (Ok true) = (line : List ℕ) × (line ≢ codes "end") × Consumes sent left (line_text line) × Appends old new (line_text line)
+PassedNext sent left old new (Ok true) = (line : List ℕ) × ComesBeforeEnd line × Consumes sent left (line_text line) × Appends old new (line_text line)
 PassedNext sent left old new (Ok false) = Consumes sent left (line_text (codes "end")) × (new ≡ old)
 PassedNext sent left old new (Err cause) = PassesOn sent old new
 
@@ -133,11 +140,39 @@ PassedNext sent left old new (Err cause) = PassesOn sent old new
 abbrev pub IsVisitEnd : Option (List ℕ) → StoreFault → Type 0
 IsVisitEnd sent cause =
     (cause ≡ fault.Memory) ⊎ (cause ≡ fault.Write) ⊎ (cause ≡ fault.NotOpen)
-    ⊎ ((line : List ℕ) × Begins sent (line_text line) × (trouble line ≡ Some cause))
+    ⊎ ((line : List ℕ) × IsPartOfLine line × Begins sent (line_text line) × (trouble line ≡ Some cause))
 
--- a word that is no event name is asked of no office
-abbrev pub AreRowsOf : List ℕ → Option (List ℕ) → Status → List ℕ → Type 0
-AreRowsOf event sent status text = ((IsEventName event → ⊥) × IsTellingOf IsOfLooking status text) ⊎ IsAnswer expected.Rows sent status text
+-- what a command has asked, printed and told
+pub record Streams : Type 0 where
+  pub asked : Option (List ℕ)
+  pub out : Option (List ℕ)
+  pub err : Option (List ℕ)
+
+abbrev pub streams : Option (List ℕ) → Option (List ℕ) → Option (List ℕ) → Streams
+streams asked out err = record { asked = asked; out = out; err = err }
+
+-- An office that sent this was asked a line, or a prefix of it where the command failed; its answer was printed, or a prefix
+-- of what it sent; and what failed was told.
+pub record IsVisit (kind : Expected) (question : List ℕ) (sent : Option (List ℕ)) (old new : Streams) (status : Status) : Type 0 where
+  pub asked : AppendsFront old.asked new.asked (line_text question)
+  pub whole : status ≢ Failed → Appends old.asked new.asked (line_text question)
+  pub printed : Printed (IsAnswer kind sent) old.out new.out status
+  pub passes : PassesOn sent old.out new.out
+  pub told : FaultTold old.err new.err status
+  pub cause : FailsFor (IsVisitEnd sent) old.err new.err status
+
+-- No office is asked for a word that is no event name.
+pub record IsUnasked (old new : Streams) (status : Status) : Type 0 where
+  pub same : new.asked ≡ old.asked
+  pub printed : Printed (IsTellingOf IsOfLooking) old.out new.out status
+  pub told : FaultTold old.err new.err status
+  pub cause : FailsFor (λ cause. cause ≡ fault.Write) old.err new.err status
+
+-- an office is asked for the rows of an event
+abbrev pub IsRowsVisit : List ℕ → Option (List ℕ) → Streams → Streams → Status → Type 0
+IsRowsVisit event sent old new status =
+    (IsEventName event × IsVisit expected.Rows (list_question event) sent old new status)
+    ⊎ ((IsEventName event → ⊥) × IsUnasked old new status)
 
 -- ---- a message that is brought
 
@@ -167,6 +202,7 @@ heard_of_taking line = ending (trouble line) (not (is_taken line))
 -- that line
 pub record IsTakingLine (sent : Option (List ℕ)) (status : Status) (text : List ℕ) : Type 0 where
   pub line : List ℕ
+  pub is_line : IsPartOfLine line
   pub sent_first : Begins sent text
   pub ends_so : heard_of_taking line ≡ Ok status
   pub is_text : text ≡ line_text line

@@ -60,10 +60,12 @@ fn answer<A: BufRead, Q: Write>(
     match read_line(line) {
         Err(BadLine) => Ok(word(b"bad-line\n")),
         Ok(Line::Quit) => Err(Last::Quit),
-        Ok(_) => match put_to(line, answers, questions) {
-            Ok(text) => Ok(text),
-            Err(_) => Err(Last::Close),
-        },
+        Ok(Line::Ask { .. } | Line::Left { .. } | Line::Totals { .. }) => {
+            match put_to(line, answers, questions) {
+                Ok(text) => Ok(text),
+                Err(_) => Err(Last::Close),
+            }
+        }
     }
 }
 

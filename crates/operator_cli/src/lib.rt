@@ -34,7 +34,6 @@ mod migrate;
 mod office;
 mod opening;
 mod orders;
-mod record_lines;
 mod serve;
 mod standing;
 mod status;

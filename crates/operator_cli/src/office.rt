@@ -46,7 +46,7 @@ impl From<CloseFault> for StoreFault {
 }
 
 // Tells that callers can come.
-fn tell_open<W: Write>(out: &mut W) -> Result<(), StoreFault>
+fn say_open<W: Write>(out: &mut W) -> Result<(), StoreFault>
     ensures written { Writes (W.contents out.old) (W.contents out.new) result (codes "open\n") }
     ensures fault { IfErr result (λ fault. fault ≡ WriteFailed) }
 {
@@ -100,7 +100,7 @@ pub fn office_store<
     ensures told { FaultTold (E.contents err.old) (E.contents err.new) result.0 }
     ensures status { (result.0 ≡ Done) ⊎ (result.0 ≡ Failed) }
 {
-    if let Err(fault) = tell_open(out) {
+    if let Err(fault) = say_open(out) {
         return close_book(Err(fault), book, out, err);
     }
     match open_office(rt, alloc, book, clerks, operators, closing) {

@@ -15,9 +15,11 @@ ghost use Rattle.operator_cli.specs.Told.{FaultTold};
 
 use crate::ending::{close_book, ended, write_line};
 use crate::opening::open_book;
-use crate::record_lines::standing_line;
 use crate::status::Status;
 use crate::store_fault::StoreFault;
+use live_office::standing_text;
+use plain_words::put;
+use site_desk::Standing;
 use book_core::Book;
 use sqlite::{Alter, Connection};
 use std::alloc::Global;
@@ -29,12 +31,13 @@ fn write_standing<W: Write>(book: &Book, out: &mut W) -> Result<Status, StoreFau
     ensures fault { IfErr result (λ fault. fault ≡ WriteFailed) }
     ensures ends { IfOk result (λ status. status ≢ Failed) }
 {
-    let line = standing_line(
-        book.me(),
-        book.sites(),
-        book.len() as u64,
-        book.limit().entries(),
-    );
+    let mut line = standing_text(Standing {
+        me: book.me(),
+        sites: book.sites(),
+        entries: book.len(),
+        limit: book.limit(),
+    });
+    put(&mut line, b"\n");
     write_line(&line, out)?;
     Ok(Status::Done)
 }

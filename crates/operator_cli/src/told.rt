@@ -5,14 +5,14 @@ ghost use Rattle.std.specs.Fmt.{decimal};
 ghost use Rattle.arrayvec.specs.ArrayVec.{array_vec_len};
 ghost use Rattle.plain_words.specs.Input.{longest_line};
 ghost use Rattle.plain_words.specs.Writing.{Writes};
-ghost use Rattle.operator_cli.specs.Told.{told_text, told_line, told_status, wire_fault_text, ended_by_wire, ended_by_take, ended_by_grow, ended_by_audit};
+ghost use Rattle.operator_cli.specs.Told.{told_text, told_line, told_status, ended_by_wire, ended_by_take, ended_by_grow, ended_by_audit};
 ghost use Rattle.operator_cli.specs.declared.store_fault.StoreFault.TheVariants.{Write as WriteFailed};
 
 use crate::status::Status;
 use crate::store_fault::StoreFault;
 use book_core::GrowFault;
 use delta_wire::WireFault;
-use desk_lines::{grow_fault_text, reply_text, take_fault_text};
+use desk_lines::{grow_fault_text, reply_text, take_fault_text, wire_fault_text};
 use plain_words::{Text, numbered, put, put_number, word, write_bytes};
 use request_ledger::Reply;
 use rights_lattice::SiteId;
@@ -55,19 +55,6 @@ pub(crate) enum Told {
     Grown,
     /// It counts as many as before.
     NotGrown(GrowFault),
-}
-
-fn wire_fault_text(fault: WireFault) -> Text
-    ensures value { result.items ≡ wire_fault_text fault }
-    ensures len { array_vec_len result ≤ longest_line }
-{
-    match fault {
-        WireFault::Truncated => word(b"truncated"),
-        WireFault::BadLine { line } => numbered(b"bad-line ", line),
-        WireFault::OutOfOrder { line } => numbered(b"out-of-order ", line),
-        WireFault::Trailing => word(b"trailing"),
-        WireFault::Memory => word(b"memory"),
-    }
 }
 
 fn ahead_text(viewer: SiteId, owner: SiteId) -> Text

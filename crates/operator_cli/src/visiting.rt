@@ -11,7 +11,7 @@ use crate::ending::write_line;
 use crate::status::Status;
 use crate::store_fault::StoreFault;
 use plain_words::{LineBytes, put, word, write_bytes};
-use std::io::{BufRead, Write};
+use std::io::{BufRead, ErrorKind, Write};
 
 /// What was asked is at the office; `NotOpen` where it may not be.
 pub(crate) fn reach<Q: Write>(questions: &mut Q) -> Result<(), StoreFault>
@@ -39,15 +39,22 @@ pub(crate) fn say<Q: Write>(line: &[u8], questions: &mut Q) -> Result<(), StoreF
     }
 }
 
-// The next byte; None where none comes.
+// The next byte; None where none comes. A read that was interrupted is tried again.
 fn next_byte<A: BufRead>(answers: &mut A) -> Option<u8>
     ensures { IfSome result (λ byte. Consumes (A.remaining answers.old) (A.remaining answers.new) (byte ∷ [])) }
 {
     let mut byte = [0u8; 1];
-    match answers.read(&mut byte) {
-        Err(_) | Ok(0) => None,
-        Ok(_) => Some(byte[0]),
+    'turns: for _ in 0..u64::MAX {
+        match answers.read(&mut byte) {
+            Ok(0) => return None,
+            Ok(_) => return Some(byte[0]),
+            Err(error) => match error.kind() {
+                ErrorKind::Interrupted => {}
+                _ => return None,
+            },
+        }
     }
+    None
 }
 
 /// Reads the next line of an answer, without its line break; `NotOpen` where no whole line comes, or one of more than 200

@@ -4,13 +4,11 @@ ghost use Rattle.std.specs.Prelude.{◌≡◌, ◌≢◌, ◌≤◌, ◌⊎◌, 
 ghost use Rattle.std.specs.Io.KnownBytes.{Appends, Consumes};
 ghost use Rattle.plain_words.specs.Input.{IsPartOfLine, longest_line};
 ghost use Rattle.plain_words.specs.Writing.{AppendsFront};
-ghost use Rattle.rights_lattice.specs.EventName.{IsEventName};
 ghost use Rattle.operator_cli.specs.declared.status.Status.TheVariants.{Done, Failed};
 ghost use Rattle.operator_cli.specs.declared.store_fault.StoreFault.TheVariants.{NotOpen, StillOpen, Write as WriteFailed};
-ghost use Rattle.operator_cli.specs.Opened.{FailsFor};
 ghost use Rattle.operator_cli.specs.Printed.{Printed};
-ghost use Rattle.operator_cli.specs.Told.{FaultTold, store_fault_line};
-ghost use Rattle.operator_cli.specs.Visits.{AreRowsOf, FirstPrinted, IsAnswer, IsVisitEnd, PassesOn, RestPrinted, export_question, find_question, line_text, list_question};
+ghost use Rattle.operator_cli.specs.Told.{store_fault_line};
+ghost use Rattle.operator_cli.specs.Visits.{FirstPrinted, IsAnswer, IsRowsVisit, IsVisit, IsVisitEnd, PassesOn, RestPrinted, export_question, find_question, line_text, list_question, streams};
 
 use crate::ending::{ended, tell_fault};
 use crate::status::Status;
@@ -143,16 +141,9 @@ fn visit_over<A: BufRead, Q: Write, W: Write, E: Write>(
     err: &mut E,
 ) -> Status
     requires { length question.now ≤ longest_line }
-    ensures asked { AppendsFront (Q.contents questions.old) (Q.contents questions.new)
-        (line_text question.now) }
-    ensures whole { result ≢ Failed → Appends (Q.contents questions.old)
-        (Q.contents questions.new) (line_text question.now) }
-    ensures printed { Printed (IsAnswer expected (A.remaining answers.old))
-        (W.contents out.old) (W.contents out.new) result }
-    ensures passes { PassesOn (A.remaining answers.old) (W.contents out.old) (W.contents out.new) }
-    ensures err { FaultTold (E.contents err.old) (E.contents err.new) result }
-    ensures cause { FailsFor (IsVisitEnd (A.remaining answers.old))
-        (E.contents err.old) (E.contents err.new) result }
+    ensures { IsVisit expected question.now (A.remaining answers.old)
+        (streams (Q.contents questions.old) (W.contents out.old) (E.contents err.old))
+        (streams (Q.contents questions.new) (W.contents out.new) (E.contents err.new)) result }
 {
     let came = print_answer(expected, question, answers, questions, out);
     ended(came, out, err)
@@ -169,16 +160,9 @@ fn visit<A: Read + Drop, Q: Write, W: Write, E: Write>(
     err: &mut E,
 ) -> Status
     requires { length question.now ≤ longest_line }
-    ensures asked { AppendsFront (Q.contents questions.old) (Q.contents questions.new)
-        (line_text question.now) }
-    ensures whole { result ≢ Failed → Appends (Q.contents questions.old)
-        (Q.contents questions.new) (line_text question.now) }
-    ensures printed { Printed (IsAnswer expected (A.remaining answers))
-        (W.contents out.old) (W.contents out.new) result }
-    ensures passes { PassesOn (A.remaining answers) (W.contents out.old) (W.contents out.new) }
-    ensures err { FaultTold (E.contents err.old) (E.contents err.new) result }
-    ensures cause { FailsFor (IsVisitEnd (A.remaining answers))
-        (E.contents err.old) (E.contents err.new) result }
+    ensures { IsVisit expected question.now (A.remaining answers)
+        (streams (Q.contents questions.old) (W.contents out.old) (E.contents err.old))
+        (streams (Q.contents questions.new) (W.contents out.new) (E.contents err.new)) result }
 {
     let Ok(mut buffered) = BufReader::new(alloc, answers) else {
         return tell_fault(StoreFault::Memory, err);
@@ -208,16 +192,9 @@ pub fn find_office<A: Read + Drop, Q: Write, W: Write, E: Write>(
     out: &mut W,
     err: &mut E,
 ) -> Status
-    ensures asked { AppendsFront (Q.contents questions.old) (Q.contents questions.new)
-        (line_text (find_question number)) }
-    ensures whole { result ≢ Failed → Appends (Q.contents questions.old)
-        (Q.contents questions.new) (line_text (find_question number)) }
-    ensures printed { Printed (IsAnswer Expected.Line (A.remaining answers))
-        (W.contents out.old) (W.contents out.new) result }
-    ensures passes { PassesOn (A.remaining answers) (W.contents out.old) (W.contents out.new) }
-    ensures err { FaultTold (E.contents err.old) (E.contents err.new) result }
-    ensures cause { FailsFor (IsVisitEnd (A.remaining answers))
-        (E.contents err.old) (E.contents err.new) result }
+    ensures { IsVisit Expected.Line (find_question number) (A.remaining answers)
+        (streams (Q.contents questions.old) (W.contents out.old) (E.contents err.old))
+        (streams (Q.contents questions.new) (W.contents out.new) (E.contents err.new)) result }
 {
     let question = numbered(b"find ", number.get());
     visit(
@@ -241,16 +218,9 @@ pub fn status_office<A: Read + Drop, Q: Write, W: Write, E: Write>(
     out: &mut W,
     err: &mut E,
 ) -> Status
-    ensures asked { AppendsFront (Q.contents questions.old) (Q.contents questions.new)
-        (line_text (codes "status")) }
-    ensures whole { result ≢ Failed → Appends (Q.contents questions.old)
-        (Q.contents questions.new) (line_text (codes "status")) }
-    ensures printed { Printed (IsAnswer Expected.Line (A.remaining answers))
-        (W.contents out.old) (W.contents out.new) result }
-    ensures passes { PassesOn (A.remaining answers) (W.contents out.old) (W.contents out.new) }
-    ensures err { FaultTold (E.contents err.old) (E.contents err.new) result }
-    ensures cause { FailsFor (IsVisitEnd (A.remaining answers))
-        (E.contents err.old) (E.contents err.new) result }
+    ensures { IsVisit Expected.Line (codes "status") (A.remaining answers)
+        (streams (Q.contents questions.old) (W.contents out.old) (E.contents err.old))
+        (streams (Q.contents questions.new) (W.contents out.new) (E.contents err.new)) result }
 {
     visit(
         alloc,
@@ -275,16 +245,9 @@ pub fn export_office<A: Read + Drop, Q: Write, W: Write, E: Write>(
     out: &mut W,
     err: &mut E,
 ) -> Status
-    ensures asked { AppendsFront (Q.contents questions.old) (Q.contents questions.new)
-        (line_text (export_question to)) }
-    ensures whole { result ≢ Failed → Appends (Q.contents questions.old)
-        (Q.contents questions.new) (line_text (export_question to)) }
-    ensures printed { Printed (IsAnswer Expected.Message (A.remaining answers))
-        (W.contents out.old) (W.contents out.new) result }
-    ensures passes { PassesOn (A.remaining answers) (W.contents out.old) (W.contents out.new) }
-    ensures err { FaultTold (E.contents err.old) (E.contents err.new) result }
-    ensures cause { FailsFor (IsVisitEnd (A.remaining answers))
-        (E.contents err.old) (E.contents err.new) result }
+    ensures { IsVisit Expected.Message (export_question to) (A.remaining answers)
+        (streams (Q.contents questions.old) (W.contents out.old) (E.contents err.old))
+        (streams (Q.contents questions.new) (W.contents out.new) (E.contents err.new)) result }
 {
     let question = numbered(b"export ", to.number());
     visit(
@@ -320,18 +283,9 @@ pub fn list_office<A: Read + Drop, Q: Write, W: Write, E: Write>(
     out: &mut W,
     err: &mut E,
 ) -> Status
-    ensures asked { AppendsFront (Q.contents questions.old) (Q.contents questions.new)
-        (line_text (list_question event.now)) }
-    ensures whole { IsEventName event.now → result ≢ Failed → Appends
-        (Q.contents questions.old) (Q.contents questions.new) (line_text (list_question event.now)) }
-    ensures unasked { (IsEventName event.now → ⊥) → questions.new ≡ questions.old }
-    ensures printed { Printed (AreRowsOf event.now (A.remaining answers))
-        (W.contents out.old) (W.contents out.new) result }
-    ensures passes { IsEventName event.now → PassesOn (A.remaining answers)
-        (W.contents out.old) (W.contents out.new) }
-    ensures err { FaultTold (E.contents err.old) (E.contents err.new) result }
-    ensures cause { FailsFor (IsVisitEnd (A.remaining answers))
-        (E.contents err.old) (E.contents err.new) result }
+    ensures { IsRowsVisit event.now (A.remaining answers)
+        (streams (Q.contents questions.old) (W.contents out.old) (E.contents err.old))
+        (streams (Q.contents questions.new) (W.contents out.new) (E.contents err.new)) result }
 {
     let Some(event) = Event::read(event.as_bytes()) else {
         let came = tell(&Told::NotFound, out);

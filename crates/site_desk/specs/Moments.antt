@@ -20,6 +20,7 @@ use Rattle.site_desk.specs.declared.answer.Seen.{Seen}
 use Rattle.site_desk.specs.declared.answer.Standing.{Standing}
 use Rattle.site_desk.specs.declared.answer.Taken.{Taken}
 use Rattle.site_desk.specs.declared.fault.AskFault.{AskFault}
+use Rattle.site_desk.specs.declared.fault.AskFault.TheVariants as ask
 use Rattle.site_desk.specs.declared.fault.LookFault.{LookFault}
 use Rattle.site_desk.specs.declared.fault.LookUpFault.{LookUpFault}
 use Rattle.site_desk.specs.declared.fault.LookUpFault.TheVariants as look_up
@@ -64,6 +65,13 @@ HoldsDelta message site = (site.closed ≡ false) × HasDelta message site.book.
 -- the site is open, and what the receipt names stands in its history
 abbrev pub HoldsReceipt : {K : Type 0} → Receipt → SiteView K → Type 0
 HoldsReceipt receipt site = (site.closed ≡ false) × StandsIn site.book.history receipt
+
+-- What is given for a request that was asked with others: what its receipt names stands in an open site that may stand there, and behind
+-- `Store` one that may stand there is closed.
+abbrev pub IsGivenAt : {K : Type 0} → Office → List Entry → (SiteView K → Type 0) → Result (Answer × Receipt) AskFault → Type 0
+IsGivenAt office began InStep (Ok given) = AtOneMoment office began InStep (HoldsReceipt given.1)
+IsGivenAt {K} office began InStep (Err ask.Store) = AtOneMoment office began InStep (λ (s : SiteView K). s.closed ≡ true)
+IsGivenAt office began InStep (Err fault) = Unit {0}
 
 -- A site answers this to a request, a look, a look-up, a message, or a peer that asks for its message: what is due where it is open, or the
 -- reason why it gives nothing. What its keeper tells behind the call is not said: 1, as behind an append that failed, stands in its

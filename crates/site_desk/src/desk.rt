@@ -4,7 +4,7 @@ ghost use Rattle.site_exchange.specs.Exchange.{ack_for, receiver};
 ghost use Rattle.site_desk.specs.Answers.{ack_of};
 ghost use Rattle.site_desk.specs.Count.{asked_since};
 ghost use Rattle.site_desk.specs.Finish.{FindsFirst, StandsIn, WasSeen, handed_back, receipt_of};
-ghost use Rattle.site_desk.specs.Moments.{AtOneMoment, Finds, HoldsDelta, HoldsReceipt, IsAtDesk, IsStanding, Lists, Looks, Replies, Sends, Takes};
+ghost use Rattle.site_desk.specs.Moments.{AtOneMoment, Finds, HoldsDelta, HoldsReceipt, IsAtDesk, IsGivenAt, IsStanding, Lists, Looks, Replies, Sends, Takes};
 ghost use Rattle.site_desk.specs.Seats.{held, parts_of, shares_of};
 ghost use Rattle.site_desk.specs.SiteView.{SiteInStep, SiteView};
 
@@ -80,6 +80,43 @@ impl<K: Keeper, L: Opens> Desk<K, L> {
         let site = locked.site();
         gate.pass(rt, Place::Inside { site });
         locked.ask(alloc, seat, number, request)
+    }
+
+    /// Answers several requests, one after another, as the book does, with one store of all that they enter, and gives the
+    /// receipts for the answers. The seat's share is raised by one for each fresh answer.
+    ///
+    /// Errors of a request are those of `SiteBook::ask`. `Memory` for all of them leaves the seat and the book as they were.
+    pub fn ask_all<R: Wait>(
+        &self,
+        rt: &R,
+        alloc: Global,
+        seat: &mut Seat<L>,
+        asks: &[(RequestNumber, Request)],
+    ) -> Result<Vec<Result<(Answer, Receipt), AskFault>>, AskFault>
+        ensures parts { seat.new.parts ≡ seat.old.parts }
+        ensures given { IfOk result (λ all. All (IsGivenAt L.office L.began (SiteInStep K.failed
+            K.is_trusted K.kept K.may_leave)) all.items) }
+        ensures shut { result ≡ Err AskFault.Store → AtOneMoment L.office L.began (SiteInStep
+            K.failed K.is_trusted K.kept K.may_leave) (λ (s : SiteView K). s.closed ≡ true) }
+    {
+        for _ in rt.forever() {}
+        unreachable!()
+    }
+
+    /// The same as `look`, once the history has an entry at this place, for which it waits.
+    pub fn look_past<R: Wait>(
+        &self,
+        rt: &R,
+        place: Option<usize>,
+        event: Event,
+    ) -> Result<Seen, LookFault>
+        ensures event { IfOk result (λ seen. seen.event ≡ event) }
+        ensures past { IfOk result (λ seen. IfSome place (λ p. p < seen.at)) }
+        ensures seen { AtOneMoment L.office L.began (SiteInStep K.failed K.is_trusted K.kept
+            K.may_leave) (Looks event result) }
+    {
+        for _ in rt.forever() {}
+        unreachable!()
     }
 
     /// What the history shows of an event that it knows, once it has all that was newly entered for this seat (the

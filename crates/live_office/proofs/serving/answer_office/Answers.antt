@@ -1,5 +1,4 @@
 use Rattle.std.proofs.Common.{ap, ◌∙◌}
-use Rattle.site_desk.specs.Seats.{Held}
 use Rattle.live_office.specs.Admissible.{admissible}
 use Rattle.live_office.specs.Handling.{SeatState}
 use Rattle.live_office.proofs.Handled.{handled_parts}
@@ -7,6 +6,6 @@ use Rattle.live_office.proofs.serving.answer_office.Goals as goal
 
 pub returns-clause-parts : goal.returns-clause-parts
 returns-clause-parts g c =
-    ap (λ (h : Held). h.parts) c.into_seat.ensures
+    c.into_seat.ensures
     ∙ handled_parts (admissible g.L.Opens.office g.L.Opens.began g.K.Keeper.failed g.K.Keeper.is_trusted g.K.Keeper.kept g.K.Keeper.may_leave) _ _ _ _ _ _ c.office_talk-ended.ensures
-    ∙ ap (λ (s : SeatState). s.held.parts) c.new-at.ensures
+    ∙ ap (λ (s : SeatState). s.seat.parts) c.new-at.ensures

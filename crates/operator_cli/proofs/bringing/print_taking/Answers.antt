@@ -1,6 +1,7 @@
 use Rattle.std.proofs.Common.{ℕ, List, Result, Err, ap, refl, sym, subst, ◌∙◌}
 use Rattle.std.specs.Prelude.{IfErr, not}
 use Rattle.std.specs.Io.KnownBytes.{Consumes}
+use Rattle.plain_words.specs.Input.{IsPartOfLine}
 use Rattle.operator_cli.specs.declared.status.Status.{Status}
 use Rattle.operator_cli.specs.declared.store_fault.StoreFault.{StoreFault}
 use Rattle.operator_cli.specs.Visits.{IsTakingLine, IsVisitEnd, PassesOn, is_taken, line_text}
@@ -27,7 +28,7 @@ returns-in_err-status-clause-cause g c =
     let bytes = c.as_slice-bytes.result.now in
     let sent = g.A.Read.remaining c.args.answers.now in
     let left = g.A.Read.remaining c.hear.new.answers in
-    let read = subst (λ (l : List ℕ). Consumes sent left (line_text l)) (sym c.as_slice-bytes.ensures.value) c.in_ok-hear.ensures.heard.1 in
+    let read = subst (λ (l : List ℕ). IsPartOfLine l × Consumes sent left (line_text l)) (sym c.as_slice-bytes.ensures.value) c.in_ok-hear.ensures.heard in
     errs_as c.from_residual-in_err-status.result (λ (r : Result Status StoreFault). IfErr r (IsVisitEnd sent)) _ c.from_residual-in_err-status.ensures.1
     (λ f e. said_end sent left bytes (not (is_taken bytes)) f read (sym c.heard_of_taking.ensures ∙ c.in_err-status.was ∙ ap Err (sym e)))
 
@@ -62,7 +63,7 @@ returns-clause-printed g c =
     let left = g.A.Read.remaining c.hear.new.answers in
     let read = subst (λ (l : List ℕ). Consumes sent left (line_text l)) (sym c.as_slice-bytes.ensures.value) c.in_ok-hear.ensures.heard.1 in
     printed (IsTakingLine sent) (g.W.Write.contents c.args.out.now) (g.W.Write.contents c.print_line.new.out) _ (line_text bytes)
-    (record { line = bytes; sent_first = begins sent left (line_text bytes) read; ends_so = sym c.heard_of_taking.ensures ∙ c.in_ok-status.was; is_text = refl }) c.in_ok-print_line.ensures.written
+    (record { line = bytes; is_line = subst IsPartOfLine (sym c.as_slice-bytes.ensures.value) c.in_ok-hear.ensures.heard.0; sent_first = begins sent left (line_text bytes) read; ends_so = sym c.heard_of_taking.ensures ∙ c.in_ok-status.was; is_text = refl }) c.in_ok-print_line.ensures.written
 
 pub returns-clause-ends : goal.returns-clause-ends
 returns-clause-ends g c =

@@ -1,6 +1,7 @@
 use Rattle.std.proofs.Common.{ℕ, List, Result, Err, ap, sym, subst, ◌∙◌}
 use Rattle.std.specs.Prelude.{IfErr}
 use Rattle.std.specs.Io.KnownBytes.{Consumes}
+use Rattle.plain_words.specs.Input.{IsPartOfLine}
 use Rattle.operator_cli.specs.declared.status.Status.{Status}
 use Rattle.operator_cli.specs.declared.store_fault.StoreFault.{StoreFault}
 use Rattle.operator_cli.specs.Visits.{IsVisitEnd, PassesOn, is_nothing, line_text}
@@ -26,7 +27,7 @@ returns-in_err-status-clause-cause g c =
     let bytes = c.as_slice-bytes.result.now in
     let sent = g.A.Read.remaining c.args.answers.now in
     let left = g.A.Read.remaining c.ask_first.new.answers in
-    let read = subst (λ (l : List ℕ). Consumes sent left (line_text l)) (sym c.as_slice-bytes.ensures.value) c.in_ok-ask_first.ensures.heard.1 in
+    let read = subst (λ (l : List ℕ). IsPartOfLine l × Consumes sent left (line_text l)) (sym c.as_slice-bytes.ensures.value) c.in_ok-ask_first.ensures.heard in
     errs_as c.from_residual-in_err-status.result (λ (r : Result Status StoreFault). IfErr r (IsVisitEnd sent)) _ c.from_residual-in_err-status.ensures.1
     (λ f e. said_end sent left bytes (is_nothing bytes) f read (sym c.heard.ensures ∙ c.in_err-status.was ∙ ap Err (sym e)))
 
@@ -50,6 +51,7 @@ returns-clause-first g c =
     let sent = g.A.Read.remaining c.args.answers.now in
     let left = g.A.Read.remaining c.ask_first.new.answers in record {
       line = c.as_slice-bytes.result.now;
+      is_line = subst IsPartOfLine (sym c.as_slice-bytes.ensures.value) c.in_ok-ask_first.ensures.heard.0;
       ends_so = sym c.heard.ensures ∙ c.in_ok-status.was;
       read = subst (λ (l : List ℕ). Consumes sent left (line_text l)) (sym c.as_slice-bytes.ensures.value) c.in_ok-ask_first.ensures.heard.1;
       printed = c.in_ok-print_line.ensures.written;
