@@ -241,7 +241,10 @@ def by_folder(folder):
         with running(folder, [[FOLDER, str(office.me), "2", office.file, "shared", "--every", EVERY] for office in offices]):
             comes_to_all("by itself", offices, "released 100 sold 2 refunded 0 open 98")
             south.close()
+            before = said(folder, 0)
             same("north cedes, cut off", north.ask("sell 6 gala 4", "cede 7 gala 10 1"), ["done"] * 2)
+            time.sleep(5 * float(EVERY))
+            same("looks that find nothing new say nothing", said(folder, 0), before)
             offices[1] = south = Site(folder, 1)
             comes("south opened again", lambda: south.ask("left gala"), ["left 69"])
             comes_to_all("in the end", offices, "released 100 sold 6 refunded 0 open 94")
