@@ -138,8 +138,8 @@ class ByFolder:
         self.folder, self.chance, self.is_over, self.came = folder, chance, threading.Event(), collections.Counter()
         # Sites that are cut off; to which nothing comes; whose line is slow; and what was in their folders some rounds ago.
         self.cut, self.held, self.slow, self.late = set(), set(), set(), {}
-        # What is under way to a site whose line is slow, and by paths how often their text changed, and which one is there.
-        self.under_way, self.changes, self.last = [], collections.Counter(), {}
+        # What is under way to sites whose lines are slow. By paths: what was sent, how often that changed, and which came last.
+        self.under_way, self.sent, self.changes, self.last = [], {}, collections.Counter(), {}
         for me in SITES:
             os.mkdir(self.place(me))
         self.thread = threading.Thread(target=self.run, daemon=True)
@@ -158,21 +158,22 @@ class ByFolder:
         return [FOLDER, str(me), str(len(SITES)), f"{CITIES[me]}.db", self.place(me), "--every", EVERY], {}
 
     def run(self):
-        seen, chance = {}, random.Random(SEED)
         while not self.is_over.wait(0.05):
             for me, peer in itertools.permutations(SITES, 2):
                 for name in os.listdir(self.place(me)) if self.is_open(me, peer) else ():
                     if name.startswith(f"{me}-"):
-                        source, path = os.path.join(self.place(me), name), os.path.join(self.place(peer), name)
-                        text = contents(source)
-                        self.changes[path] += text != seen.get(path)
-                        if peer not in self.slow:
-                            self.put(path, text, self.changes[path])
-                        elif text != seen.get(path):
-                            late = [time.monotonic() + chance.uniform(0, 1) for _ in range(2)]
-                            self.under_way += [(at, me, peer, path, text, self.changes[path]) for at in late]
-                        seen[path] = text
+                        self.send(me, peer, contents(os.path.join(self.place(me), name)), os.path.join(self.place(peer), name))
             self.deliver()
+
+    def send(self, me, peer, text, path):
+        is_new = text != self.sent.get(path)
+        self.sent[path] = text
+        self.changes[path] += is_new
+        if peer not in self.slow:
+            self.put(path, text, self.changes[path])
+        elif is_new:
+            late = [time.monotonic() + random.uniform(0, 1) for _ in range(2)]
+            self.under_way += [(at, me, peer, path, text, self.changes[path]) for at in late]
 
     def is_open(self, me, peer):
         return not {me, peer} & self.cut and peer not in self.held
