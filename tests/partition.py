@@ -389,7 +389,7 @@ class World:
 
     def asked(self, till, ask, *words):
         """The result, however long the office is away."""
-        end = time.monotonic() + 4 * SECONDS
+        end = time.monotonic() + 6 * SECONDS
         while True:
             try:
                 return till.resume()[1] if till.journal.open else ask(*words)
@@ -398,7 +398,9 @@ class World:
                     raise
 
     def open(self, me):
-        self.offices[me] = Office(self.folder, f"{CITIES[me]}.db", self.ports[me], preexec_fn=lambda: self.line.enter(me))
+        # (A program that checks itself, as one unproved does, takes up a long history slowly.)
+        place = {"seconds": 5 * SECONDS, "preexec_fn": lambda: self.line.enter(me)}
+        self.offices[me] = Office(self.folder, f"{CITIES[me]}.db", self.ports[me], **place)
 
     def start(self, me):
         words, place = self.line.script(me)
@@ -602,7 +604,7 @@ def tried(folder, kind, is_said):
         healed = time.monotonic()
         world.is_over.set()
         for seller in sellers:
-            seller.join(5 * SECONDS)
+            seller.join(8 * SECONDS)
             same(f"how till {seller.first} ended", (seller.is_alive(), seller.failed), (False, None))
         took, sold, back = agreed(world, healed)
         left = settled(world, sold, back)
