@@ -1,7 +1,7 @@
 #!/usr/bin/env python3
 """Draws one page (HTML with inline SVG) of what all sites sold and have left, from their open offices.
 
-usage: board.py --output PAGE FILE-sock .. --events EVENT .. [--every SECONDS]
+usage: board.py --output PAGE FILE-sock .. --events EVENT .. [--every SECONDS] [--ceded]
 
 Each FILE-sock is the socket of a site's office on this machine, or the near end of one that ssh brings here
 (`ssh -N -L east.db-sock:/var/lib/boxoffice/east.db-sock east`). The page is written once, or again and again each SECONDS until the
@@ -9,7 +9,8 @@ program is ended; a browser that shows it loads it again as often. It needs the 
 
 What a site has left is asked of that site. Released, sold and refunded are by the view of the site that knows of most. What is
 neither sold nor left anywhere is ceded and under way, or is not yet heard of. An office that does not answer is shown as it was
-when it last did. It lacks: a history, and what an office that has not answered since the start of this program has left.
+when it last did. With --ceded there is also how many seats each site ceded, by `list EVENT`, which is as long as its history.
+It lacks: a history, and what an office that has not answered since the start of this program has left.
 """
 
 import argparse
@@ -22,6 +23,7 @@ import time
 SECONDS = 3.0  # How long an office may take to answer.
 TOTALS = re.compile("totals released ([0-9]+) sold ([0-9]+) refunded ([0-9]+) open ([0-9]+|none)")
 STATUS = re.compile("site ([0-9]+) sites ([0-9]+) entries ([0-9]+) limit ([0-9]+) callers ([0-9]+)")
+CESSION = re.compile("[0-9]+ cede [0-9]+ [a-z0-9-]+ ([0-9]+) [0-9]+ done")
 SHADES = ["#2b6cb0", "#2f855a", "#b7791f", "#805ad5", "#c05621", "#2c7a7b"]
 STYLE = """body { font: 15px/1.5 sans-serif; margin: 2em auto; max-width: 60em; color: #222; padding: 0 1em }
 h1 { font-size: 1.4em } h2 { font-size: 1.15em; margin-top: 1.6em } svg { display: block; width: 100%; height: auto }
@@ -35,10 +37,10 @@ class Site:
 
     def __init__(self, path):
         self.path, self.name = path, os.path.basename(path).removesuffix("-sock").removesuffix(".db")
-        self.heard, self.is_there, self.status, self.left, self.totals = None, False, None, {}, {}
+        self.heard, self.is_there, self.status, self.left, self.totals, self.ceded = None, False, None, {}, {}, {}
 
-    def look(self, events):
-        lines = ["status", *(f"{verb} {event}" for event in events for verb in ("left", "totals"))]
+    def look(self, events, verbs):
+        lines = ["status", *(f"{verb} {event}" for event in events for verb in verbs)]
         try:
             replies = asked(self.path, lines)
         except OSError:
@@ -48,20 +50,27 @@ class Site:
         found = STATUS.fullmatch(replies[0])
         self.status = [int(number) for number in found.groups()] if found else None
         for at, event in enumerate(events):
-            left, totals = re.fullmatch("left ([0-9]+)", replies[1 + 2 * at]), TOTALS.fullmatch(replies[2 + 2 * at])
+            found = replies[1 + len(verbs) * at :]
+            left, totals = re.fullmatch("left ([0-9]+)", found[0]), TOTALS.fullmatch(found[1])
             self.left[event] = int(left[1]) if left else None
             self.totals[event] = (*map(int, totals.groups()[:3]), totals[4]) if totals else None
+            if "list" in verbs:
+                self.ceded[event] = int(found[2])
 
 
 def asked(path, lines):
-    """The replies of an office, a line each."""
+    """The replies of an office, a line each; to a `list` how many seats its cessions have."""
     with socket.socket(socket.AF_UNIX) as office, office.makefile("r", encoding="ascii", errors="replace") as answers:
         office.settimeout(SECONDS)
         office.connect(path)
         replies = []
         for line in lines:
             office.sendall(line.encode() + b"\n")
-            replies.append(answers.readline().rstrip("\n"))
+            reply, ceded = answers.readline().rstrip("\n"), 0
+            while line.startswith("list ") and reply[:1].isdigit():
+                found, reply = CESSION.fullmatch(reply), answers.readline().rstrip("\n")
+                ceded += int(found[1]) if found else 0
+            replies.append(str(ceded) if reply and line.startswith("list ") else reply)
         if "" in replies:
             raise OSError("the session ended")
         office.sendall(b"quit\n")
@@ -78,8 +87,9 @@ def ago(site):
 def bar(parts, total):
     """A bar of parts, each with its name, count and colour, and a legend under it."""
     drawn, begin, legend, x = [], 0.0, [], 0
+    most = max(900, sum(40 + 8 * len(f"{name} {count}") for name, count, _ in parts))
     for name, count, shade in parts:
-        width = 900 * count / max(total, 1)
+        width = most * count / max(total, 1)
         shape = f'x="{begin:.1f}" width="{width:.1f}" height="34"'
         drawn.append(f'<rect {shape} fill="{shade}"><title>{name}: {count}</title></rect>')
         if width > 45:
@@ -87,7 +97,7 @@ def bar(parts, total):
         legend.append(f'<rect x="{x}" y="46" width="12" height="12" fill="{shade}"/>')
         legend.append(f'<text x="{x + 17}" y="57" font-size="13">{name} {count}</text>')
         begin, x = begin + width, x + 40 + 8 * len(f"{name} {count}")
-    box = f'<svg viewBox="0 0 {max(900, x)} 64" role="img"><rect width="900" height="34" fill="#eee"/>'
+    box = f'<svg viewBox="0 0 {most} 64" role="img"><rect width="{most}" height="34" fill="#eee"/>'
     return box + "".join(drawn + legend) + "</svg>"
 
 
@@ -104,11 +114,12 @@ def of_event(event, sites):
     parts = [("sold and not given back", sold - back, "#444")]
     for at, site in enumerate(sites):
         parts.append((f"left at {html.escape(site.name)}", site.left.get(event) or 0, SHADES[at % len(SHADES)]))
-    parts.append(("under way or not heard of", max(0, released - sum(count for _, count, _ in parts)), "#bbb"))
-    rows = [row(["site", "left", "released", "sold", "given back", "open", "last heard"], "th")]
+    parts.append(("under way or not heard of", max(0, released - sum(count for _, count, _ in parts)), "#888"))
+    ceded = ["ceded"] if any(site.ceded for site in sites) else []
+    rows = [row(["site", "left", *ceded, "released", "sold", "given back", "open", "last heard"], "th")]
     for site in sites:
         view = site.totals.get(event) or (None,) * 4
-        rows.append(row([html.escape(site.name), site.left.get(event), *view, ago(site)]))
+        rows.append(row([html.escape(site.name), site.left.get(event), *[site.ceded.get(event) for _ in ceded], *view, ago(site)]))
     text = f"<p>{released} seats released, {sold} sold, {back} of these given back.</p>"
     return title + text + bar(parts, released) + f"<table>{''.join(rows)}</table>"
 
@@ -145,13 +156,14 @@ def main():
     reader.add_argument("--events", nargs="+", required=True)
     reader.add_argument("--output", required=True)
     reader.add_argument("--every", type=float)
+    reader.add_argument("--ceded", action="store_true")
     given = reader.parse_args()
     if wrong := [event for event in given.events if not re.fullmatch("[a-z0-9-]{1,32}", event)]:
         reader.error(f"no name of an event: {wrong[0]}")
-    sites = [Site(path) for path in given.sockets]
+    sites, verbs = [Site(path) for path in given.sockets], ["left", "totals", *(["list"] if given.ceded else [])]
     while True:
         for site in sites:
-            site.look(given.events)
+            site.look(given.events, verbs)
         write(given.output, page(sites, given.events, given.every))
         if not given.every:
             return

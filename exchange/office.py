@@ -53,8 +53,9 @@ def misframed(message):
 
 
 def take(path, message, head=b""):
-    """The word that answers a message which begins with this head, and the acknowledgement where there is one."""
-    if word := misframed(message) if message.startswith(head) else "misnamed":
+    """The word that answers a message which begins with this head, and the acknowledgement where there is one. (A text that ends
+    within the head is torn.)"""
+    if word := misframed(message) if message.startswith(head) or head.startswith(message) else "misnamed":
         return word, b""
     word, _, acknowledgement = answer_of(path, b"import\n" + message).partition(b"\n")
     return word.decode(), acknowledgement

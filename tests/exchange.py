@@ -26,14 +26,14 @@ OFFICE, FOLDER, MQTT, SSH = (
     os.path.join(HERE, "..", "exchange", name) for name in ("office.py", "folder/boxoffice-exchange", "mqtt", "ssh")
 )
 BOARD = os.path.join(HERE, "..", "examples", "board.py")
-BOARD_WORDS = ["--events", "gala", "expo", "--output", "page.html"]
+BOARD_WORDS = ["--ceded", "--events", "gala", "expo", "--output", "page.html"]
 CITIES, NEEDED = ["north", "south", "east"], ("mosquitto", "mosquitto_pub", "mosquitto_sub", "openssl")
 OPENING = ["announce 1 gala", "release 2 gala 100", "cede 3 gala 40 1"]
 CESSION = "delta 0 1 3\nname gala\ngave gala 0 0 100\ngave gala 0 1 40\nend\n"
 ACKNOWLEDGED = "ack 1 0 3\nend\n"
 EVERY = "0.2"  # How often a script looks, and by how many seconds what is due is published again.
 # Messages that are not what they are named, or not whole; what follows `end` would be a line of its own to the office.
-REFUSED = {"delta 1 0 9\nname expo\nend\n": "misnamed", "delta 0 1 9\nname expo\n": "truncated"}
+REFUSED = {"delta 1 0 9\nname expo\nend\n": "misnamed", "delta 0 1 9\nname expo\n": "truncated", "delta 0": "truncated"}
 REFUSED |= {"delta 0 1 9\nname expo\nend\nclose\n": "trailing", "delta 0 1 9\nname Expo\nend\n": "bad-line 2"}
 
 
@@ -137,6 +137,7 @@ def asked_by_office(folder):
         with open(os.path.join(folder, "page.html"), encoding="utf-8") as page:
             text = page.read()
         shown = ["left at north: 60<", "left at south: 40<", "not given back: 0<", "not heard of: 0<"]
+        shown += ["<td>north</td><td>60</td><td>40</td><td>100</td>", "<td>south</td><td>40</td><td>0</td><td>100</td>"]
         shown += ["2 of 3 answer", "no answer yet"]
         same("what it shows", [part for part in shown if part not in text], [])
         audited([north, south], 0)
@@ -146,7 +147,7 @@ def asked_by_office(folder):
 # In place of ssh: it runs the command of the key, as the far machine would, unless the line is cut. It hands over a byte less where
 # the line tears what goes through it.
 FAKE_SSH = """#!/bin/sh
-[ ! -e {folder}/cut ] || {{ echo 'ssh: connect to host south port 22: Connection timed out' >&2; exit 255; }}
+[ ! -e {folder}/cut ] || {{ printf 'ssh: connect to host south port 22: Connection timed out\\r\\n' >&2; exit 255; }}
 [ ! -e {folder}/torn ] || {{ head -c 30 | {answer}; exit; }}
 [ "$(eval echo \\"\\${{$#}}\\")" = clerk@south ] && exec {answer}
 """
@@ -186,7 +187,7 @@ def over_ssh(folder):
         same("north cedes, cut off", north.ask("cede 6 gala 10 1"), ["done"])
         same("a look, cut off", (looks()[0], south.ask("left gala")), (3, ["left 39"]))
         with running(folder, [[*words, "--every", EVERY, "1=clerk@south"]], [place["env"]]):
-            comes("it is said", lambda: "timed out" in said(folder, 0), True)
+            comes("it is said", lambda: "timed out\n" in said(folder, 0), True)
             os.remove(os.path.join(folder, "cut"))
             comes("what was ceded", lambda: south.ask("left gala"), ["left 49"])
             comes_to_all("by itself", [north, south], "released 100 sold 2 refunded 0 open 98")
@@ -240,7 +241,10 @@ def by_folder(folder):
         with running(folder, [[FOLDER, str(office.me), "2", office.file, "shared", "--every", EVERY] for office in offices]):
             comes_to_all("by itself", offices, "released 100 sold 2 refunded 0 open 98")
             south.close()
+            before = said(folder, 0)
             same("north cedes, cut off", north.ask("sell 6 gala 4", "cede 7 gala 10 1"), ["done"] * 2)
+            time.sleep(5 * float(EVERY))
+            same("looks that find nothing new say nothing", said(folder, 0), before)
             offices[1] = south = Site(folder, 1)
             comes("south opened again", lambda: south.ask("left gala"), ["left 69"])
             comes_to_all("in the end", offices, "released 100 sold 6 refunded 0 open 94")

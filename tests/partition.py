@@ -1,17 +1,20 @@
 #!/usr/bin/env python3
-"""Tills sell at three sites, two at each, while lines are cut and slowed, old messages come again, and offices, brokers and scripts
-are killed (SIGKILL), in rounds of some seconds. By a folder, and by brokers in network namespaces.
+"""Tills sell at three sites, two at each, while lines are cut and slowed, messages come late, twice and after newer ones, and
+offices, brokers and scripts are killed (SIGKILL), in rounds of some seconds. By a folder, and by brokers in network namespaces.
 
 Usage: tests/partition.py [PROGRAM [folder|brokers ..]] [--rounds=N] [--within=SECONDS] [--pause=SECONDS] [--seed=N]
-       (PROGRAM: crates/boxoffice/out/boxoffice; 3 rounds of each; within 30 seconds; tills pause up to 0.03 seconds)
+       [--longest=SECONDS]
+       (PROGRAM: crates/boxoffice/out/boxoffice; 3 rounds of each; within 10 seconds; tills pause up to 0.03 seconds; each of both
+       may take so many SECONDS: 120, and 40 for each round)
 
 At each look no site knows of more seats sold than released, and neither do the tills' journals. When all is whole again, all sites
 have to agree within so many SECONDS. Then each reply that a till read has to be in its site's file once, under its number, and no
 request beside them; and by C SQLite's sums each seat is sold or left somewhere.
 
 The seed, printed first, gives what happens, though not at which moment of a request. Says what differs and ends with status 1
-where anything does. Without mosquitto, or the right to make network namespaces (root and iproute2), brokers are not tried: it says
-so and passes. It has no loss of single packets: messages are delayed by a relay that each site's connections go through.
+where anything does, also where it does not end in time. Without mosquitto, or the right to make network namespaces (root and
+iproute2), brokers are not tried; without netem in the kernel, no packet is lost, repeated or reordered, and only a relay delays
+what a site publishes. It says so and passes.
 """
 
 import collections
@@ -33,7 +36,8 @@ import time
 # `trial` takes the first word for the program.
 GIVEN = dict(word[2:].split("=") for word in sys.argv if word.startswith("--"))
 SEED = int(GIVEN.get("seed", random.SystemRandom().randrange(10**9)))
-ROUNDS, WITHIN, PAUSE = int(GIVEN.get("rounds", 3)), float(GIVEN.get("within", 30)), float(GIVEN.get("pause", 0.03))
+ROUNDS, WITHIN, PAUSE = int(GIVEN.get("rounds", 3)), float(GIVEN.get("within", 10)), float(GIVEN.get("pause", 0.03))
+LONGEST = float(GIVEN.get("longest", 120 + 40 * ROUNDS))
 sys.argv = [word for word in sys.argv if not word.startswith("--")]
 
 from exchange import CITIES, FOLDER, NEEDED, Brokers, quiet_port
@@ -47,7 +51,12 @@ from boxoffice import Done
 tempfile.tempdir = "/dev/shm" if os.path.isdir("/dev/shm") else None
 SITES, TILLS, FIRST_RELEASE, RELEASE = range(3), range(2), 300, 40
 EVERY, PORT = "0.2", 8883
+# What a site's line does to its packets, where the kernel can.
+NETEM = "netem delay 80ms 60ms reorder 25% 50% duplicate 10% loss 5%".split()
 TOTALS = re.compile("totals released ([0-9]+) sold ([0-9]+) refunded ([0-9]+) open ([0-9]+|none)")
+
+
+LIBC = ctypes.CDLL(None, use_errno=True)
 
 
 class Space:
@@ -68,14 +77,14 @@ class Space:
     def enter(self):
         """This thread's sockets belong to the namespace from here on."""
         handle = os.open(f"/run/netns/{self.name}", os.O_RDONLY)
-        failed = ctypes.CDLL(None, use_errno=True).setns(handle, 0x40000000)
+        failed = LIBC.setns(handle, 0x40000000)
         os.close(handle)
         if failed:
             raise OSError(ctypes.get_errno(), "setns")
 
 
-def ip(*words):
-    subprocess.run(["ip", *words], check=True, capture_output=True)
+def ip(*words, program="ip"):
+    subprocess.run([program, *words], check=True, capture_output=True, timeout=SECONDS)
 
 
 class Relay(threading.Thread):
@@ -114,13 +123,23 @@ class Relay(threading.Thread):
             sink.shutdown(socket.SHUT_WR)
 
 
+def contents(path):
+    """Those of a file; none where it is not there."""
+    with contextlib.suppress(FileNotFoundError), open(path, "rb") as file:
+        return file.read()
+    return b""
+
+
 class ByFolder:
-    """Each site has a folder of its own. What a site wrote is copied to the others, unless either is cut off."""
+    """Each site has a folder of its own. What a site wrote is copied to the others, unless either is cut off. To a site whose line
+    is slow each text comes twice, up to a second late: so it comes again, and after a newer one."""
 
     def __init__(self, folder, chance):
-        self.folder, self.chance, self.is_over = folder, chance, threading.Event()
-        # Sites that are cut off; to which nothing comes; and what was in their folders some rounds ago.
-        self.cut, self.held, self.late = set(), set(), {}
+        self.folder, self.chance, self.is_over, self.came = folder, chance, threading.Event(), collections.Counter()
+        # Sites that are cut off; to which nothing comes; whose line is slow; and what was in their folders some rounds ago.
+        self.cut, self.held, self.slow, self.late = set(), set(), set(), {}
+        # What is under way to sites whose lines are slow. By paths: what was sent, how often that changed, and which came last.
+        self.under_way, self.sent, self.changes, self.last = [], {}, collections.Counter(), {}
         for me in SITES:
             os.mkdir(self.place(me))
         self.thread = threading.Thread(target=self.run, daemon=True)
@@ -141,22 +160,42 @@ class ByFolder:
     def run(self):
         while not self.is_over.wait(0.05):
             for me, peer in itertools.permutations(SITES, 2):
-                if not {me, peer} & self.cut and peer not in self.held:
-                    for name in os.listdir(self.place(me)):
-                        if name.startswith(f"{me}-"):
-                            self.copy(me, peer, name)
+                for name in os.listdir(self.place(me)) if self.is_open(me, peer) else ():
+                    if name.startswith(f"{me}-"):
+                        self.send(me, peer, contents(os.path.join(self.place(me), name)), os.path.join(self.place(peer), name))
+            self.deliver()
 
-    def copy(self, me, peer, name):
-        with open(os.path.join(self.place(me), name), "rb") as file:
-            text = file.read()
-        with contextlib.suppress(FileNotFoundError), open(os.path.join(self.place(peer), name), "rb") as file:
-            if file.read() == text:
-                return
-        with open(os.path.join(self.place(peer), name), "wb") as file:
-            file.write(text)
+    def send(self, me, peer, text, path):
+        is_new = text != self.sent.get(path)
+        self.sent[path] = text
+        self.changes[path] += is_new
+        if peer not in self.slow:
+            self.put(path, text, self.changes[path])
+        elif is_new:
+            late = [time.monotonic() + random.uniform(0, 1) for _ in range(2)]
+            self.under_way += [(at, me, peer, path, text, self.changes[path]) for at in late]
+
+    def is_open(self, me, peer):
+        return not {me, peer} & self.cut and peer not in self.held
+
+    def deliver(self):
+        """What was slow arrives, in the order of its delays."""
+        for piece in sorted(self.under_way):
+            at, me, peer, path, text, change = piece
+            if at <= time.monotonic() and self.is_open(me, peer):
+                last = self.last.get(path, 0)
+                self.came["late" if change > last else "twice" if change == last else "after a newer one"] += 1
+                self.put(path, text, change)
+                self.under_way.remove(piece)
+
+    def put(self, path, text, change):
+        self.last[path] = change
+        if contents(path) != text:
+            with open(path, "wb") as file:
+                file.write(text)
 
     def faults(self):
-        return [self.is_cut, self.is_torn, self.comes_late]
+        return [self.is_cut, self.is_slow, self.is_torn, self.comes_late]
 
     @contextlib.contextmanager
     def is_cut(self, me):
@@ -164,7 +203,13 @@ class ByFolder:
         yield f"{CITIES[me]} is cut off"
         self.cut.discard(me)
 
-    def came(self, me):
+    @contextlib.contextmanager
+    def is_slow(self, me):
+        self.slow.add(me)
+        yield f"what comes to {CITIES[me]} comes late, twice, and after newer ones"
+        self.slow.discard(me)
+
+    def hold(self, me):
         """The files of others in the folder of a site, to which nothing comes from here on."""
         self.held.add(me)
         time.sleep(0.1)
@@ -172,7 +217,7 @@ class ByFolder:
 
     @contextlib.contextmanager
     def is_torn(self, me):
-        for path in self.came(me):
+        for path in self.hold(me):
             os.truncate(path, os.path.getsize(path) // 2)
         yield f"what came to {CITIES[me]} is torn"
         self.held.discard(me)
@@ -180,12 +225,12 @@ class ByFolder:
     @contextlib.contextmanager
     def comes_late(self, me):
         """What others wrote some rounds ago takes the place of what they wrote last."""
-        for path in self.came(me):
-            with open(path, "r+b") as file:
-                now = file.read()
-                file.seek(0)
-                file.write(self.late.setdefault(path, now))
-                file.truncate()
+        for path in self.hold(me):
+            now = contents(path)
+            earlier = self.late.setdefault(path, now)
+            self.came["after a newer one" if earlier != now else "twice"] += 1
+            with open(path, "wb") as file:
+                file.write(earlier)
             if self.chance.random() < 0.5:
                 self.late[path] = now
         yield f"older messages come to {CITIES[me]}"
@@ -199,16 +244,24 @@ class ByFolder:
 class ByBrokers:
     """Each site has a network namespace, with a broker, and a relay to each other broker."""
 
-    def __init__(self, folder, chance):
-        self.folder, self.chance, self.old = folder, chance, {}
+    def __init__(self, folder, chance, has_netem):
+        self.folder, self.chance, self.has_netem = folder, chance, has_netem
+        self.old, self.came, self.brokers = {}, collections.Counter(), None
         self.hub, self.spaces = f"box-{os.getpid()}-hub", [Space(me) for me in SITES]
+        try:
+            self.make()
+        except BaseException:
+            self.end()
+            raise
+
+    def make(self):
         ip("netns", "add", self.hub)
         ip("-n", self.hub, "link", "add", "switch", "type", "bridge")
         ip("-n", self.hub, "link", "set", "switch", "up")
         hosts = [(f"10.79.0.{me + 1}", PORT) for me in SITES]
         for me, space in enumerate(self.spaces):
             space.make(self.hub, hosts[me][0])
-        self.brokers = Brokers(folder, hosts, [space.words for space in self.spaces])
+        self.brokers = Brokers(self.folder, hosts, [space.words for space in self.spaces])
         self.relays = {(me, peer): Relay(self.spaces[me], hosts[peer]) for me, peer in itertools.permutations(SITES, 2)}
 
     def enter(self, me):
@@ -223,7 +276,7 @@ class ByBrokers:
         return [*words[: -len(peers)], *peers], place
 
     def faults(self):
-        return [self.is_cut, self.is_slow, self.is_killed, self.comes_late]
+        return [self.is_cut, self.is_slow, self.is_killed, self.comes_late, *([self.is_noisy] if self.has_netem else [])]
 
     def set_line(self, me, state):
         ip("-n", self.hub, "link", "set", self.spaces[me].line, state)
@@ -244,6 +297,15 @@ class ByBrokers:
             relay.delay = 0.0
 
     @contextlib.contextmanager
+    def is_noisy(self, me):
+        ends = [(self.spaces[me].name, "line"), (self.hub, self.spaces[me].line)]
+        for space, line in ends:
+            ip("-n", space, "qdisc", "replace", "dev", line, "root", *NETEM, program="tc")
+        yield f"the line of {CITIES[me]} loses, repeats and reorders packets"
+        for space, line in ends:
+            ip("-n", space, "qdisc", "del", "dev", line, "root", program="tc")
+
+    @contextlib.contextmanager
     def is_killed(self, me):
         self.brokers.kill(me)
         yield f"the broker of {CITIES[me]} is killed"
@@ -251,32 +313,44 @@ class ByBrokers:
 
     @contextlib.contextmanager
     def comes_late(self, me):
-        """A message that is due now is published a second time, some rounds later."""
-        peer = self.chance.choice([peer for peer in SITES if peer != me])
-        with contextlib.suppress(OSError):
-            now = Operator(os.path.join(self.folder, f"{CITIES[me]}.db-sock")).export(peer)
-            earlier = self.old.setdefault((me, peer), now)
-            if now.startswith("delta "):
-                self.old[me, peer] = now
-            if earlier.startswith("delta "):
-                words = ["mosquitto_pub", "-k", "5", "-q", "1", "-r", "-h", f"10.79.0.{peer + 1}", "-p", str(PORT), "-s"]
-                place = {**os.environ, "XDG_CONFIG_HOME": os.path.join(self.folder, str(me))}
-                words = [*self.spaces[me].words, *words, "-t", f"sites/{peer}/{me}/delta"]
-                with contextlib.suppress(subprocess.TimeoutExpired):
-                    subprocess.run(words, input=earlier.encode(), env=place, timeout=5, capture_output=True, check=False)
-        yield f"an older message of {CITIES[me]} comes to {CITIES[peer]}"
+        """What a site had published, at first or some rounds ago, comes to the others again after what it published last."""
+        topics = [(peer, f"sites/{peer}/{me}/{kind}") for peer in SITES if peer != me for kind in ("delta", "ack")]
+        for peer, topic in topics:
+            self.old[topic] = self.old.get(topic) or self.retained(peer, topic)
+        yield f"older messages of {CITIES[me]} come to the others"
+        for peer, topic in topics:
+            earlier, now = self.old[topic], self.retained(peer, topic)
+            if earlier:
+                words = ["mosquitto_pub", "-k", "5", "-q", "1", "-r", "-h", f"10.79.0.{peer + 1}", "-p", str(PORT), "-t", topic]
+                self.mosquitto(me, [*words, "-s"], earlier)
+                self.came["after a newer one" if earlier != now else "twice"] += 1
+            if self.chance.random() < 0.5:
+                self.old[topic] = now
+
+    def retained(self, me, topic):
+        """What a site's own broker holds for it; nothing where that is away."""
+        return self.mosquitto(me, ["mosquitto_sub", "-k", "5", "-C", "1", "-W", "1", "-N", "-t", topic])
+
+    def mosquitto(self, me, words, given=b""):
+        """What a client of a site prints, unless it takes long."""
+        place = {**os.environ, "XDG_CONFIG_HOME": os.path.join(self.folder, str(me))}
+        with contextlib.suppress(subprocess.TimeoutExpired):
+            words = [*self.spaces[me].words, *words]
+            return subprocess.run(words, input=given, env=place, timeout=2, capture_output=True, check=False).stdout
+        return b""
 
     def end(self):
-        self.brokers.end()
+        if self.brokers:
+            self.brokers.end()
         for name in [self.hub, *(space.name for space in self.spaces)]:
-            subprocess.run(["ip", "netns", "del", name], check=False, capture_output=True)
+            subprocess.run(["ip", "netns", "del", name], check=False, capture_output=True, timeout=SECONDS)
 
 
 class Seller(threading.Thread):
     """A till of a site. It sells and gives back for as long as it may, and ends with no request open."""
 
     def __init__(self, world, me, first):
-        super().__init__()
+        super().__init__(daemon=True)
         self.world, self.me, self.first, self.chance = world, me, first, random.Random(SEED + first)
         self.path, self.sales, self.failed = os.path.join(world.folder, f"till-{first}.journal"), [], None
 
@@ -307,15 +381,15 @@ class World:
 
     def __init__(self, folder, kind):
         self.folder, self.chance, self.is_over = folder, random.Random(SEED), threading.Event()
-        self.line, self.offices, self.scripts, self.looked, self.kills = kind(folder, self.chance), {}, {}, 0, 0
-        self.released, self.ports = FIRST_RELEASE, [self.line.port(me) for me in SITES]
+        self.line, self.offices, self.scripts, self.looked = kind(folder, self.chance), {}, {}, 0
+        self.released, self.ports, self.deck = FIRST_RELEASE, [self.line.port(me) for me in SITES], []
 
     def till(self, me, path, first, seconds=SECONDS):
         return boxoffice.Till(self.ports[me], path, first, first + 999_999, seconds)
 
     def asked(self, till, ask, *words):
         """The result, however long the office is away."""
-        end = time.monotonic() + 4 * SECONDS
+        end = time.monotonic() + 6 * SECONDS
         while True:
             try:
                 return till.resume()[1] if till.journal.open else ask(*words)
@@ -324,7 +398,9 @@ class World:
                     raise
 
     def open(self, me):
-        self.offices[me] = Office(self.folder, f"{CITIES[me]}.db", self.ports[me], preexec_fn=lambda: self.line.enter(me))
+        # (A program that checks itself, as one unproved does, takes up a long history slowly.)
+        place = {"seconds": 5 * SECONDS, "preexec_fn": lambda: self.line.enter(me)}
+        self.offices[me] = Office(self.folder, f"{CITIES[me]}.db", self.ports[me], **place)
 
     def start(self, me):
         words, place = self.line.script(me)
@@ -349,6 +425,14 @@ class World:
         yield f"the script of {CITIES[me]} is killed"
         self.start(me)
 
+    def draw(self, count):
+        """So many kinds of fault, each in its turn."""
+        if len(self.deck) < count:
+            rest = [fault for fault in [*self.line.faults(), self.office_killed, self.script_killed] if fault not in self.deck]
+            self.deck += self.chance.sample(rest, len(rest))
+        drawn, self.deck = self.deck[:count], self.deck[count:]
+        return drawn
+
     def ask(self, me, line):
         """The reply of a site at its socket; nothing where its office is away."""
         with contextlib.suppress(OSError), contextlib.closing(Operator(self.offices[me].path)) as operator:
@@ -357,13 +441,15 @@ class World:
         return ""
 
     def look(self):
-        """No site knows of more sold than released."""
+        """No site knows of more sold than released, and neither do the tills."""
         for me in SITES:
             if found := TOTALS.fullmatch(self.ask(me, "totals gala")):
                 released, sold, back = (int(found[k]) for k in (1, 2, 3))
                 enough = sold - back <= released <= self.released and found[4] != "none"
                 same(f"{CITIES[me]}: sold at most released: {found[0]}", enough, True)
                 self.looked += 1
+        sold, back = self.sold()
+        same("the tills sold at most what was released", sold - back <= self.released, True)
 
     def journals(self):
         """By sites the requests of the journals with their replies; an open one has none."""
@@ -383,9 +469,13 @@ class World:
         return words
 
     def sold(self):
-        """How many seats the tills sold, and how many they gave back, by what they read. (Sales are counted first.)"""
-        lines = [line.split() for asked in self.journals().values() for line, reply in asked if reply == "done"]
-        return [sum(int(words[3]) for words in lines if words[0] == verb) for verb in ("sell", "refund")]
+        """How many seats the tills sold, by what they read, and how many they gave back. (What is open may have been given back,
+        and sold again to a till that has read of it. So sales are counted first.)"""
+        found = []
+        for verb, replies in [("sell", ["done"]), ("refund", ["done", ""])]:
+            lines = [line.split() for asked in self.journals().values() for line, reply in asked if reply in replies]
+            found.append(sum(int(words[3]) for words in lines if words[0] == verb))
+        return found
 
 
 def clerks_move(world, clerks):
@@ -401,7 +491,7 @@ def clerks_move(world, clerks):
 
 def one_round(world, clerks, at, is_said):
     """Two or three things break, for a second or two; meanwhile clerks go on at the sites that are there."""
-    faults = world.chance.sample([*world.line.faults(), world.office_killed, world.script_killed], world.chance.choice([2, 3]))
+    faults = world.draw(world.chance.choice([2, 3]))
     with contextlib.ExitStack() as stack:
         told = [stack.enter_context(fault(world.chance.choice(SITES))) for fault in faults]
         if is_said:
@@ -411,8 +501,7 @@ def one_round(world, clerks, at, is_said):
             world.look()
             time.sleep(0.2)
     clerks_move(world, clerks)
-    sold, back = world.sold()
-    same(f"round {at}: the tills sold at most what was released", sold - back <= world.released, True)
+    world.look()
 
 
 def agreed(world, begin):
@@ -488,9 +577,9 @@ class Clerk:
             except boxoffice.TillError as error:
                 found.append((None, error))
 
-        thread = threading.Thread(target=run)
+        thread = threading.Thread(target=run, daemon=True)
         thread.start()
-        thread.join()
+        thread.join(5 * SECONDS)
         if found[0][1]:
             raise found[0][1]
         return found[0][0]
@@ -501,6 +590,9 @@ class Clerk:
 
 def tried(folder, kind, is_said):
     world, clerks, begin = None, [], time.monotonic()
+    watch = threading.Timer(LONGEST, lambda: gives_up(world, folder))
+    watch.daemon = True
+    watch.start()
     try:
         world = World(folder, kind)
         clerks = begun(world)
@@ -512,7 +604,7 @@ def tried(folder, kind, is_said):
         healed = time.monotonic()
         world.is_over.set()
         for seller in sellers:
-            seller.join(5 * SECONDS)
+            seller.join(8 * SECONDS)
             same(f"how till {seller.first} ended", (seller.is_alive(), seller.failed), (False, None))
         took, sold, back = agreed(world, healed)
         left = settled(world, sold, back)
@@ -524,8 +616,10 @@ def tried(folder, kind, is_said):
         count = summed(world, left, sold, back)
         print(f"{ROUNDS} rounds in {time.monotonic() - begin:.0f} s: {count} requests, {sold} seats sold, {back} given back, "
               f"{world.released} released; {world.looked} looks; all agreed after {took:.1f} s")
-        print("messages:", ", ".join(f"{word} {count}" for word, count in world.taken().most_common()))
+        for what, counts in [("messages", world.taken()), ("made to come", world.line.came)]:
+            print(f"{what}:", ", ".join(f"{word} {count}" for word, count in counts.most_common()))
     finally:
+        watch.cancel()
         ended(world)
 
 
@@ -540,14 +634,46 @@ def settled(world, sold, back):
 
 
 def ended(world):
+    """Nothing that was started stays, whatever becomes of the rest."""
     if world:
         world.is_over.set()
-        for me in SITES:
-            if me in world.scripts and world.scripts[me].poll() is None:
-                world.stop(me)
-            if me in world.offices:
-                world.offices[me].program.kill()
-        world.line.end()
+        with contextlib.ExitStack() as stack:
+            stack.callback(world.line.end)
+            for me in world.offices:
+                stack.callback(world.offices[me].program.kill)
+            for me in world.scripts:
+                if world.scripts[me].poll() is None:
+                    stack.callback(world.stop, me)
+
+
+def gives_up(world, folder):
+    """The verdict where a trial does not end."""
+    print(f"it has not ended after {LONGEST:.0f} s\npartition: 1 differs", flush=True)
+    try:
+        ended(world)
+        shutil.rmtree(folder, ignore_errors=True)
+    finally:
+        os._exit(1)
+
+
+def probed():
+    """What this machine lacks for brokers to be tried, and whether its kernel has netem."""
+    if lacks := [name for name in (*NEEDED, "ip") if not shutil.which(name)]:
+        return lacks, False
+    probe = f"box-{os.getpid()}-probe"
+    try:
+        ip("netns", "add", probe)
+        ip("-n", probe, "link", "add", "switch", "type", "bridge")
+        ip("-n", probe, "link", "add", "line", "type", "veth", "peer", "name", "end")
+        ip("netns", "exec", probe, "true")
+        with contextlib.suppress(FileNotFoundError, subprocess.CalledProcessError):
+            ip("-n", probe, "qdisc", "add", "dev", "line", "root", *NETEM, program="tc")
+            return [], True
+        return [], False
+    except subprocess.CalledProcessError:
+        return ["the right, or the kernel, to make network namespaces with a bridge"], False
+    finally:
+        subprocess.run(["ip", "netns", "del", probe], check=False, capture_output=True, timeout=SECONDS)
 
 
 def folder_trial(folder):
@@ -556,23 +682,17 @@ def folder_trial(folder):
 
 
 def broker_trial(folder):
-    lacks = [name for name in (*NEEDED, "ip") if not shutil.which(name)]
-    if not lacks and os.geteuid() != 0:
-        lacks = ["the right to make network namespaces"]
-    if not lacks:
-        probe = f"box-{os.getpid()}-probe"
-        words = ["ip", "netns", "add", probe]
-        if subprocess.run(words, capture_output=True, check=False).returncode:
-            lacks = ["the right to make network namespaces"]
-        subprocess.run(["ip", "netns", "del", probe], capture_output=True, check=False)
+    lacks, has_netem = probed()
     if lacks:
         print(f"by brokers: not tried, without {', '.join(lacks)}")
         return
-    print("by brokers:", flush=True)
-    tried(folder, ByBrokers, ROUNDS > 3)
+    print("by brokers:" if has_netem else "by brokers (without netem: no packet is lost, repeated or reordered):", flush=True)
+    tried(folder, lambda *words: ByBrokers(*words, has_netem), ROUNDS > 3)
 
 
 TRIALS = {"folder": folder_trial, "brokers": broker_trial}
+# What was started ends with a run that is told to end.
+signal.signal(signal.SIGTERM, lambda *_: sys.exit(1))
 print(f"the seed is {SEED}", flush=True)
 chosen = [TRIALS[word] for word in sys.argv[1:] if word in TRIALS] or TRIALS.values()
 sys.exit(try_each(chosen, "partition: 0 differ", "partition: {} differ"))

@@ -111,12 +111,12 @@ class Operator(Caller):
 class Office:
     """An office, once callers can come."""
 
-    def __init__(self, folder, file=FILE, port=None, **limits):
+    def __init__(self, folder, file=FILE, port=None, seconds=SECONDS, **limits):
         self.folder, self.file, self.port = folder, file, port or free_port()
         self.path = os.path.join(folder, file + "-sock")
         streams = {"stdin": subprocess.DEVNULL, "stdout": subprocess.PIPE, "stderr": subprocess.PIPE}
         self.program = subprocess.Popen([PROGRAM, "open", str(self.port), file], cwd=folder, **streams, **limits)
-        watch = threading.Timer(SECONDS, self.program.kill)
+        watch = threading.Timer(seconds, self.program.kill)
         watch.start()
         same(f"what {file} prints as it opens", self.program.stdout.readline(), b"open\n")
         watch.cancel()

@@ -173,7 +173,7 @@ class Journal:
         self._end = end
 
 
-class Till(contextlib.AbstractContextManager):
+class Till(contextlib.AbstractContextManager["Till"]):
     """A till of the office at a port of this machine, with the numbers `first` to `final`. A call may take `seconds`. Making a
     till asks the open request of the journal again, and raises what that raises, or `OSError` where it cannot have the file."""
 
