@@ -99,11 +99,7 @@ enum Question<'a> {
 }
 
 // What a question comes to at an office.
-fn at_office(
-    rt: &HostRuntime,
-    question: Question<'_>,
-    office: Office,
-) -> Result<Status, Status> {
+fn at_office(rt: &HostRuntime, question: Question<'_>, office: Office) -> Result<Status, Status> {
     let Office {
         answers,
         mut questions,
@@ -141,7 +137,11 @@ fn visit<H: Files + Net>(
 // The input, or so much of it as is too long for a message.
 fn input_of(rt: &HostRuntime) -> Result<Vec<u8>, Status> {
     let mut bytes = Vec::new(rt.alloc());
-    match rt.stdin().take(MOST_BYTES as u64 + 1).read_to_end(&mut bytes) {
+    match rt
+        .stdin()
+        .take(MOST_BYTES as u64 + 1)
+        .read_to_end(&mut bytes)
+    {
         Ok(_) => Ok(bytes),
         Err(error) if error.kind() == ErrorKind::OutOfMemory => Err(out_of_memory(rt)),
         Err(_) => Err(not_read(rt)),
@@ -149,11 +149,7 @@ fn input_of(rt: &HostRuntime) -> Result<Vec<u8>, Status> {
 }
 
 // `import` has read its message before it is connected: whoever is holds one of the office's few places.
-fn bring<H: Files + Net>(
-    rt: &HostRuntime,
-    host: &H,
-    file: &str,
-) -> Result<Option<Status>, Status> {
+fn bring<H: Files + Net>(rt: &HostRuntime, host: &H, file: &str) -> Result<Option<Status>, Status> {
     if !is_open(rt, host, &[file])? {
         return Ok(None);
     }

@@ -129,7 +129,9 @@ fn answer<T: Wait, R: Read + Drop, W: Write, K: Keeper, L: Opens>(
 {
     match access {
         Access::Session => answer_session(rt, alloc, desk, together, closing, seat, reader, out),
-        Access::Office => answer_office(rt, alloc, desk, together, closing, callers, seat, reader, out),
+        Access::Office => answer_office(
+            rt, alloc, desk, together, closing, callers, seat, reader, out,
+        ),
     }
 }
 

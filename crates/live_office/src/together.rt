@@ -62,11 +62,7 @@ fn tell<K: Keeper, L: Opens>(ticket: u64, given: &Given) -> Option<Told<K, L>>
 }
 
 // What was given for requests, for their callers. Where memory is refused, these ask again too.
-fn tell_all<K: Keeper, L: Opens>(
-    alloc: Global,
-    tickets: &[u64],
-    given: &[Given],
-) -> Vec<Told<K, L>>
+fn tell_all<K: Keeper, L: Opens>(alloc: Global, tickets: &[u64], given: &[Given]) -> Vec<Told<K, L>>
     requires { All (StandsGiven L.office L.began (SiteInStep K.failed K.is_trusted K.kept
         K.may_leave)) given.now }
 {
@@ -208,12 +204,7 @@ impl<K: Keeper, L: Opens> Together<K, L> {
     }
 
     // Lets the others know what their requests came to, and gives the caller what its own did.
-    fn hand_out<T: Wait>(
-        &self,
-        rt: &T,
-        told: Vec<Told<K, L>>,
-        ticket: u64,
-    ) -> Option<Told<K, L>> {
+    fn hand_out<T: Wait>(&self, rt: &T, told: Vec<Told<K, L>>, ticket: u64) -> Option<Told<K, L>> {
         let mut pile = self.pile.lock(rt);
         pile.put(told);
         pile.is_asking = false;

@@ -85,7 +85,9 @@ fn work<
         callers,
     } = office;
     if number <= OPERATORS {
-        work_at(rt, *alloc, desk, together, closing, callers, seat, *operators)
+        work_at(
+            rt, *alloc, desk, together, closing, callers, seat, *operators,
+        )
     } else {
         work_at(rt, *alloc, desk, together, closing, callers, seat, *clerks)
     }

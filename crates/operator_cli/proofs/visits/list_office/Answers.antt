@@ -18,13 +18,16 @@ returns-in_default g c =
     let mid = g.W.Write.contents c.tell-came.new.out in
     let after = g.W.Write.contents c.ended.new.out in
     let unnamed : IsEventName c.args.event.now → ⊥ = λ named. false≢true (c.in_default.ensures.names.1 (subst IsEventName (sym c.as_bytes.ensures.value) named)) in
-    inr (unnamed, record {
-      same = refl;
-      printed =
-        ends_printed told before mid after c.tell-came.result c.ended.result
-        (told_printed told before mid c.tell-came.result NotFound (NotFound, tt, refl, refl) c.tell-came.ensures.written c.tell-came.ensures.status) c.ended.ensures.kept c.ended.ensures.status;
-      told = c.ended.ensures.told;
-      cause =
-        fails_for causes (g.E.Write.contents c.args.err.now) (g.E.Write.contents c.ended.new.err) c.tell-came.result c.ended.result
-        (for_write c.tell-came.result causes c.tell-came.ensures.fault refl) (fails_only c.tell-came.result) (told_lives c.tell-came.result NotFound c.tell-came.ensures.status) c.ended.ensures.line c.ended.ensures.flush;
-    })
+    inr (
+      unnamed,
+      record {
+        same = refl;
+        printed =
+            ends_printed told before mid after c.tell-came.result c.ended.result
+            (told_printed told before mid c.tell-came.result NotFound (NotFound, tt, refl, refl) c.tell-came.ensures.written c.tell-came.ensures.status) c.ended.ensures.kept c.ended.ensures.status;
+        told = c.ended.ensures.told;
+        cause =
+            fails_for causes (g.E.Write.contents c.args.err.now) (g.E.Write.contents c.ended.new.err) c.tell-came.result c.ended.result
+            (for_write c.tell-came.result causes c.tell-came.ensures.fault refl) (fails_only c.tell-came.result) (told_lives c.tell-came.result NotFound c.tell-came.ensures.status) c.ended.ensures.line c.ended.ensures.flush;
+      },
+    )

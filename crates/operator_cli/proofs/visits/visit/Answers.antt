@@ -14,6 +14,6 @@ returns-in_default g c =
       passes = passes_nothing sent out;
       told = c.tell_fault.ensures.told;
       cause =
-        fails_with (IsVisitEnd sent) (g.E.Write.contents c.args.err.now) (g.E.Write.contents c.tell_fault.new.err) fault.Memory c.tell_fault.result
-        (memory_end sent fault.Memory refl) c.tell_fault.ensures.line;
+          fails_with (IsVisitEnd sent) (g.E.Write.contents c.args.err.now) (g.E.Write.contents c.tell_fault.new.err) fault.Memory c.tell_fault.result
+          (memory_end sent fault.Memory refl) c.tell_fault.ensures.line;
     }

@@ -17,6 +17,6 @@ returns g c =
       passes = passes_kept sent before mid after came.ensures.passes c.ended.ensures.kept;
       told = c.ended.ensures.told;
       cause =
-        fails_for (IsVisitEnd sent) (g.E.Write.contents c.args.err.now) (g.E.Write.contents c.ended.new.err) came.result c.ended.result came.ensures.cause
-        (write_ends came.result sent) came.ensures.ends c.ended.ensures.line c.ended.ensures.flush;
+          fails_for (IsVisitEnd sent) (g.E.Write.contents c.args.err.now) (g.E.Write.contents c.ended.new.err) came.result c.ended.result came.ensures.cause
+          (write_ends came.result sent) came.ensures.ends c.ended.ensures.line c.ended.ensures.flush;
     }
