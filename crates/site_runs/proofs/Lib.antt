@@ -1,5 +1,6 @@
 pub mod Moves
 pub mod OneStep
+pub mod Asking
 pub mod Restarting
 pub mod Beginning
 pub mod Listing

@@ -1,5 +1,5 @@
 -- A call of a site is a step of its world, or none.
-use Rattle.std.proofs.Common.{◌≡◌, inl, inr, ℕ, ◌<◌, Bool, true, false, cond, not, ◌&&◌, ◌||◌, List, [], ◌∷◌, Option, Some, None, refl, sym, ap, ◌∙◌, subst, arith, length, eqb-true, ne_eqb}
+use Rattle.std.proofs.Common.{◌≡◌, inl, inr, ℕ, zero, suc, ◌<◌, Bool, true, false, cond, not, ◌&&◌, ◌||◌, List, [], ◌∷◌, ◌++◌, Option, Some, None, refl, sym, ap, ◌∙◌, subst, arith, length, set, eqb-true, ne_eqb}
 use Rattle.std.specs.Prelude.{slice_get, nat_lt, nat_le, ◌==◌}
 use Rattle.std.proofs.lemmas.Bool.{cases_eq, lt-ltb, or_parts, not-false}
 use Rattle.std.proofs.lemmas.Option.{slice_get_within}
@@ -37,6 +37,22 @@ by_none w i site same = record { steps = []; made = sym (ap (at_site w i) same �
 
 pub by_one : (w : World) (i : ℕ) (site : SitePart) (message : Option Message) (step : Step) → after w step ≡ sends message (at_site w i site) → Made w i site message
 by_one w i site message step is = record { steps = step ∷ []; made = is }
+
+pub run-append : (steps more : List Step) (w : World) → run (steps ++ more) w ≡ run more (run steps w)
+run-append [] more w = refl
+run-append (step ∷ steps) more w = run-append steps more (after w step)
+
+set_twice : {A : Type 0} (xs : List A) (i : ℕ) (x y : A) → set (set xs i x) i y ≡ set xs i y
+set_twice [] i x y = refl
+set_twice (z ∷ xs) zero x y = refl
+set_twice (z ∷ xs) (suc i) x y = ap (λ zs. z ∷ zs) (set_twice xs i x y)
+
+-- some steps, and then those that put this site in the same place
+pub by_more : (w : World) (i : ℕ) (first site : SitePart) (message : Option Message) → Made w i first None → Made (at_site w i first) i site message → Made w i site message
+by_more w i first site message begun rest = record {
+  steps = begun.steps ++ rest.steps;
+  made = run-append begun.steps rest.steps w ∙ ap (run rest.steps) begun.made ∙ rest.made ∙ ap (λ (ss : List SitePart). sends message (record w { sites = ss })) (set_twice w.sites i first site);
+}
 
 -- the site of a world that shows it
 pub record IsHere {K : Type 0} (w : World) (i : ℕ) (old : SiteView K) : Type 0 where

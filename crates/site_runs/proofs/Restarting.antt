@@ -18,8 +18,13 @@ use Rattle.world_steps.specs.declared.step.Input.TheVariants as input
 use Rattle.world_steps.specs.declared.step.Step.TheVariants.{Restart, Stop}
 use Rattle.world_steps.specs.World.{World, count, site_numbered, history_at, office_at, at_site, widened_by, entry_if_sent, entry_of_input, is_there, stopped_in}
 use Rattle.world_steps.proofs.Widening.{ask_adds_none, take_adds_none}
-use Rattle.site_desk.specs.Calls.{Keeping, SiteCall}
-use Rattle.site_runs.specs.Runs.{IsOneOf, Restarted, Starts, history_left, IsGenuine, Call, Asks, Takes, Grows, Gives, Restarts, Crashes}
+use Rattle.site_desk.specs.declared.answer.Answer.{Answer}
+use Rattle.site_desk.specs.declared.fault.AskFault.{AskFault}
+use Rattle.site_desk.specs.declared.fault.AskFault.TheVariants as ask
+use Rattle.site_desk.specs.Batch.{AreAnswered, LeavesAsked}
+use Rattle.site_desk.specs.Calls.{AskAllCall, Keeping, SiteCall}
+use Rattle.site_runs.specs.Runs.{IsOneOf, Restarted, Starts, IsGenuine, IsLeft, Call, Asks, AsksAll, Takes, Grows, Gives, Restarts, Crashes}
+use Rattle.site_runs.proofs.Asking.{asked_restart}
 use Rattle.site_runs.proofs.Moves.{grow_adds_none}
 use Rattle.site_runs.proofs.OneStep.{Made, by_one, IsHere}
 
@@ -39,11 +44,18 @@ IsHeld given (OfRequest number request) = Unit {0}
 IsHeld given (OfMessage message) = IsOneOf given message
 IsHeld given (OfGrowth sites) = Unit {0}
 
+-- a stop may leave the history, or it with the one entry that was in hand
+abbrev pub LeavesHeld : {K : Type 0} → Keeping K → List Message → SiteView K → Type 0
+LeavesHeld k given site = (held : Held) × IsHeld given held × LeavesEither site.book.history (entry_held held site.book.office site.book.history) (k.may_leave site.keeper)
+
+-- a stop may leave the history, or it with all that the requests that were in hand make of it
+abbrev pub LeavesAll : {K : Type 0} → Keeping K → SiteView K → Type 0
+LeavesAll k site = (requests : List (ℕ × Request)) × LeavesAsked site.book.office site.book.history requests (k.may_leave site.keeper)
+
 -- what a stop may leave of the site
 pub record CanRestart {K : Type 0} (k : Keeping K) (given : List Message) (site : SiteView K) : Type 0 where
   pub opened : site.closed ≡ false → k.is_trusted site.keeper → LeavesOnly site.book.history (k.may_leave site.keeper)
-  pub shut : site.closed ≡ true → k.is_trusted site.keeper
-      → (held : Held) × IsHeld given held × LeavesEither site.book.history (entry_held held site.book.office site.book.history) (k.may_leave site.keeper)
+  pub shut : site.closed ≡ true → k.is_trusted site.keeper → LeavesHeld k given site ⊎ LeavesAll k site
 
 pub came_keeps : {K T F : Type 0} (k : Keeping K) (given : List Message) (old new : SiteView K) (held : Held) (due : SitePart) (closed store : F) (answer : Result T F)
     → SiteCall k old new (entry_held held old.book.office old.book.history) due closed store answer → (closed ≡ store → ⊥) → (answer ≡ Err store → IsHeld given held) → CanRestart k given old → CanRestart k given new
@@ -53,25 +65,54 @@ came_keeps {K} {T} {F} k given old new held due closed store answer came ne is_h
       shut = λ is trusted. by_cause trusted (came.closes.0 is);
     }
   where
-    by_cause : k.is_trusted new.keeper → (old.closed ≡ true) ⊎ (answer ≡ Err store)
-        → (held : Held) × IsHeld given held × LeavesEither new.book.history (entry_held held new.book.office new.book.history) (k.may_leave new.keeper)
+    by_cause : k.is_trusted new.keeper → (old.closed ≡ true) ⊎ (answer ≡ Err store) → LeavesHeld k given new ⊎ LeavesAll k new
     by_cause trusted (inl was) =
         let q : answer ≡ Err closed = came.shut.1 was in
         let kept : new.keeper ≡ old.keeper = subst (λ (a : Result T F). IfErr a (λ fault. fault ≢ store → new.keeper ≡ old.keeper)) q came.untouched ne in
         let same : site_of new ≡ site_of old = subst (λ (a : Result T F). OnErr a (site_of new ≡ site_of old)) q came.unchanged in
-        let before = can.shut was (subst k.is_trusted kept trusted) in (
-          before.0,
-          before.1,
-          subst (λ (o : Office). LeavesEither new.book.history (entry_held before.0 o new.book.history) (k.may_leave new.keeper)) (sym came.office)
-              (subst (λ (s : SitePart). LeavesEither s.history (entry_held before.0 old.book.office s.history) (k.may_leave new.keeper)) (sym same)
-              (subst (λ (p : K). LeavesEither old.book.history (entry_held before.0 old.book.office old.book.history) (k.may_leave p)) (sym kept) before.2)),
-        )
+        elim (can.shut was (subst k.is_trusted kept trusted)) [
+          | inl before ↦ inl (
+            before.0,
+            before.1,
+            subst (λ (o : Office). LeavesEither new.book.history (entry_held before.0 o new.book.history) (k.may_leave new.keeper)) (sym came.office)
+                (subst (λ (s : SitePart). LeavesEither s.history (entry_held before.0 old.book.office s.history) (k.may_leave new.keeper)) (sym same)
+                (subst (λ (p : K). LeavesEither old.book.history (entry_held before.0 old.book.office old.book.history) (k.may_leave p)) (sym kept) before.2)),
+          )
+          | inr before ↦ inr (
+            before.0,
+            subst (λ (o : Office). LeavesAsked o new.book.history before.0 (k.may_leave new.keeper)) (sym came.office)
+                (subst (λ (s : SitePart). LeavesAsked old.book.office s.history before.0 (k.may_leave new.keeper)) (sym same)
+                (subst (λ (p : K). LeavesAsked old.book.office old.book.history before.0 (k.may_leave p)) (sym kept) before.1)),
+          )
+        ]
     by_cause trusted (inr failed) =
-        let same : site_of new ≡ site_of old = subst (λ (a : Result T F). OnErr a (site_of new ≡ site_of old)) failed came.unchanged in (
+        let same : site_of new ≡ site_of old = subst (λ (a : Result T F). OnErr a (site_of new ≡ site_of old)) failed came.unchanged in
+        inl (
           held,
           is_held failed,
           subst (λ (o : Office). LeavesEither new.book.history (entry_held held o new.book.history) (k.may_leave new.keeper)) (sym came.office)
               (subst (λ (s : SitePart). LeavesEither s.history (entry_held held old.book.office s.history) (k.may_leave new.keeper)) (sym same) (came.stopped failed trusted)),
+        )
+
+-- the same behind several requests
+pub asked_all_keeps : {K : Type 0} (k : Keeping K) (given : List Message) (old new : SiteView K) (requests : List (ℕ × Request)) (result : Result (List (Result Answer AskFault)) AskFault)
+    → AskAllCall k old new requests result → CanRestart k given old → CanRestart k given new
+asked_all_keeps {K} k given old new requests result came can =
+    record {
+      opened = came.rests;
+      shut = λ is trusted. by_cause is trusted (came.closes.0 is);
+    }
+  where
+    by_cause : new.closed ≡ true → k.is_trusted new.keeper → (old.closed ≡ true) ⊎ (result ≡ Err ask.Store) → LeavesHeld k given new ⊎ LeavesAll k new
+    by_cause is trusted (inl was) =
+        let same : new ≡ old = subst (λ (a : Result (List (Result Answer AskFault)) AskFault). IfErr a (λ fault. fault ≢ ask.Store → new ≡ old)) (came.shut.1 was) came.untouched (λ e. cc) in
+        (subst (CanRestart k given) (sym same) can).shut is trusted
+    by_cause is trusted (inr failed) =
+        let same : new.book.history ≡ old.book.history = subst (λ (a : Result (List (Result Answer AskFault)) AskFault). OnErr a (new.book.history ≡ old.book.history)) failed came.unchanged in
+        inr (
+          requests,
+          subst (λ (o : Office). LeavesAsked o new.book.history requests (k.may_leave new.keeper)) (sym came.office)
+              (subst (λ (h : List Entry). LeavesAsked old.book.office h requests (k.may_leave new.keeper)) (sym same) (came.stopped failed trusted)),
         )
 
 pub started_can : {K : Type 0} (k : Keeping K) (given : List Message) (old new : SiteView K) (h : List Entry) → Starts k old new h → CanRestart k given new
@@ -95,7 +136,10 @@ held_stays given m (OfGrowth sites) is = is
 pub can_stays : {K : Type 0} (k : Keeping K) (given : List Message) (m : Option Message) (site : SiteView K) → CanRestart k given site → CanRestart k (with_given given m) site
 can_stays k given m site can = record {
   opened = can.opened;
-  shut = λ q trusted. let was = can.shut q trusted in (was.0, held_stays given m was.0 was.1, was.2);
+  shut = λ q trusted. elim (can.shut q trusted) [
+    | inl was ↦ inl (was.0, held_stays given m was.0 was.1, was.2)
+    | inr was ↦ inr was
+  ];
 }
 
 -- what was in hand, as an input of the world
@@ -149,11 +193,19 @@ restart_step {K} k w i old new whole here can r = by_closed old.closed refl
       | inr more ↦ stop_step w i old new held entry here (in_hand_of w i held whole is) q (same_Some new.book.history (old.book.history ++ entry ∷ []) more) r.starts.acked
     ]
 
+    by_requests : LeavesAll k old → Made w i (site_of new) None
+    by_requests was = elim (was.1.leaves (Some new.book.history) r.left) [
+      | inl same ↦ restart_same w i old new here (same_Some new.book.history old.book.history same) r.starts.acked
+      | inr all ↦ asked_restart w i old new was.0 was.1.answers here
+          (subst (AreAnswered old.book.office old.book.history was.0 was.1.answers) (sym (same_Some new.book.history was.1.after all)) was.1.answered) r.starts.acked
+    ]
+
     by_closed : (b : Bool) → old.closed ≡ b → Made w i (site_of new) None
     by_closed false q = restart_same w i old new here (same_Some new.book.history old.book.history ((can.opened q r.trusted).alone (Some new.book.history) r.left)) r.starts.acked
-    by_closed true q =
-        let was = can.shut q r.trusted in
-        by_entry was.0 was.1 (entry_held was.0 old.book.office old.book.history) refl was.2
+    by_closed true q = elim (can.shut q r.trusted) [
+      | inl was ↦ by_entry was.0 was.1 (entry_held was.0 old.book.office old.book.history) refl was.2
+      | inr was ↦ by_requests was
+    ]
 
 -- a start from what was left by a stop with this in hand
 held_step : {K : Type 0} (w : World) (i : ℕ) (old new : SiteView K) (held : Held) (stored : Bool) → count w ≡ max_sites → IsHere w i old → IsHeld w.sent held
@@ -169,12 +221,14 @@ none_left : (stored : Bool) (h : List Entry) → extended (cond stored None None
 none_left true h = refl
 none_left false h = refl
 
--- a stop in the midst of a call, and the start behind it, are a step
-pub crash_step : {K : Type 0} (k : Keeping K) (w : World) (i : ℕ) (old new : SiteView K) (in_hand : Call) (stored : Bool) → count w ≡ max_sites → IsHere w i old → IsGenuine w.sent in_hand
-    → Starts k old new (history_left old.book in_hand stored) → Made w i (site_of new) None
-crash_step k w i old new (Asks number request answer) stored whole here is starts = held_step w i old new (OfRequest number request) stored whole here tt starts.history starts.acked
-crash_step k w i old new (Takes message answer) stored whole here is starts = held_step w i old new (OfMessage message) stored whole here is starts.history starts.acked
-crash_step k w i old new (Grows sites answer) stored whole here is starts = held_step w i old new (OfGrowth sites) stored whole here tt starts.history starts.acked
-crash_step k w i old new (Gives to answer) stored whole here is starts = restart_same w i old new here (starts.history ∙ none_left stored old.book.history) starts.acked
-crash_step k w i old new Restarts stored whole here is starts = restart_same w i old new here (starts.history ∙ none_left stored old.book.history) starts.acked
-crash_step k w i old new (Crashes in_hand done) stored whole here is starts = restart_same w i old new here (starts.history ∙ none_left stored old.book.history) starts.acked
+-- a stop in the midst of a call, and the start behind it, are a step; those of several requests that were stored are one for each, and a restart
+pub crash_step : {K : Type 0} (w : World) (i : ℕ) (old new : SiteView K) (in_hand : Call) (stored : Bool) → count w ≡ max_sites → IsHere w i old → IsGenuine w.sent in_hand
+    → IsLeft old.book in_hand stored new.book.history → new.acked ≡ zeros → Made w i (site_of new) None
+crash_step w i old new (Asks number request answer) stored whole here is left acked = held_step w i old new (OfRequest number request) stored whole here tt left acked
+crash_step w i old new (AsksAll requests result) true whole here is left acked = asked_restart w i old new requests left.0 here left.1 acked
+crash_step w i old new (AsksAll requests result) false whole here is left acked = restart_same w i old new here left acked
+crash_step w i old new (Takes message answer) stored whole here is left acked = held_step w i old new (OfMessage message) stored whole here is left acked
+crash_step w i old new (Grows sites answer) stored whole here is left acked = held_step w i old new (OfGrowth sites) stored whole here tt left acked
+crash_step w i old new (Gives to answer) stored whole here is left acked = restart_same w i old new here (left ∙ none_left stored old.book.history) acked
+crash_step w i old new Restarts stored whole here is left acked = restart_same w i old new here (left ∙ none_left stored old.book.history) acked
+crash_step w i old new (Crashes in_hand done) stored whole here is left acked = restart_same w i old new here (left ∙ none_left stored old.book.history) acked

@@ -17,13 +17,15 @@ use Rattle.site_desk.specs.declared.answer.Taken.{Taken}
 use Rattle.site_desk.specs.declared.fault.AskFault.{AskFault}
 use Rattle.site_desk.specs.declared.fault.NextFault.{NextFault}
 use Rattle.site_desk.specs.Answers.{IsNextFault, ack_of, is_peer}
-use Rattle.site_desk.specs.Calls.{AskCall, GrowCall, Keeping, TakeCall}
+use Rattle.site_desk.specs.Batch.{AreAnswered}
+use Rattle.site_desk.specs.Calls.{AskAllCall, AskCall, GrowCall, Keeping, TakeCall}
 use Rattle.site_desk.specs.SiteView.{SiteView, entry_in, growth_in, site_of}
 
 -- a call of a site's book with its answer, or a stop and a start from what it left: between two calls, or in the midst of one, whose answer
 -- says nothing then
 pub data Call : Type 0 where
   Asks : (number : ℕ) → (request : Request) → (answer : Result Answer AskFault) → Call
+  AsksAll : (requests : List (ℕ × Request)) → (result : Result (List (Result Answer AskFault)) AskFault) → Call
   Takes : (message : Message) → (answer : Result Taken TakeFault) → Call
   Grows : (sites : ℕ) → (answer : Result (Unit {0}) GrowFault) → Call
   Gives : (to : ℕ) → (answer : Result (Option Message) NextFault) → Call
@@ -48,7 +50,7 @@ pub record Restarted {K : Type 0} (k : Keeping K) (old new : SiteView K) : Type 
 abbrev pub IsOneOf : List Message → Message → Type 0
 IsOneOf messages message = (index : ℕ) × (slice_get messages index ≡ Some message)
 
--- the entry that a call adds, if any
+-- the one entry that a call adds, if any; what several requests add their answers say
 abbrev pub adds : Call → BookView → Option Entry
 adds (Asks number request answer) book = entry_in book number request
 adds (Takes message answer) book = entry_of_take book.office book.history message
@@ -63,6 +65,11 @@ IsGenuine given _ = Unit {0}
 -- the history of a site that stopped in the midst of the call, and stored its entry or did not
 abbrev pub history_left : BookView → Call → Bool → List Entry
 history_left book in_hand stored = extended (if stored then adds in_hand book else None) book.history
+
+-- that history is this one; of several requests that were stored, it is one that answers to each of them make of the one before
+abbrev pub IsLeft : BookView → Call → Bool → List Entry → Type 0
+IsLeft book (AsksAll requests result) true left = (answers : List (Result Answer AskFault)) × AreAnswered book.office book.history requests answers left
+IsLeft book in_hand stored left = left ≡ history_left book in_hand stored
 
 -- what is due to a peer is given, or why not is told; nothing changes
 pub record GiveCall {K : Type 0} (old new : SiteView K) (to : ℕ) (answer : Result (Option Message) NextFault) : Type 0 where
@@ -79,11 +86,12 @@ WasTried (Err fault) = ⊥
 -- what a call makes of a site, where these messages were given before it
 abbrev pub Happens : {K : Type 0} → Keeping K → List Message → SiteView K → Call → SiteView K → Type 0
 Happens k given old (Asks number request answer) new = AskCall k old new number request answer
+Happens k given old (AsksAll requests result) new = AskAllCall k old new requests result
 Happens k given old (Takes message answer) new = (WasTried answer → IsOneOf given message) × TakeCall k old new message answer
 Happens k given old (Grows sites answer) new = GrowCall k old new sites answer
 Happens k given old (Gives to answer) new = GiveCall old new to answer
 Happens k given old Restarts new = Restarted k old new
-Happens k given old (Crashes in_hand stored) new = IsGenuine given in_hand × Starts k old new (history_left old.book in_hand stored)
+Happens k given old (Crashes in_hand stored) new = IsGenuine given in_hand × IsLeft old.book in_hand stored new.book.history × Starts k old new new.book.history
 
 -- the message that an answer gives, if any
 abbrev pub given_by : Call → Option Message

@@ -1,9 +1,9 @@
 //! Books of several sites in one process, for tests and for who embeds them in a program of his own.
 ghost use Rattle.std.specs.Prelude.{◌≡◌, ◌<◌, [], Some, option_copied, slice_get};
-ghost use Rattle.site_desk.specs.Calls.{keeping};
+ghost use Rattle.site_desk.specs.Calls.{keeping, listed};
 ghost use Rattle.site_desk.specs.SiteView.{SiteView};
 ghost use Rattle.site_runs.specs.Moving.{Added, Called, Gave, MayLeave, StartedAgain, Took};
-ghost use Rattle.site_runs.specs.Runs.{Asks, Grows, NotOversold};
+ghost use Rattle.site_runs.specs.Runs.{Asks, AsksAll, Grows, NotOversold};
 
 use crate::calls::{acknowledgement, begin, copied, give, restart};
 use book_core::{Entry, GrowFault, Limit, ReplayFault};
@@ -14,6 +14,7 @@ use site_exchange::{Message, TakeFault};
 use sql_records::{Keeper, Meta};
 use std::alloc::Global;
 use std::marker::Model;
+use std::sync::Wait;
 
 /// The books of sites, each at its place, and all messages that they gave. Some run of calls leads to them, so whatever is
 /// done with them they never oversell.
@@ -90,6 +91,25 @@ impl<K: Keeper> Books<K> {
         }
         let book = &mut self.books[site];
         Some(book.ask(alloc, number, request))
+    }
+
+    /// Asks a site several requests, one after another, and answers as its book does; `None` where there is no such site.
+    pub fn ask_all<R: Wait>(
+        &mut self,
+        rt: &R,
+        alloc: Global,
+        site: usize,
+        requests: &[(RequestNumber, Request)],
+    ) -> Option<Result<Vec<Result<Answer, AskFault>>, AskFault>>
+        ensures moves { Called (keeping K.failed K.is_trusted K.kept K.may_leave K.is_of)
+            self.old site (λ came. AsksAll requests.now (listed came)) result self.new }
+        ensures never { NotOversold self.new }
+    {
+        if site >= self.books.len() {
+            return None;
+        }
+        let book = &mut self.books[site];
+        Some(book.ask_all(rt, alloc, requests))
     }
 
     /// Has a site count so many sites; `None` where there is no such site.

@@ -1,8 +1,9 @@
 //! Runs of sites' books: never oversold, of the books themselves.
 //!
-//! A run is a list of calls of up to 64 books, each with the site after it: requests, messages taken and given,
-//! growths, crashes with the entry stored or without, and starts from what was stored. A message is lost where no call
-//! takes it, and may be taken again and in any order. Each book is one copy of its site, by the shape of the definition.
+//! A run is a list of calls of up to 64 books, each with the site after it: requests, one or several at once, messages
+//! taken and given, growths, crashes with what was entered stored or without, and starts from what was stored. A message
+//! is lost where no call takes it, and may be taken again and in any order. Each book is one copy of its site, by the
+//! shape of the definition.
 //!
 //! Guaranteed (`laws`): each run is a list of steps of a world that shows the same; so no run oversells, and no more is
 //! given back than was sold. `books` has books of several sites as one value that keeps this, whatever is done with it;

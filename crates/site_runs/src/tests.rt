@@ -10,6 +10,7 @@ use site_exchange::{Message, TakeFault};
 use sql_records::{ListKeeper, Meta};
 use std::alloc::Global;
 use std::process::Abort;
+use std::sync::Wait;
 
 fn gala() -> Option<Event> {
     Event::read(b"gala")
@@ -84,6 +85,54 @@ fn ceded_seats_are_sold_once(rt: HostRuntime) {
     assert!(rt; books.messages().len() == 3);
     assert!(rt; matches!(&books.messages()[1], Message::Ack { upto, .. } if upto.entries() == 3));
     assert!(rt; books.into_books().len() == 2);
+}
+
+// What a site replies to sales of so many seats, each under its number, asked at once; a request that is refused has no reply.
+fn sold_at_once<R: Wait>(
+    rt: &R,
+    alloc: Global,
+    books: &mut Books<ListKeeper>,
+    site: usize,
+    sales: &[(u64, u64)],
+) -> Option<Vec<Option<Reply>>> {
+    let event = gala()?;
+    let mut requests = Vec::new(alloc);
+    for (number, seats) in sales {
+        let number = RequestNumber::of(*number)?;
+        let amount = Amount::of(*seats)?;
+        requests
+            .push((number, Request::Sell { event, amount }))
+            .ok()?;
+    }
+    let answers = books.ask_all(rt, alloc, site, requests.as_slice())?.ok()?;
+    let mut replies = Vec::new(alloc);
+    for answer in &answers {
+        let reply = match answer {
+            Ok(answer) => Some(answer.reply),
+            Err(_) => None,
+        };
+        replies.push(reply).ok()?;
+    }
+    Some(replies)
+}
+
+// The first site has four seats left. A number that was asked before keeps its reply, and one of another request is refused.
+#[test]
+fn requests_asked_at_once_are_answered_in_order(rt: HostRuntime) {
+    let alloc = rt.alloc();
+    let mut books = ceded(alloc).expect(&rt, "memory");
+    let sales = [(4, 3), (5, 3), (4, 3), (4, 1), (6, 1)];
+    let wanted = [
+        Some(Reply::Done),
+        Some(Reply::Short { left: 1 }),
+        Some(Reply::Done),
+        None,
+        Some(Reply::Done),
+    ];
+    let replies = sold_at_once(&rt, alloc, &mut books, 0, &sales).expect(&rt, "memory");
+    assert!(rt; replies.as_slice() == wanted.as_slice());
+    assert!(rt; books.book(0).is_some_and(|book| book.book().len() == 6));
+    assert!(rt; sold_at_once(&rt, alloc, &mut books, 2, &sales).is_none());
 }
 
 #[test]
