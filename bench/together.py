@@ -1,11 +1,12 @@
 #!/usr/bin/env python3
 """Times durable sales of one event at open offices of several programs, beside PostgreSQL and Redis.
 
-usage: together.py [--rounds N] [--slower MICROSECONDS,..] [--folder FOLDER] [--callers 1,4,16,64] NAME=PROGRAM ..
+usage: together.py [--rounds N] [--slower MICROSECONDS,..] [--folder FOLDER] [--callers 1,4,16,64] [--serve] NAME=PROGRAM ..
 
 Each PROGRAM is a built boxoffice, and NAME what it is called in the output. Callers (bench/callers.rs, which rustc has to
 be there for) sell over loopback at the port of `open`, each line behind the reply to the one before; each sale is in the
-file and synced before it is answered. Then `close` ends the office, and `audit` has to find just as many sold.
+file and synced before it is answered. Then `close` ends the office, and `audit` has to find just as many sold. --serve
+times `serve` of each program too, where each sale has a sync of its own.
 
 PostgreSQL does the same over a local socket by pgbench with as many clients, its commits synchronous: one statement takes a
 seat from the one row that all sell from, and inserts the request's number. Redis does it over a local socket by
@@ -93,10 +94,29 @@ def office_rate(program, caller, folder, env, callers, each):
         finally:
             office.kill()
     found = subprocess.run([program, 'audit', path], stdout=subprocess.PIPE, text=True, check=True).stdout
-    wanted = 'gala released %d sold %d refunded 0 outstanding %d\n' % (SEATS, sales, sales)
-    if office.returncode or found != wanted:
-        sys.exit('%s ended with status %d and %r, not with %r' % (program, office.returncode, found, wanted))
+    check_end(program, office.returncode, found, sales)
     return rate
+
+
+def serve_rate(program, caller, folder, env, callers, each):
+    """The same through `serve`, which ends with its callers and prints what an audit does."""
+    path, port = os.path.join(folder, 'site.db'), free_port()
+    released(program, path)
+    words = [program, 'serve', str(port), str(callers), '0', path]
+    with subprocess.Popen(words, stdin=subprocess.DEVNULL, stdout=subprocess.PIPE, text=True, env=env) as serving:
+        try:
+            rate = called(caller, port, callers, each)
+            found = serving.communicate(timeout=60)[0]
+        finally:
+            serving.kill()
+    check_end(program, serving.returncode, found, callers * each)
+    return rate
+
+
+def check_end(program, status, found, sales):
+    wanted = 'gala released %d sold %d refunded 0 outstanding %d\n' % (SEATS, sales, sales)
+    if status or found != wanted:
+        sys.exit('%s ended with status %d and %r, not with %r' % (program, status, found, wanted))
 
 
 class Redis:
@@ -134,10 +154,12 @@ class Redis:
         self.server.wait(60)
 
 
-def started(stack, programs, folder, slower):
+def started(stack, programs, folder, slower, serve):
     """How each sells, by its name; what runs then ends with the stack."""
     env, caller = slowed(folder, slower), compiled(folder)
     sellers = {name: functools.partial(office_rate, program, caller, folder, env) for name, program in programs.items()}
+    if serve:
+        sellers |= {name + ', serve': functools.partial(serve_rate, program, caller, folder, env) for name, program in programs.items()}
     if installed():
         postgres = Postgres(installed(), folder, env)
         stack.callback(postgres.stop)
@@ -192,6 +214,7 @@ def arguments():
     parser.add_argument('--slower', type=numbers, default=[0])
     parser.add_argument('--folder')
     parser.add_argument('--callers', type=numbers, default=[1, 4, 16, 64])
+    parser.add_argument('--serve', action='store_true')
     parser.add_argument('programs', metavar='NAME=PROGRAM', nargs='+', type=named)
     return parser.parse_args()
 
@@ -209,7 +232,7 @@ def main():
         with tempfile.TemporaryDirectory(dir=given.folder) as folder, contextlib.ExitStack() as stack:
             disk = '%g ms more a sync' % (slower / 1000) if slower else 'the disk as it is'
             print('%s (4 kB and a sync took %.0f microseconds before)' % (disk, sync_time(folder)), flush=True)
-            sellers = started(stack, programs, folder, slower)
+            sellers = started(stack, programs, folder, slower, given.serve)
             for callers in given.callers:
                 print('%d callers' % callers)
                 tell(timed(sellers, given.rounds, callers), programs)
