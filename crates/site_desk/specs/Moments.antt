@@ -57,8 +57,8 @@ pub record AtOneMoment {K : Type 0} (office : Office) (began : List Entry) (InSt
 abbrev pub first_of : {K : Type 0} → ℕ → SiteView K → SiteView K
 first_of len site = record site { book = record site.book { history = take len site.book.history } }
 
--- it holds of a beginning of some site that may stand there, no shorter than what the desk began with: of a site that had entries ahead
--- of its store, which no keeper ever held without those behind them
+-- it holds of a beginning, no shorter than what the desk began with, of some site that may stand there: where entries are stored by one sync,
+-- no site ever stood there with some of them
 pub record AtABeginning {K : Type 0} (office : Office) (began : List Entry) (InStep : SiteView K → Type 0) (Holds : SiteView K → Type 0) : Type 0 where
   pub site : SiteView K
   pub at_desk : IsAtDesk office began InStep site

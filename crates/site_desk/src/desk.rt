@@ -30,7 +30,8 @@ use std::sync::{Mutex, Wait};
 ///
 /// Whenever the lock is free the book's history is legal, its own rights are not negative and, unless it is closed,
 /// its history is what its keeper holds, as far as that is to be trusted. What these calls answer fits some such book, of
-/// this site, that goes on from the one that the desk began with: which one it was, only who holds the lock sees.
+/// this site, that goes on from the one that the desk began with, or a beginning of one where requests are asked together:
+/// which one it was, only who holds the lock sees.
 #[derive(Drop)]
 pub struct Desk<K: Keeper, L: Opens> {
     lock: Mutex<Locked<K, L>>,
