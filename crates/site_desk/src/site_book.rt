@@ -163,9 +163,8 @@ impl<K: Keeper> SiteBook<K> {
     /// Answers several requests under their numbers, one after another, as `ask` would, and keeps all new entries at once,
     /// before any is answered. Where nothing is new the keeper is not called.
     ///
-    /// An error is one for all. `Store` where the new entries are not known to be kept: the history is as it was, and the
-    /// book is closed. For that it is built again from its entries, and waits for the memory. `Memory` where there is no
-    /// room for the answers. Both leave nobody answered, and all but `Store` change nothing.
+    /// An error is one for all. Behind `Store` the history is as it was and the book is closed: it was built again from its
+    /// entries, which waits for memory. Behind `Closed`, and `Memory` where there is no room for the answers, nothing changed.
     pub fn ask_all<R: Wait>(
         &mut self,
         rt: &R,
