@@ -1,4 +1,4 @@
-use Rattle.std.proofs.Common.{inr, refl, subst, sym}
+use Rattle.std.proofs.Common.{◌≡◌, inr, refl, subst, sym}
 use Rattle.std.proofs.lemmas.Bool.{false≢true}
 use Rattle.rights_lattice.specs.EventName.{IsEventName}
 use Rattle.operator_cli.specs.declared.store_fault.StoreFault.{StoreFault}
