@@ -1,5 +1,5 @@
 -- Several requests, asked one after another, are as many steps of their site.
-use Rattle.std.proofs.Common.{◌≡◌, ℕ, ◌<◌, true, cond, List, [], ◌∷◌, Option, Some, None, refl, sym, ap, ◌∙◌, subst, arith, length, length-set}
+use Rattle.std.proofs.Common.{◌≡◌, ℕ, ◌<◌, true, cond, List, [], ◌∷◌, None, sym, ap, ◌∙◌, subst, arith, length-set}
 use Rattle.std.specs.Prelude.{nat_lt, Result, Ok, Err}
 use Rattle.std.proofs.lemmas.Bool.{lt-ltb}
 use Rattle.request_ledger.specs.declared.request.Request.{Request}

@@ -10,7 +10,7 @@ use Rattle.site_exchange.specs.Taking.{site_after, with_entry, with_given}
 use Rattle.site_desk.specs.declared.fault.AskFault.TheVariants as ask
 use Rattle.site_desk.specs.SiteView.{SiteView, entry_in, growth_in, site_of, verdict_in}
 use Rattle.world_steps.specs.declared.step.Step.{Step}
-use Rattle.world_steps.specs.World.{World, begun, run, after}
+use Rattle.world_steps.specs.World.{World, begun, run}
 use Rattle.site_desk.specs.Calls.{Keeping}
 use Rattle.site_runs.specs.Runs.{Call, Asks, AsksAll, Takes, Grows, Gives, Restarts, Crashes, CallAt, Sites, Happens, Runs, WasTried, moved, given_by}
 use Rattle.site_runs.specs.Steps.{RunsAreSteps, Shows}

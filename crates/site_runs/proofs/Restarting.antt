@@ -50,7 +50,7 @@ LeavesHeld k given site = (held : Held) × IsHeld given held × LeavesEither sit
 
 -- a stop may leave the history, or it with all that the requests that were in hand make of it
 abbrev pub LeavesAll : {K : Type 0} → Keeping K → SiteView K → Type 0
-LeavesAll k site = (requests : List (ℕ × Request)) × LeavesAsked site.book.office site.book.history requests (k.may_leave site.keeper)
+LeavesAll k site = (requests : List (ℕ × Request)) × LeavesAsked site.book.office site.book.history requests (k.is_trusted site.keeper) (k.may_leave site.keeper)
 
 -- what a stop may leave of the site
 pub record CanRestart {K : Type 0} (k : Keeping K) (given : List Message) (site : SiteView K) : Type 0 where
@@ -80,9 +80,9 @@ came_keeps {K} {T} {F} k given old new held due closed store answer came ne is_h
           )
           | inr before ↦ inr (
             before.0,
-            subst (λ (o : Office). LeavesAsked o new.book.history before.0 (k.may_leave new.keeper)) (sym came.office)
-                (subst (λ (s : SitePart). LeavesAsked old.book.office s.history before.0 (k.may_leave new.keeper)) (sym same)
-                (subst (λ (p : K). LeavesAsked old.book.office old.book.history before.0 (k.may_leave p)) (sym kept) before.1)),
+            subst (λ (o : Office). LeavesAsked o new.book.history before.0 (k.is_trusted new.keeper) (k.may_leave new.keeper)) (sym came.office)
+                (subst (λ (s : SitePart). LeavesAsked old.book.office s.history before.0 (k.is_trusted new.keeper) (k.may_leave new.keeper)) (sym same)
+                (subst (λ (p : K). LeavesAsked old.book.office old.book.history before.0 (k.is_trusted p) (k.may_leave p)) (sym kept) before.1)),
           )
         ]
     by_cause trusted (inr failed) =
@@ -111,8 +111,8 @@ asked_all_keeps {K} k given old new requests result came can =
         let same : new.book.history ≡ old.book.history = subst (λ (a : Result (List (Result Answer AskFault)) AskFault). OnErr a (new.book.history ≡ old.book.history)) failed came.unchanged in
         inr (
           requests,
-          subst (λ (o : Office). LeavesAsked o new.book.history requests (k.may_leave new.keeper)) (sym came.office)
-              (subst (λ (h : List Entry). LeavesAsked old.book.office h requests (k.may_leave new.keeper)) (sym same) (came.stopped failed trusted)),
+          subst (λ (o : Office). LeavesAsked o new.book.history requests (k.is_trusted new.keeper) (k.may_leave new.keeper)) (sym came.office)
+              (subst (λ (h : List Entry). LeavesAsked old.book.office h requests (k.is_trusted new.keeper) (k.may_leave new.keeper)) (sym same) (came.stopped failed)),
         )
 
 pub started_can : {K : Type 0} (k : Keeping K) (given : List Message) (old new : SiteView K) (h : List Entry) → Starts k old new h → CanRestart k given new
@@ -194,7 +194,7 @@ restart_step {K} k w i old new whole here can r = by_closed old.closed refl
     ]
 
     by_requests : LeavesAll k old → Made w i (site_of new) None
-    by_requests was = elim (was.1.leaves (Some new.book.history) r.left) [
+    by_requests was = elim (was.1.leaves r.trusted (Some new.book.history) r.left) [
       | inl same ↦ restart_same w i old new here (same_Some new.book.history old.book.history same) r.starts.acked
       | inr all ↦ asked_restart w i old new was.0 was.1.answers here
           (subst (AreAnswered old.book.office old.book.history was.0 was.1.answers) (sym (same_Some new.book.history was.1.after all)) was.1.answered) r.starts.acked
