@@ -367,6 +367,18 @@ def refused(folder):
     same("ask at once after it", call(folder, ["ask", FILE], "left gala\n"), (0, "left 0\n", ""))
 
 
+def waiting_imports(folder):
+    """An `import` whose message has not come yet holds no place at the socket."""
+    made(folder)
+    office, pipes = Office(folder), {"stdin": subprocess.PIPE, "stdout": subprocess.PIPE, "stderr": subprocess.PIPE}
+    waiting = [subprocess.Popen([PROGRAM, "import", FILE], cwd=folder, text=True, **pipes) for _ in range(MOST_OPERATORS)]
+    time.sleep(1)
+    same("the status beside them", call(folder, ["status", FILE])[::2], (0, ""))
+    told = [one.communicate("delta 1 0 1\nname gala\nend\n", timeout=SECONDS) + (one.returncode,) for one in waiting]
+    same("what they come to", told, [("joined\n", "", 0)] + [("nothing-new\n", "", 0)] * (MOST_OPERATORS - 1))
+    office.close()
+
+
 def sessions(folder):
     """Memory does not grow with sessions. Of the callers at the port 64 are served, and the next once one has gone."""
     made(folder)
@@ -452,7 +464,7 @@ def storing_a_message_fails(folder):
         same("what is kept", db.execute("SELECT count(*) FROM entries").fetchone()[0] - count in (0, 1), True)
 
 
-TRIALS = [forty_callers, two_doors, looked_up, commands, piped, exchange, killed, cut_off, places_of_sockets, refused, sessions]
+TRIALS = [forty_callers, two_doors, looked_up, commands, piped, exchange, killed, cut_off, places_of_sockets, refused, waiting_imports, sessions]
 TRIALS += [storing_fails, storing_fails_together, storing_a_message_fails]
 print(f"the seed is {SEED}", flush=True)
 sys.exit(try_each(TRIALS, "an open office: 0 differ", "an open office: {} differ"))
