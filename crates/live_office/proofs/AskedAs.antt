@@ -1,5 +1,5 @@
 -- What a request comes to at a desk, by itself or with others.
-use Rattle.std.proofs.Common.{◌≡◌, ℕ, Result, Ok, Err, refl, subst}
+use Rattle.std.proofs.Common.{◌≡◌, ◌⊎◌, inl, inr, ℕ, Result, Ok, Err, refl, subst}
 use Rattle.request_ledger.specs.declared.request.Request.{Request}
 use Rattle.site_desk.specs.declared.fault.AskFault.{AskFault}
 use Rattle.site_desk.specs.declared.fault.AskFault.TheVariants as ask
@@ -21,5 +21,8 @@ its_receipt d number request receipt h =
     (refl, refl, subst (λ (p : ℕ × Request). ∥ IsGiven d (Ok (receipt_at p.0 p.1 receipt.reply receipt.place)) ∥₁) (λ i. (h.0 i, h.1 i)) h.2)
 
 -- a failed store closed the desk
-pub shut_by : {K : Type 0} (d : Admissible K) (number : ℕ) (request : Request) (fault : AskFault) → fault ≡ ask.Store → IsAskedAs d number request (Err fault) → ∥ IsShut d ∥₁
-shut_by d number request fault is h = subst (λ f. IsAskedAs d number request (Err f)) is h
+pub shut_by : {K : Type 0} (d : Admissible K) (number : ℕ) (request : Request) (fault : AskFault) → (fault ≡ ask.Store) ⊎ (fault ≡ ask.Closed) → IsAskedAs d number request (Err fault) → ∥ IsShut d ∥₁
+shut_by d number request fault (inl is) h = subst (λ f. IsAskedAs d number request (Err f)) is h
+shut_by d number request fault (inr is) h =
+    let refused : (telling d).refuses number request ask.Closed = subst (λ f. IsAskedAs d number request (Err f)) is h in
+    ∣ record { site = refused.0.site; at_desk = refused.0.at_desk; holds = refused.0.holds } ∣₁

@@ -16,8 +16,8 @@ IsGiven d (Ok receipt) = (telling d).receipts receipt
 IsGiven d (Err ask.Store) = IsShut d
 IsGiven d (Err fault) = ⊤
 
--- A request is given its own receipt. A failed store was that of this request or of those with which it was stored; every other refusal
--- is that of an admissible book.
+-- A request is given its own receipt. Behind a failed store an admissible book is closed; every other refusal is that of an admissible
+-- book.
 abbrev pub IsAskedAs : {K : Type 0} → Admissible K → ℕ → Request → Result Receipt AskFault → Type 0
 IsAskedAs d number request (Ok receipt) = (receipt.number ≡ number) × (receipt.request ≡ request) × ∥ IsGiven d (Ok receipt) ∥₁
 IsAskedAs d number request (Err ask.Store) = ∥ IsShut d ∥₁

@@ -1,13 +1,13 @@
 //! A seat at a desk that serves one session after another.
 
-ghost use Rattle.std.specs.Prelude.{◌≡◌, None};
+ghost use Rattle.std.specs.Prelude.{◌≡◌, ◌⊎◌, None};
 ghost use Rattle.desk_lines.specs.declared.line.Line.TheVariants.{Ask, Left, Totals as TotalsOf};
 ghost use Rattle.desk_lines.specs.declared.answered.Answered.TheVariants.{Refused};
 ghost use Rattle.session_server.specs.BookStep.{not_shown};
 ghost use Rattle.live_office.specs.Admissible.{IsShut, admissible};
 ghost use Rattle.live_office.specs.SeatAnswers.{SeatAnswers};
 ghost use Rattle.live_office.specs.Sitting.{later, sitting};
-ghost use Rattle.site_desk.specs.declared.fault.AskFault.TheVariants.{Store};
+ghost use Rattle.site_desk.specs.declared.fault.AskFault.TheVariants.{Closed, Store};
 
 use crate::closing::Closing;
 use crate::together::Together;
@@ -70,14 +70,16 @@ impl<'a, K: Keeper, L: Opens> DeskSeat<'a, K, L> {
         seat
     }
 
-    // Why a request is not answered. After a failed store the office closes.
+    // Why a request is not answered. Where the store failed, for this request or another, the office closes.
     fn refused(&self, fault: AskFault) -> Answered
-        requires { fault ≡ Store → ∥ IsShut (admissible L.office L.began K.failed K.is_trusted
-            K.kept K.may_leave) ∥₁ }
+        requires { (fault ≡ Store) ⊎ (fault ≡ Closed) → ∥ IsShut (admissible L.office L.began
+            K.failed K.is_trusted K.kept K.may_leave) ∥₁ }
         ensures { result ≡ Refused fault }
     {
-        if let AskFault::Store = fault {
-            self.closing.failed(self.desk);
+        match fault {
+            AskFault::Store => self.closing.failed(self.desk),
+            AskFault::Closed => self.closing.failed(self.desk),
+            _ => {}
         }
         Answered::Refused(fault)
     }

@@ -8,8 +8,9 @@
 //!
 //! Guaranteed: what a served caller is sent is exactly the texts of the answers to the lines that were read, in order,
 //! up to a failed write (`Served`). A line of a session is answered as in any session, each answer is that of an
-//! admissible book, and the book that is returned extends the one that was passed. Of a session only the count of its
-//! seat is kept. A caller that came in can only be served (`Call`), and a line that was cut off is not asked (`WholeLines`).
+//! admissible book, and the book that is returned extends the one that was passed. Callers who wait at the same moment
+//! are asked for by one of them (`Together`); each is given its own receipt. Of a session only the place of its last
+//! reply is kept. A caller that came in can only be served (`Call`), and a line that was cut off is not asked (`WholeLines`).
 //! `Closing` closes for a caller who was served and said `close`, for a desk at which a closed book may stand, or where
 //! this crate could not start a thread.
 //!

@@ -186,7 +186,7 @@ impl<K: Keeper, L: Opens> Locked<K, L> {
 
     /// Whether the history has an entry at the place, if there is one.
     pub fn is_past(&self, place: Option<usize>) -> bool
-        ensures { IsTrue result → IfSome place (λ p. p < length self.now.book.history) }
+        ensures { IsTrue result ↔ IfSome place (λ p. p < length self.now.book.history) }
     {
         match place {
             Some(place) => place < self.book.book().len(),
