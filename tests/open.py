@@ -60,6 +60,15 @@ def kept(folder):
     return replies, [row[1] for row in rows if row[0] is not None]
 
 
+def commits(folder):
+    """How many transactions the log has: frames with its salts that end one (the format of SQLite's WAL)."""
+    with open(os.path.join(folder, FILE + "-wal"), "rb") as log:
+        head = log.read(32)
+        page = int.from_bytes(head[8:12], "big")
+        frames = iter(lambda: log.read(24 + page), b"")
+        return sum(frame[8:16] == head[16:24] and frame[4:8] != bytes(4) for frame in frames)
+
+
 def forty_callers(folder):
     """Forty callers ask for 120 of sixty seats, one each time."""
     made(folder)
@@ -286,6 +295,7 @@ def killed(folder):
     for kill in range(KILLS):
         told, joined = until_killed(office, chance, 1_000_000 * (kill + 1), joined)
         wanted |= told
+        same(f"kill {kill}: callers shared a sync", commits(folder) < len(told), True)
         replies, deltas = kept(folder)
         more = [number for number in replies if number not in wanted]
         same(f"kill {kill}: what was answered", {number: replies.get(number) for number in wanted}, wanted)
