@@ -214,9 +214,9 @@ fn sixteen_callers_want_the_last_seat(rt: HostRuntime) {
     for text in texts.iter() {
         let text = text.lock(&rt);
         if text.as_slice() == b"bad-line\ndone\n".as_slice() {
-            done += 1;
+            done = done.wrapping_add(1);
         } else if text.as_slice() == b"bad-line\nshort 0\n".as_slice() {
-            short += 1;
+            short = short.wrapping_add(1);
         }
     }
     assert!(rt; done == 1 && short == 15);
