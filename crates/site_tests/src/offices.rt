@@ -18,26 +18,28 @@ use std::thread;
 use std::thread::Threads;
 use std::time::Clock;
 
-// Where two callers wait for each other before they send anything.
+// Where callers wait for one another before they send anything.
 #[derive(Drop)]
 struct Meeting {
+    wanted: u64,
     came: AtomicU64,
     missed: AtomicU64,
 }
 
 impl Meeting {
-    fn new() -> Meeting {
+    fn of(wanted: u64) -> Meeting {
         Meeting {
+            wanted,
             came: AtomicU64::new(0),
             missed: AtomicU64::new(0),
         }
     }
 
-    // Waits until both are in, for some turns.
+    // Waits until all are in, for some turns.
     fn wait(&self) {
         self.came.fetch_add(1, Ordering::SeqCst);
         for _ in 0..1_000_000u64 {
-            if self.came.load(Ordering::SeqCst) >= 2 {
+            if self.came.load(Ordering::SeqCst) >= self.wanted {
                 return;
             }
             thread::yield_now();
@@ -46,7 +48,7 @@ impl Meeting {
     }
 }
 
-// What a caller sends. One who meets another sends nothing before that one is in.
+// What a caller sends. One who meets others sends nothing before they are in.
 #[derive(Clone, Copy)]
 struct Sends<'a> {
     bytes: &'static [u8],
@@ -164,40 +166,60 @@ fn left_after<'a, T: Threads + Wait + Clock + Abort + Sync>(
     }
 }
 
-// Two callers want the last seat, and each line is sent once both are in: one gets it. The port of an office has no line of the
-// office. An office that serves one after another fails here, and one that sells without the lock.
+const WANT_IT: [&[u8]; 16] = [
+    b"close\nsell 10 gala 1\n",
+    b"close\nsell 11 gala 1\n",
+    b"close\nsell 12 gala 1\n",
+    b"close\nsell 13 gala 1\n",
+    b"close\nsell 14 gala 1\n",
+    b"close\nsell 15 gala 1\n",
+    b"close\nsell 16 gala 1\n",
+    b"close\nsell 17 gala 1\n",
+    b"close\nsell 18 gala 1\n",
+    b"close\nsell 19 gala 1\n",
+    b"close\nsell 20 gala 1\n",
+    b"close\nsell 21 gala 1\n",
+    b"close\nsell 22 gala 1\n",
+    b"close\nsell 23 gala 1\n",
+    b"close\nsell 24 gala 1\n",
+    b"close\nsell 25 gala 1\n",
+];
+
+// Sixteen callers want the last seat, and each line is sent once all are in: one gets it. The port of an office has no line of the
+// office. An office that serves one after another fails here, and one that sells without the lock, or several requests by what is
+// left before the first.
 #[test]
-fn two_callers_want_the_last_seat(rt: HostRuntime) {
+fn sixteen_callers_want_the_last_seat(rt: HostRuntime) {
     let alloc = rt.alloc();
-    let meeting = Meeting::new();
-    let (first, second) = (Mutex::new(Vec::new(alloc)), Mutex::new(Vec::new(alloc)));
+    let meeting = Meeting::of(16);
+    let mut texts = Vec::new(alloc);
+    for _ in 0..16u32 {
+        texts
+            .push(Mutex::new(Vec::new(alloc)))
+            .expect(&rt, "memory");
+    }
     let clerks = Coming::none(&rt, alloc);
-    clerks.comes(
-        &rt,
-        Sends {
-            bytes: b"close\nsell 10 gala 1\n",
+    for (bytes, text) in WANT_IT.iter().zip(texts.iter()) {
+        let caller = Sends {
+            bytes: *bytes,
             meeting: Some(&meeting),
-        },
-        &first,
-    );
-    clerks.comes(
-        &rt,
-        Sends {
-            bytes: b"export 1\nsell 20 gala 1\n",
-            meeting: Some(&meeting),
-        },
-        &second,
-    );
+        };
+        clerks.comes(&rt, caller, text);
+    }
     let book = book_after(&rt, alloc, b"announce 1 gala\nrelease 2 gala 1\n");
     let left = left_after(&rt, alloc, book, clerks, Coming::none(&rt, alloc));
     assert!(rt; left == 0);
     assert!(rt; meeting.missed.load(Ordering::SeqCst) == 0);
-    let texts = (first.lock(&rt), second.lock(&rt));
-    let done = b"bad-line\ndone\n".as_slice();
-    let short = b"bad-line\nshort 0\n".as_slice();
-    let is_first = texts.0.as_slice() == done && texts.1.as_slice() == short;
-    let is_second = texts.0.as_slice() == short && texts.1.as_slice() == done;
-    assert!(rt; is_first || is_second);
+    let (mut done, mut short) = (0u32, 0u32);
+    for text in texts.iter() {
+        let text = text.lock(&rt);
+        if text.as_slice() == b"bad-line\ndone\n".as_slice() {
+            done = done.wrapping_add(1);
+        } else if text.as_slice() == b"bad-line\nshort 0\n".as_slice() {
+            short = short.wrapping_add(1);
+        }
+    }
+    assert!(rt; done == 1 && short == 15);
 }
 
 // An operator has the lines of the office too, and after `close` no line is answered.
