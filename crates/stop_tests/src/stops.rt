@@ -4,8 +4,12 @@
 //! on. The next command opens what was written, or what of it was synced.
 
 use book_core::Limit;
+use desk_lines::{Line, read_line};
 use operator_cli::{Status, ask_store, grow_store, import_store, init_store, list_store};
+use request_ledger::{Request, RequestNumber};
 use rights_lattice::{SiteId, Sites};
+use site_desk::SiteBook;
+use sql_records::Records;
 use sqlite::{Connection, FileStore, Files, Options};
 use sqlite_disk::{Crash, Disk, Fuse, Memory};
 use std::alloc::Global;
@@ -41,6 +45,8 @@ const ALL: Calls = Calls {
 enum Command {
     Init,
     Ask(&'static [u8]),
+    // Several requests at once.
+    AskAll,
     Import(&'static [u8]),
     Grow(u64),
     List,
@@ -80,6 +86,44 @@ fn grow(
     grow_store(alloc, conn, sites, out, err)
 }
 
+fn request(rt: &impl Abort, line: &[u8]) -> (RequestNumber, Request) {
+    match read_line(line) {
+        Ok(Line::Ask { number, request }) => (number, request),
+        _ => panic!(rt; "a request"),
+    }
+}
+
+// Prints `answered` where the requests were.
+fn ask_all(
+    rt: &(impl Abort + Wait),
+    alloc: Global,
+    conn: Stopping,
+    out: &mut Vec<u8>,
+) -> (Status, Option<Stopping>) {
+    let (records, entries, meta) = match Records::open(alloc, conn) {
+        Ok(opened) => opened,
+        Err(_) => return (Status::Failed, None),
+    };
+    let mut book = match SiteBook::start(alloc, records, entries, meta) {
+        Ok(book) => book,
+        Err((records, _)) => return (Status::Failed, Some(records.close())),
+    };
+    let requests = [
+        request(rt, b"sell 5 gala 40"),
+        request(rt, b"sell 6 gala 3"),
+        request(rt, b"sell 7 gala 2"),
+    ];
+    let status = match book.ask_all(rt, alloc, requests.as_slice()) {
+        Ok(answers) => {
+            assert!(rt; answers.len() == 3);
+            assert!(rt; out.extend_from_slice(ANSWERED).is_ok());
+            Status::Done
+        }
+        Err(_) => Status::Failed,
+    };
+    (status, Some(book.into_keeper().close()))
+}
+
 fn give(
     rt: &(impl Abort + Wait),
     alloc: Global,
@@ -91,6 +135,7 @@ fn give(
     match command {
         Command::Init => (init(rt, &mut conn, out, err), Some(conn)),
         Command::Ask(lines) => ask_store(rt, alloc, conn, lines, out, err),
+        Command::AskAll => ask_all(rt, alloc, conn, out),
         Command::Import(text) => import_store(alloc, conn, text, out, err),
         Command::Grow(count) => grow(rt, alloc, conn, count, out, err),
         Command::List => list_store(alloc, conn, "gala", out, err),
@@ -185,6 +230,13 @@ const REPLIES: &[u8] = b"done\ndone\ndone\nshort 42\n";
 const LISTED: &[u8] =
     b"0 announce 1 gala done\n1 release 2 gala 50 done\n2 sell 3 gala 8 done\n3 sell 4 gala 100 short 42\n";
 
+const ANSWERED: &[u8] = b"answered\n";
+
+// With the requests that were asked at once, each of which was decided by those before it.
+const ALL_LISTED: &[u8] =
+    b"0 announce 1 gala done\n1 release 2 gala 50 done\n2 sell 3 gala 8 done\n3 sell 4 gala 100 short 42\n\
+        4 sell 5 gala 40 done\n5 sell 6 gala 3 short 2\n6 sell 7 gala 2 done\n";
+
 // What a session may print where a call fails, each with how many of its requests were answered.
 const SESSIONS: [(&[u8], usize); 6] = [
     (b"", 0),
@@ -239,6 +291,18 @@ fn is_left_by_session(rt: &(impl Abort + Wait), alloc: Global, held: &Held, prin
     left_by(rt, alloc, &again, Command::List, LISTED);
 }
 
+// All of the entries are there or none, and all where they were answered; asked again, they come to the same.
+fn is_left_by_all(rt: &(impl Abort + Wait), alloc: Global, held: &Held, printed: &[u8]) {
+    let listed = run(rt, alloc, held, ALL, Command::List).out;
+    if listed.as_slice() == LISTED {
+        assert!(rt; printed.is_empty());
+    } else {
+        assert!(rt; listed.as_slice() == ALL_LISTED);
+    }
+    let again = left_by(rt, alloc, held, Command::AskAll, ANSWERED);
+    left_by(rt, alloc, &again, Command::List, ALL_LISTED);
+}
+
 // The entry is there or not.
 fn is_left_by_import(rt: &(impl Abort + Wait), alloc: Global, held: &Held, printed: &[u8]) {
     let shown = run(rt, alloc, held, ALL, Command::Ask(b"left gala\n")).out;
@@ -266,6 +330,7 @@ fn is_left(rt: &(impl Abort + Wait), alloc: Global, command: Command, held: &Hel
     match command {
         Command::Init => is_left_by_init(rt, alloc, held, printed),
         Command::Ask(_) => is_left_by_session(rt, alloc, held, printed),
+        Command::AskAll => is_left_by_all(rt, alloc, held, printed),
         Command::Import(_) => is_left_by_import(rt, alloc, held, printed),
         Command::Grow(_) => is_left_by_grow(rt, alloc, held, printed),
         Command::List => {}
@@ -335,6 +400,13 @@ fn init_is_made_or_not(rt: HostRuntime) {
 fn session_keeps_what_it_answered(rt: HostRuntime) {
     let held = empty_site(&rt, rt.alloc());
     stop_everywhere(&rt, rt.alloc(), &held, Command::Ask(LINES));
+}
+
+#[test]
+fn requests_asked_at_once_are_kept_or_not(rt: HostRuntime) {
+    let empty = empty_site(&rt, rt.alloc());
+    let held = left_by(&rt, rt.alloc(), &empty, Command::Ask(LINES), REPLIES);
+    stop_everywhere(&rt, rt.alloc(), &held, Command::AskAll);
 }
 
 #[test]
