@@ -8,6 +8,8 @@ Given again it ends well. Each of the last requests of a command is refused, and
 made while its files are opened; by `--full` each of all. Prints what differs, and ends with status 1 where anything does.
 """
 
+import concurrent.futures
+import contextlib
 import os
 import shutil
 import sys
@@ -17,7 +19,8 @@ FULL = "--full" in sys.argv
 sys.argv = [word for word in sys.argv if not word.startswith("--")]
 
 from refuser import begun, chosen, count, ended, make_refuser
-from trial import HERE, PROGRAM, call, same, try_each
+from serving import Caller
+from trial import HERE, PROGRAM, call, free_port, same, try_each
 
 # The disk is not what is tried here.
 tempfile.tempdir = "/dev/shm" if os.path.isdir("/dev/shm") else None
@@ -117,11 +120,49 @@ def try_session(refusals):
         same(f"{which}: again", refusals.again(words, LINES), (0, "\n".join(REPLIES) + "\n", ""))
 
 
+def asked_alone(port, line):
+    """What a caller who asks this alone is answered, or nothing where the office has ended or takes no caller more."""
+    caller = None
+    with contextlib.suppress(OSError):
+        caller = Caller(port, 1)
+        return caller.ask(line)
+    return ""
+
+
+def office_run(refusals, number):
+    """An office in which that request is refused: whether it came, the replies of five callers at once, and the end."""
+    shutil.rmtree(refusals.work)
+    shutil.copytree(refusals.kept, refusals.work)
+    port, replies = free_port(), []
+    office, told = begun(refusals.refuser, number, [PROGRAM, "open", str(port), "one.db"], refusals.work)
+    first = office.stdout.readline()
+    if first:
+        with concurrent.futures.ThreadPoolExecutor(len(REPLIES)) as pool:
+            replies = list(pool.map(lambda line: asked_alone(port, line), LINES.splitlines()))
+        call(refusals.work, ["close", "one.db"])
+    was_refused, (status, out, err) = ended(office, told)
+    return was_refused, replies, (status, (first + out).decode(), err.decode())
+
+
+def try_office(refusals):
+    total = count(lambda number: office_run(refusals, number)[0])
+    numbers = chosen(total, SPREAD, LAST)
+    print(f"open one.db: {len(numbers)} of {total} requests are refused", flush=True)
+    for number in numbers:
+        _, replies, end = office_run(refusals, number)
+        which = f"open: request {number}: {replies}"
+        may_be = ["memory", "store", "closed", ""]
+        same(which, all(reply in (wanted, *may_be) for reply, wanted in zip(replies, REPLIES)), True)
+        same(f"{which}: the end {end}", end in [(0, "open\n", ""), (3, "open\n", "memory\n"), (3, "open\n", "closed 0\n"), (3, "", "memory\n")], True)
+        same(f"{which}: again", refusals.again(["ask", "one.db"], LINES), (0, "\n".join(REPLIES) + "\n", ""))
+
+
 def all_commands(folder):
     refusals = Refusals(folder)
     for command in COMMANDS:
         try_command(refusals, *command)
     try_session(refusals)
+    try_office(refusals)
 
 
 sys.exit(try_each([all_commands], "no answer stands in the place of a refusal"))

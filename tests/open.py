@@ -389,6 +389,34 @@ def waiting_imports(folder):
     office.close()
 
 
+def size(office):
+    """The memory that it holds, in kB."""
+    with open(f"/proc/{office.program.pid}/status", encoding="ascii") as status:
+        return next(int(line.split()[1]) for line in status if line.startswith("VmRSS"))
+
+
+def asking_again(folder):
+    """Memory does not grow with what 64 callers ask at once, but for what is kept."""
+    made(folder)
+    office = Office(folder)
+    asked(Caller(office.port), ["announce 1 gala", "release 2 gala 1000000"], ["done", "done"])
+    callers = [Caller(office.port) for _ in range(MOST_CALLERS)]
+
+    def sells(caller):
+        numbers = range(1000 * caller + 1000, 1000 * caller + 1100)
+        lines = [line for number in numbers for line in (f"sell {number} gala 1", f"sell {number} gala 2", "sell 2 gala 1")]
+        asked(callers[caller], lines, 100 * ["done", "reused", "reused"])
+
+    sizes = []
+    with concurrent.futures.ThreadPoolExecutor(MOST_CALLERS) as pool:
+        for _ in range(5):
+            list(pool.map(sells, range(MOST_CALLERS)))
+            sizes.append(size(office))
+    same(f"{sizes[4] - sizes[1]} kB more after 57600 requests more, of {sizes[1]}", sizes[4] - sizes[1] < 2048, True)
+    asked(callers[0], ["left gala"], [f"left {1000000 - 100 * MOST_CALLERS}"])
+    office.close()
+
+
 def sessions(folder):
     """Memory does not grow with sessions. Of the callers at the port 64 are served, and the next once one has gone."""
     made(folder)
@@ -399,8 +427,7 @@ def sessions(folder):
         caller = Caller(office.port)
         asked(caller, ["left gala", "announce 1 gala", "sell", "quit"], ["left 9", "done", "bad-line", ""])
         caller.go_away()
-        with open(f"/proc/{office.program.pid}/status", encoding="ascii") as status:
-            sizes += [int(line.split()[1]) for line in status if line.startswith("VmRSS")]
+        sizes.append(size(office))
     same(f"{sizes[999] - sizes[99]} kB more after 900 sessions more, of {sizes[99]}", sizes[999] - sizes[99] < 2048, True)
     callers = [Caller(office.port) for _ in range(MOST_CALLERS)]
     same("as many as there may be", [caller.ask("left gala") for caller in callers], ["left 9"] * MOST_CALLERS)
@@ -475,6 +502,6 @@ def storing_a_message_fails(folder):
 
 
 TRIALS = [forty_callers, two_doors, looked_up, commands, piped, exchange, killed, cut_off, places_of_sockets, refused, waiting_imports, sessions]
-TRIALS += [storing_fails, storing_fails_together, storing_a_message_fails]
+TRIALS += [asking_again, storing_fails, storing_fails_together, storing_a_message_fails]
 print(f"the seed is {SEED}", flush=True)
 sys.exit(try_each(TRIALS, "an open office: 0 differ", "an open office: {} differ"))

@@ -10,7 +10,7 @@ import os
 import subprocess
 import sys
 
-from trial import PROGRAM, SECONDS, intact, opened, same, try_each
+from trial import HERE, PROGRAM, SECONDS, intact, opened, same, try_each
 
 META = (
     "CREATE TABLE meta (one INTEGER PRIMARY KEY CHECK (one = 1), kind TEXT NOT NULL, version INTEGER NOT NULL,"
@@ -42,9 +42,16 @@ ASKED = [
         "full-cell",
         (None, 13, "release", "gala", 1000000000000, None, "full-cell", None, ""),
     ),
+    ("sell 16 gala 5", "done", (None, 16, "sell", "gala", 5, None, "done", None, "used gala 0 12\n")),
+    ("refund 17 16 2", "done", (None, 17, "refund", None, 2, 16, "done", None, "back gala 0 9\n")),
+    ("sell 18 gala 1", "done", (None, 18, "sell", "gala", 1, None, "done", None, "used gala 0 13\n")),
+    ("sell 19 gala 2", "done", (None, 19, "sell", "gala", 2, None, "done", None, "used gala 0 15\n")),
+    ("refund 20 19 2", "done", (None, 20, "refund", None, 2, 19, "done", None, "back gala 0 11\n")),
 ]
-MESSAGE = "delta 0 1 15\nname gala\ngave gala 0 0 100\ngave gala 0 1 40\nused gala 0 7\nback gala 0 7\nend\n"
-JOINED = (0, None, None, None, None, None, None, None, "name gala\ngave gala 0 0 100\ngave gala 0 1 40\nused gala 0 7\nback gala 0 7\n")
+OUT = [(16, "gala", 3), (18, "gala", 1)]
+ITEMS = "name gala\ngave gala 0 0 100\ngave gala 0 1 40\nused gala 0 15\nback gala 0 11\n"
+MESSAGE = f"delta 0 1 20\n{ITEMS}end\n"
+JOINED = (0, None, None, None, None, None, None, None, ITEMS)
 
 
 def run(words, given="", status=0):
@@ -91,6 +98,8 @@ def two_sites(folder):
     same("find", run(["find", first, "5"]), "4 short 60\n")
     listed = [f"{place} {line} {reply}\n" for place, (line, reply, _) in enumerate(ASKED) if " gala" in line]
     same("list", run(["list", first, "gala"]), "".join(listed))
+    with opened(folder, "first.db") as db, open(os.path.join(HERE, "..", "examples", "tickets-out.sql"), encoding="utf-8") as query:
+        same("the tickets that are out", db.execute(query.read()).fetchall(), OUT)
 
 
 sys.exit(try_each([two_sites], "the records are plain SQLite files"))

@@ -5,7 +5,7 @@ use Rattle.site_desk.specs.declared.fault.AskFault.{AskFault}
 use Rattle.site_desk.specs.declared.fault.AskFault.TheVariants as ask
 use Rattle.site_desk.specs.declared.receipt.Receipt.{Receipt}
 use Rattle.live_office.specs.Admissible.{Admissible, IsShut, telling}
-use Rattle.live_office.specs.Together.{IsAskedAs, IsGiven, receipt_at}
+use Rattle.live_office.specs.Together.{IsAskedAs, receipt_at}
 
 -- a desk refused the request
 pub refused : {K : Type 0} (d : Admissible K) (number : ℕ) (request : Request) (fault : AskFault) → (telling d).refuses number request fault → IsAskedAs d number request (Err fault)
@@ -18,7 +18,7 @@ refused d number request ask.Store h = ∣ h.1 refl ∣₁
 -- a receipt of the request is its own
 pub its_receipt : {K : Type 0} (d : Admissible K) (number : ℕ) (request : Request) (receipt : Receipt) → IsAskedAs d number request (Ok receipt) → IsAskedAs d number request (Ok (receipt_at number request receipt.reply receipt.place))
 its_receipt d number request receipt h =
-    (refl, refl, subst (λ (p : ℕ × Request). ∥ IsGiven d (Ok (receipt_at p.0 p.1 receipt.reply receipt.place)) ∥₁) (λ i. (h.0 i, h.1 i)) h.2)
+    (refl, refl, subst (λ (p : ℕ × Request). ∥ (telling d).receipts (receipt_at p.0 p.1 receipt.reply receipt.place) ∥₁) (λ i. (h.0 i, h.1 i)) h.2)
 
 -- a failed store closed the desk
 pub shut_by : {K : Type 0} (d : Admissible K) (number : ℕ) (request : Request) (fault : AskFault) → (fault ≡ ask.Store) ⊎ (fault ≡ ask.Closed) → IsAskedAs d number request (Err fault) → ∥ IsShut d ∥₁

@@ -16,14 +16,15 @@ use std::sync::{Condvar, Mutex, Wait};
 
 type Given = Result<(Answer, Receipt), AskFault>;
 
-// What a request came to that one caller asked for all who waited. Whose it is, its ticket says.
+// What a request came to that one caller asked for all who waited: its receipt, or None where the store failed. Whose it
+// is, its ticket says.
 #[derive(Drop)]
 struct Told<K: Keeper, L: Opens> {
     ticket: u64,
-    result: Result<Receipt, AskFault>,
+    receipt: Option<Receipt>,
     of: PhantomData<(K, L)>,
     ghost given: { ∥ IsGiven (admissible L.office L.began K.failed K.is_trusted K.kept K.may_leave)
-        result ∥₁ },
+        receipt ∥₁ },
 }
 
 // The requests that wait, each with the ticket of its caller, and what those came to that were asked.
@@ -54,7 +55,7 @@ fn tell<K: Keeper, L: Opens>(ticket: u64, given: &Given) -> Option<Told<K, L>>
     match given {
         Ok((_, receipt)) => Some(Told {
             ticket,
-            result: Ok(*receipt),
+            receipt: Some(*receipt),
             of: PhantomData,
         }),
         Err(_) => None,
@@ -85,7 +86,7 @@ fn tell_failed<K: Keeper, L: Opens>(alloc: Global, tickets: &[u64]) -> Vec<Told<
     'requests: for ticket in tickets {
         let _ = all.push(Told {
             ticket: *ticket,
-            result: Err(AskFault::Store),
+            receipt: None,
             of: PhantomData,
         });
     }
@@ -158,15 +159,12 @@ fn its_own<K: Keeper, L: Opens>(
     ensures { IfSome result (IsAskedAs (admissible L.office L.began K.failed K.is_trusted K.kept
         K.may_leave) number request.now) }
 {
-    match told.result {
-        Ok(receipt) => {
-            if receipt.number == number && receipt.request == *request {
-                return Some(Ok(receipt));
-            }
-            None
+    match told.receipt {
+        Some(receipt) if receipt.number == number && receipt.request == *request => {
+            Some(Ok(receipt))
         }
-        Err(AskFault::Store) => Some(Err(AskFault::Store)),
-        Err(_) => None,
+        Some(_) => None,
+        None => Some(Err(AskFault::Store)),
     }
 }
 

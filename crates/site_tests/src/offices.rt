@@ -168,7 +168,7 @@ fn left_after<'a, T: Threads + Wait + Clock + Abort + Sync>(
 
 const WANT_IT: [&[u8]; 16] = [
     b"close\nsell 10 gala 1\n",
-    b"close\nsell 11 gala 1\n",
+    b"export 1\nsell 11 gala 1\n",
     b"close\nsell 12 gala 1\n",
     b"close\nsell 13 gala 1\n",
     b"close\nsell 14 gala 1\n",

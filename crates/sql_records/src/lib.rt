@@ -1,12 +1,12 @@
 //! What a site's history is stored in.
 //!
-//! `Keeper` is the trait of a store: a list of entries that grows at its end by `append`. From the first call that
-//! fails it is shut, and only opening it again tells what was stored. `Records` is the store over a database, one row
-//! an entry, one transaction an append; `ListKeeper` is one in memory, for tests. `init`, `migrate`, `find` and `list`
-//! are functions of `Records` too.
+//! `Keeper` is the trait of a store: a list of entries that grows at its end, by `append` one and by `append_all`
+//! several at once. From the first call that fails it is shut, and only opening it again tells what was stored.
+//! `Records` is the store over a database, one row an entry, one transaction a call; `ListKeeper` is one in memory,
+//! for tests. `init`, `migrate`, `find` and `list` are functions of `Records` too.
 //!
-//! Guaranteed, while nothing else writes the store and it returns what was written (`is_trusted`): after an append
-//! that succeeded a crash leaves the list with the entry, after one that failed the list with or without it.
+//! Guaranteed, while nothing else writes the store and it returns what was written (`is_trusted`): after a call that
+//! succeeded a crash leaves the list with its entries, after one that failed with all of them or none.
 //! `Records::open` returns the entries of the rows, or the first fault in a fixed order. `open_after_stop` opens what
 //! a crash leaves.
 //!

@@ -7,6 +7,7 @@ use crate::keeper::{KeepFault, Keeper};
 use book_core::Entry;
 use std::alloc::{AllocError, Global};
 use std::marker::Model;
+use std::slice;
 
 // Which append fails, counted from 1 from now on, and whether its entry is kept.
 #[derive(Clone, Copy)]
@@ -69,75 +70,6 @@ impl ListKeeper {
         let ListKeeper { entries, .. } = self;
         entries
     }
-
-    // As `append` of a keeper that is not shut, and which append answers what.
-    fn put(&mut self, entry: &Entry) -> Result<(), KeepFault>
-        requires { self.old.failures ≡ 0 }
-        ensures ok { OnOk result (self.new ≡ record self.old { kept = self.old.kept ++ entry.now ∷ []; failing = one_less self.old.failing }) }
-        ensures due { FailsNext self.old.failing → IsErr result }
-        ensures disk { result ≡ Err KeepFault.Disk → FailsNext self.old.failing × (self.new.kept ≡ left_by self.old.failing self.old.kept entry.now) }
-        ensures memory { result ≡ Err KeepFault.Memory → self.new.kept ≡ self.old.kept }
-        ensures either { OnErr result ((self.new.kept ≡ self.old.kept) ⊎ (self.new.kept ≡ self.old.kept ++ entry.now ∷ [])) }
-        ensures counted { OnErr result (self.new.failures ≡ 1) }
-        ensures named { result ≢ Err KeepFault.Shut }
-    {
-        let (is_due, is_stored) = match self.failing {
-            Some(Failing { append, is_stored }) if append <= 1 => (true, is_stored),
-            _ => (false, true),
-        };
-        if is_stored && push_copy(self.alloc, &mut self.entries, entry).is_err() {
-            self.failures = 1;
-            return Err(KeepFault::Memory);
-        }
-        if is_due {
-            self.failures = 1;
-            return Err(KeepFault::Disk);
-        }
-        if let Some(Failing { append, is_stored }) = self.failing {
-            self.failing = Some(Failing {
-                append: append.saturating_sub(1),
-                is_stored,
-            });
-        }
-        Ok(())
-    }
-
-    // As `append_all` of a keeper that is not shut, and which of them answers what.
-    fn put_all(&mut self, entries: &[Entry]) -> Result<(), KeepFault>
-        requires { self.old.failures ≡ 0 }
-        ensures ok { OnOk result (self.new ≡ record self.old {
-          kept = self.old.kept ++ entries.now;
-          failing = one_less self.old.failing;
-        }) }
-        ensures due { FailsNext self.old.failing → IsErr result }
-        ensures disk { result ≡ Err KeepFault.Disk → FailsNext self.old.failing
-            × (self.new.kept ≡ left_by_all self.old.failing self.old.kept entries.now) }
-        ensures memory { result ≡ Err KeepFault.Memory → self.new.kept ≡ self.old.kept }
-        ensures either { OnErr result ((self.new.kept ≡ self.old.kept)
-            ⊎ (self.new.kept ≡ self.old.kept ++ entries.now)) }
-        ensures counted { OnErr result (self.new.failures ≡ 1) }
-        ensures named { result ≢ Err KeepFault.Shut }
-    {
-        let (is_due, is_stored) = match self.failing {
-            Some(Failing { append, is_stored }) if append <= 1 => (true, is_stored),
-            _ => (false, true),
-        };
-        if is_stored && push_copies(self.alloc, &mut self.entries, entries).is_err() {
-            self.failures = 1;
-            return Err(KeepFault::Memory);
-        }
-        if is_due {
-            self.failures = 1;
-            return Err(KeepFault::Disk);
-        }
-        if let Some(Failing { append, is_stored }) = self.failing {
-            self.failing = Some(Failing {
-                append: append.saturating_sub(1),
-                is_stored,
-            });
-        }
-        Ok(())
-    }
 }
 
 // Adds a copy of the entry.
@@ -190,10 +122,7 @@ impl Keeper for ListKeeper {
         ensures named { self.old.failures ≡ 0 → result ≢ Err KeepFault.Shut }
         ensures shut { self.old.failures ≢ 0 → (result ≡ Err KeepFault.Shut) × (self.new ≡ self.old) }
     {
-        if self.failures != 0 {
-            return Err(KeepFault::Shut);
-        }
-        self.put(entry)
+        self.append_all(slice::from_ref(entry))
     }
 
     /// As of every keeper; and `Disk` only where `fail_at` says so of the next append, with all entries kept where it says so.
@@ -217,7 +146,25 @@ impl Keeper for ListKeeper {
         if self.failures > 0 {
             return Err(KeepFault::Shut);
         }
-        self.put_all(entries)
+        let (is_due, is_stored) = match self.failing {
+            Some(Failing { append, is_stored }) if append <= 1 => (true, is_stored),
+            _ => (false, true),
+        };
+        if is_stored && push_copies(self.alloc, &mut self.entries, entries).is_err() {
+            self.failures = 1;
+            return Err(KeepFault::Memory);
+        }
+        if is_due {
+            self.failures = 1;
+            return Err(KeepFault::Disk);
+        }
+        if let Some(Failing { append, is_stored }) = self.failing {
+            self.failing = Some(Failing {
+                append: append.saturating_sub(1),
+                is_stored,
+            });
+        }
+        Ok(())
     }
 
     fn failures(&self) -> u64 {
