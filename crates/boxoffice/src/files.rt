@@ -123,8 +123,10 @@ fn plain_path(alloc: Global, path: &str) -> Result<String, AllocError> {
 
 fn open<S: Start>(rt: &HostRuntime, path: &str, start: S) -> Result<Connection<Files<S>>, Status>
     ensures opened { IfOk result (λ conn. HasCleanDisk (file_state conn) → IsOpened conn) }
-    ensures found { IfOk result (λ conn. HasCleanDisk (file_state conn) → FindsIn (image_at S.Start) (file_state conn)) }
-    ensures plain { IfOk result (λ conn. HasCleanDisk (file_state conn) → IsBlankAs false (image_at S.Start) → (view conn.store).has_sums ≡ false) }
+    ensures found { IfOk result
+        (λ conn. HasCleanDisk (file_state conn) → FindsIn (image_at S.Start) (file_state conn)) }
+    ensures plain { IfOk result (λ conn. HasCleanDisk (file_state conn)
+        → IsBlankAs false (image_at S.Start) → (view conn.store).has_sums ≡ false) }
     ensures fresh { IfOk result IsNew }
 {
     let Ok(path) = plain_path(rt.alloc(), path) else {
@@ -144,7 +146,8 @@ pub(crate) fn open_there<S: Start>(
     start: S,
 ) -> Result<Connection<Files<S>>, Status>
     ensures opened { IfOk result (λ conn. HasCleanDisk (file_state conn) → IsOpened conn) }
-    ensures found { IfOk result (λ conn. HasCleanDisk (file_state conn) → FindsIn (image_at S.Start) (file_state conn)) }
+    ensures found { IfOk result
+        (λ conn. HasCleanDisk (file_state conn) → FindsIn (image_at S.Start) (file_state conn)) }
     ensures fresh { IfOk result IsNew }
 {
     match at_path(rt, path) {
@@ -160,8 +163,10 @@ pub(crate) fn open_or_make<S: Start>(
     start: S,
 ) -> Result<Connection<Files<S>>, Status>
     ensures opened { IfOk result (λ conn. HasCleanDisk (file_state conn) → IsOpened conn) }
-    ensures found { IfOk result (λ conn. HasCleanDisk (file_state conn) → FindsIn (image_at S.Start) (file_state conn)) }
-    ensures plain { IfOk result (λ conn. HasCleanDisk (file_state conn) → IsBlankAs false (image_at S.Start) → (view conn.store).has_sums ≡ false) }
+    ensures found { IfOk result
+        (λ conn. HasCleanDisk (file_state conn) → FindsIn (image_at S.Start) (file_state conn)) }
+    ensures plain { IfOk result (λ conn. HasCleanDisk (file_state conn)
+        → IsBlankAs false (image_at S.Start) → (view conn.store).has_sums ≡ false) }
     ensures fresh { IfOk result IsNew }
 {
     match at_path(rt, path) {

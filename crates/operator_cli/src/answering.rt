@@ -65,7 +65,8 @@ pub(crate) fn answer_line(
     alloc: Global,
     line: &[u8],
 ) -> Result<ScriptAnswer, AllocError>
-    ensures answer { IfOk result (λ answer. answer_to world.old (line_of line.now) ≡ (answer, world.new)) }
+    ensures answer { IfOk result
+        (λ answer. answer_to world.old (line_of line.now) ≡ (answer, world.new)) }
     ensures unchanged { OnErr result (world.new ≡ world.old) }
 {
     match read_step(line) {

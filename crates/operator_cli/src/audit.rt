@@ -29,8 +29,10 @@ use world_steps::{audit, is_whole};
 // A line for each event with its sums.
 fn write_sums<W: Write>(sums: &[(Event, Totals)], out: &mut W) -> Result<Status, StoreFault>
     requires { AreWithinSales sums.now }
-    ensures out { IfOk result (Printed (λ status text. text ≡ sum_lines sums.now) (W.contents out.old) (W.contents out.new)) }
-    ensures fault { IfErr result (λ fault. (fault ≡ WriteFailed) × AppendsFront (W.contents out.old) (W.contents out.new) (sum_lines sums.now)) }
+    ensures out { IfOk result (Printed
+        (λ status text. text ≡ sum_lines sums.now) (W.contents out.old) (W.contents out.new)) }
+    ensures fault { IfErr result (λ fault. (fault ≡ WriteFailed)
+        × AppendsFront (W.contents out.old) (W.contents out.new) (sum_lines sums.now)) }
     ensures status { IfOk result (λ status. status ≡ Done) }
 {
     'sums: for (event, totals) in sums {
@@ -46,9 +48,12 @@ pub(crate) fn print_audit<W: Write>(
     books: &[&Book],
     out: &mut W,
 ) -> Result<Status, StoreFault>
-    ensures out { IfOk result (Printed (IsAuditText (books_of books.now)) (W.contents out.old) (W.contents out.new)) }
-    ensures not_oversold { IfOk result (λ status. status ≡ Done → AreNotOversold (books_of books.now)) }
-    ensures fault { IfErr result (Unprinted (IsAuditText (books_of books.now)) (W.contents out.old) (W.contents out.new)) }
+    ensures out { IfOk result
+        (Printed (IsAuditText (books_of books.now)) (W.contents out.old) (W.contents out.new)) }
+    ensures not_oversold { IfOk result
+        (λ status. status ≡ Done → AreNotOversold (books_of books.now)) }
+    ensures fault { IfErr result
+        (Unprinted (IsAuditText (books_of books.now)) (W.contents out.old) (W.contents out.new)) }
     ensures ends { IfOk result (λ status. status ≢ Failed) }
 {
     match audit(alloc, books) {
@@ -73,9 +78,12 @@ fn audit_all<K: Keeper, W: Write>(
     sites: &[SiteBook<K>],
     out: &mut W,
 ) -> Result<Status, StoreFault>
-    ensures out { IfOk result (Printed (IsAuditText (map (λ site. site.book) sites.now)) (W.contents out.old) (W.contents out.new)) }
-    ensures not_oversold { IfOk result (λ status. status ≡ Done → AreNotOversold (map (λ site. site.book) sites.now)) }
-    ensures fault { IfErr result (Unprinted (IsAuditText (map (λ site. site.book) sites.now)) (W.contents out.old) (W.contents out.new)) }
+    ensures out { IfOk result (Printed (IsAuditText (map (λ site. site.book) sites.now))
+        (W.contents out.old) (W.contents out.new)) }
+    ensures not_oversold { IfOk result
+        (λ status. status ≡ Done → AreNotOversold (map (λ site. site.book) sites.now)) }
+    ensures fault { IfErr result (Unprinted (IsAuditText (map (λ site. site.book) sites.now))
+        (W.contents out.old) (W.contents out.new)) }
     ensures ends { IfOk result (λ status. status ≢ Failed) }
 {
     let books = books_in(alloc, sites)?;
@@ -95,7 +103,8 @@ pub fn audit_stores<K: Keeper, W: Write, E: Write>(
     out: &mut W,
     err: &mut E,
 ) -> Status
-    ensures audited { EndsAudited (map (λ site. site.book) sites.now) (W.contents out.old) (W.contents out.new) (E.contents err.old) (E.contents err.new) result }
+    ensures audited { EndsAudited (map (λ site. site.book) sites.now)
+        (W.contents out.old) (W.contents out.new) (E.contents err.old) (E.contents err.new) result }
     ensures not_oversold { result ≡ Done → AreNotOversold (map (λ site. site.book) sites.now) }
     ensures err { FaultTold (E.contents err.old) (E.contents err.new) result }
 {
@@ -109,9 +118,12 @@ fn refused_parts<K: Keeper, W: Write>(
     sites: &[SiteBook<K>],
     out: &mut W,
 ) -> Option<Result<Status, StoreFault>>
-    ensures whole { result ≡ None → IsWhole (map (λ site. site.book) sites.now) × Keeps (W.contents out.old) (W.contents out.new) }
-    ensures out { IfSome result (λ came. IfOk came (Printed (IsPartsText (map (λ site. site.book) sites.now)) (W.contents out.old) (W.contents out.new))) }
-    ensures fault { IfSome result (λ came. IfErr came (Unprinted (IsPartsText (map (λ site. site.book) sites.now)) (W.contents out.old) (W.contents out.new))) }
+    ensures whole { result ≡ None → IsWhole (map (λ site. site.book) sites.now)
+        × Keeps (W.contents out.old) (W.contents out.new) }
+    ensures out { IfSome result (λ came. IfOk came (Printed (IsPartsText
+        (map (λ site. site.book) sites.now)) (W.contents out.old) (W.contents out.new))) }
+    ensures fault { IfSome result (λ came. IfErr came (Unprinted (IsPartsText
+        (map (λ site. site.book) sites.now)) (W.contents out.old) (W.contents out.new))) }
     ensures ends { IfSome result (λ came. IfOk came (λ status. status ≢ Failed)) }
 {
     let Ok(books) = books_in(alloc, sites) else {
@@ -133,10 +145,15 @@ pub fn refuse_parts<K: Keeper, W: Write, E: Write>(
     out: &mut W,
     err: &mut E,
 ) -> Option<Status>
-    ensures whole { result ≡ None → IsWhole (map (λ site. site.book) sites.now) × Keeps (W.contents out.old) (W.contents out.new) × Keeps (E.contents err.old) (E.contents err.new) }
-    ensures out { IfSome result (Printed (IsPartsText (map (λ site. site.book) sites.now)) (W.contents out.old) (W.contents out.new)) }
+    ensures whole { result ≡ None → IsWhole (map (λ site. site.book) sites.now)
+        × Keeps (W.contents out.old) (W.contents out.new)
+        × Keeps (E.contents err.old) (E.contents err.new) }
+    ensures out { IfSome result (Printed (IsPartsText (map (λ site. site.book) sites.now))
+        (W.contents out.old) (W.contents out.new)) }
     ensures err { IfSome result (FaultTold (E.contents err.old) (E.contents err.new)) }
-    ensures cause { IfSome result (FailsFor (Unprinted (IsPartsText (map (λ site. site.book) sites.now)) (W.contents out.old) (W.contents out.new)) (E.contents err.old) (E.contents err.new)) }
+    ensures cause { IfSome result
+        (FailsFor (Unprinted (IsPartsText (map (λ site. site.book) sites.now))
+        (W.contents out.old) (W.contents out.new)) (E.contents err.old) (E.contents err.new)) }
 {
     let came = refused_parts(alloc, sites, out)?;
     Some(ended(came, out, err))

@@ -63,10 +63,14 @@ pub(crate) fn close_book<S: Alter + Drop, W: Write, E: Write>(
     ensures back { result.1 ≡ Some book.keeper.conn }
     ensures kept { Keeps (W.contents out.old) (W.contents out.new) }
     ensures told { FaultTold (E.contents err.old) (E.contents err.new) result.0 }
-    ensures line { IfErr came (λ fault. AppendsFront (E.contents err.old) (E.contents err.new) (store_fault_line fault)) }
-    ensures flush { IfOk came (λ status. result.0 ≢ status → AppendsFront (E.contents err.old) (E.contents err.new) (store_fault_line WriteFailed)) }
-    ensures status { MatchResult came (λ status. (result.0 ≡ status) ⊎ (result.0 ≡ Failed)) (λ _. result.0 ≡ Failed) }
-    ensures holds { book.closed ≡ false → IfSome result.1 (λ after. HasCleanDisk (state S.Store after) → HoldsOnly (state S.Store after) book.book.history) }
+    ensures line { IfErr came
+        (λ fault. AppendsFront (E.contents err.old) (E.contents err.new) (store_fault_line fault)) }
+    ensures flush { IfOk came (λ status. result.0 ≢ status
+        → AppendsFront (E.contents err.old) (E.contents err.new) (store_fault_line WriteFailed)) }
+    ensures status { MatchResult came
+        (λ status. (result.0 ≡ status) ⊎ (result.0 ≡ Failed)) (λ _. result.0 ≡ Failed) }
+    ensures holds { book.closed ≡ false → IfSome result.1 (λ after.
+        HasCleanDisk (state S.Store after) → HoldsOnly (state S.Store after) book.book.history) }
 {
     // What the book says of its keeper.
     let _closed = book.is_closed();
@@ -82,9 +86,12 @@ pub(crate) fn ended<W: Write, E: Write>(
 ) -> Status
     ensures kept { Keeps (W.contents out.old) (W.contents out.new) }
     ensures told { FaultTold (E.contents err.old) (E.contents err.new) result }
-    ensures line { IfErr came (λ fault. AppendsFront (E.contents err.old) (E.contents err.new) (store_fault_line fault)) }
-    ensures flush { IfOk came (λ status. result ≢ status → AppendsFront (E.contents err.old) (E.contents err.new) (store_fault_line WriteFailed)) }
-    ensures status { MatchResult came (λ status. (result ≡ status) ⊎ (result ≡ Failed)) (λ _. result ≡ Failed) }
+    ensures line { IfErr came
+        (λ fault. AppendsFront (E.contents err.old) (E.contents err.new) (store_fault_line fault)) }
+    ensures flush { IfOk came (λ status. result ≢ status
+        → AppendsFront (E.contents err.old) (E.contents err.new) (store_fault_line WriteFailed)) }
+    ensures status { MatchResult came
+        (λ status. (result ≡ status) ⊎ (result ≡ Failed)) (λ _. result ≡ Failed) }
 {
     match came {
         Ok(status) => match flushed(status, out) {

@@ -36,8 +36,10 @@ fn write_next<K: Keeper, W: Write>(
     ensures out { IfOk result (Printed IsSentText (W.contents out.old) (W.contents out.new)) }
     ensures due { IfOk result (Printed (IsDueText book.old.book.office (site_of book.old) to)
         (W.contents out.old) (W.contents out.new)) }
-    ensures fault { IfErr result (IsNextEnd book.old.closed book.old.book.office (site_of book.old) to) }
-    ensures unsaid { IfErr result (Unsaid (IsDueText book.old.book.office (site_of book.old) to) (W.contents out.old) (W.contents out.new)) }
+    ensures fault { IfErr result
+        (IsNextEnd book.old.closed book.old.book.office (site_of book.old) to) }
+    ensures unsaid { IfErr result (Unsaid (IsDueText book.old.book.office (site_of book.old) to)
+        (W.contents out.old) (W.contents out.new)) }
     ensures same { book.new ≡ book.old }
     ensures ends { IfOk result (λ status. status ≢ Failed) }
 {
@@ -78,10 +80,14 @@ pub fn export_store<S: Alter + Drop, W: Write, E: Write>(
     ensures err { FaultTold (E.contents err.old) (E.contents err.new) result.0 }
     ensures cause { IfSome result.1 (λ after. FailsOpened S.Store conn (IsExportEnd to) (IsDueTold (state S.Store conn).now.trees to) after
         (W.contents out.old) (W.contents out.new) (E.contents err.old) (E.contents err.new) result.0) }
-    ensures silent { FailsFor (Unsaid IsMessageText (W.contents out.old) (W.contents out.new)) (E.contents err.old) (E.contents err.new) result.0 }
+    ensures silent { FailsFor (Unsaid IsMessageText (W.contents out.old) (W.contents out.new))
+        (E.contents err.old) (E.contents err.new) result.0 }
     ensures ours { IfSome result.1 (ShowedRecords S.Store conn) }
-    ensures illegal { IfSome result.1 (λ after. FailsIfIllegal S.Store conn after (W.contents out.old) (W.contents out.new) (E.contents err.old) (E.contents err.new) result.0) }
-    ensures lost { result.1 ≡ None → IsLost S.Store conn (W.contents out.old) (W.contents out.new) (E.contents err.old) (E.contents err.new) result.0 }
+    ensures illegal { IfSome result.1
+        (λ after. FailsIfIllegal S.Store conn after (W.contents out.old)
+        (W.contents out.new) (E.contents err.old) (E.contents err.new) result.0) }
+    ensures lost { result.1 ≡ None → IsLost S.Store conn (W.contents out.old)
+        (W.contents out.new) (E.contents err.old) (E.contents err.new) result.0 }
 {
     match open_book(alloc, conn) {
         Ok(mut book) => {

@@ -91,10 +91,14 @@ pub fn find_store<S: Alter + Drop, W: Write, E: Write>(
         → left ≡ Some (history_in (state S.Store conn).now.trees)) }
     ensures cause { IfSome result.1 (λ after. FailsOpened S.Store conn IsFindEnd (IsFoundIn (history_in (state S.Store conn).now.trees) number) after
         (W.contents out.old) (W.contents out.new) (E.contents err.old) (E.contents err.new) result.0) }
-    ensures silent { FailsFor (Unsaid IsFoundText (W.contents out.old) (W.contents out.new)) (E.contents err.old) (E.contents err.new) result.0 }
+    ensures silent { FailsFor (Unsaid IsFoundText (W.contents out.old) (W.contents out.new))
+        (E.contents err.old) (E.contents err.new) result.0 }
     ensures ours { IfSome result.1 (ShowedRecords S.Store conn) }
-    ensures illegal { IfSome result.1 (λ after. FailsIfIllegal S.Store conn after (W.contents out.old) (W.contents out.new) (E.contents err.old) (E.contents err.new) result.0) }
-    ensures lost { result.1 ≡ None → IsLost S.Store conn (W.contents out.old) (W.contents out.new) (E.contents err.old) (E.contents err.new) result.0 }
+    ensures illegal { IfSome result.1
+        (λ after. FailsIfIllegal S.Store conn after (W.contents out.old)
+        (W.contents out.new) (E.contents err.old) (E.contents err.new) result.0) }
+    ensures lost { result.1 ≡ None → IsLost S.Store conn (W.contents out.old)
+        (W.contents out.new) (E.contents err.old) (E.contents err.new) result.0 }
 {
     match open_book(alloc, conn) {
         Ok(book) => {

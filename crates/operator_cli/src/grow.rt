@@ -28,20 +28,28 @@ use std::io::Write;
 
 fn grow<K: Keeper>(alloc: Global, book: &mut SiteBook<K>, sites: Sites) -> Result<Told, StoreFault>
     ensures kind { IfOk result IsOfGrowing }
-    ensures told { IfOk result (λ told. told ≡ told_of_growth (grow_decision book.old.book.office book.old.book.history sites)) }
-    ensures entered { OnOk result (book.new.book.history ≡ behind_growth book.old.book.office book.old.book.history sites) }
+    ensures told { IfOk result (λ told.
+        told ≡ told_of_growth (grow_decision book.old.book.office book.old.book.history sites)) }
+    ensures entered { OnOk result
+        (book.new.book.history ≡ behind_growth book.old.book.office book.old.book.history sites) }
     ensures unclosed { OnOk result (book.old.closed ≡ false → book.new.closed ≡ false) }
-    ensures kept { IfOk result (λ told. told_status told ≡ Refused → book.new.keeper ≡ book.old.keeper) }
+    ensures kept { IfOk result
+        (λ told. told_status told ≡ Refused → book.new.keeper ≡ book.old.keeper) }
     ensures stopped { K.is_trusted book.new.keeper
         → LeavesOneOf book.old.book.history (behind_growth book.old.book.office book.old.book.history sites) (K.may_leave book.old.keeper)
         → LeavesOneOf book.old.book.history (behind_growth book.old.book.office book.old.book.history sites) (K.may_leave book.new.keeper) }
-    ensures fault { IfErr result (λ fault. book.old.closed ≡ false → IsGrowingEnd book.old.book.office book.old.book.history sites (λ h. book.new.book.history ≡ h) fault) }
-    ensures untouched { IfErr result (λ fault. LeavesAsItWas fault book.old.keeper book.new.keeper) }
-    ensures failed { result ≡ Err NotStored → book.old.closed ≡ false → (K.failed book.old.keeper ≡ 0) × (K.failed book.new.keeper ≡ 1) }
+    ensures fault { IfErr result (λ fault. book.old.closed ≡ false → IsGrowingEnd
+        book.old.book.office book.old.book.history sites (λ h. book.new.book.history ≡ h) fault) }
+    ensures untouched { IfErr result
+        (λ fault. LeavesAsItWas fault book.old.keeper book.new.keeper) }
+    ensures failed { result ≡ Err NotStored → book.old.closed ≡ false
+        → (K.failed book.old.keeper ≡ 0) × (K.failed book.new.keeper ≡ 1) }
     ensures written { IfErr result (λ fault. fault ≢ WriteFailed) }
-    ensures open { IfErr result (λ fault. fault ≢ NotStored → book.old.closed ≡ false → book.new.closed ≡ false) }
+    ensures open { IfErr result
+        (λ fault. fault ≢ NotStored → book.old.closed ≡ false → book.new.closed ≡ false) }
     ensures trusted { K.is_trusted book.new.keeper → K.is_trusted book.old.keeper }
-    ensures site { K.is_trusted book.new.keeper → (meta : Numbers) → K.is_of book.old.keeper meta → K.is_of book.new.keeper meta }
+    ensures site { K.is_trusted book.new.keeper
+        → (meta : Numbers) → K.is_of book.old.keeper meta → K.is_of book.new.keeper meta }
 {
     match book.grow(alloc, sites) {
         Ok(()) => Ok(Told::Grown),
@@ -59,22 +67,28 @@ fn write_grown<K: Keeper, W: Write>(
     ensures told { IfOk result (Printed
         (IsTellingOf (λ told. told ≡ told_of_growth (grow_decision book.old.book.office book.old.book.history sites)))
         (W.contents out.old) (W.contents out.new)) }
-    ensures entered { OnOk result (book.new.book.history ≡ behind_growth book.old.book.office book.old.book.history sites) }
+    ensures entered { OnOk result
+        (book.new.book.history ≡ behind_growth book.old.book.office book.old.book.history sites) }
     ensures unclosed { OnOk result (book.old.closed ≡ false → book.new.closed ≡ false) }
     ensures kept { IfOk result (λ status. status ≡ Refused → book.new.keeper ≡ book.old.keeper) }
     ensures stopped { K.is_trusted book.new.keeper
         → LeavesOneOf book.old.book.history (behind_growth book.old.book.office book.old.book.history sites) (K.may_leave book.old.keeper)
         → LeavesOneOf book.old.book.history (behind_growth book.old.book.office book.old.book.history sites) (K.may_leave book.new.keeper) }
-    ensures fault { IfErr result (λ fault. book.old.closed ≡ false → IsGrowingEnd book.old.book.office book.old.book.history sites (λ h. book.new.book.history ≡ h) fault) }
-    ensures untouched { IfErr result (λ fault. LeavesAsItWas fault book.old.keeper book.new.keeper) }
-    ensures failed { result ≡ Err NotStored → book.old.closed ≡ false → (K.failed book.old.keeper ≡ 0) × (K.failed book.new.keeper ≡ 1) }
+    ensures fault { IfErr result (λ fault. book.old.closed ≡ false → IsGrowingEnd
+        book.old.book.office book.old.book.history sites (λ h. book.new.book.history ≡ h) fault) }
+    ensures untouched { IfErr result
+        (λ fault. LeavesAsItWas fault book.old.keeper book.new.keeper) }
+    ensures failed { result ≡ Err NotStored → book.old.closed ≡ false
+        → (K.failed book.old.keeper ≡ 0) × (K.failed book.new.keeper ≡ 1) }
     ensures ends { IfOk result (λ status. status ≢ Failed) }
     ensures unsaid { IfErr result (Unsaid
         (IsTellingOf (λ told. told ≡ told_of_growth (grow_decision book.old.book.office book.old.book.history sites)))
         (W.contents out.old) (W.contents out.new)) }
-    ensures open { IfErr result (λ fault. fault ≢ NotStored → book.old.closed ≡ false → book.new.closed ≡ false) }
+    ensures open { IfErr result
+        (λ fault. fault ≢ NotStored → book.old.closed ≡ false → book.new.closed ≡ false) }
     ensures trusted { K.is_trusted book.new.keeper → K.is_trusted book.old.keeper }
-    ensures site { K.is_trusted book.new.keeper → (meta : Numbers) → K.is_of book.old.keeper meta → K.is_of book.new.keeper meta }
+    ensures site { K.is_trusted book.new.keeper
+        → (meta : Numbers) → K.is_of book.old.keeper meta → K.is_of book.new.keeper meta }
 {
     match grow(alloc, book, sites) {
         Ok(told) => tell(&told, out),
@@ -114,10 +128,14 @@ pub fn grow_store<S: Alter + Drop, W: Write, E: Write>(
     ensures err { FaultTold (E.contents err.old) (E.contents err.new) result.0 }
     ensures cause { IfSome result.1 (λ after. FailsOpened S.Store conn (IsGrowEnd sites) (IsGrowthTold (state S.Store conn).now.trees sites) after
         (W.contents out.old) (W.contents out.new) (E.contents err.old) (E.contents err.new) result.0) }
-    ensures silent { FailsFor (Unsaid IsGrownText (W.contents out.old) (W.contents out.new)) (E.contents err.old) (E.contents err.new) result.0 }
+    ensures silent { FailsFor (Unsaid IsGrownText (W.contents out.old) (W.contents out.new))
+        (E.contents err.old) (E.contents err.new) result.0 }
     ensures ours { IfSome result.1 (ShowedRecords S.Store conn) }
-    ensures illegal { IfSome result.1 (λ after. FailsIfIllegal S.Store conn after (W.contents out.old) (W.contents out.new) (E.contents err.old) (E.contents err.new) result.0) }
-    ensures lost { result.1 ≡ None → IsLost S.Store conn (W.contents out.old) (W.contents out.new) (E.contents err.old) (E.contents err.new) result.0 }
+    ensures illegal { IfSome result.1
+        (λ after. FailsIfIllegal S.Store conn after (W.contents out.old)
+        (W.contents out.new) (E.contents err.old) (E.contents err.new) result.0) }
+    ensures lost { result.1 ≡ None → IsLost S.Store conn (W.contents out.old)
+        (W.contents out.new) (E.contents err.old) (E.contents err.new) result.0 }
 {
     match open_book(alloc, conn) {
         Ok(mut book) => {

@@ -60,20 +60,27 @@ fn take_bytes<K: Keeper>(
     ensures kind { IfOk result IsOfTaking }
     ensures told { IfOk result (λ told. told
         ≡ told_of_read book.old.book.office book.old.book.history (message_of bytes.now)) }
-    ensures entered { OnOk result (book.new.book.history ≡ behind_read book.old.book.office book.old.book.history (message_of bytes.now)) }
+    ensures entered { OnOk result (book.new.book.history
+        ≡ behind_read book.old.book.office book.old.book.history (message_of bytes.now)) }
     ensures unclosed { OnOk result (book.old.closed ≡ false → book.new.closed ≡ false) }
-    ensures kept { IfOk result (λ told. told_status told ≡ Refused → book.new.keeper ≡ book.old.keeper) }
+    ensures kept { IfOk result
+        (λ told. told_status told ≡ Refused → book.new.keeper ≡ book.old.keeper) }
     ensures stopped { K.is_trusted book.new.keeper
         → LeavesOneOf book.old.book.history (behind_read book.old.book.office book.old.book.history (message_of bytes.now)) (K.may_leave book.old.keeper)
         → LeavesOneOf book.old.book.history (behind_read book.old.book.office book.old.book.history (message_of bytes.now)) (K.may_leave book.new.keeper) }
-    ensures fault { IfErr result (IsTakeEnd book.old.closed (told_of_read book.old.book.office book.old.book.history (message_of bytes.now))) }
-    ensures untouched { IfErr result (λ fault. LeavesAsItWas fault book.old.keeper book.new.keeper) }
-    ensures failed { result ≡ Err NotStored → book.old.closed ≡ false → (K.failed book.old.keeper ≡ 0) × (K.failed book.new.keeper ≡ 1) }
+    ensures fault { IfErr result (IsTakeEnd book.old.closed
+        (told_of_read book.old.book.office book.old.book.history (message_of bytes.now))) }
+    ensures untouched { IfErr result
+        (λ fault. LeavesAsItWas fault book.old.keeper book.new.keeper) }
+    ensures failed { result ≡ Err NotStored → book.old.closed ≡ false
+        → (K.failed book.old.keeper ≡ 0) × (K.failed book.new.keeper ≡ 1) }
     ensures written { IfErr result (λ fault. fault ≢ WriteFailed) }
     ensures unchanged { OnErr result (book.new.book.history ≡ book.old.book.history) }
-    ensures open { IfErr result (λ fault. fault ≢ NotStored → book.old.closed ≡ false → book.new.closed ≡ false) }
+    ensures open { IfErr result
+        (λ fault. fault ≢ NotStored → book.old.closed ≡ false → book.new.closed ≡ false) }
     ensures trusted { K.is_trusted book.new.keeper → K.is_trusted book.old.keeper }
-    ensures site { K.is_trusted book.new.keeper → (meta : Numbers) → K.is_of book.old.keeper meta → K.is_of book.new.keeper meta }
+    ensures site { K.is_trusted book.new.keeper
+        → (meta : Numbers) → K.is_of book.old.keeper meta → K.is_of book.new.keeper meta }
 {
     let message = match read_message(alloc, bytes) {
         Ok(message) => message,
@@ -98,18 +105,24 @@ fn take_input<K: Keeper, R: Read + Drop>(
     ensures entered { IfSome (R.remaining input) (λ bytes. OnOk result (book.new.book.history
         ≡ behind_bytes book.old.book.office book.old.book.history bytes)) }
     ensures unclosed { OnOk result (book.old.closed ≡ false → book.new.closed ≡ false) }
-    ensures kept { IfOk result (λ told. told_status told ≡ Refused → book.new.keeper ≡ book.old.keeper) }
+    ensures kept { IfOk result
+        (λ told. told_status told ≡ Refused → book.new.keeper ≡ book.old.keeper) }
     ensures stopped { IfSome (R.remaining input) (λ bytes. K.is_trusted book.new.keeper
         → LeavesOneOf book.old.book.history (behind_bytes book.old.book.office book.old.book.history bytes) (K.may_leave book.old.keeper)
         → LeavesOneOf book.old.book.history (behind_bytes book.old.book.office book.old.book.history bytes) (K.may_leave book.new.keeper)) }
-    ensures fault { IfErr result (λ fault. book.old.closed ≡ false → IsInputEnd book.old.book.office book.old.book.history (R.remaining input) (λ h. book.new.book.history ≡ h) fault) }
-    ensures untouched { IfErr result (λ fault. LeavesAsItWas fault book.old.keeper book.new.keeper) }
-    ensures failed { result ≡ Err NotStored → book.old.closed ≡ false → (K.failed book.old.keeper ≡ 0) × (K.failed book.new.keeper ≡ 1) }
+    ensures fault { IfErr result (λ fault. book.old.closed ≡ false → IsInputEnd book.old.book.office
+        book.old.book.history (R.remaining input) (λ h. book.new.book.history ≡ h) fault) }
+    ensures untouched { IfErr result
+        (λ fault. LeavesAsItWas fault book.old.keeper book.new.keeper) }
+    ensures failed { result ≡ Err NotStored → book.old.closed ≡ false
+        → (K.failed book.old.keeper ≡ 0) × (K.failed book.new.keeper ≡ 1) }
     ensures written { IfErr result (λ fault. fault ≢ WriteFailed) }
     ensures unchanged { OnErr result (book.new.book.history ≡ book.old.book.history) }
-    ensures open { IfErr result (λ fault. fault ≢ NotStored → book.old.closed ≡ false → book.new.closed ≡ false) }
+    ensures open { IfErr result
+        (λ fault. fault ≢ NotStored → book.old.closed ≡ false → book.new.closed ≡ false) }
     ensures trusted { K.is_trusted book.new.keeper → K.is_trusted book.old.keeper }
-    ensures site { K.is_trusted book.new.keeper → (meta : Numbers) → K.is_of book.old.keeper meta → K.is_of book.new.keeper meta }
+    ensures site { K.is_trusted book.new.keeper
+        → (meta : Numbers) → K.is_of book.old.keeper meta → K.is_of book.new.keeper meta }
 {
     match read_input(alloc, input) {
         Ok(Some(bytes)) => take_bytes(alloc, book, bytes.as_slice()),
@@ -135,17 +148,22 @@ fn write_taken<K: Keeper, R: Read + Drop, W: Write>(
     ensures stopped { IfSome (R.remaining input) (λ bytes. K.is_trusted book.new.keeper
         → LeavesOneOf book.old.book.history (behind_bytes book.old.book.office book.old.book.history bytes) (K.may_leave book.old.keeper)
         → LeavesOneOf book.old.book.history (behind_bytes book.old.book.office book.old.book.history bytes) (K.may_leave book.new.keeper)) }
-    ensures fault { IfErr result (λ fault. book.old.closed ≡ false → IsInputEnd book.old.book.office book.old.book.history (R.remaining input) (λ h. book.new.book.history ≡ h) fault) }
-    ensures untouched { IfErr result (λ fault. LeavesAsItWas fault book.old.keeper book.new.keeper) }
-    ensures failed { result ≡ Err NotStored → book.old.closed ≡ false → (K.failed book.old.keeper ≡ 0) × (K.failed book.new.keeper ≡ 1) }
+    ensures fault { IfErr result (λ fault. book.old.closed ≡ false → IsInputEnd book.old.book.office
+        book.old.book.history (R.remaining input) (λ h. book.new.book.history ≡ h) fault) }
+    ensures untouched { IfErr result
+        (λ fault. LeavesAsItWas fault book.old.keeper book.new.keeper) }
+    ensures failed { result ≡ Err NotStored → book.old.closed ≡ false
+        → (K.failed book.old.keeper ≡ 0) × (K.failed book.new.keeper ≡ 1) }
     ensures ends { IfOk result (λ status. status ≢ Failed) }
     ensures told { IfOk result (Printed (IsTellingOf (IsTakenOf book.old.book.office book.old.book.history (R.remaining input)))
         (W.contents out.old) (W.contents out.new)) }
     ensures unsaid { IfErr result (Unsaid (IsTellingOf (IsTakenOf book.old.book.office book.old.book.history (R.remaining input)))
         (W.contents out.old) (W.contents out.new)) }
-    ensures open { IfErr result (λ fault. fault ≢ NotStored → book.old.closed ≡ false → book.new.closed ≡ false) }
+    ensures open { IfErr result
+        (λ fault. fault ≢ NotStored → book.old.closed ≡ false → book.new.closed ≡ false) }
     ensures trusted { K.is_trusted book.new.keeper → K.is_trusted book.old.keeper }
-    ensures site { K.is_trusted book.new.keeper → (meta : Numbers) → K.is_of book.old.keeper meta → K.is_of book.new.keeper meta }
+    ensures site { K.is_trusted book.new.keeper
+        → (meta : Numbers) → K.is_of book.old.keeper meta → K.is_of book.new.keeper meta }
 {
     match take_input(alloc, book, input) {
         Ok(told) => tell(&told, out),
@@ -187,10 +205,14 @@ pub fn import_store<S: Alter + Drop, R: Read + Drop, W: Write, E: Write>(
     ensures err { FaultTold (E.contents err.old) (E.contents err.new) result.0 }
     ensures cause { IfSome result.1 (λ after. FailsOpened S.Store conn (IsImportEnd (R.remaining input)) (IsInputTold (state S.Store conn).now.trees (R.remaining input)) after
         (W.contents out.old) (W.contents out.new) (E.contents err.old) (E.contents err.new) result.0) }
-    ensures silent { FailsFor (Unsaid IsTakenText (W.contents out.old) (W.contents out.new)) (E.contents err.old) (E.contents err.new) result.0 }
+    ensures silent { FailsFor (Unsaid IsTakenText (W.contents out.old) (W.contents out.new))
+        (E.contents err.old) (E.contents err.new) result.0 }
     ensures ours { IfSome result.1 (ShowedRecords S.Store conn) }
-    ensures illegal { IfSome result.1 (λ after. FailsIfIllegal S.Store conn after (W.contents out.old) (W.contents out.new) (E.contents err.old) (E.contents err.new) result.0) }
-    ensures lost { result.1 ≡ None → IsLost S.Store conn (W.contents out.old) (W.contents out.new) (E.contents err.old) (E.contents err.new) result.0 }
+    ensures illegal { IfSome result.1
+        (λ after. FailsIfIllegal S.Store conn after (W.contents out.old)
+        (W.contents out.new) (E.contents err.old) (E.contents err.new) result.0) }
+    ensures lost { result.1 ≡ None → IsLost S.Store conn (W.contents out.old)
+        (W.contents out.new) (E.contents err.old) (E.contents err.new) result.0 }
 {
     match open_book(alloc, conn) {
         Ok(mut book) => {

@@ -26,7 +26,8 @@ use std::io::Write;
 /// Tells that there is no such site among so many, which needs no file: `no-site`, status 1; or on `err` `write`, status 3,
 /// where that is not written.
 pub fn refuse_site<W: Write, E: Write>(out: &mut W, err: &mut E) -> Status
-    ensures out { Printed (IsTellingOf (λ told. told ≡ NoSite)) (W.contents out.old) (W.contents out.new) result }
+    ensures out { Printed
+        (IsTellingOf (λ told. told ≡ NoSite)) (W.contents out.old) (W.contents out.new) result }
     ensures err { FaultTold (E.contents err.old) (E.contents err.new) result }
     ensures cause { FailsFor (λ fault. (fault ≡ WriteFailed) × Unsaid (IsTellingOf (λ told. told ≡ NoSite)) (W.contents out.old) (W.contents out.new) fault)
         (E.contents err.old) (E.contents err.new) result }
@@ -41,20 +42,25 @@ fn make<S: Alter>(
     sites: Sites,
     limit: Limit,
 ) -> Result<Told, StoreFault>
-    ensures told { IfOk result (λ told. told ≡ told_of_making me sites (has_our_table conn.old.schema)) }
+    ensures told { IfOk result
+        (λ told. told ≡ told_of_making me sites (has_our_table conn.old.schema)) }
     ensures busy { me < sites → has_our_table conn.old.schema ≡ false → conn.old.in_transaction ≡ true
         → result ≡ Err Disk }
     ensures made { HasCleanDisk (state S.Store conn.new) → IfOk result (λ told. told_status told ≡ Done
         → IsNew (record { me = me; sites = sites; limit = limit }) (state S.Store conn.new).now) }
-    ensures rest { HasCleanDisk (state S.Store conn.new) → IfOk result (λ told. told_status told ≡ Done → IsAtRest (state S.Store conn.new) 0) }
+    ensures rest { HasCleanDisk (state S.Store conn.new)
+        → IfOk result (λ told. told_status told ≡ Done → IsAtRest (state S.Store conn.new) 0) }
     ensures leaves { HasCleanDisk (state S.Store conn.new) → IfOk result (λ told. told_status told ≡ Done
         → LeavesOnly [] (MayLeaveIn (state S.Store conn.new))) }
     ensures site { HasCleanDisk (state S.Store conn.new) → IfOk result (λ told. told_status told ≡ Done
         → LeavesSite (state S.Store conn.new) (record { me = me; sites = sites; limit = limit })) }
     ensures kept { IfOk result (λ told. told_status told ≡ Refused → conn.new ≡ conn.old) }
     ensures ended { conn.old.in_transaction ≡ false → conn.new.in_transaction ≡ false }
-    ensures crash { HasCleanDisk (state S.Store conn.new) → LeavesAsBeforeOrNew (record { me = me; sites = sites; limit = limit }) (state S.Store conn.old) (state S.Store conn.new) }
-    ensures fault { HasCleanDisk (state S.Store conn.new) → IfErr result (IsMakeEnd S.Store conn.old conn.new (record { me = me; sites = sites; limit = limit })) }
+    ensures crash { HasCleanDisk (state S.Store conn.new)
+        → LeavesAsBeforeOrNew (record { me = me; sites = sites; limit = limit })
+        (state S.Store conn.old) (state S.Store conn.new) }
+    ensures fault { HasCleanDisk (state S.Store conn.new) → IfErr result
+        (IsMakeEnd S.Store conn.old conn.new (record { me = me; sites = sites; limit = limit })) }
 {
     if me.number() >= sites.count() {
         return Ok(Told::NoSite);
@@ -74,21 +80,28 @@ fn write_made<S: Alter, W: Write>(
     limit: Limit,
     out: &mut W,
 ) -> Result<Status, StoreFault>
-    ensures out { IfOk result (Printed (IsMadeText me sites (has_our_table conn.old.schema)) (W.contents out.old) (W.contents out.new)) }
+    ensures out { IfOk result (Printed (IsMadeText me sites (has_our_table conn.old.schema))
+        (W.contents out.old) (W.contents out.new)) }
     ensures made { HasCleanDisk (state S.Store conn.new) → IfOk result (λ status. status ≡ Done
         → IsNew (record { me = me; sites = sites; limit = limit }) (state S.Store conn.new).now) }
-    ensures rest { HasCleanDisk (state S.Store conn.new) → IfOk result (λ status. status ≡ Done → IsAtRest (state S.Store conn.new) 0) }
+    ensures rest { HasCleanDisk (state S.Store conn.new)
+        → IfOk result (λ status. status ≡ Done → IsAtRest (state S.Store conn.new) 0) }
     ensures leaves { HasCleanDisk (state S.Store conn.new) → IfOk result (λ status. status ≡ Done
         → LeavesOnly [] (MayLeaveIn (state S.Store conn.new))) }
     ensures site { HasCleanDisk (state S.Store conn.new) → IfOk result (λ status. status ≡ Done
         → LeavesSite (state S.Store conn.new) (record { me = me; sites = sites; limit = limit })) }
     ensures kept { IfOk result (λ status. status ≡ Refused → conn.new ≡ conn.old) }
     ensures ended { conn.old.in_transaction ≡ false → conn.new.in_transaction ≡ false }
-    ensures crash { HasCleanDisk (state S.Store conn.new) → LeavesAsBeforeOrNew (record { me = me; sites = sites; limit = limit }) (state S.Store conn.old) (state S.Store conn.new) }
-    ensures fault { HasCleanDisk (state S.Store conn.new) → IfErr result (IsMakeEnd S.Store conn.old conn.new (record { me = me; sites = sites; limit = limit })) }
-    ensures unsaid { HasCleanDisk (state S.Store conn.new) → OnOk result (IsMakeEnd S.Store conn.old conn.new (record { me = me; sites = sites; limit = limit }) WriteFailed) }
+    ensures crash { HasCleanDisk (state S.Store conn.new)
+        → LeavesAsBeforeOrNew (record { me = me; sites = sites; limit = limit })
+        (state S.Store conn.old) (state S.Store conn.new) }
+    ensures fault { HasCleanDisk (state S.Store conn.new) → IfErr result
+        (IsMakeEnd S.Store conn.old conn.new (record { me = me; sites = sites; limit = limit })) }
+    ensures unsaid { HasCleanDisk (state S.Store conn.new) → OnOk result (IsMakeEnd
+        S.Store conn.old conn.new (record { me = me; sites = sites; limit = limit }) WriteFailed) }
     ensures ends { IfOk result (λ status. status ≢ Failed) }
-    ensures silent { IfErr result (Unsaid (IsMadeText me sites (has_our_table conn.old.schema)) (W.contents out.old) (W.contents out.new)) }
+    ensures silent { IfErr result (Unsaid (IsMadeText me sites (has_our_table conn.old.schema))
+        (W.contents out.old) (W.contents out.new)) }
 {
     match make(conn, me, sites, limit) {
         Ok(told) => tell(&told, out),
@@ -111,23 +124,29 @@ pub fn init_store<S: Alter, W: Write, E: Write>(
     out: &mut W,
     err: &mut E,
 ) -> Status
-    ensures out { Printed (IsMadeText me sites (has_our_table conn.old.schema)) (W.contents out.old) (W.contents out.new) result }
+    ensures out { Printed (IsMadeText me sites (has_our_table conn.old.schema))
+        (W.contents out.old) (W.contents out.new) result }
     ensures err { FaultTold (E.contents err.old) (E.contents err.new) result }
     ensures made { HasCleanDisk (state S.Store conn.new) → result ≡ Done
         → IsNew (record { me = me; sites = sites; limit = limit }) (state S.Store conn.new).now }
-    ensures rest { HasCleanDisk (state S.Store conn.new) → result ≡ Done → IsAtRest (state S.Store conn.new) 0 }
+    ensures rest { HasCleanDisk (state S.Store conn.new)
+        → result ≡ Done → IsAtRest (state S.Store conn.new) 0 }
     ensures leaves { HasCleanDisk (state S.Store conn.new) → result ≡ Done
         → LeavesOnly [] (MayLeaveIn (state S.Store conn.new)) }
     ensures site { HasCleanDisk (state S.Store conn.new) → result ≡ Done
         → LeavesSite (state S.Store conn.new) (record { me = me; sites = sites; limit = limit }) }
     ensures kept { result ≡ Refused → conn.new ≡ conn.old }
     ensures ended { conn.old.in_transaction ≡ false → conn.new.in_transaction ≡ false }
-    ensures crash { HasCleanDisk (state S.Store conn.new) → LeavesAsBeforeOrNew (record { me = me; sites = sites; limit = limit }) (state S.Store conn.old) (state S.Store conn.new) }
+    ensures crash { HasCleanDisk (state S.Store conn.new)
+        → LeavesAsBeforeOrNew (record { me = me; sites = sites; limit = limit })
+        (state S.Store conn.old) (state S.Store conn.new) }
     ensures cause { HasCleanDisk (state S.Store conn.new)
         → FailsFor (λ fault. IsMakeEnd S.Store conn.old conn.new (record { me = me; sites = sites; limit = limit }) fault
         × Unsaid (IsMadeText me sites (has_our_table conn.old.schema)) (W.contents out.old) (W.contents out.new) fault)
         (E.contents err.old) (E.contents err.new) result }
-    ensures silent { FailsFor (Unsaid (IsMadeText me sites (has_our_table conn.old.schema)) (W.contents out.old) (W.contents out.new)) (E.contents err.old) (E.contents err.new) result }
+    ensures silent { FailsFor
+        (Unsaid (IsMadeText me sites (has_our_table conn.old.schema)) (W.contents out.old)
+        (W.contents out.new)) (E.contents err.old) (E.contents err.new) result }
 {
     let came = write_made(conn, me, sites, limit, out);
     ended(came, out, err)

@@ -15,20 +15,28 @@ pub fn totals_are_not_oversold()
 /// not understood.
 pub fn each_command_has_words()
     ensures world { Give (codes "world" ∷ []) SaysWorld }
-    ensures init { Give (codes "init" ∷ codes "a.db" ∷ codes "1" ∷ codes "2" ∷ codes "9" ∷ []) (SaysInit (codes "a.db") 1 2 9) }
+    ensures init { Give (codes "init" ∷ codes "a.db" ∷ codes "1" ∷ codes "2" ∷ codes "9" ∷ [])
+        (SaysInit (codes "a.db") 1 2 9) }
     ensures migrate { Give (codes "migrate" ∷ codes "a.db" ∷ []) (SaysMigrate (codes "a.db")) }
-    ensures grow { Give (codes "grow" ∷ codes "a.db" ∷ codes "21" ∷ []) (SaysGrow (codes "a.db") 21) }
+    ensures grow { Give
+        (codes "grow" ∷ codes "a.db" ∷ codes "21" ∷ []) (SaysGrow (codes "a.db") 21) }
     ensures ask { Give (codes "ask" ∷ codes "a.db" ∷ []) (SaysAsk (codes "a.db")) }
     ensures find { Give (codes "find" ∷ codes "a.db" ∷ codes "7" ∷ []) (SaysFind (codes "a.db") 7) }
-    ensures list { Give (codes "list" ∷ codes "a.db" ∷ codes "gala" ∷ []) (SaysList (codes "a.db") (codes "gala")) }
-    ensures export { Give (codes "export" ∷ codes "a.db" ∷ codes "1" ∷ []) (SaysExport (codes "a.db") 1) }
+    ensures list { Give
+        (codes "list" ∷ codes "a.db" ∷ codes "gala" ∷ []) (SaysList (codes "a.db") (codes "gala")) }
+    ensures export { Give
+        (codes "export" ∷ codes "a.db" ∷ codes "1" ∷ []) (SaysExport (codes "a.db") 1) }
     ensures import { Give (codes "import" ∷ codes "a.db" ∷ []) (SaysImport (codes "a.db")) }
-    ensures audit { Give (codes "audit" ∷ codes "a.db" ∷ codes "b.db" ∷ []) (SaysAudit (codes "a.db" ∷ codes "b.db" ∷ [])) }
-    ensures serve { Give (codes "serve" ∷ codes "7000" ∷ codes "2" ∷ codes "9" ∷ codes "a.db" ∷ codes "b.db" ∷ []) (SaysServe 7000 2 9 (codes "a.db" ∷ codes "b.db" ∷ [])) }
-    ensures open { Give (codes "open" ∷ codes "7000" ∷ codes "a.db" ∷ []) (SaysOpen 7000 (codes "a.db")) }
+    ensures audit { Give (codes "audit" ∷ codes "a.db" ∷ codes "b.db" ∷ [])
+        (SaysAudit (codes "a.db" ∷ codes "b.db" ∷ [])) }
+    ensures serve { Give (codes "serve" ∷ codes "7000" ∷ codes "2" ∷ codes "9" ∷ codes
+        "a.db" ∷ codes "b.db" ∷ []) (SaysServe 7000 2 9 (codes "a.db" ∷ codes "b.db" ∷ [])) }
+    ensures open { Give
+        (codes "open" ∷ codes "7000" ∷ codes "a.db" ∷ []) (SaysOpen 7000 (codes "a.db")) }
     ensures close { Give (codes "close" ∷ codes "a.db" ∷ []) (SaysClose (codes "a.db")) }
     ensures status { Give (codes "status" ∷ codes "a.db" ∷ []) (SaysStatus (codes "a.db")) }
     ensures no_file { AreUnderstood (codes "boxoffice" ∷ codes "audit" ∷ []) → ⊥ }
-    ensures word_too_many { AreUnderstood (codes "boxoffice" ∷ codes "world" ∷ codes "extra" ∷ []) → ⊥ }
+    ensures word_too_many { AreUnderstood (codes "boxoffice" ∷ codes "world" ∷ codes "extra" ∷ [])
+        → ⊥ }
     ensures help { AreUnderstood (codes "boxoffice" ∷ codes "world" ∷ codes "--help" ∷ []) → ⊥ }
 {}

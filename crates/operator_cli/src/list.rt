@@ -25,8 +25,10 @@ use std::alloc::Global;
 use std::io::Write;
 
 fn write_all<W: Write>(listed: &[Listed], out: &mut W) -> Result<Status, StoreFault>
-    ensures out { IfOk result (Printed (AreListed listed.now) (W.contents out.old) (W.contents out.new)) }
-    ensures silent { IfErr result (Unsaid (AreListed listed.now) (W.contents out.old) (W.contents out.new)) }
+    ensures out { IfOk result
+        (Printed (AreListed listed.now) (W.contents out.old) (W.contents out.new)) }
+    ensures silent { IfErr result
+        (Unsaid (AreListed listed.now) (W.contents out.old) (W.contents out.new)) }
     ensures fault { IfErr result (λ fault. fault ≡ WriteFailed) }
     ensures ends { IfOk result (λ status. status ≢ Failed) }
 {
@@ -96,10 +98,14 @@ pub fn list_store<S: Alter + Drop, W: Write, E: Write>(
         → left ≡ Some (history_in (state S.Store conn).now.trees)) }
     ensures cause { IfSome result.1 (λ after. FailsOpened S.Store conn (IsListEnd event.now) (IsListIn (history_in (state S.Store conn).now.trees) event.now) after
         (W.contents out.old) (W.contents out.new) (E.contents err.old) (E.contents err.new) result.0) }
-    ensures silent { FailsFor (Unsaid IsListText (W.contents out.old) (W.contents out.new)) (E.contents err.old) (E.contents err.new) result.0 }
+    ensures silent { FailsFor (Unsaid IsListText (W.contents out.old) (W.contents out.new))
+        (E.contents err.old) (E.contents err.new) result.0 }
     ensures ours { IfSome result.1 (ShowedRecords S.Store conn) }
-    ensures illegal { IfSome result.1 (λ after. FailsIfIllegal S.Store conn after (W.contents out.old) (W.contents out.new) (E.contents err.old) (E.contents err.new) result.0) }
-    ensures lost { result.1 ≡ None → IsLost S.Store conn (W.contents out.old) (W.contents out.new) (E.contents err.old) (E.contents err.new) result.0 }
+    ensures illegal { IfSome result.1
+        (λ after. FailsIfIllegal S.Store conn after (W.contents out.old)
+        (W.contents out.new) (E.contents err.old) (E.contents err.new) result.0) }
+    ensures lost { result.1 ≡ None → IsLost S.Store conn (W.contents out.old)
+        (W.contents out.new) (E.contents err.old) (E.contents err.new) result.0 }
 {
     match open_book(alloc, conn) {
         Ok(book) => {

@@ -43,19 +43,24 @@ fn migrate<S: Alter>(alloc: Global, conn: &mut Connection<S>) -> Result<Told, St
     ensures told { IfOk result IsOfMigrating }
     ensures set { HasCleanDisk (state S.Store conn.new) → IfOk result (λ told. told_status told ≡ Done
         → IsMigrated (state S.Store conn.old).now.trees (state S.Store conn.new).now.trees) }
-    ensures first { HasCleanDisk (state S.Store conn.new) → IfOk result (λ told. told_status told ≡ Done → IsLegalFirst (state S.Store conn.old).now.trees) }
+    ensures first { HasCleanDisk (state S.Store conn.new) → IfOk result
+        (λ told. told_status told ≡ Done → IsLegalFirst (state S.Store conn.old).now.trees) }
     ensures leaves { HasCleanDisk (state S.Store conn.new) → IfOk result (λ told. told_status told ≡ Done
         → LeavesOnly (history_in (state S.Store conn.old).now.trees) (MayLeaveIn (state S.Store conn.new))) }
     ensures rest { HasCleanDisk (state S.Store conn.new) → IfOk result (λ told. told_status told ≡ Done
         → IsAtRest (state S.Store conn.new) (length (history_in (state S.Store conn.old).now.trees))) }
     ensures site { HasCleanDisk (state S.Store conn.new) → IfOk result (λ told. told_status told ≡ Done
         → (meta : Meta) → HasMetaAs First meta (state S.Store conn.old).now.trees → LeavesSite (state S.Store conn.new) meta) }
-    ensures nothing { HasCleanDisk (state S.Store conn.new) → IfOk result (λ told. told_status told ≡ Refused → IsMigrateFault S.Store conn.old conn.new Nothing) }
-    ensures kept { HasCleanDisk (state S.Store conn.new) → IfOk result (λ told. told_status told ≡ Refused → IsAsBefore (state S.Store conn.old) (state S.Store conn.new)) }
-    ensures crash { HasCleanDisk (state S.Store conn.new) → LeavesAsBeforeOrMigrated (state S.Store conn.old) (state S.Store conn.new) }
+    ensures nothing { HasCleanDisk (state S.Store conn.new) → IfOk result
+        (λ told. told_status told ≡ Refused → IsMigrateFault S.Store conn.old conn.new Nothing) }
+    ensures kept { HasCleanDisk (state S.Store conn.new) → IfOk result (λ told.
+        told_status told ≡ Refused → IsAsBefore (state S.Store conn.old) (state S.Store conn.new)) }
+    ensures crash { HasCleanDisk (state S.Store conn.new)
+        → LeavesAsBeforeOrMigrated (state S.Store conn.old) (state S.Store conn.new) }
     ensures either { conn.old.in_transaction ≡ false → IsTrue (state S.Store conn.old).is_open → HasCleanDisk (state S.Store conn.new)
         → LeavesItOrMigrated (state S.Store conn.old).now.trees (state S.Store conn.new) }
-    ensures fault { HasCleanDisk (state S.Store conn.new) → IfErr result (IsMigrateEnd S.Store conn.old conn.new) }
+    ensures fault { HasCleanDisk (state S.Store conn.new)
+        → IfErr result (IsMigrateEnd S.Store conn.old conn.new) }
     ensures written { IfErr result (λ fault. fault ≢ WriteFailed) }
 {
     match Records::migrate(alloc, conn) {
@@ -72,23 +77,31 @@ fn write_migrated<S: Alter, W: Write>(
     ensures out { IfOk result (Printed IsMigratedText (W.contents out.old) (W.contents out.new)) }
     ensures set { HasCleanDisk (state S.Store conn.new) → IfOk result (λ status. status ≡ Done
         → IsMigrated (state S.Store conn.old).now.trees (state S.Store conn.new).now.trees) }
-    ensures first { HasCleanDisk (state S.Store conn.new) → IfOk result (λ status. status ≡ Done → IsLegalFirst (state S.Store conn.old).now.trees) }
+    ensures first { HasCleanDisk (state S.Store conn.new)
+        → IfOk result (λ status. status ≡ Done → IsLegalFirst (state S.Store conn.old).now.trees) }
     ensures leaves { HasCleanDisk (state S.Store conn.new) → IfOk result (λ status. status ≡ Done
         → LeavesOnly (history_in (state S.Store conn.old).now.trees) (MayLeaveIn (state S.Store conn.new))) }
     ensures rest { HasCleanDisk (state S.Store conn.new) → IfOk result (λ status. status ≡ Done
         → IsAtRest (state S.Store conn.new) (length (history_in (state S.Store conn.old).now.trees))) }
     ensures site { HasCleanDisk (state S.Store conn.new) → IfOk result (λ status. status ≡ Done
         → (meta : Meta) → HasMetaAs First meta (state S.Store conn.old).now.trees → LeavesSite (state S.Store conn.new) meta) }
-    ensures nothing { HasCleanDisk (state S.Store conn.new) → IfOk result (λ status. status ≡ Refused → IsMigrateFault S.Store conn.old conn.new Nothing) }
-    ensures kept { HasCleanDisk (state S.Store conn.new) → IfOk result (λ status. status ≡ Refused → IsAsBefore (state S.Store conn.old) (state S.Store conn.new)) }
-    ensures crash { HasCleanDisk (state S.Store conn.new) → LeavesAsBeforeOrMigrated (state S.Store conn.old) (state S.Store conn.new) }
+    ensures nothing { HasCleanDisk (state S.Store conn.new) → IfOk result
+        (λ status. status ≡ Refused → IsMigrateFault S.Store conn.old conn.new Nothing) }
+    ensures kept { HasCleanDisk (state S.Store conn.new) → IfOk result (λ status. status ≡ Refused
+        → IsAsBefore (state S.Store conn.old) (state S.Store conn.new)) }
+    ensures crash { HasCleanDisk (state S.Store conn.new)
+        → LeavesAsBeforeOrMigrated (state S.Store conn.old) (state S.Store conn.new) }
     ensures either { conn.old.in_transaction ≡ false → IsTrue (state S.Store conn.old).is_open → HasCleanDisk (state S.Store conn.new)
         → LeavesItOrMigrated (state S.Store conn.old).now.trees (state S.Store conn.new) }
-    ensures fault { HasCleanDisk (state S.Store conn.new) → IfErr result (IsMigrateEnd S.Store conn.old conn.new) }
+    ensures fault { HasCleanDisk (state S.Store conn.new)
+        → IfErr result (IsMigrateEnd S.Store conn.old conn.new) }
     ensures ends { IfOk result (λ status. status ≢ Failed) }
-    ensures told { HasCleanDisk (state S.Store conn.new) → IfOk result (Printed (IsTellingOf (IsMigrationTold S.Store conn.old conn.new)) (W.contents out.old) (W.contents out.new)) }
-    ensures silent { IfErr result (Unsaid IsMigratedText (W.contents out.old) (W.contents out.new)) }
-    ensures unsaid { HasCleanDisk (state S.Store conn.new) → IfErr result (Unsaid (IsTellingOf (IsMigrationTold S.Store conn.old conn.new)) (W.contents out.old) (W.contents out.new)) }
+    ensures told { HasCleanDisk (state S.Store conn.new) → IfOk result (Printed (IsTellingOf
+        (IsMigrationTold S.Store conn.old conn.new)) (W.contents out.old) (W.contents out.new)) }
+    ensures silent { IfErr result
+        (Unsaid IsMigratedText (W.contents out.old) (W.contents out.new)) }
+    ensures unsaid { HasCleanDisk (state S.Store conn.new) → IfErr result (Unsaid (IsTellingOf
+        (IsMigrationTold S.Store conn.old conn.new)) (W.contents out.old) (W.contents out.new)) }
 {
     match migrate(alloc, conn) {
         Ok(told) => tell(&told, out),
@@ -114,22 +127,27 @@ pub fn migrate_store<S: Alter, W: Write, E: Write>(
     ensures err { FaultTold (E.contents err.old) (E.contents err.new) result }
     ensures set { HasCleanDisk (state S.Store conn.new) → result ≡ Done
         → IsMigrated (state S.Store conn.old).now.trees (state S.Store conn.new).now.trees }
-    ensures first { HasCleanDisk (state S.Store conn.new) → result ≡ Done → IsLegalFirst (state S.Store conn.old).now.trees }
+    ensures first { HasCleanDisk (state S.Store conn.new)
+        → result ≡ Done → IsLegalFirst (state S.Store conn.old).now.trees }
     ensures leaves { HasCleanDisk (state S.Store conn.new) → result ≡ Done
         → LeavesOnly (history_in (state S.Store conn.old).now.trees) (MayLeaveIn (state S.Store conn.new)) }
     ensures rest { HasCleanDisk (state S.Store conn.new) → result ≡ Done
         → IsAtRest (state S.Store conn.new) (length (history_in (state S.Store conn.old).now.trees)) }
     ensures site { HasCleanDisk (state S.Store conn.new) → result ≡ Done
         → (meta : Meta) → HasMetaAs First meta (state S.Store conn.old).now.trees → LeavesSite (state S.Store conn.new) meta }
-    ensures nothing { HasCleanDisk (state S.Store conn.new) → result ≡ Refused → IsMigrateFault S.Store conn.old conn.new Nothing }
-    ensures kept { HasCleanDisk (state S.Store conn.new) → result ≡ Refused → IsAsBefore (state S.Store conn.old) (state S.Store conn.new) }
-    ensures crash { HasCleanDisk (state S.Store conn.new) → LeavesAsBeforeOrMigrated (state S.Store conn.old) (state S.Store conn.new) }
+    ensures nothing { HasCleanDisk (state S.Store conn.new)
+        → result ≡ Refused → IsMigrateFault S.Store conn.old conn.new Nothing }
+    ensures kept { HasCleanDisk (state S.Store conn.new)
+        → result ≡ Refused → IsAsBefore (state S.Store conn.old) (state S.Store conn.new) }
+    ensures crash { HasCleanDisk (state S.Store conn.new)
+        → LeavesAsBeforeOrMigrated (state S.Store conn.old) (state S.Store conn.new) }
     ensures either { conn.old.in_transaction ≡ false → IsTrue (state S.Store conn.old).is_open → HasCleanDisk (state S.Store conn.new)
         → LeavesItOrMigrated (state S.Store conn.old).now.trees (state S.Store conn.new) }
     ensures cause { HasCleanDisk (state S.Store conn.new)
         → FailsFor (λ fault. IsMigrateEnd S.Store conn.old conn.new fault × Unsaid (IsTellingOf (IsMigrationTold S.Store conn.old conn.new)) (W.contents out.old) (W.contents out.new) fault)
         (E.contents err.old) (E.contents err.new) result }
-    ensures silent { FailsFor (Unsaid IsMigratedText (W.contents out.old) (W.contents out.new)) (E.contents err.old) (E.contents err.new) result }
+    ensures silent { FailsFor (Unsaid IsMigratedText (W.contents out.old) (W.contents out.new))
+        (E.contents err.old) (E.contents err.new) result }
 {
     let came = write_migrated(alloc, conn, out);
     ended(came, out, err)

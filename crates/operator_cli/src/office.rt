@@ -93,7 +93,8 @@ pub fn office_store<
     err: &mut E,
 ) -> (Status, Option<Connection<S>>)
     ensures line { AppendsFront (W.contents out.old) (W.contents out.new) (codes "open\n") }
-    ensures all { result.0 ≡ Done → Appends (W.contents out.old) (W.contents out.new) (codes "open\n") }
+    ensures all { result.0 ≡ Done
+        → Appends (W.contents out.old) (W.contents out.new) (codes "open\n") }
     ensures back { IsSome result.1 }
     ensures left { IfSome result.1 (λ after.
         WasOpen S.Store book.book.office book.book.history after result.0) }
@@ -111,7 +112,8 @@ pub fn office_store<
 
 /// Tells why there is no socket for an office: `long-path`, `no-socket` or `bind`, with status 3.
 pub fn tell_socket_fault<E: Write>(fault: SocketFault, err: &mut E) -> Status
-    ensures line { AppendsFront (E.contents err.old) (E.contents err.new) (store_fault_line (of_socket_fault fault)) }
+    ensures line { AppendsFront
+        (E.contents err.old) (E.contents err.new) (store_fault_line (of_socket_fault fault)) }
     ensures status { result ≡ Failed }
 {
     tell_fault(StoreFault::from(fault), err)
@@ -119,7 +121,8 @@ pub fn tell_socket_fault<E: Write>(fault: SocketFault, err: &mut E) -> Status
 
 /// Tells why an office was not closed: `not-open` or `open`, with status 3.
 pub fn tell_close_fault<E: Write>(fault: CloseFault, err: &mut E) -> Status
-    ensures line { AppendsFront (E.contents err.old) (E.contents err.new) (store_fault_line (of_close_fault fault)) }
+    ensures line { AppendsFront
+        (E.contents err.old) (E.contents err.new) (store_fault_line (of_close_fault fault)) }
     ensures status { result ≡ Failed }
 {
     tell_fault(StoreFault::from(fault), err)

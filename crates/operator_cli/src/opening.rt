@@ -56,19 +56,24 @@ pub(crate) fn open_book<S: Alter + Drop>(
 ) -> Result<SiteBook<Records<S>>, (StoreFault, Option<Connection<S>>)>
     ensures kept { IfOk result (λ book. IsTrusted S.Store book.keeper
         → kept_in S.Store book.keeper ≡ history_in (state S.Store conn).now.trees) }
-    ensures rests { IfOk result (λ book. IsTrusted S.Store book.keeper → LeavesOnly (kept_in S.Store book.keeper) (MayLeave S.Store book.keeper)) }
-    ensures site { IfOk result (λ book. IsTrusted S.Store book.keeper → (meta : Numbers) → HasMeta meta (state S.Store conn).now.trees → IsOf S.Store book.keeper meta) }
+    ensures rests { IfOk result (λ book. IsTrusted S.Store book.keeper
+        → LeavesOnly (kept_in S.Store book.keeper) (MayLeave S.Store book.keeper)) }
+    ensures site { IfOk result (λ book. IsTrusted S.Store book.keeper → (meta : Numbers)
+        → HasMeta meta (state S.Store conn).now.trees → IsOf S.Store book.keeper meta) }
     ensures open { IfOk result (λ book. book.keeper.failures ≡ 0) }
     ensures unclosed { IfOk result (λ book. book.closed ≡ false) }
-    ensures book { IfOk result (λ book. IsTrusted S.Store book.keeper → IsBookOf (state S.Store conn).now.trees book) }
+    ensures book { IfOk result
+        (λ book. IsTrusted S.Store book.keeper → IsBookOf (state S.Store conn).now.trees book) }
     ensures same { IfOk result (λ book. IsTrusted S.Store book.keeper
         → (state S.Store book.keeper.conn).now ≡ (state S.Store conn).now) }
-    ensures unchanged { IfOk result (λ book. IsTrusted S.Store book.keeper → IsUnchanged (state S.Store conn) (state S.Store book.keeper.conn)) }
+    ensures unchanged { IfOk result (λ book. IsTrusted S.Store book.keeper
+        → IsUnchanged (state S.Store conn) (state S.Store book.keeper.conn)) }
     ensures limit { IfOk result (λ book. book.keeper.conn.step_limit ≡ conn.step_limit) }
     ensures settled { OnOk result (conn.in_transaction ≡ false) }
     ensures autocommit { IfOk result (λ book. IsTrusted S.Store book.keeper
         → (state S.Store book.keeper.conn).in_transaction ≡ false) }
-    ensures clean { IfOk result (λ book. IsTrusted S.Store book.keeper → HasCleanDisk (state S.Store conn)) }
+    ensures clean { IfOk result
+        (λ book. IsTrusted S.Store book.keeper → HasCleanDisk (state S.Store conn)) }
     ensures fault { IfErr result (λ e. MatchOption e.1
         (IsRefused S.Store conn e.0) (λ after. IsIllegal S.Store conn after e.0)) }
 {
@@ -92,9 +97,12 @@ pub fn open_store<S: Alter + Drop, E: Write>(
 ) -> Result<SiteBook<Records<S>>, (Status, Option<Connection<S>>)>
     ensures kept { IfOk result (λ book. IsTrusted S.Store book.keeper
         → kept_in S.Store book.keeper ≡ history_in (state S.Store conn).now.trees) }
-    ensures book { IfOk result (λ book. IsTrusted S.Store book.keeper → IsBookOf (state S.Store conn).now.trees book) }
-    ensures rests { IfOk result (λ book. IsTrusted S.Store book.keeper → LeavesOnly (kept_in S.Store book.keeper) (MayLeave S.Store book.keeper)) }
-    ensures site { IfOk result (λ book. IsTrusted S.Store book.keeper → (meta : Numbers) → HasMeta meta (state S.Store conn).now.trees → IsOf S.Store book.keeper meta) }
+    ensures book { IfOk result
+        (λ book. IsTrusted S.Store book.keeper → IsBookOf (state S.Store conn).now.trees book) }
+    ensures rests { IfOk result (λ book. IsTrusted S.Store book.keeper
+        → LeavesOnly (kept_in S.Store book.keeper) (MayLeave S.Store book.keeper)) }
+    ensures site { IfOk result (λ book. IsTrusted S.Store book.keeper → (meta : Numbers)
+        → HasMeta meta (state S.Store conn).now.trees → IsOf S.Store book.keeper meta) }
     ensures unclosed { IfOk result (λ book. book.closed ≡ false) }
     ensures silent { OnOk result (E.contents err.new ≡ E.contents err.old) }
     ensures fault { IfErr result (λ e. (e.0 ≡ Failed) × (fault : StoreFault) × AppendsFront (E.contents err.old) (E.contents err.new) (store_fault_line fault)

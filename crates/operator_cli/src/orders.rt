@@ -156,7 +156,8 @@ fn misfit_line(misfit: Misfit) -> &'static str
 }
 
 fn value_of<'a>(values: &ArgMatches<'a>, id: &str) -> Option<&'a str>
-    ensures { option_map (λ word. word.now) result ≡ first_of id.now (rows_of (found_of values.now)) }
+    ensures { option_map (λ word. word.now) result
+        ≡ first_of id.now (rows_of (found_of values.now)) }
 {
     values.get_str(id)
 }
@@ -200,8 +201,10 @@ fn request_number_of(values: &ArgMatches<'_>) -> Option<RequestNumber>
 
 #[tactic(auto, unfolding(crate::specs::Orders::init_in))]
 fn init_of<'a>(values: &ArgMatches<'a>) -> Result<Order<'a>, Misfit>
-    ensures order { MatchResult result (λ order. init_in (rows_of (found_of values.now)) ≡ Some (said_by order)) (λ _. init_in (rows_of (found_of values.now)) ≡ None) }
-    ensures misfit { IfErr result (λ misfit. first_misfit (Misfit.File ∷ Misfit.Me ∷ Misfit.Sites ∷ Misfit.Limit ∷ []) (rows_of (found_of values.now)) ≡ Some misfit) }
+    ensures order { MatchResult result (λ order. init_in (rows_of (found_of values.now))
+        ≡ Some (said_by order)) (λ _. init_in (rows_of (found_of values.now)) ≡ None) }
+    ensures misfit { IfErr result (λ misfit. first_misfit (Misfit.File ∷ Misfit.Me
+        ∷ Misfit.Sites ∷ Misfit.Limit ∷ []) (rows_of (found_of values.now)) ≡ Some misfit) }
 {
     let file = value_of(values, "FILE").ok_or(Misfit::File)?;
     let me = site_of(values, "ME").ok_or(Misfit::Me)?;
@@ -217,8 +220,10 @@ fn init_of<'a>(values: &ArgMatches<'a>) -> Result<Order<'a>, Misfit>
 
 #[tactic(auto, unfolding(crate::specs::Orders::migrate_in))]
 fn migrate_of<'a>(values: &ArgMatches<'a>) -> Result<Order<'a>, Misfit>
-    ensures order { MatchResult result (λ order. migrate_in (rows_of (found_of values.now)) ≡ Some (said_by order)) (λ _. migrate_in (rows_of (found_of values.now)) ≡ None) }
-    ensures misfit { IfErr result (λ misfit. first_misfit (Misfit.File ∷ []) (rows_of (found_of values.now)) ≡ Some misfit) }
+    ensures order { MatchResult result (λ order. migrate_in (rows_of (found_of values.now))
+        ≡ Some (said_by order)) (λ _. migrate_in (rows_of (found_of values.now)) ≡ None) }
+    ensures misfit { IfErr result
+        (λ misfit. first_misfit (Misfit.File ∷ []) (rows_of (found_of values.now)) ≡ Some misfit) }
 {
     let file = value_of(values, "FILE").ok_or(Misfit::File)?;
     Ok(Order::Migrate { file })
@@ -226,8 +231,10 @@ fn migrate_of<'a>(values: &ArgMatches<'a>) -> Result<Order<'a>, Misfit>
 
 #[tactic(auto, unfolding(crate::specs::Orders::grow_in))]
 fn grow_of<'a>(values: &ArgMatches<'a>) -> Result<Order<'a>, Misfit>
-    ensures order { MatchResult result (λ order. grow_in (rows_of (found_of values.now)) ≡ Some (said_by order)) (λ _. grow_in (rows_of (found_of values.now)) ≡ None) }
-    ensures misfit { IfErr result (λ misfit. first_misfit (Misfit.File ∷ Misfit.Sites ∷ []) (rows_of (found_of values.now)) ≡ Some misfit) }
+    ensures order { MatchResult result (λ order. grow_in (rows_of (found_of values.now))
+        ≡ Some (said_by order)) (λ _. grow_in (rows_of (found_of values.now)) ≡ None) }
+    ensures misfit { IfErr result (λ misfit. first_misfit
+        (Misfit.File ∷ Misfit.Sites ∷ []) (rows_of (found_of values.now)) ≡ Some misfit) }
 {
     let file = value_of(values, "FILE").ok_or(Misfit::File)?;
     let sites = sites_of(values).ok_or(Misfit::Sites)?;
@@ -236,8 +243,10 @@ fn grow_of<'a>(values: &ArgMatches<'a>) -> Result<Order<'a>, Misfit>
 
 #[tactic(auto, unfolding(crate::specs::Orders::ask_in))]
 fn ask_of<'a>(values: &ArgMatches<'a>) -> Result<Order<'a>, Misfit>
-    ensures order { MatchResult result (λ order. ask_in (rows_of (found_of values.now)) ≡ Some (said_by order)) (λ _. ask_in (rows_of (found_of values.now)) ≡ None) }
-    ensures misfit { IfErr result (λ misfit. first_misfit (Misfit.File ∷ []) (rows_of (found_of values.now)) ≡ Some misfit) }
+    ensures order { MatchResult result (λ order. ask_in (rows_of (found_of values.now))
+        ≡ Some (said_by order)) (λ _. ask_in (rows_of (found_of values.now)) ≡ None) }
+    ensures misfit { IfErr result
+        (λ misfit. first_misfit (Misfit.File ∷ []) (rows_of (found_of values.now)) ≡ Some misfit) }
 {
     let file = value_of(values, "FILE").ok_or(Misfit::File)?;
     Ok(Order::Ask { file })
@@ -245,8 +254,10 @@ fn ask_of<'a>(values: &ArgMatches<'a>) -> Result<Order<'a>, Misfit>
 
 #[tactic(auto, unfolding(crate::specs::Orders::find_in))]
 fn find_of<'a>(values: &ArgMatches<'a>) -> Result<Order<'a>, Misfit>
-    ensures order { MatchResult result (λ order. find_in (rows_of (found_of values.now)) ≡ Some (said_by order)) (λ _. find_in (rows_of (found_of values.now)) ≡ None) }
-    ensures misfit { IfErr result (λ misfit. first_misfit (Misfit.File ∷ Misfit.Number ∷ []) (rows_of (found_of values.now)) ≡ Some misfit) }
+    ensures order { MatchResult result (λ order. find_in (rows_of (found_of values.now))
+        ≡ Some (said_by order)) (λ _. find_in (rows_of (found_of values.now)) ≡ None) }
+    ensures misfit { IfErr result (λ misfit. first_misfit
+        (Misfit.File ∷ Misfit.Number ∷ []) (rows_of (found_of values.now)) ≡ Some misfit) }
 {
     let file = value_of(values, "FILE").ok_or(Misfit::File)?;
     let number = request_number_of(values).ok_or(Misfit::Number)?;
@@ -255,8 +266,10 @@ fn find_of<'a>(values: &ArgMatches<'a>) -> Result<Order<'a>, Misfit>
 
 #[tactic(auto, unfolding(crate::specs::Orders::list_in))]
 fn list_of<'a>(values: &ArgMatches<'a>) -> Result<Order<'a>, Misfit>
-    ensures order { MatchResult result (λ order. list_in (rows_of (found_of values.now)) ≡ Some (said_by order)) (λ _. list_in (rows_of (found_of values.now)) ≡ None) }
-    ensures misfit { IfErr result (λ misfit. first_misfit (Misfit.File ∷ Misfit.Event ∷ []) (rows_of (found_of values.now)) ≡ Some misfit) }
+    ensures order { MatchResult result (λ order. list_in (rows_of (found_of values.now))
+        ≡ Some (said_by order)) (λ _. list_in (rows_of (found_of values.now)) ≡ None) }
+    ensures misfit { IfErr result (λ misfit. first_misfit
+        (Misfit.File ∷ Misfit.Event ∷ []) (rows_of (found_of values.now)) ≡ Some misfit) }
 {
     let file = value_of(values, "FILE").ok_or(Misfit::File)?;
     let event = value_of(values, "EVENT").ok_or(Misfit::Event)?;
@@ -265,8 +278,10 @@ fn list_of<'a>(values: &ArgMatches<'a>) -> Result<Order<'a>, Misfit>
 
 #[tactic(auto, unfolding(crate::specs::Orders::export_in))]
 fn export_of<'a>(values: &ArgMatches<'a>) -> Result<Order<'a>, Misfit>
-    ensures order { MatchResult result (λ order. export_in (rows_of (found_of values.now)) ≡ Some (said_by order)) (λ _. export_in (rows_of (found_of values.now)) ≡ None) }
-    ensures misfit { IfErr result (λ misfit. first_misfit (Misfit.File ∷ Misfit.To ∷ []) (rows_of (found_of values.now)) ≡ Some misfit) }
+    ensures order { MatchResult result (λ order. export_in (rows_of (found_of values.now))
+        ≡ Some (said_by order)) (λ _. export_in (rows_of (found_of values.now)) ≡ None) }
+    ensures misfit { IfErr result (λ misfit.
+        first_misfit (Misfit.File ∷ Misfit.To ∷ []) (rows_of (found_of values.now)) ≡ Some misfit) }
 {
     let file = value_of(values, "FILE").ok_or(Misfit::File)?;
     let to = site_of(values, "TO").ok_or(Misfit::To)?;
@@ -275,15 +290,18 @@ fn export_of<'a>(values: &ArgMatches<'a>) -> Result<Order<'a>, Misfit>
 
 #[tactic(auto, unfolding(crate::specs::Orders::import_in))]
 fn import_of<'a>(values: &ArgMatches<'a>) -> Result<Order<'a>, Misfit>
-    ensures order { MatchResult result (λ order. import_in (rows_of (found_of values.now)) ≡ Some (said_by order)) (λ _. import_in (rows_of (found_of values.now)) ≡ None) }
-    ensures misfit { IfErr result (λ misfit. first_misfit (Misfit.File ∷ []) (rows_of (found_of values.now)) ≡ Some misfit) }
+    ensures order { MatchResult result (λ order. import_in (rows_of (found_of values.now))
+        ≡ Some (said_by order)) (λ _. import_in (rows_of (found_of values.now)) ≡ None) }
+    ensures misfit { IfErr result
+        (λ misfit. first_misfit (Misfit.File ∷ []) (rows_of (found_of values.now)) ≡ Some misfit) }
 {
     let file = value_of(values, "FILE").ok_or(Misfit::File)?;
     Ok(Order::Import { file })
 }
 
 fn all_of<'m, 'a>(values: &'m ArgMatches<'a>, id: &str) -> Option<&'m [&'a str]>
-    ensures { option_map (λ words. map (λ word. word.now) words.now) result ≡ all_of id.now (rows_of (found_of values.now)) }
+    ensures { option_map (λ words. map (λ word. word.now) words.now) result
+        ≡ all_of id.now (rows_of (found_of values.now)) }
 {
     values.get_strs(id)
 }
@@ -291,7 +309,8 @@ fn all_of<'m, 'a>(values: &'m ArgMatches<'a>, id: &str) -> Option<&'m [&'a str]>
 // The files, where there are no more than so many.
 fn files_of<'a>(values: &ArgMatches<'a>, most: usize) -> Option<FileNames<'a>>
     requires { most ≤ most_sites }
-    ensures { option_map (λ files. map (λ file. file.now) files.items) result ≡ files_in most (rows_of (found_of values.now)) }
+    ensures { option_map (λ files. map (λ file. file.now) files.items) result
+        ≡ files_in most (rows_of (found_of values.now)) }
 {
     let words = all_of(values, "FILE")?;
     if words.len() > most {
@@ -305,8 +324,10 @@ fn files_of<'a>(values: &ArgMatches<'a>, most: usize) -> Option<FileNames<'a>>
 
 #[tactic(auto, unfolding(crate::specs::Orders::audit_in))]
 fn audit_of<'a>(values: &ArgMatches<'a>) -> Result<Order<'a>, Misfit>
-    ensures order { MatchResult result (λ order. audit_in (rows_of (found_of values.now)) ≡ Some (said_by order)) (λ _. audit_in (rows_of (found_of values.now)) ≡ None) }
-    ensures misfit { IfErr result (λ misfit. first_misfit (Misfit.Files ∷ []) (rows_of (found_of values.now)) ≡ Some misfit) }
+    ensures order { MatchResult result (λ order. audit_in (rows_of (found_of values.now))
+        ≡ Some (said_by order)) (λ _. audit_in (rows_of (found_of values.now)) ≡ None) }
+    ensures misfit { IfErr result
+        (λ misfit. first_misfit (Misfit.Files ∷ []) (rows_of (found_of values.now)) ≡ Some misfit) }
 {
     let files = files_of(values, MOST_FILES).ok_or(Misfit::Files)?;
     Ok(Order::Audit { files })
@@ -320,7 +341,8 @@ fn port_of(values: &ArgMatches<'_>) -> Option<u16>
 }
 
 fn sessions_of(values: &ArgMatches<'_>) -> Option<usize>
-    ensures { result ≡ number_in (codes "SESSIONS") 0 most_sessions (rows_of (found_of values.now)) }
+    ensures { result ≡ number_in
+        (codes "SESSIONS") 0 most_sessions (rows_of (found_of values.now)) }
 {
     let sessions = number_of(values, "SESSIONS", 0, MOST_SESSIONS)?;
     Some(sessions as usize)
@@ -328,8 +350,10 @@ fn sessions_of(values: &ArgMatches<'_>) -> Option<usize>
 
 #[tactic(auto, unfolding(crate::specs::Orders::serve_in))]
 fn serve_of<'a>(values: &ArgMatches<'a>) -> Result<Order<'a>, Misfit>
-    ensures order { MatchResult result (λ order. serve_in (rows_of (found_of values.now)) ≡ Some (said_by order)) (λ _. serve_in (rows_of (found_of values.now)) ≡ None) }
-    ensures misfit { IfErr result (λ misfit. first_misfit (Misfit.Port ∷ Misfit.Sessions ∷ Misfit.Rounds ∷ Misfit.Desks ∷ []) (rows_of (found_of values.now)) ≡ Some misfit) }
+    ensures order { MatchResult result (λ order. serve_in (rows_of (found_of values.now))
+        ≡ Some (said_by order)) (λ _. serve_in (rows_of (found_of values.now)) ≡ None) }
+    ensures misfit { IfErr result (λ misfit. first_misfit (Misfit.Port ∷ Misfit.Sessions
+        ∷ Misfit.Rounds ∷ Misfit.Desks ∷ []) (rows_of (found_of values.now)) ≡ Some misfit) }
 {
     let port = port_of(values).ok_or(Misfit::Port)?;
     let sessions = sessions_of(values).ok_or(Misfit::Sessions)?;
@@ -345,8 +369,10 @@ fn serve_of<'a>(values: &ArgMatches<'a>) -> Result<Order<'a>, Misfit>
 
 #[tactic(auto, unfolding(crate::specs::Orders::open_in))]
 fn open_of<'a>(values: &ArgMatches<'a>) -> Result<Order<'a>, Misfit>
-    ensures order { MatchResult result (λ order. open_in (rows_of (found_of values.now)) ≡ Some (said_by order)) (λ _. open_in (rows_of (found_of values.now)) ≡ None) }
-    ensures misfit { IfErr result (λ misfit. first_misfit (Misfit.Port ∷ Misfit.File ∷ []) (rows_of (found_of values.now)) ≡ Some misfit) }
+    ensures order { MatchResult result (λ order. open_in (rows_of (found_of values.now))
+        ≡ Some (said_by order)) (λ _. open_in (rows_of (found_of values.now)) ≡ None) }
+    ensures misfit { IfErr result (λ misfit. first_misfit
+        (Misfit.Port ∷ Misfit.File ∷ []) (rows_of (found_of values.now)) ≡ Some misfit) }
 {
     let port = port_of(values).ok_or(Misfit::Port)?;
     let file = value_of(values, "FILE").ok_or(Misfit::File)?;
@@ -355,8 +381,10 @@ fn open_of<'a>(values: &ArgMatches<'a>) -> Result<Order<'a>, Misfit>
 
 #[tactic(auto, unfolding(crate::specs::Orders::close_in))]
 fn close_of<'a>(values: &ArgMatches<'a>) -> Result<Order<'a>, Misfit>
-    ensures order { MatchResult result (λ order. close_in (rows_of (found_of values.now)) ≡ Some (said_by order)) (λ _. close_in (rows_of (found_of values.now)) ≡ None) }
-    ensures misfit { IfErr result (λ misfit. first_misfit (Misfit.File ∷ []) (rows_of (found_of values.now)) ≡ Some misfit) }
+    ensures order { MatchResult result (λ order. close_in (rows_of (found_of values.now))
+        ≡ Some (said_by order)) (λ _. close_in (rows_of (found_of values.now)) ≡ None) }
+    ensures misfit { IfErr result
+        (λ misfit. first_misfit (Misfit.File ∷ []) (rows_of (found_of values.now)) ≡ Some misfit) }
 {
     let file = value_of(values, "FILE").ok_or(Misfit::File)?;
     Ok(Order::Close { file })
@@ -364,8 +392,10 @@ fn close_of<'a>(values: &ArgMatches<'a>) -> Result<Order<'a>, Misfit>
 
 #[tactic(auto, unfolding(crate::specs::Orders::status_in))]
 fn status_of<'a>(values: &ArgMatches<'a>) -> Result<Order<'a>, Misfit>
-    ensures order { MatchResult result (λ order. status_in (rows_of (found_of values.now)) ≡ Some (said_by order)) (λ _. status_in (rows_of (found_of values.now)) ≡ None) }
-    ensures misfit { IfErr result (λ misfit. first_misfit (Misfit.File ∷ []) (rows_of (found_of values.now)) ≡ Some misfit) }
+    ensures order { MatchResult result (λ order. status_in (rows_of (found_of values.now))
+        ≡ Some (said_by order)) (λ _. status_in (rows_of (found_of values.now)) ≡ None) }
+    ensures misfit { IfErr result
+        (λ misfit. first_misfit (Misfit.File ∷ []) (rows_of (found_of values.now)) ≡ Some misfit) }
 {
     let file = value_of(values, "FILE").ok_or(Misfit::File)?;
     Ok(Order::Status { file })
@@ -373,8 +403,11 @@ fn status_of<'a>(values: &ArgMatches<'a>) -> Result<Order<'a>, Misfit>
 
 #[tactic(auto, unfolding(crate::specs::Orders::named_order, crate::specs::Orders::values_of))]
 fn named_order<'a>(name: &str, values: &ArgMatches<'a>) -> Result<Order<'a>, Misfit>
-    ensures order { MatchResult result (λ order. named_order name.now (rows_of (found_of values.now)) ≡ Some (said_by order)) (λ _. named_order name.now (rows_of (found_of values.now)) ≡ None) }
-    ensures misfit { IfErr result (λ misfit. first_misfit (values_of name.now) (rows_of (found_of values.now)) ≡ Some misfit) }
+    ensures order { MatchResult result
+        (λ order. named_order name.now (rows_of (found_of values.now)) ≡ Some (said_by order))
+        (λ _. named_order name.now (rows_of (found_of values.now)) ≡ None) }
+    ensures misfit { IfErr result (λ misfit.
+        first_misfit (values_of name.now) (rows_of (found_of values.now)) ≡ Some misfit) }
 {
     if name == "world" {
         Ok(Order::World)
@@ -411,8 +444,10 @@ fn named_order<'a>(name: &str, values: &ArgMatches<'a>) -> Result<Order<'a>, Mis
 
 // The command that was met, with its values.
 fn order_of<'a>(matches: &ArgMatches<'a>) -> Result<Order<'a>, Misfit>
-    ensures order { MatchResult result (λ order. order_in (subcommand_rows_of matches.now) ≡ Some (said_by order)) (λ _. order_in (subcommand_rows_of matches.now) ≡ None) }
-    ensures misfit { IfErr result (λ misfit. misfit_in (subcommand_rows_of matches.now) ≡ Some misfit) }
+    ensures order { MatchResult result (λ order. order_in (subcommand_rows_of matches.now)
+        ≡ Some (said_by order)) (λ _. order_in (subcommand_rows_of matches.now) ≡ None) }
+    ensures misfit { IfErr result
+        (λ misfit. misfit_in (subcommand_rows_of matches.now) ≡ Some misfit) }
 {
     let Some((name, values)) = matches.subcommand() else {
         return Err(Misfit::Command);
@@ -446,7 +481,8 @@ fn misfit_told(alloc: Global, misfit: Misfit) -> WordsFault
 /// Numbers are decimal, without a sign and without leading zeros. `Memory` may come for any words.
 pub fn read_words<'a>(alloc: Global, words: &'a [&'a str]) -> Result<Order<'a>, WordsFault>
     ensures understood { OnOk result (AreUnderstood (map (λ w. w.now) words.now)) }
-    ensures order { IfOk result (λ order. order_in (subcommand_of boxoffice (map (λ w. w.now) words.now)) ≡ Some (said_by order)) }
+    ensures order { IfOk result (λ order.
+        order_in (subcommand_of boxoffice (map (λ w. w.now) words.now)) ≡ Some (said_by order)) }
     ensures refusal { IfErr result (IsWordsRefusal (map (λ w. w.now) words.now)) }
 {
     let Ok(command) = boxoffice(alloc) else {

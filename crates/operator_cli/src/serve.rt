@@ -38,7 +38,8 @@ fn unvisited<K: Keeper + Drop, R: Read + Drop, W: Write + Drop>(
 ) -> Result<Vec<Site<K, R, W>>, AllocError>
     ensures count { IfOk result (λ sites. length sites.items ≡ length books.items) }
     ensures books { IfOk result (λ sites. map (λ s. s.book) sites.items ≡ books.items) }
-    ensures empty { IfOk result (λ sites. map (λ s. s.sessions.items) sites.items ≡ map (λ _. []) sites.items) }
+    ensures empty { IfOk result
+        (λ sites. map (λ s. s.sessions.items) sites.items ≡ map (λ _. []) sites.items) }
 {
     let mut sites = Vec::new(alloc);
     for book in books {
@@ -55,8 +56,10 @@ fn deal<K: Keeper + Drop, R: Read + Drop, W: Write + Drop>(
 ) -> Result<(), AllocError>
     requires { map (λ s. s.sessions.items) sites.old.items ≡ map (λ _. []) sites.old.items }
     ensures count { OnOk result (length sites.new.items ≡ length sites.old.items) }
-    ensures books { OnOk result (map (λ s. s.book) sites.new.items ≡ map (λ s. s.book) sites.old.items) }
-    ensures dealt { OnOk result (AreDealt visits.items (map (λ s. s.sessions.items) sites.new.items)) }
+    ensures books { OnOk result
+        (map (λ s. s.book) sites.new.items ≡ map (λ s. s.book) sites.old.items) }
+    ensures dealt { OnOk result
+        (AreDealt visits.items (map (λ s. s.sessions.items) sites.new.items)) }
 {
     'visits: for (place, visit) in visits.into_iter().enumerate() {
         if let Some(k) = place.checked_rem(sites.len()) {
@@ -123,10 +126,16 @@ fn run_sites<
     rounds: u64,
 ) -> Result<Vec<SiteEnd<K, R, V>>, StoreFault>
     ensures count { IfOk result (λ ends. length ends.items ≡ length books.items) }
-    ensures ids { IfOk result (λ ends. AreDealt (map (λ v. v.id) visits.items) (map (λ e. map (λ x. x.id) e.sessions.items) ends.items)) }
-    ensures readers { IfOk result (λ ends. AreDealt (map (λ v. v.reader) visits.items) (map (λ e. map (λ x. x.reader_began.value) e.sessions.items) ends.items)) }
-    ensures writers { IfOk result (λ ends. AreDealt (map (λ v. v.writer) visits.items) (map (λ e. map (λ x. x.writer_began.value) e.sessions.items) ends.items)) }
-    ensures left { IfOk result (λ ends. AllZip (λ book end. IsLeftOf book.book end.book.book (All (λ x. IsSome x.writer) end.sessions.items) (flat_map (λ x. x.receipts.items) end.sessions.items) (flat_map (λ x. x.seen.items) end.sessions.items) end.finished) books.items ends.items) }
+    ensures ids { IfOk result (λ ends. AreDealt
+        (map (λ v. v.id) visits.items) (map (λ e. map (λ x. x.id) e.sessions.items) ends.items)) }
+    ensures readers { IfOk result (λ ends. AreDealt (map (λ v. v.reader) visits.items)
+        (map (λ e. map (λ x. x.reader_began.value) e.sessions.items) ends.items)) }
+    ensures writers { IfOk result (λ ends. AreDealt (map (λ v. v.writer) visits.items)
+        (map (λ e. map (λ x. x.writer_began.value) e.sessions.items) ends.items)) }
+    ensures left { IfOk result
+        (λ ends. AllZip (λ book end. IsLeftOf book.book end.book.book (All (λ x. IsSome x.writer)
+        end.sessions.items) (flat_map (λ x. x.receipts.items) end.sessions.items)
+        (flat_map (λ x. x.seen.items) end.sessions.items) end.finished) books.items ends.items) }
     ensures fault { IfErr result (λ fault. (fault ≡ NoMemory) ⊎ (fault ≡ NotStarted)) }
 {
     let mut sites = unvisited(alloc, books)?;
@@ -141,8 +150,11 @@ fn summed_up<K: Keeper + Drop, R: Read + Drop, V: Write + Drop, W: Write>(
     ends: &[SiteEnd<K, R, V>],
     out: &mut W,
 ) -> Result<Status, StoreFault>
-    ensures came { ComesTo (map (λ e. e.book.book) ends.now) (first_of_all (map (λ e. end_fault e.finished e.book) ends.now)) (W.contents out.old) (W.contents out.new) result }
-    ensures not_oversold { IfOk result (λ status. status ≡ Done → AreNotOversold (map (λ e. e.book.book) ends.now)) }
+    ensures came { ComesTo (map (λ e. e.book.book) ends.now)
+        (first_of_all (map (λ e. end_fault e.finished e.book) ends.now))
+        (W.contents out.old) (W.contents out.new) result }
+    ensures not_oversold { IfOk result
+        (λ status. status ≡ Done → AreNotOversold (map (λ e. e.book.book) ends.now)) }
     ensures lives { IfOk result (λ status. status ≢ Failed) }
 {
     if let Some(fault) = first_fault(ends) {
@@ -183,13 +195,24 @@ pub fn serve_stores<
     err: &mut E,
 ) -> (Status, Option<Vec<SiteEnd<K, R, V>>>)
     ensures count { IfSome result.1 (λ ends. length ends.items ≡ length books.items) }
-    ensures ids { IfSome result.1 (λ ends. AreDealt (map (λ v. v.id) visits.items) (map (λ e. map (λ x. x.id) e.sessions.items) ends.items)) }
-    ensures readers { IfSome result.1 (λ ends. AreDealt (map (λ v. v.reader) visits.items) (map (λ e. map (λ x. x.reader_began.value) e.sessions.items) ends.items)) }
-    ensures writers { IfSome result.1 (λ ends. AreDealt (map (λ v. v.writer) visits.items) (map (λ e. map (λ x. x.writer_began.value) e.sessions.items) ends.items)) }
-    ensures left { IfSome result.1 (λ ends. AllZip (λ book end. IsLeftOf book.book end.book.book (All (λ x. IsSome x.writer) end.sessions.items) (flat_map (λ x. x.receipts.items) end.sessions.items) (flat_map (λ x. x.seen.items) end.sessions.items) end.finished) books.items ends.items) }
-    ensures ran { IfSome result.1 (λ ends. EndsServed (map (λ e. e.book.book) ends.items) (first_of_all (map (λ e. end_fault e.finished e.book) ends.items)) (W.contents out.old) (W.contents out.new) (E.contents err.old) (E.contents err.new) result.0) }
-    ensures not_oversold { result.0 ≡ Done → IfSome result.1 (λ ends. AreNotOversold (map (λ e. e.book.book) ends.items)) }
-    ensures lost { result.1 ≡ None → (result.0 ≡ Failed) × Keeps (W.contents out.old) (W.contents out.new) × FailsFor (λ fault. (fault ≡ NoMemory) ⊎ (fault ≡ NotStarted)) (E.contents err.old) (E.contents err.new) result.0 }
+    ensures ids { IfSome result.1 (λ ends. AreDealt
+        (map (λ v. v.id) visits.items) (map (λ e. map (λ x. x.id) e.sessions.items) ends.items)) }
+    ensures readers { IfSome result.1 (λ ends. AreDealt (map (λ v. v.reader) visits.items)
+        (map (λ e. map (λ x. x.reader_began.value) e.sessions.items) ends.items)) }
+    ensures writers { IfSome result.1 (λ ends. AreDealt (map (λ v. v.writer) visits.items)
+        (map (λ e. map (λ x. x.writer_began.value) e.sessions.items) ends.items)) }
+    ensures left { IfSome result.1
+        (λ ends. AllZip (λ book end. IsLeftOf book.book end.book.book (All (λ x. IsSome x.writer)
+        end.sessions.items) (flat_map (λ x. x.receipts.items) end.sessions.items)
+        (flat_map (λ x. x.seen.items) end.sessions.items) end.finished) books.items ends.items) }
+    ensures ran { IfSome result.1 (λ ends. EndsServed (map (λ e. e.book.book) ends.items)
+        (first_of_all (map (λ e. end_fault e.finished e.book) ends.items)) (W.contents out.old)
+        (W.contents out.new) (E.contents err.old) (E.contents err.new) result.0) }
+    ensures not_oversold { result.0 ≡ Done
+        → IfSome result.1 (λ ends. AreNotOversold (map (λ e. e.book.book) ends.items)) }
+    ensures lost { result.1 ≡ None → (result.0 ≡ Failed)
+        × Keeps (W.contents out.old) (W.contents out.new) × FailsFor (λ fault. (fault ≡ NoMemory)
+        ⊎ (fault ≡ NotStarted)) (E.contents err.old) (E.contents err.new) result.0 }
     ensures err { FaultTold (E.contents err.old) (E.contents err.new) result.0 }
 {
     match run_sites(rt, alloc, books, visits, rounds) {
@@ -203,7 +226,8 @@ pub fn serve_stores<
 
 /// Tells why no connections were taken: `bind`, `accept` or `memory`, with status 3.
 pub fn tell_listen_fault<E: Write>(fault: ListenFault, err: &mut E) -> Status
-    ensures line { AppendsFront (E.contents err.old) (E.contents err.new) (store_fault_line (of_listen_fault fault)) }
+    ensures line { AppendsFront
+        (E.contents err.old) (E.contents err.new) (store_fault_line (of_listen_fault fault)) }
     ensures status { result ≡ Failed }
 {
     tell_fault(StoreFault::from(fault), err)

@@ -40,7 +40,8 @@ pub(crate) fn write_totals<W: Write>(
     world: &World,
     out: &mut W,
 ) -> Result<(), ScriptFault>
-    ensures lines { Writes (W.contents out.old) (W.contents out.new) result (total_lines world.now) }
+    ensures lines { Writes
+        (W.contents out.old) (W.contents out.new) result (total_lines world.now) }
     ensures fault { IfErr result IsOutFault }
     ensures memory { result ≡ Err Memory → Keeps (W.contents out.old) (W.contents out.new) }
 {

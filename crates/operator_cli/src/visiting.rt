@@ -41,7 +41,8 @@ pub(crate) fn say<Q: Write>(line: &[u8], questions: &mut Q) -> Result<(), StoreF
 
 // The next byte; None where none comes. A read that was interrupted is tried again.
 fn next_byte<A: BufRead>(answers: &mut A) -> Option<u8>
-    ensures { IfSome result (λ byte. Consumes (A.remaining answers.old) (A.remaining answers.new) (byte ∷ [])) }
+    ensures { IfSome result
+        (λ byte. Consumes (A.remaining answers.old) (A.remaining answers.new) (byte ∷ [])) }
 {
     let mut byte = [0u8; 1];
     'turns: for _ in 0..u64::MAX {

@@ -37,7 +37,8 @@ fn reply<W: Write>(
     out: &mut W,
     world: &mut World,
 ) -> Result<(), ScriptFault>
-    ensures written { Writes (W.contents out.old) (W.contents out.new) result (script_reply_line (answer_to world.old (line_of line.now)).0) }
+    ensures written { Writes (W.contents out.old)
+        (W.contents out.new) result (script_reply_line (answer_to world.old (line_of line.now)).0) }
     ensures world { OnOk result (world.new ≡ (answer_to world.old (line_of line.now)).1) }
     ensures fault { IfErr result IsOutFault }
     ensures memory { result ≡ Err Memory → Keeps (W.contents out.old) (W.contents out.new) }
@@ -54,8 +55,11 @@ fn reply_next<R: BufRead, W: Write>(
     out: &mut W,
     world: &mut World,
 ) -> Result<bool, ScriptFault>
-    ensures ran { NextRan (R.remaining reader.old) (R.remaining reader.new) (W.contents out.old) (W.contents out.new) world.old world.new result }
-    ensures reads { result ≡ Err ReadFailed → ReadBrokeOff 1 (answers world.old) (R.remaining reader.old) (R.remaining reader.new) (W.contents out.old) (W.contents out.new) }
+    ensures ran { NextRan (R.remaining reader.old) (R.remaining reader.new)
+        (W.contents out.old) (W.contents out.new) world.old world.new result }
+    ensures reads { result ≡ Err ReadFailed
+        → ReadBrokeOff 1 (answers world.old) (R.remaining reader.old)
+        (R.remaining reader.new) (W.contents out.old) (W.contents out.new) }
 {
     let mut line = LineBytes::new();
     if !next_line(reader, &mut line)? {
@@ -73,8 +77,11 @@ fn reply_all<R: BufRead, W: Write>(
     world: &mut World,
     most: u32,
 ) -> Result<(), ScriptFault>
-    ensures ran { RestRan most (R.remaining reader.old) (W.contents out.old) (W.contents out.new) world.old world.new result }
-    ensures reads { result ≡ Err ReadFailed → ReadBrokeOff most (answers world.old) (R.remaining reader.old) (R.remaining reader.new) (W.contents out.old) (W.contents out.new) }
+    ensures ran { RestRan most (R.remaining reader.old)
+        (W.contents out.old) (W.contents out.new) world.old world.new result }
+    ensures reads { result ≡ Err ReadFailed
+        → ReadBrokeOff most (answers world.old) (R.remaining reader.old)
+        (R.remaining reader.new) (W.contents out.old) (W.contents out.new) }
 {
     'lines: for _count in 0..most {
         let is_answered = reply_next(alloc, reader, out, world)?;
@@ -115,8 +122,11 @@ fn run_second<R: BufRead, W: Write>(
     line: &[u8],
     sites: Sites,
 ) -> Result<(), ScriptFault>
-    ensures ran { SecondRan (most_lines - 2) sites line.now (R.remaining reader.old) (W.contents out.old) (W.contents out.new) result }
-    ensures reads { result ≡ Err ReadFailed → ReadBrokeOff (most_lines - 2) (λ lines. replies_at sites (line.now ∷ lines)) (R.remaining reader.old) (R.remaining reader.new) (W.contents out.old) (W.contents out.new) }
+    ensures ran { SecondRan (most_lines - 2)
+        sites line.now (R.remaining reader.old) (W.contents out.old) (W.contents out.new) result }
+    ensures reads { result ≡ Err ReadFailed → ReadBrokeOff
+        (most_lines - 2) (λ lines. replies_at sites (line.now ∷ lines)) (R.remaining reader.old)
+        (R.remaining reader.new) (W.contents out.old) (W.contents out.new) }
 {
     let mut world = open_world(alloc, line, out, sites)?;
     reply_all(alloc, reader, out, &mut world, MOST_BEHIND)?;
@@ -140,8 +150,11 @@ fn run_world<R: BufRead, W: Write>(
     out: &mut W,
     sites: Sites,
 ) -> Result<(), ScriptFault>
-    ensures ran { SitesRan (most_lines - 1) sites (R.remaining reader.old) (W.contents out.old) (W.contents out.new) result }
-    ensures reads { result ≡ Err ReadFailed → ReadBrokeOff (most_lines - 1) (replies_at sites) (R.remaining reader.old) (R.remaining reader.new) (W.contents out.old) (W.contents out.new) }
+    ensures ran { SitesRan (most_lines - 1)
+        sites (R.remaining reader.old) (W.contents out.old) (W.contents out.new) result }
+    ensures reads { result ≡ Err ReadFailed
+        → ReadBrokeOff (most_lines - 1) (replies_at sites) (R.remaining reader.old)
+        (R.remaining reader.new) (W.contents out.old) (W.contents out.new) }
 {
     let mut line = LineBytes::new();
     if next_line(reader, &mut line)? {
@@ -154,7 +167,8 @@ fn run_world<R: BufRead, W: Write>(
 // The count of sites that the first line gives.
 fn read_start<R: BufRead>(reader: &mut R) -> Result<Option<Sites>, ScriptFault>
     ensures ran { StartRan (R.remaining reader.old) (R.remaining reader.new) result }
-    ensures reads { result ≡ Err ReadFailed → (out : Option (List ℕ)) → ReadBrokeOff most_lines replies (R.remaining reader.old) (R.remaining reader.new) out out }
+    ensures reads { result ≡ Err ReadFailed → (out : Option (List ℕ)) → ReadBrokeOff
+        most_lines replies (R.remaining reader.old) (R.remaining reader.new) out out }
 {
     let mut line = LineBytes::new();
     if !next_line(reader, &mut line)? {
@@ -173,8 +187,11 @@ pub fn run_script<R: BufRead, W: Write>(
     reader: &mut R,
     out: &mut W,
 ) -> Result<bool, ScriptFault>
-    ensures ran { ScriptRan (R.remaining reader.old) (W.contents out.old) (W.contents out.new) result }
-    ensures reads { result ≡ Err ReadFailed → ReadBrokeOff most_lines replies (R.remaining reader.old) (R.remaining reader.new) (W.contents out.old) (W.contents out.new) }
+    ensures ran { ScriptRan
+        (R.remaining reader.old) (W.contents out.old) (W.contents out.new) result }
+    ensures reads { result ≡ Err ReadFailed
+        → ReadBrokeOff most_lines replies (R.remaining reader.old)
+        (R.remaining reader.new) (W.contents out.old) (W.contents out.new) }
 {
     let Some(sites) = read_start(reader)? else {
         reply_line(&Answered::Unread, out)?;
@@ -185,7 +202,8 @@ pub fn run_script<R: BufRead, W: Write>(
 }
 
 fn buffered<R: Read + Drop>(alloc: Global, reader: R) -> Result<BufReader<R>, ScriptFault>
-    ensures reader { IfOk result (λ buffer. reader_remaining R.remaining buffer ≡ R.remaining reader) }
+    ensures reader { IfOk result
+        (λ buffer. reader_remaining R.remaining buffer ≡ R.remaining reader) }
     ensures memory { IfErr result (λ fault. fault ≡ Memory) }
 {
     match BufReader::new(alloc, reader) {
@@ -236,7 +254,8 @@ pub fn world_script<R: Read + Drop, W: Write, E: Write>(
     out: &mut W,
     err: &mut E,
 ) -> Status
-    ensures { WorldRan (R.remaining reader) (W.contents out.old) (W.contents out.new) (E.contents err.old) (E.contents err.new) result }
+    ensures { WorldRan (R.remaining reader)
+        (W.contents out.old) (W.contents out.new) (E.contents err.old) (E.contents err.new) result }
 {
     let came = run_flushed(alloc, reader, out);
     tell(came, err)
