@@ -11,6 +11,7 @@ arguments. 3: no office is there, or it ended before it had answered.
 import re
 import socket
 import sys
+import threading
 
 # How long an office may take; of a line the most bytes, and of a session the most lines beside `import` and `quit`.
 SECONDS, MOST_BYTES, MOST_LINES = 60, 200, 999_998
@@ -18,6 +19,25 @@ TAKEN = ("joined", "nothing-new", "acked")
 
 
 Absent = type("Absent", (Exception,), {"__doc__": "No office answered."})
+
+
+def say(text):
+    """Says a line on standard error; of what others may have written, no more than can be read."""
+    sys.stderr.write("".join(char if char.isprintable() else "?" for char in text) + "\n")
+    sys.stderr.flush()
+
+
+class Standing:
+    """Where something stands, which is said once for each change. The word that it has at first is not said."""
+
+    def __init__(self, what, word=""):
+        self.what, self.word, self.lock = what, word, threading.Lock()
+
+    def say(self, word):
+        with self.lock:
+            if word != self.word:
+                say(f"{self.what}: {word}")
+            self.word = word
 
 
 def answer_of(path, text):
@@ -33,6 +53,22 @@ def answer_of(path, text):
     if not answer.endswith(b"\nend\n" if answer.startswith((b"delta ", b"joined\n", b"nothing-new\n")) else b"\n"):
         raise Absent
     return answer
+
+
+def known(path, me, peers, standing):
+    """The other sites that a site's office recognises; none where no office is there, or another site's. It stands at `not-open`,
+    `site-is S` of that other, `no-site K` of the first of these peers that it does not recognise, or `open`."""
+    try:
+        answer = answer_of(path, b"status\n").decode().strip()
+    except Absent:
+        answer = "not-open"
+    found = re.match("site ([0-9]+) sites ([0-9]+) ", answer)
+    if not found or int(found[1]) != me:
+        standing.say(f"site-is {found[1]}" if found else answer)
+        return set()
+    sites = set(range(int(found[2]))) - {me}
+    standing.say(next((f"no-site {peer}" for peer in peers if peer not in sites), "open"))
+    return sites
 
 
 def export(path, to):
@@ -66,7 +102,7 @@ def messages(text):
     return [found[0] for found in re.finditer(rb"(?ms).+?(?:^end\n|\Z)", text)]
 
 
-def take_each(path, text, me, peer, say):
+def take_each(path, text, me, peer):
     """Takes messages of one site that follow each other in a text, says what became of each, and gives the last acknowledgement."""
     last = b""
     for message in messages(text):

@@ -1,6 +1,7 @@
 #!/usr/bin/env python3
 """Has open offices exchange messages by the scripts of exchange/: office.py alone, ssh, a folder, and three brokers where mosquitto
-is there. Messages are torn and forged, an office is closed and brokers are killed; in the end all is summed up.
+is there. Messages are torn and forged, an office is closed, brokers are killed, and sites, files and folders are mistaken; in the
+end all is summed up.
 
 Usage: tests/exchange.py [PROGRAM [office|ssh|folder|brokers ..]]     (PROGRAM: crates/boxoffice/out/boxoffice; without names: all)
 
@@ -16,6 +17,7 @@ import socket
 import subprocess
 import sys
 import tempfile
+import threading
 import time
 
 from serving import Caller, Office, Operator
@@ -142,6 +144,18 @@ def asked_by_office(folder):
         same("what it shows", [part for part in shown if part not in text], [])
         audited([north, south], 0)
         same("no office", [north.export(1), python(folder, takes, CESSION)], [(3, "", "not-open\n")] * 2)
+    with contextlib.closing(socket.socket(socket.AF_UNIX)) as office:
+        office.bind(os.path.join(folder, "none.db-sock"))
+        office.listen()
+        threading.Thread(target=answer_memory, args=(office,), daemon=True).start()
+        found = python(folder, [FOLDER, "0", "2", "none.db", folder, "--once"])
+        same("an office that cannot say whose it is", found, (3, "", "site 0: memory\n"))
+
+
+def answer_memory(office):
+    with office.accept()[0] as caller:
+        same("what the scripts ask", caller.recv(100), b"status\nquit\n")
+        caller.sendall(b"memory\n")
 
 
 # In place of ssh: it runs the command of the key, as the far machine would, unless the line is cut. It hands over a byte less where
@@ -151,6 +165,26 @@ FAKE_SSH = """#!/bin/sh
 [ ! -e {folder}/torn ] || {{ head -c 30 | {answer}; exit; }}
 [ "$(eval echo \\"\\${{$#}}\\")" = clerk@south ] && exec {answer}
 """
+
+
+def mistaken_over_ssh(folder, place):
+    """Of a wrong SITE, PEER or FILE nothing is sent or taken, and it is said."""
+    script, answer = f"{SSH}/boxoffice-exchange", f"{SSH}/boxoffice-answer"
+    for words, said_so in [
+        (["1", "north.db", "--once", "0=clerk@south"], "site 1: site-is 0\n"),
+        (["0", "nort.db", "--once", "1=clerk@south"], "site 0: not-open\n"),
+        (["0", "north.db", "--once", "2=clerk@south", "3=clerk@south"], "site 0: no-site 2\n"),
+    ]:
+        same(f"a look with {words}", python(folder, [script, *words], **place), (3, "", said_so))
+    for words, said_so in [
+        (["0", "south.db", "1"], "site 0: site-is 1\n"),
+        (["1", "sout.db", "0"], "site 1: not-open\n"),
+        (["1", "south.db", "2"], "site 1: no-site 2\n"),
+        (["1", "south.db", "1"], "site 1: no-site 1\n"),
+    ]:
+        same(f"an answer with {words}", python(folder, [answer, *words], CESSION), (3, "", said_so))
+    for words in (["0", "north.db", "0=clerk@south"], ["0", "north.db"], ["a", "north.db", "1=clerk@south"]):
+        same(f"the usage for {words}", python(folder, [script, *words])[2].split(":")[0], "Usage")
 
 
 def over_ssh(folder):
@@ -171,6 +205,8 @@ def over_ssh(folder):
     with opened_sites(folder, 2) as (north, south):
         same("nothing is due", looks(), (0, "", ""))
         same("the opening", north.ask(*OPENING), ["done"] * 3)
+        mistaken_over_ssh(folder, place)
+        same("nothing came of it", south.ask("left gala"), ["unknown"])
         open(os.path.join(folder, "torn"), "w", encoding="ascii").close()
         same("a look, torn", looks(), (0, "", "site 1: delta from 0: truncated\n"))
         os.remove(os.path.join(folder, "torn"))
@@ -191,6 +227,13 @@ def over_ssh(folder):
             os.remove(os.path.join(folder, "cut"))
             comes("what was ceded", lambda: south.ask("left gala"), ["left 49"])
             comes_to_all("by itself", [north, south], "released 100 sold 2 refunded 0 open 98")
+            north.close()
+            comes("it is said that north is closed", lambda: said(folder, 0).endswith("site 0: not-open\n"), True)
+            north = Site(folder, 0)
+            same("north cedes, opened again", north.ask("cede 7 gala 10 1"), ["done"])
+            comes("what was ceded then", lambda: south.ask("left gala"), ["left 59"])
+            comes_to_all("opened again", [north, south], "released 100 sold 2 refunded 0 open 98")
+        same("what is said once", [said(folder, 0).count(f"site 0: {word}\n") for word in ("not-open", "open")], [1, 1])
         south.close()
         same("no office there", (looks()[0], answers("")), (3, (3, "", "site 1: not-open\n")))
         south = Site(folder, 1)
@@ -223,11 +266,43 @@ def damaged_in_folder(folder, north, south):
     same("it came", south.ask("left gala"), ["left 59"])
 
 
+def mistaken_at_folder(folder):
+    """Of a wrong SITE or FILE nothing is written or taken, and it is said; also that the folder is not there, until it is."""
+    for words in (["a", "b", "north.db", "shared", "--once"], ["2", "2", "north.db", "shared"], ["0", "2", "north.db", "shared", "--every"]):
+        found = python(folder, [FOLDER, *words])
+        same(f"the usage for {words}", (found[0], found[1], found[2].split(":")[0]), (1, "", "Usage"))
+    missing = "site {}: folder: No such file or directory\n"
+    for me, file in [("0", "north.db"), ("1", "south.db")]:
+        same(f"{file} without a folder", python(folder, [FOLDER, me, "2", file, "shared", "--once"]), (3, "", missing.format(me)))
+    with running(folder, [[FOLDER, "0", "2", "north.db", "shared", "--every", EVERY]]):
+        comes("it is said", lambda: said(folder, 0), missing.format(0))
+        os.mkdir(os.path.join(folder, "shared"))
+        comes("it is there", lambda: said(folder, 0), missing.format(0) + "site 0: folder: reached\n")
+    comes("what is due", lambda: [name for name, *_ in of_folder(folder)], ["0-1.delta"])
+    before = of_folder(folder)
+    for words, said_so in [(["1", "2", "north.db"], "site 1: site-is 0\n"), (["1", "2", "sout.db"], "site 1: not-open\n")]:
+        same(f"a look with {words}", python(folder, [FOLDER, *words, "shared", "--once"]), (3, "", said_so))
+    same("of other SITES", python(folder, [FOLDER, "0", "3", "north.db", "shared", "--once"]), (0, "", "site 0: sites-are 2\n"))
+    same("they change no file", of_folder(folder), before)
+
+
+def grown_at_folder(folder, north):
+    """With the number of sites from before it is said how many there are, and all else goes on."""
+    same("two more", north.ask("cede 8 gala 2 1"), ["done"])
+    before = of_folder(folder)
+    status, _, words = looks_into_folder(north)
+    same("north looks, grown", (status, words.split("\n")[0]), (0, "site 0: sites-are 3"))
+    same("it writes on", [file[0] for file in of_folder(folder) if file not in before], ["0-1.delta"])
+    status, _, words = python(folder, [FOLDER, "0", "3", north.file, "shared", "--once"])
+    same("north looks, with the new number", (status, "sites-are" in words), (0, False))
+    same("it writes for the new site", [name for name, *_ in of_folder(folder) if name.startswith("0-2")], ["0-2.delta"])
+
+
 def by_folder(folder):
-    os.mkdir(os.path.join(folder, "shared"))
     with opened_sites(folder, 2) as offices:
         north, south = offices
         same("the opening", north.ask(*OPENING), ["done"] * 3)
+        mistaken_at_folder(folder)
         same("north looks", looks_into_folder(north), (0, "", ""))
         same("south looks", looks_into_folder(south), (0, "", "site 1: delta from 0: joined\n"))
         same("both sell", north.ask("sell 5 gala 1") + south.ask("left gala", "sell 1 gala 1"), ["done", "left 40", "done"])
@@ -248,7 +323,11 @@ def by_folder(folder):
             offices[1] = south = Site(folder, 1)
             comes("south opened again", lambda: south.ask("left gala"), ["left 69"])
             comes_to_all("in the end", offices, "released 100 sold 6 refunded 0 open 94")
+        same("its office, away and back", [said(folder, 1).count(f"site 1: {word}\n") for word in ("not-open", "open")], [1, 1])
         audited(offices, 6)
+        same("north grows", call(folder, ["grow", north.file, "3"]), (0, "grown\n", ""))
+        offices[0] = Site(folder, 0)
+        grown_at_folder(folder, offices[0])
 
 
 @contextlib.contextmanager
@@ -343,8 +422,8 @@ def forged(brokers):
 
 def sold_over_brokers(folder, offices, brokers):
     north, south, east = offices
-    same("the opening", north.ask(*OPENING), ["done"] * 3)
     comes("the cession", lambda: south.ask("left gala"), ["left 40"])
+    comes("south's broker is reached", lambda: said(folder, 0).count("site 0: broker of 1: reached\n"), 1)
     same("both sell", north.ask("sell 4 gala 1") + south.ask("sell 1 gala 1", "cede 2 gala 1 2"), ["done"] * 3)
     comes("a second cession", lambda: east.ask("left gala"), ["left 1"])
     comes_to_all("over brokers", offices, "released 100 sold 2 refunded 0 open 98")
@@ -359,6 +438,7 @@ def sold_over_brokers(folder, offices, brokers):
     same("a name that no site announced", [office.ask("left expo") for office in offices], [["unknown"]] * 3)
     with brokers.killed(0):
         same("five go back", south.ask("cede 6 gala 5 0"), ["done"])
+        comes("its own broker is away", lambda: said(folder, 0).count("site 0: own broker: Error: Connection refused\n"), 1)
     comes("what was given back", lambda: north.ask("left gala"), ["left 8"])
     comes_to_all("after the cuts", offices, "released 100 sold 77 refunded 0 open 23")
     south.close()
@@ -368,6 +448,29 @@ def sold_over_brokers(folder, offices, brokers):
         os.remove(os.path.join(folder, "1", "mosquitto.db"))
     offices[1] = south = Site(folder, 1, 3)
     comes("what a broker had lost comes again", lambda: south.ask("left gala"), ["left 16"])
+    same("its office, away and back", [said(folder, 1).count(f"site 1: {word}\n") for word in ("not-open", "open")], [1, 1])
+    comes("its own broker is back", lambda: said(folder, 0).count("site 0: own broker: reached\n"), 2)
+
+
+def mistaken_over_brokers(folder, brokers):
+    """Of a wrong SITE, PEER or FILE nothing is published or taken, and it is said; also that the site's own broker is away."""
+    same("something to take", brokers.publish(0, 1, "sites/1/0/delta", CESSION), "")
+    words, places = zip(*(brokers.script(me, file) for me, file in [(1, "north.db"), (0, "north.db"), (0, "nort.db")]))
+    words[1][-2:] = [words[1][-1].replace("2=", "5=")]
+    away = "site 0: own broker: Error: Connection refused"
+    wanted = [{"site 1: own broker: reached", "site 1: site-is 0"}, {away, "site 0: no-site 5"}, {away, "site 0: not-open"}]
+
+    def found():
+        return [set(said(folder, at).splitlines()) for at in range(3)]
+
+    brokers.kill(0)
+    with running(folder, words, places):
+        comes("it is said", found, wanted)
+        brokers.start(0)
+        back = {"site 0: own broker: reached"}
+        comes("the broker is there", found, [wanted[0], wanted[1] | back, wanted[2] | back])
+        time.sleep(2)
+        same("no more is said", [said(folder, at).count("\n") for at in range(3)], [2, 3, 3])
 
 
 def over_brokers(folder):
@@ -377,6 +480,8 @@ def over_brokers(folder):
     brokers = Brokers(folder, [("127.0.0.1", quiet_port()) for _ in CITIES])
     try:
         with opened_sites(folder, 3) as offices:
+            same("the opening", offices[0].ask(*OPENING), ["done"] * 3)
+            mistaken_over_brokers(folder, brokers)
             scripts, places = zip(*(brokers.script(office.me, office.file) for office in offices))
             with running(folder, scripts, places):
                 sold_over_brokers(folder, offices, brokers)
