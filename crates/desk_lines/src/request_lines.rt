@@ -33,7 +33,8 @@ fn verb_numbered(verb: Verb, number: RequestNumber) -> Text
 
 // The same with an event.
 fn verb_named(verb: Verb, number: RequestNumber, event: Event) -> Text
-    ensures value { result.items ≡ join_with_byte 32 (verb_word verb ∷ decimal number ∷ event ∷ []) }
+    ensures value { result.items
+        ≡ join_with_byte 32 (verb_word verb ∷ decimal number ∷ event ∷ []) }
     ensures fits { IsValue number × IsEventName event }
     ensures len { array_vec_len result ≤ 62 }
 {
@@ -45,7 +46,8 @@ fn verb_named(verb: Verb, number: RequestNumber, event: Event) -> Text
 
 // The same with an amount.
 fn verb_sized(verb: Verb, number: RequestNumber, event: Event, amount: Amount) -> Text
-    ensures value { result.items ≡ join_with_byte 32 (verb_word verb ∷ decimal number ∷ event ∷ decimal amount ∷ []) }
+    ensures value { result.items
+        ≡ join_with_byte 32 (verb_word verb ∷ decimal number ∷ event ∷ decimal amount ∷ []) }
     ensures fits { IsValue number × IsEventName event × IsValue amount }
     ensures len { array_vec_len result ≤ 83 }
 {
@@ -110,9 +112,11 @@ pub fn request_line<W: Write>(
     request: &Request,
     out: &mut W,
 ) -> Result<(), WriteFault>
-    ensures written { Writes (W.contents out.old) (W.contents out.new) result (request_line number request.now) }
+    ensures written { Writes
+        (W.contents out.old) (W.contents out.new) result (request_line number request.now) }
     // It is read as that request.
-    ensures read { session_line_of (request_line number request.now) ≡ Some (Ask number request.now) }
+    ensures read { session_line_of (request_line number request.now)
+        ≡ Some (Ask number request.now) }
 {
     let text = request_text(number, *request);
     write_bytes(text.as_slice(), out)

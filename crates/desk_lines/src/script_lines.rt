@@ -88,8 +88,10 @@ fn named_number(name: &[u8], high: u64, bytes: &[u8]) -> Option<u64>
 
 /// Reads the first line of a script, which gives the count of sites; `None` where it does not.
 pub fn read_sites(bytes: &[u8]) -> Option<Sites>
-    ensures found { IfSome result (λ n. IsSites n × (bytes.now ≡ join_with_byte 32 (sites_words n))) }
-    ensures only { (n : ℕ) → IsSites n → bytes.now ≡ join_with_byte 32 (sites_words n) → result ≡ Some n }
+    ensures found { IfSome result
+        (λ n. IsSites n × (bytes.now ≡ join_with_byte 32 (sites_words n))) }
+    ensures only { (n : ℕ)
+        → IsSites n → bytes.now ≡ join_with_byte 32 (sites_words n) → result ≡ Some n }
     ensures exact { result ≡ sites_from_line bytes.now }
 {
     let count = named_number(b"sites", MOST_SITES, bytes)?;
@@ -99,8 +101,10 @@ pub fn read_sites(bytes: &[u8]) -> Option<Sites>
 
 /// Reads the line of a script that gives the limit of each history; `None` where it does not.
 pub fn read_limit(bytes: &[u8]) -> Option<Limit>
-    ensures found { IfSome result (λ n. IsLimit n × (bytes.now ≡ join_with_byte 32 (limit_words n))) }
-    ensures only { (n : ℕ) → IsLimit n → bytes.now ≡ join_with_byte 32 (limit_words n) → result ≡ Some n }
+    ensures found { IfSome result
+        (λ n. IsLimit n × (bytes.now ≡ join_with_byte 32 (limit_words n))) }
+    ensures only { (n : ℕ)
+        → IsLimit n → bytes.now ≡ join_with_byte 32 (limit_words n) → result ≡ Some n }
     ensures exact { result ≡ limit_from_line bytes.now }
 {
     let entries = named_number(b"limit", Limit::GREATEST, bytes)?;

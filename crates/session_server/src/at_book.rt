@@ -56,7 +56,8 @@ impl<K: Keeper> AtBook<K> {
     }
 
     fn left(&self, event: Event) -> Answered
-        ensures { result ≡ look_answer self.now.closed self.now.book event (shown_left self.now.book event) }
+        ensures { result ≡ look_answer
+            self.now.closed self.now.book event (shown_left self.now.book event) }
     {
         match self.book.look(event) {
             Ok(seen) => Answered::LeftIs(seen.left),
@@ -65,7 +66,8 @@ impl<K: Keeper> AtBook<K> {
     }
 
     fn totals(&self, event: Event) -> Answered
-        ensures { result ≡ look_answer self.now.closed self.now.book event (shown_totals self.now.book event) }
+        ensures { result ≡ look_answer
+            self.now.closed self.now.book event (shown_totals self.now.book event) }
     {
         match self.book.look(event) {
             Ok(seen) => Answered::TotalsAre(seen.totals),

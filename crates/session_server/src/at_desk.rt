@@ -77,7 +77,9 @@ impl<'a, K: Keeper, L: Opens, G: Gate> AtDesk<'a, K, L, G> {
     }
 
     fn ask<T: Wait>(&mut self, rt: &T, number: RequestNumber, request: &Request) -> Answered
-        ensures { DeskStep (told_at L.office L.began K.failed (SiteInStep K.failed K.is_trusted K.kept K.may_leave)) (length L.began) self.old (Ask number request.now) result self.new }
+        ensures { DeskStep (told_at
+            L.office L.began K.failed (SiteInStep K.failed K.is_trusted K.kept K.may_leave))
+            (length L.began) self.old (Ask number request.now) result self.new }
     {
         if self.receipts.reserve(1).is_err() {
             return Answered::Refused(AskFault::Memory);
@@ -89,10 +91,12 @@ impl<'a, K: Keeper, L: Opens, G: Gate> AtDesk<'a, K, L, G> {
 
     // Looks at an event, or tells what is answered where nothing is shown.
     fn look<T: Wait>(&mut self, rt: &T, event: Event) -> Result<Seen, Answered>
-        ensures shown { MatchResult result (λ seen. IsLookAt (length L.began) event self.old seen self.new) (λ answered. ShowsNothing answered × (self.new ≡ self.old)) }
+        ensures shown { MatchResult result (λ seen. IsLookAt (length L.began) event
+            self.old seen self.new) (λ answered. ShowsNothing answered × (self.new ≡ self.old)) }
         ensures told { MayBeTold (told_at L.office L.began K.failed (SiteInStep K.failed K.is_trusted K.kept K.may_leave)) self.old
             → MayBeTold (told_at L.office L.began K.failed (SiteInStep K.failed K.is_trusted K.kept K.may_leave)) self.new }
-        ensures why { IfErr result (WhyNotShown (told_at L.office L.began K.failed (SiteInStep K.failed K.is_trusted K.kept K.may_leave)) event) }
+        ensures why { IfErr result (WhyNotShown (told_at L.office
+            L.began K.failed (SiteInStep K.failed K.is_trusted K.kept K.may_leave)) event) }
     {
         if self.looks.reserve(1).is_err() {
             return Err(Answered::Refused(AskFault::Memory));
@@ -107,7 +111,8 @@ impl<'a, K: Keeper, L: Opens, G: Gate> AtDesk<'a, K, L, G> {
     }
 
     fn left<T: Wait>(&mut self, rt: &T, event: Event) -> Answered
-        ensures { DeskStep (told_at L.office L.began K.failed (SiteInStep K.failed K.is_trusted K.kept K.may_leave)) (length L.began) self.old (Left event) result self.new }
+        ensures { DeskStep (told_at L.office L.began K.failed (SiteInStep K.failed K.is_trusted
+            K.kept K.may_leave)) (length L.began) self.old (Left event) result self.new }
     {
         match self.look(rt, event) {
             Ok(seen) => Answered::LeftIs(seen.left),
@@ -116,7 +121,8 @@ impl<'a, K: Keeper, L: Opens, G: Gate> AtDesk<'a, K, L, G> {
     }
 
     fn totals<T: Wait>(&mut self, rt: &T, event: Event) -> Answered
-        ensures { DeskStep (told_at L.office L.began K.failed (SiteInStep K.failed K.is_trusted K.kept K.may_leave)) (length L.began) self.old (TotalsOf event) result self.new }
+        ensures { DeskStep (told_at L.office L.began K.failed (SiteInStep K.failed K.is_trusted
+            K.kept K.may_leave)) (length L.began) self.old (TotalsOf event) result self.new }
     {
         match self.look(rt, event) {
             Ok(seen) => Answered::TotalsAre(seen.totals),
@@ -128,8 +134,10 @@ impl<'a, K: Keeper, L: Opens, G: Gate> AtDesk<'a, K, L, G> {
 // What is answered where a request came to this. Its receipt, if it has one, is kept.
 fn kept(came: Result<(Answer, Receipt), AskFault>, receipts: &mut Vec<Receipt>) -> Answered
     requires room { vec_len receipts.old < vec_capacity receipts.old }
-    ensures answered { MatchResult came (λ r. result ≡ Kept r.0.reply) (λ fault. result ≡ Refused fault) }
-    ensures receipts { MatchResult came (λ r. receipts.new.items ≡ receipts.old.items ++ r.1 ∷ []) (λ _. receipts.new.items ≡ receipts.old.items) }
+    ensures answered { MatchResult came
+        (λ r. result ≡ Kept r.0.reply) (λ fault. result ≡ Refused fault) }
+    ensures receipts { MatchResult came (λ r. receipts.new.items ≡ receipts.old.items ++ r.1 ∷ [])
+        (λ _. receipts.new.items ≡ receipts.old.items) }
 {
     match came {
         Ok((answer, receipt)) => {

@@ -62,7 +62,8 @@ fn run<'s, E, R: Threads + Wait + Sync, S: Replica + Sync + 's>(
     };
     let send = move || -> Vec<OutgoingEnd>
         requires { (vec_len outs ≤ vec_capacity out_ends) × (out_ends.items ≡ []) }
-        ensures { AllZip (Sent S.gives rounds) outs.items result.items × (vec_len result ≡ vec_len outs) }
+        ensures { AllZip (Sent S.gives rounds) outs.items result.items
+            × (vec_len result ≡ vec_len outs) }
     { send_all(rt, replica, outs, out_ends, rounds) };
     let Ok(sending) = scope.spawn_with(links_of, send) else {
         return Err(ExchangeFault::NotStarted);
@@ -75,7 +76,8 @@ fn run<'s, E, R: Threads + Wait + Sync, S: Replica + Sync + 's>(
 // What goes to each peer, and what comes from it.
 fn split(mut peers: Vec<Peer>, outs: &mut Vec<Outgoing>, ins: &mut Vec<Incoming>)
     requires empty { (outs.old.items ≡ []) × (ins.old.items ≡ []) }
-    requires room { (vec_len peers ≤ vec_capacity outs.old) × (vec_len peers ≤ vec_capacity ins.old) }
+    requires room { (vec_len peers ≤ vec_capacity outs.old)
+        × (vec_len peers ≤ vec_capacity ins.old) }
     ensures outs { outs.new.items ≡ map outgoing peers.items }
     ensures ins { ins.new.items ≡ map incoming peers.items }
     ensures room { (vec_len outs.new ≡ vec_len peers) × (vec_len ins.new ≡ vec_len peers)
@@ -111,7 +113,8 @@ fn zip(mut outs: Vec<OutgoingEnd>, mut ins: Vec<IncomingEnd>, ends: &mut Vec<Pee
     requires len { vec_len outs ≡ vec_len ins }
     requires empty { ends.old.items ≡ [] }
     requires room { vec_len outs ≤ vec_capacity ends.old }
-    ensures room { (vec_len ends.new ≡ vec_len outs) × (vec_capacity ends.new ≡ vec_capacity ends.old) }
+    ensures room { (vec_len ends.new ≡ vec_len outs)
+        × (vec_capacity ends.new ≡ vec_capacity ends.old) }
     ensures sent { AllZip HasSent outs.items ends.new.items }
     ensures received { AllZip HasReceived ins.items ends.new.items }
 {
@@ -174,7 +177,8 @@ fn exchange<T: Threads + Wait + Sync, S: Replica + Sync>(
     peers: Vec<Peer>,
     rounds: u64,
 ) -> Result<Vec<PeerEnd>, ExchangeFault>
-    ensures { IfOk result (λ r. AllZip (Exchanged S.holds S.refuses S.gives rounds) peers.items r.items) }
+    ensures { IfOk result
+        (λ r. AllZip (Exchanged S.holds S.refuses S.gives rounds) peers.items r.items) }
 {
     let count = peers.len();
     let mut ends = Vec::with_capacity(alloc, count)?;
@@ -208,7 +212,8 @@ fn in_threads<R: Threads + Wait + Sync, S: Replica + Sync>(
         thread::scope_env(),
         rt,
         move |scope| -> Result<(Vec<OutgoingEnd>, Vec<IncomingEnd>), ExchangeFault>
-            requires { (vec_len outs ≤ vec_capacity out_ends) × (vec_len ins ≤ vec_capacity in_ends) × (out_ends.items ≡ []) × (in_ends.items ≡ []) }
+            requires { (vec_len outs ≤ vec_capacity out_ends) × (vec_len ins ≤ vec_capacity in_ends)
+                × (out_ends.items ≡ []) × (in_ends.items ≡ []) }
             ensures { IfOk result (λ r. AllZip (Sent S.gives rounds) outs.items r.0.items
                 × AllZip (Received S.holds S.refuses) ins.items r.1.items × (vec_len r.0 ≡ vec_len outs) × (vec_len r.1 ≡ vec_len ins)) }
         { run(scope, rt, replica, outs, out_ends, ins, in_ends, rounds) },

@@ -36,7 +36,8 @@ pub(crate) fn link_ends(
     requires count { vec_len ends ≡ length sites.now }
     requires mesh { IsMesh (map (λ row. map linkage_left row.items) ends.items) }
     requires named { map (λ row. map (λ e. e.to) row.items) ends.items ≡ others_of sites.now }
-    ensures { IfOk result (λ links. (rounds : ℕ) → All (λ row. All (IsLeftOfNew rounds) row) (map (λ row. row.items) ends.items) → AreLinksTold rounds sites.now links.items) }
+    ensures { IfOk result (λ links. (rounds : ℕ) → All (λ row. All (IsLeftOfNew rounds) row)
+        (map (λ row. row.items) ends.items) → AreLinksTold rounds sites.now links.items) }
 {
     let told = settle_all(alloc, ends)?;
     links_told(alloc, sites, &told)
@@ -50,7 +51,8 @@ fn links_told(
 ) -> Result<Vec<LinkEnd>, AllocError>
     requires sites { vec_len told.now ≡ length sites.now }
     requires others { All (λ row. vec_len row + 1 ≡ length sites.now) told.now.items }
-    ensures { IfOk result (λ links. links.items ≡ ends_between sites.now (map (λ row. row.items) told.now.items)) }
+    ensures { IfOk result
+        (λ links. links.items ≡ ends_between sites.now (map (λ row. row.items) told.now.items)) }
 {
     let mut links = Vec::new(alloc);
     for k in 0..sites.len() {

@@ -48,13 +48,17 @@ pub(crate) fn run_site<
     rounds: u64,
     gate: &G,
 ) -> Result<Left<K, R, W>, ExchangeFault>
-    ensures ids { IfOk result (λ left. map (λ e. e.id) left.1.items ≡ map (λ v. v.id) linked.site.sessions.items) }
-    ensures readers { IfOk result (λ left. map (λ e. e.reader_began.value) left.1.items ≡ map (λ v. v.reader) linked.site.sessions.items) }
-    ensures writers { IfOk result (λ left. map (λ e. e.writer_began.value) left.1.items ≡ map (λ v. v.writer) linked.site.sessions.items) }
+    ensures ids { IfOk result
+        (λ left. map (λ e. e.id) left.1.items ≡ map (λ v. v.id) linked.site.sessions.items) }
+    ensures readers { IfOk result (λ left. map (λ e. e.reader_began.value) left.1.items
+        ≡ map (λ v. v.reader) linked.site.sessions.items) }
+    ensures writers { IfOk result (λ left. map (λ e. e.writer_began.value) left.1.items
+        ≡ map (λ v. v.writer) linked.site.sessions.items) }
     ensures left { IfOk result (λ left. IsLeftOf linked.site.book.book left.0.book
         (All (λ e. IsSome e.writer) left.1.items)
         (flat_map (λ e. e.receipts.items) left.1.items) (flat_map (λ e. e.seen.items) left.1.items) left.2.0) }
-    ensures peers { IfOk result (λ left. AllZip (Exchanged AnyMessage AnyMessage AnyGiven rounds) linked.peers.items left.2.1.items) }
+    ensures peers { IfOk result (λ left. AllZip (Exchanged AnyMessage AnyMessage AnyGiven rounds)
+        linked.peers.items left.2.1.items) }
 {
     let LinkedSite { site, peers } = linked;
     let Some(parts) = (site.sessions.len() as u64).checked_add(1) else {
@@ -85,13 +89,17 @@ fn at_desk<
     requires enough { vec_len site.sessions < blank.parts }
     requires began { L.began ≡ site.book.book.history }
     requires office { L.office ≡ site.book.book.office }
-    ensures ids { IfOk result (λ left. map (λ e. e.id) left.1.items ≡ map (λ v. v.id) site.sessions.items) }
-    ensures readers { IfOk result (λ left. map (λ e. e.reader_began.value) left.1.items ≡ map (λ v. v.reader) site.sessions.items) }
-    ensures writers { IfOk result (λ left. map (λ e. e.writer_began.value) left.1.items ≡ map (λ v. v.writer) site.sessions.items) }
+    ensures ids { IfOk result
+        (λ left. map (λ e. e.id) left.1.items ≡ map (λ v. v.id) site.sessions.items) }
+    ensures readers { IfOk result (λ left.
+        map (λ e. e.reader_began.value) left.1.items ≡ map (λ v. v.reader) site.sessions.items) }
+    ensures writers { IfOk result (λ left.
+        map (λ e. e.writer_began.value) left.1.items ≡ map (λ v. v.writer) site.sessions.items) }
     ensures left { IfOk result (λ left. IsLeftOf site.book.book left.0.book
         (All (λ e. IsSome e.writer) left.1.items)
         (flat_map (λ e. e.receipts.items) left.1.items) (flat_map (λ e. e.seen.items) left.1.items) left.2.0) }
-    ensures peers { IfOk result (λ left. AllZip (Exchanged AnyMessage AnyMessage AnyGiven rounds) peers.items left.2.1.items) }
+    ensures peers { IfOk result (λ left.
+        AllZip (Exchanged AnyMessage AnyMessage AnyGiven rounds) peers.items left.2.1.items) }
 {
     let Site { book, sessions } = site;
     let (desk, seat) = Desk::<K, L>::new(book, blank);
@@ -113,7 +121,8 @@ fn finished<K: Keeper + Drop, R: Read + Drop, W: Write + Drop, L: Opens>(
 ) -> Result<(SiteBook<K>, Result<(), FinishFault>), AllocError>
     ensures compared { IfOk result (λ r. IsCompared (length L.began) (shares_of seats.items + seat.count) r.0.book
         (flat_map (λ e. e.receipts.items) sessions.now.items) (flat_map (λ e. e.seen.items) sessions.now.items) r.1) }
-    ensures whole { parts_of seats.items + seat.parts ≡ L.parts → IfOk result (λ r. IfErr r.1 (λ fault. fault ≢ SeatsOut)) }
+    ensures whole { parts_of seats.items + seat.parts ≡ L.parts
+        → IfOk result (λ r. IfErr r.1 (λ fault. fault ≢ SeatsOut)) }
     ensures later { IfOk result (λ r. IsLater L.office L.began r.0.book) }
 {
     let (receipts, seen) = told(alloc, sessions)?;
@@ -127,7 +136,8 @@ fn compared<K: Keeper + Drop, L: Opens>(
     receipts: &[Receipt],
     looks: &[Seen],
 ) -> (SiteBook<K>, Result<(), FinishFault>)
-    ensures compared { IsCompared (length L.began) (shares_of seats.items) result.0.book receipts.now looks.now result.1 }
+    ensures compared { IsCompared
+        (length L.began) (shares_of seats.items) result.0.book receipts.now looks.now result.1 }
     ensures whole { parts_of seats.items ≡ L.parts → IfErr result.1 (λ fault. fault ≢ SeatsOut) }
     ensures later { IsLater L.office L.began result.0.book }
 {
@@ -176,10 +186,14 @@ fn at_once<
     ),
     ExchangeFault,
 >
-    ensures ids { IfOk result (λ r. IfOk r.0 (λ s. map (λ e. e.id) s.0.items ≡ map (λ s. s.id) sessions.items)) }
-    ensures readers { IfOk result (λ r. IfOk r.0 (λ s. map (λ e. e.reader_began.value) s.0.items ≡ map (λ s. s.reader) sessions.items)) }
-    ensures writers { IfOk result (λ r. IfOk r.0 (λ s. map (λ e. e.writer_began.value) s.0.items ≡ map (λ s. s.writer) sessions.items)) }
-    ensures parts { IfOk result (λ r. IfOk r.0 (λ s. All (λ e. IsSome e.writer) s.0.items → parts_of s.1.items ≡ parts_of (map (λ s. s.seat) sessions.items))) }
+    ensures ids { IfOk result
+        (λ r. IfOk r.0 (λ s. map (λ e. e.id) s.0.items ≡ map (λ s. s.id) sessions.items)) }
+    ensures readers { IfOk result (λ r. IfOk r.0
+        (λ s. map (λ e. e.reader_began.value) s.0.items ≡ map (λ s. s.reader) sessions.items)) }
+    ensures writers { IfOk result (λ r. IfOk r.0
+        (λ s. map (λ e. e.writer_began.value) s.0.items ≡ map (λ s. s.writer) sessions.items)) }
+    ensures parts { IfOk result (λ r. IfOk r.0 (λ s. All (λ e. IsSome e.writer) s.0.items
+        → parts_of s.1.items ≡ parts_of (map (λ s. s.seat) sessions.items))) }
     ensures shares { IfOk result (λ r. IfOk r.0 (λ s. shares_of s.1.items
         ≤ shares_of (map (λ s. s.seat) sessions.items) + given_since (length L.began) (flat_map (λ e. e.receipts.items) s.0.items))) }
     ensures peers { IfOk result (λ r. IfOk r.1 (λ ends. AllZip (Exchanged
@@ -205,7 +219,8 @@ fn told<R: Read + Drop, W: Write + Drop>(
     alloc: Global,
     sessions: &Vec<SessionEnd<R, W>>,
 ) -> Result<(Vec<Receipt>, Vec<Seen>), AllocError>
-    ensures receipts { IfOk result (λ r. r.0.items ≡ flat_map (λ e. e.receipts.items) sessions.now.items) }
+    ensures receipts { IfOk result
+        (λ r. r.0.items ≡ flat_map (λ e. e.receipts.items) sessions.now.items) }
     ensures looks { IfOk result (λ r. r.1.items ≡ flat_map (λ e. e.seen.items) sessions.now.items) }
 {
     let mut receipts = Vec::new(alloc);

@@ -61,7 +61,8 @@ fn receive_deltas<S: Replica, R: Wait>(
     mut tx: Tx,
 ) -> (RxEnd, TxEnd, u64)
     ensures links { (result.0.link ≡ rx.link) × (result.1.link ≡ tx.link) }
-    ensures acknowledged { Acknowledges S.holds S.refuses rx.messages tx.messages result.2 result.0.messages result.1.messages }
+    ensures acknowledged { Acknowledges
+        S.holds S.refuses rx.messages tx.messages result.2 result.0.messages result.1.messages }
 {
     let mut refused: u64 = 0;
     for _ in rt.forever() {
@@ -107,8 +108,10 @@ pub(crate) fn receive_from<'s, E, R: Threads + Wait + Sync, S: Replica + Sync + 
 ) -> Result<(), ExchangeFault>
     requires empty { ends.old.items ≡ [] }
     requires room { vec_len peers ≤ vec_capacity ends.old }
-    ensures received { OnOk result (AllZip (Received S.holds S.refuses) peers.items ends.new.items) }
-    ensures room { OnOk result ((vec_len ends.new ≡ vec_len peers) × (vec_capacity ends.new ≡ vec_capacity ends.old)) }
+    ensures received { OnOk result
+        (AllZip (Received S.holds S.refuses) peers.items ends.new.items) }
+    ensures room { OnOk result
+        ((vec_len ends.new ≡ vec_len peers) × (vec_capacity ends.new ≡ vec_capacity ends.old)) }
 {
     let Some(
         Incoming {

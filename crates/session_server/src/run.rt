@@ -72,17 +72,23 @@ pub fn run_all<
     gate: &G,
 ) -> Result<(Vec<SiteEnd<K, R, W>>, Vec<LinkEnd>), ExchangeFault>
     requires { 0 < capacity }
-    ensures ids { IfOk result (λ r. map (λ e. map (λ x. x.id) e.sessions.items) r.0.items ≡ map (λ s. map (λ v. v.id) s.sessions.items) sites.items) }
-    ensures readers { IfOk result (λ r. map (λ e. map (λ x. x.reader_began.value) e.sessions.items) r.0.items ≡ map (λ s. map (λ v. v.reader) s.sessions.items) sites.items) }
-    ensures writers { IfOk result (λ r. map (λ e. map (λ x. x.writer_began.value) e.sessions.items) r.0.items ≡ map (λ s. map (λ v. v.writer) s.sessions.items) sites.items) }
+    ensures ids { IfOk result (λ r. map (λ e. map (λ x. x.id) e.sessions.items) r.0.items
+        ≡ map (λ s. map (λ v. v.id) s.sessions.items) sites.items) }
+    ensures readers { IfOk result (λ r. map (λ e. map (λ x. x.reader_began.value) e.sessions.items)
+        r.0.items ≡ map (λ s. map (λ v. v.reader) s.sessions.items) sites.items) }
+    ensures writers { IfOk result (λ r. map (λ e. map (λ x. x.writer_began.value) e.sessions.items)
+        r.0.items ≡ map (λ s. map (λ v. v.writer) s.sessions.items) sites.items) }
     ensures left { IfOk result (λ r. AllZip (λ site end. IsLeftOf site.book.book end.book.book
         (All (λ x. IsSome x.writer) end.sessions.items)
         (flat_map (λ x. x.receipts.items) end.sessions.items) (flat_map (λ x. x.seen.items) end.sessions.items) end.finished) sites.items r.0.items) }
-    ensures links { IfOk result (λ r. map link_name_of r.1.items ≡ link_names (map (λ s. s.book.book.office.me) sites.items)) }
-    ensures told { IfOk result (λ r. AreLinksTold rounds (map (λ s. s.book.book.office.me) sites.items) r.1.items) }
+    ensures links { IfOk result (λ r.
+        map link_name_of r.1.items ≡ link_names (map (λ s. s.book.book.office.me) sites.items)) }
+    ensures told { IfOk result
+        (λ r. AreLinksTold rounds (map (λ s. s.book.book.office.me) sites.items) r.1.items) }
     ensures counted { IfOk result (λ r. All IsCounted r.1.items) }
     ensures within { IfOk result (λ r. All (λ link. link.put ≤ rounds) r.1.items) }
-    ensures acknowledged { IfOk result (λ r. AreAcknowledged (map (λ s. s.book.book.office.me) sites.items) r.1.items) }
+    ensures acknowledged { IfOk result
+        (λ r. AreAcknowledged (map (λ s. s.book.book.office.me) sites.items) r.1.items) }
 {
     let ids = numbers(alloc, &sites)?;
     let linked = link_all(alloc, sites, capacity)?;
@@ -113,8 +119,10 @@ fn begun<K: Keeper + Drop, R: Read + Drop, W: Write + Drop>(
 )
     requires empty { jobs.old.items ≡ [] }
     requires room { vec_len linked ≤ vec_capacity jobs.old }
-    ensures begun { AllZip (λ one job. (job.0 ≡ one) × (job.1.linked.value ≡ one) × (job.1.rounds ≡ rounds)) linked.items jobs.new.items }
-    ensures room { (vec_len jobs.new ≡ vec_len linked) × (vec_capacity jobs.new ≡ vec_capacity jobs.old) }
+    ensures begun { AllZip (λ one job. (job.0 ≡ one)
+        × (job.1.linked.value ≡ one) × (job.1.rounds ≡ rounds)) linked.items jobs.new.items }
+    ensures room { (vec_len jobs.new ≡ vec_len linked)
+        × (vec_capacity jobs.new ≡ vec_capacity jobs.old) }
 {
     let Some(one) = linked.pop() else {
         return;
@@ -134,8 +142,10 @@ fn gathered<K: Keeper + Drop, R: Read + Drop, W: Write + Drop>(
     peers: &mut Vec<Vec<PeerEnd>>,
 )
     requires empty { (ends.old.items ≡ []) × (peers.old.items ≡ []) }
-    requires room { (vec_len done ≤ vec_capacity ends.old) × (vec_len done ≤ vec_capacity peers.old) }
-    ensures ends { AllZip (λ left end. (end.book ≡ left.0) × (end.sessions ≡ left.1) × (end.finished ≡ left.2.0)) done.items ends.new.items }
+    requires room { (vec_len done ≤ vec_capacity ends.old)
+        × (vec_len done ≤ vec_capacity peers.old) }
+    ensures ends { AllZip (λ left end. (end.book ≡ left.0)
+        × (end.sessions ≡ left.1) × (end.finished ≡ left.2.0)) done.items ends.new.items }
     ensures peers { AllZip (λ left with. with ≡ left.2.1) done.items peers.new.items }
     ensures room { (vec_len ends.new ≡ vec_len done) × (vec_len peers.new ≡ vec_len done)
         × (vec_capacity ends.new ≡ vec_capacity ends.old) × (vec_capacity peers.new ≡ vec_capacity peers.old) }

@@ -94,7 +94,8 @@ fn end_from<R: Wait>(rt: &R, mut outs: Vec<Outgoing>, ends: &mut Vec<OutgoingEnd
     requires empty { ends.old.items ≡ [] }
     requires room { vec_len outs ≤ vec_capacity ends.old }
     ensures ended { AllZip IsEndOf outs.items ends.new.items }
-    ensures room { (vec_len ends.new ≡ vec_len outs) × (vec_capacity ends.new ≡ vec_capacity ends.old) }
+    ensures room { (vec_len ends.new ≡ vec_len outs)
+        × (vec_capacity ends.new ≡ vec_capacity ends.old) }
 {
     let Some(Outgoing { to, tx, is_gone: _ }) = outs.pop() else {
         return;

@@ -27,10 +27,12 @@ fn serve<T: Wait, R: Read + Drop, W: Write + Drop, K: Keeper, L: Opens, G: Gate>
     session: Session<R, W, L>,
 ) -> (SessionEnd<R, W>, Seat<L>)
     ensures id { result.0.id ≡ session.id }
-    ensures began { (result.0.reader_began.value ≡ session.reader) × (result.0.writer_began.value ≡ session.writer) }
+    ensures began { (result.0.reader_began.value ≡ session.reader)
+        × (result.0.writer_began.value ≡ session.writer) }
     ensures writer { is_some result.0.writer ≡ true }
     ensures parts { result.1.parts ≡ session.seat.parts }
-    ensures share { result.1.count ≤ session.seat.count + given_since (length L.began) result.0.receipts.items }
+    ensures share { result.1.count
+        ≤ session.seat.count + given_since (length L.began) result.0.receipts.items }
 {
     let Session {
         id,
@@ -92,11 +94,16 @@ fn serve_from<
 )
     requires ends { vec_len ends.old + vec_len sessions ≤ vec_capacity ends.old }
     requires seats { vec_len seats.old + vec_len sessions ≤ vec_capacity seats.old }
-    ensures ids { map (λ e. e.id) ends.new.items ≡ map (λ e. e.id) ends.old.items ++ map (λ s. s.id) sessions.items }
-    ensures readers { map (λ e. e.reader_began.value) ends.new.items ≡ map (λ e. e.reader_began.value) ends.old.items ++ map (λ s. s.reader) sessions.items }
-    ensures writers { map (λ e. e.writer_began.value) ends.new.items ≡ map (λ e. e.writer_began.value) ends.old.items ++ map (λ s. s.writer) sessions.items }
-    ensures parts { All (λ e. IsSome e.writer) ends.new.items → parts_of seats.new.items ≡ parts_of seats.old.items + parts_of (map (λ s. s.seat) sessions.items) }
-    ensures seats { length seats.new.items + count_by (λ e. is_some e.writer) ends.old.items ≡ length seats.old.items + count_by (λ e. is_some e.writer) ends.new.items }
+    ensures ids { map (λ e. e.id) ends.new.items
+        ≡ map (λ e. e.id) ends.old.items ++ map (λ s. s.id) sessions.items }
+    ensures readers { map (λ e. e.reader_began.value) ends.new.items
+        ≡ map (λ e. e.reader_began.value) ends.old.items ++ map (λ s. s.reader) sessions.items }
+    ensures writers { map (λ e. e.writer_began.value) ends.new.items
+        ≡ map (λ e. e.writer_began.value) ends.old.items ++ map (λ s. s.writer) sessions.items }
+    ensures parts { All (λ e. IsSome e.writer) ends.new.items → parts_of seats.new.items
+        ≡ parts_of seats.old.items + parts_of (map (λ s. s.seat) sessions.items) }
+    ensures seats { length seats.new.items + count_by (λ e. is_some e.writer) ends.old.items
+        ≡ length seats.old.items + count_by (λ e. is_some e.writer) ends.new.items }
     ensures shares { shares_of seats.new.items + given_since (length L.began) (flat_map (λ e. e.receipts.items) ends.old.items)
         ≤ shares_of seats.old.items + shares_of (map (λ s. s.seat) sessions.items) + given_since (length L.began) (flat_map (λ e. e.receipts.items) ends.new.items) }
     ensures room { (vec_len ends.new ≡ vec_len ends.old + vec_len sessions) × (vec_capacity ends.new ≡ vec_capacity ends.old)
@@ -168,11 +175,17 @@ pub fn serve_all<
     gate: &G,
 ) -> Result<(Vec<SessionEnd<R, W>>, Vec<Seat<L>>), AllocError>
     ensures ids { IfOk result (λ r. map (λ e. e.id) r.0.items ≡ map (λ s. s.id) sessions.items) }
-    ensures readers { IfOk result (λ r. map (λ e. e.reader_began.value) r.0.items ≡ map (λ s. s.reader) sessions.items) }
-    ensures writers { IfOk result (λ r. map (λ e. e.writer_began.value) r.0.items ≡ map (λ s. s.writer) sessions.items) }
-    ensures parts { IfOk result (λ r. All (λ e. IsSome e.writer) r.0.items → parts_of r.1.items ≡ parts_of (map (λ s. s.seat) sessions.items)) }
-    ensures seats { IfOk result (λ r. length r.1.items ≡ count_by (λ e. is_some e.writer) r.0.items) }
-    ensures shares { IfOk result (λ r. shares_of r.1.items ≤ shares_of (map (λ s. s.seat) sessions.items) + given_since (length L.began) (flat_map (λ e. e.receipts.items) r.0.items)) }
+    ensures readers { IfOk result
+        (λ r. map (λ e. e.reader_began.value) r.0.items ≡ map (λ s. s.reader) sessions.items) }
+    ensures writers { IfOk result
+        (λ r. map (λ e. e.writer_began.value) r.0.items ≡ map (λ s. s.writer) sessions.items) }
+    ensures parts { IfOk result (λ r. All (λ e. IsSome e.writer) r.0.items
+        → parts_of r.1.items ≡ parts_of (map (λ s. s.seat) sessions.items)) }
+    ensures seats { IfOk result
+        (λ r. length r.1.items ≡ count_by (λ e. is_some e.writer) r.0.items) }
+    ensures shares { IfOk result
+        (λ r. shares_of r.1.items ≤ shares_of (map (λ s. s.seat) sessions.items) + given_since
+        (length L.began) (flat_map (λ e. e.receipts.items) r.0.items)) }
 {
     let mut ends = Vec::with_capacity(alloc, sessions.len())?;
     let mut seats = Vec::with_capacity(alloc, sessions.len())?;
@@ -180,7 +193,9 @@ pub fn serve_all<
         thread::scope_env(),
         rt,
         move |scope| -> (Vec<SessionEnd<R, W>>, Vec<Seat<L>>)
-            requires { (vec_len ends + vec_len sessions ≤ vec_capacity ends) × (vec_len seats + vec_len sessions ≤ vec_capacity seats) × (ends.items ≡ []) × (seats.items ≡ []) }
+            requires { (vec_len ends + vec_len sessions ≤ vec_capacity ends)
+                × (vec_len seats + vec_len sessions ≤ vec_capacity seats)
+                × (ends.items ≡ []) × (seats.items ≡ []) }
             ensures { (map (λ e. e.id) result.0.items ≡ map (λ s. s.id) sessions.items)
                 × (map (λ e. e.reader_began.value) result.0.items ≡ map (λ s. s.reader) sessions.items)
                 × (map (λ e. e.writer_began.value) result.0.items ≡ map (λ s. s.writer) sessions.items)

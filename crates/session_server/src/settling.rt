@@ -31,7 +31,8 @@ pub(crate) fn settle_all(
     mut ends: Vec<Vec<PeerEnd>>,
 ) -> Result<Vec<Vec<Went>>, AllocError>
     requires { IsMesh (map (λ row. map linkage_left row.items) ends.items) }
-    ensures { IfOk result (λ told. AreSettled (map (λ row. row.items) ends.items) (map (λ row. row.items) told.items)) }
+    ensures { IfOk result (λ told.
+        AreSettled (map (λ row. row.items) ends.items) (map (λ row. row.items) told.items)) }
 {
     let Some(last) = ends.pop() else {
         return Ok(Vec::new(alloc));
@@ -53,8 +54,10 @@ fn settle_last(
     requires len { vec_len ends ≡ vec_len last }
     requires joined { AllZip (λ row other. EndsJoined row.items other) ends.items last.items }
     requires empty { (fronts.old.items ≡ []) × (pairs.old.items ≡ []) }
-    requires room { (vec_len ends ≤ vec_capacity fronts.old) × (vec_len ends ≤ vec_capacity pairs.old) }
-    ensures settled { IsSettledWith (map (λ row. row.items) ends.items) last.items (map (λ row. row.items) fronts.new.items) pairs.new.items }
+    requires room { (vec_len ends ≤ vec_capacity fronts.old)
+        × (vec_len ends ≤ vec_capacity pairs.old) }
+    ensures settled { IsSettledWith (map (λ row. row.items) ends.items)
+        last.items (map (λ row. row.items) fronts.new.items) pairs.new.items }
     ensures room { (vec_len fronts.new ≡ vec_len ends) × (vec_len pairs.new ≡ vec_len ends)
         × (vec_capacity fronts.new ≡ vec_capacity fronts.old) × (vec_capacity pairs.new ≡ vec_capacity pairs.old) }
 {
@@ -122,7 +125,8 @@ fn add_pairs(
 ) -> Result<(), AllocError>
     requires len { vec_len told ≡ vec_len pairs }
     requires empty { (rows.old.items ≡ []) × (last.old.items ≡ []) }
-    ensures rows { OnOk result (map (λ row. row.items) rows.new.items ≡ each_with (map (λ row. row.items) told.items) (map (λ pair. pair.0) pairs.items)) }
+    ensures rows { OnOk result (map (λ row. row.items) rows.new.items
+        ≡ each_with (map (λ row. row.items) told.items) (map (λ pair. pair.0) pairs.items)) }
     ensures last { OnOk result (last.new.items ≡ map (λ pair. pair.1) pairs.items) }
 {
     let Some(mut row) = told.pop() else {

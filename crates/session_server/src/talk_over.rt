@@ -27,7 +27,8 @@ fn answer_line<T: Wait, A: Answerer>(rt: &T, line: &[u8], answerer: &mut A) -> O
 
 // Writes a reply line, which is then at its writer's end.
 fn write_reply<W: Write>(answered: &Answered, out: &mut W) -> Result<(), TalkFault>
-    ensures written { Writes (W.contents out.old) (W.contents out.new) result (reply_line answered.now) }
+    ensures written { Writes
+        (W.contents out.old) (W.contents out.new) result (reply_line answered.now) }
     ensures fault { IfErr result (λ fault. fault ≡ WriteFailed) }
 {
     reply_line(answered, out)?;
@@ -44,7 +45,8 @@ fn talk_next<T: Wait, R: BufRead, W: Write, A: Answerer>(
     out: &mut W,
     answerer: &mut A,
 ) -> Result<Option<Ended>, TalkFault>
-    ensures { NextTalked A.step (R.remaining reader.old) (R.remaining reader.new) (W.contents out.old) (W.contents out.new) answerer.old answerer.new result }
+    ensures { NextTalked A.step (R.remaining reader.old) (R.remaining reader.new)
+        (W.contents out.old) (W.contents out.new) answerer.old answerer.new result }
 {
     let mut line = LineBytes::new();
     if !next_line(reader, &mut line)? {
@@ -64,7 +66,8 @@ fn talk_over<T: Wait, R: BufRead, W: Write, A: Answerer>(
     out: &mut W,
     answerer: &mut A,
 ) -> Result<Ended, TalkFault>
-    ensures { Talked A.step (R.remaining reader.old) (W.contents out.old) (W.contents out.new) answerer.old answerer.new result }
+    ensures { Talked A.step (R.remaining reader.old)
+        (W.contents out.old) (W.contents out.new) answerer.old answerer.new result }
 {
     'lines: for _count in 0..MOST_LINES {
         match talk_next(rt, reader, out, answerer) {
@@ -94,7 +97,8 @@ pub fn talk<T: Wait, R: Read + Drop, W: Write, A: Answerer>(
     out: &mut W,
     answerer: &mut A,
 ) -> Result<Ended, TalkFault>
-    ensures { Talked A.step (R.remaining reader) (W.contents out.old) (W.contents out.new) answerer.old answerer.new result }
+    ensures { Talked A.step (R.remaining reader)
+        (W.contents out.old) (W.contents out.new) answerer.old answerer.new result }
 {
     let Ok(mut buffered) = BufReader::new(alloc, reader) else {
         return Err(TalkFault::Memory);

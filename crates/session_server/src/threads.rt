@@ -30,9 +30,12 @@ fn work_from<
     requires empty { done.old.items ≡ [] }
     requires room { vec_len jobs ≤ vec_capacity done.old }
     requires work { (job : J) → F.pre work.now job }
-    requires keeps { All (λ j. (left : _) → F.post work.now j.0 left → P.kept_by j.1 left) jobs.items }
-    ensures done { OnOk result (AllZip (λ j one. P.kept_by j.1 (Ok one)) jobs.items done.new.items) }
-    ensures room { OnOk result ((vec_len done.new ≡ vec_len jobs) × (vec_capacity done.new ≡ vec_capacity done.old)) }
+    requires keeps { All (λ j. (left : _) → F.post work.now j.0 left → P.kept_by j.1 left)
+        jobs.items }
+    ensures done { OnOk result
+        (AllZip (λ j one. P.kept_by j.1 (Ok one)) jobs.items done.new.items) }
+    ensures room { OnOk result
+        ((vec_len done.new ≡ vec_len jobs) × (vec_capacity done.new ≡ vec_capacity done.old)) }
 {
     let Some((job, promise)) = jobs.pop() else {
         return Ok(());
@@ -58,7 +61,8 @@ pub(crate) fn work_all<
     F: Fn(J) -> Result<(A, B, C), ExchangeFault> + Sync,
 >(rt: &'x T, alloc: Global, jobs: Vec<(J, P)>, work: &'x F) -> Result<Vec<(A, B, C)>, ExchangeFault>
     requires work { (job : J) → F.pre work.now job }
-    requires keeps { All (λ j. (left : _) → F.post work.now j.0 left → P.kept_by j.1 left) jobs.items }
+    requires keeps { All (λ j. (left : _) → F.post work.now j.0 left → P.kept_by j.1 left)
+        jobs.items }
     ensures { IfOk result (λ done. AllZip (λ j one. P.kept_by j.1 (Ok one)) jobs.items done.items) }
 {
     let mut done = Vec::with_capacity(alloc, jobs.len())?;
@@ -68,7 +72,8 @@ pub(crate) fn work_all<
         move |scope| -> Result<Vec<(A, B, C)>, ExchangeFault>
             requires { (vec_len jobs ≤ vec_capacity done) × (done.items ≡ []) × ((job : J) → F.pre work.now job)
                 × All (λ j. (left : _) → F.post work.now j.0 left → P.kept_by j.1 left) jobs.items }
-            ensures { IfOk result (λ done. AllZip (λ j one. P.kept_by j.1 (Ok one)) jobs.items done.items) }
+            ensures { IfOk result
+                (λ done. AllZip (λ j one. P.kept_by j.1 (Ok one)) jobs.items done.items) }
         {
             work_from(scope, rt, jobs, work, &mut done)?;
             Ok(done)
@@ -128,7 +133,8 @@ pub(crate) fn work_beside<
         thread::scope_env(),
         rt,
         move |scope| -> Result<(O, Q), ExchangeFault>
-            requires { ((job : J) → F.pre work.now job) × ((left : O) → F.post work.now job left → P.kept_by promise left) × H.pre here }
+            requires { ((job : J) → F.pre work.now job)
+                × ((left : O) → F.post work.now job left → P.kept_by promise left) × H.pre here }
             ensures { IfOk result (λ r. P.kept_by promise r.0 × H.post here r.1) }
         { beside_in(scope, rt, job, promise, work, here) },
     )

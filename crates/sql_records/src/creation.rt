@@ -52,12 +52,16 @@ fn fill<S: Alter>(tx: &mut Transaction<'_, S>, meta: Meta) -> Result<(), Error>
     requires inside { tx.old.conn.now.in_transaction ≡ true }
     requires empty { tx.old.conn.now.schema ≡ no_schema }
     ensures same_reference { tx.new.conn.ghost_name ≡ tx.old.conn.ghost_name }
-    ensures made { HasCleanDisk (state S.Store tx.new.conn.now) → OnOk result (IsNew meta (state S.Store tx.new.conn.now).now) }
+    ensures made { HasCleanDisk (state S.Store tx.new.conn.now)
+        → OnOk result (IsNew meta (state S.Store tx.new.conn.now).now) }
     ensures kept { HasCleanDisk (state S.Store tx.new.conn.now) → IsTrue (state S.Store tx.new.conn.now).is_open
         → (state S.Store tx.new.conn.now).committed ≡ (state S.Store tx.old.conn.now).committed }
-    ensures survives { Survives (state S.Store tx.old.conn.now) (state S.Store tx.new.conn.now) (λ _. ⊥) }
-    ensures runs { HasCleanDisk (state S.Store tx.new.conn.now) → OnOk result (RunInTurn S.Store (making meta) tx.old.conn.now tx.new.conn.now) }
-    ensures fails { HasCleanDisk (state S.Store tx.new.conn.now) → IfErr result (FailInTurn S.Store (making meta) tx.old.conn.now tx.new.conn.now) }
+    ensures survives { Survives
+        (state S.Store tx.old.conn.now) (state S.Store tx.new.conn.now) (λ _. ⊥) }
+    ensures runs { HasCleanDisk (state S.Store tx.new.conn.now)
+        → OnOk result (RunInTurn S.Store (making meta) tx.old.conn.now tx.new.conn.now) }
+    ensures fails { HasCleanDisk (state S.Store tx.new.conn.now)
+        → IfErr result (FailInTurn S.Store (making meta) tx.old.conn.now tx.new.conn.now) }
 {
     tx.execute(META, &[])?;
     tx.execute(ENTRIES, &[])?;
@@ -85,14 +89,20 @@ fn make<S: Alter>(conn: &mut Connection<S>, meta: Meta) -> Result<(), Error>
     requires me { meta.me < meta.sites }
     requires outside { conn.old.in_transaction ≡ false }
     requires empty { conn.old.schema ≡ no_schema }
-    ensures rest { HasCleanDisk (state S.Store conn.new) → OnOk result (IsAtRest (state S.Store conn.new) 0) }
-    ensures made { HasCleanDisk (state S.Store conn.new) → OnOk result (IsNew meta (state S.Store conn.new).now) }
-    ensures leaves { HasCleanDisk (state S.Store conn.new) → OnOk result (LeavesOnly [] (MayLeaveIn (state S.Store conn.new))) }
-    ensures site { HasCleanDisk (state S.Store conn.new) → OnOk result (LeavesSite (state S.Store conn.new) meta) }
-    ensures crash { HasCleanDisk (state S.Store conn.new) → LeavesAsBeforeOrNew meta (state S.Store conn.old) (state S.Store conn.new) }
+    ensures rest { HasCleanDisk (state S.Store conn.new)
+        → OnOk result (IsAtRest (state S.Store conn.new) 0) }
+    ensures made { HasCleanDisk (state S.Store conn.new)
+        → OnOk result (IsNew meta (state S.Store conn.new).now) }
+    ensures leaves { HasCleanDisk (state S.Store conn.new)
+        → OnOk result (LeavesOnly [] (MayLeaveIn (state S.Store conn.new))) }
+    ensures site { HasCleanDisk (state S.Store conn.new)
+        → OnOk result (LeavesSite (state S.Store conn.new) meta) }
+    ensures crash { HasCleanDisk (state S.Store conn.new)
+        → LeavesAsBeforeOrNew meta (state S.Store conn.old) (state S.Store conn.new) }
     ensures as_before { HasCleanDisk (state S.Store conn.new) → IsTrue (state S.Store conn.new).is_open → OnErr result
         ((state S.Store conn.new).committed ≡ (state S.Store conn.old).committed) }
-    ensures fails { HasCleanDisk (state S.Store conn.new) → IfErr result (FailsToMake S.Store conn.old meta) }
+    ensures fails { HasCleanDisk (state S.Store conn.new)
+        → IfErr result (FailsToMake S.Store conn.old meta) }
     ensures limit { conn.new.step_limit ≡ conn.old.step_limit }
     ensures ended { conn.new.in_transaction ≡ false }
     ensures clean { HasCleanDisk (state S.Store conn.new) → HasCleanDisk (state S.Store conn.old) }
@@ -121,24 +131,31 @@ impl<S: Alter> Records<S> {
         limit: Limit,
     ) -> Result<(), InitFault>
         requires me { me < sites }
-        ensures there { (result ≡ Err InitFault.AlreadyThere) ↔ IsTrue (has_our_table conn.old.schema) }
-        ensures other { has_our_table conn.old.schema ≡ false → conn.old.schema ≢ no_schema → (result ≡ Err InitFault.Disk) × (conn.new ≡ conn.old) }
-        ensures busy { has_our_table conn.old.schema ≡ false → conn.old.in_transaction ≡ true → (result ≡ Err InitFault.Disk) × (conn.new ≡ conn.old) }
+        ensures there { (result ≡ Err InitFault.AlreadyThere)
+            ↔ IsTrue (has_our_table conn.old.schema) }
+        ensures other { has_our_table conn.old.schema ≡ false
+            → conn.old.schema ≢ no_schema → (result ≡ Err InitFault.Disk) × (conn.new ≡ conn.old) }
+        ensures busy { has_our_table conn.old.schema ≡ false → conn.old.in_transaction ≡ true
+            → (result ≡ Err InitFault.Disk) × (conn.new ≡ conn.old) }
         ensures as_it_was { result ≡ Err InitFault.AlreadyThere → conn.new ≡ conn.old }
-        ensures rest { HasCleanDisk (state S.Store conn.new) → OnOk result (IsAtRest (state S.Store conn.new) 0) }
+        ensures rest { HasCleanDisk (state S.Store conn.new)
+            → OnOk result (IsAtRest (state S.Store conn.new) 0) }
         ensures made { HasCleanDisk (state S.Store conn.new) → OnOk result
             (IsNew (record { me = me; sites = sites; limit = limit }) (state S.Store conn.new).now) }
-        ensures leaves { HasCleanDisk (state S.Store conn.new) → OnOk result (LeavesOnly [] (MayLeaveIn (state S.Store conn.new))) }
+        ensures leaves { HasCleanDisk (state S.Store conn.new)
+            → OnOk result (LeavesOnly [] (MayLeaveIn (state S.Store conn.new))) }
         ensures site { HasCleanDisk (state S.Store conn.new) → OnOk result
             (LeavesSite (state S.Store conn.new) (record { me = me; sites = sites; limit = limit })) }
         ensures crash { HasCleanDisk (state S.Store conn.new)
             → LeavesAsBeforeOrNew (record { me = me; sites = sites; limit = limit }) (state S.Store conn.old) (state S.Store conn.new) }
         ensures as_before { HasCleanDisk (state S.Store conn.new) → IsTrue (state S.Store conn.new).is_open → OnErr result
             ((state S.Store conn.new).committed ≡ (state S.Store conn.old).committed) }
-        ensures fault { HasCleanDisk (state S.Store conn.new) → IfErr result (IsInitFault S.Store conn.old (record { me = me; sites = sites; limit = limit })) }
+        ensures fault { HasCleanDisk (state S.Store conn.new) → IfErr result
+            (IsInitFault S.Store conn.old (record { me = me; sites = sites; limit = limit })) }
         ensures limit { conn.new.step_limit ≡ conn.old.step_limit }
         ensures ended { conn.old.in_transaction ≡ false → conn.new.in_transaction ≡ false }
-        ensures clean { HasCleanDisk (state S.Store conn.new) → HasCleanDisk (state S.Store conn.old) }
+        ensures clean { HasCleanDisk (state S.Store conn.new)
+            → HasCleanDisk (state S.Store conn.old) }
     {
         if let Some(fault) = refusal(conn) {
             return Err(fault);

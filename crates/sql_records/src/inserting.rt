@@ -28,8 +28,10 @@ pub fn insert<S: Alter>(
     requires text { text.now ≡ delta_text (delta_of entry.now) }
     requires delta { IsDelta (delta_of entry.now) }
     requires room { HasRoom entry.now (length text.now) }
-    requires rest { HasCleanDisk (state S.Store conn.old) → IsAtRest (state S.Store conn.old) place }
-    ensures rest { HasCleanDisk (state S.Store conn.new) → OnOk result (IsAtRest (state S.Store conn.new) (place + 1)) }
+    requires rest { HasCleanDisk (state S.Store conn.old)
+        → IsAtRest (state S.Store conn.old) place }
+    ensures rest { HasCleanDisk (state S.Store conn.new)
+        → OnOk result (IsAtRest (state S.Store conn.new) (place + 1)) }
     ensures added { HasCleanDisk (state S.Store conn.new) → OnOk result
         (history_in (state S.Store conn.new).now.trees ≡ history_in (state S.Store conn.old).now.trees ++ entry.now ∷ []) }
     ensures crash { HasCleanDisk (state S.Store conn.new)
@@ -38,7 +40,8 @@ pub fn insert<S: Alter>(
         ((state S.Store conn.new).now.trees meta_tree ≡ (state S.Store conn.old).now.trees meta_tree) }
     ensures site { HasCleanDisk (state S.Store conn.new) → (meta : Meta)
         → LeavesSite (state S.Store conn.old) meta → LeavesSite (state S.Store conn.new) meta }
-    ensures fails { HasCleanDisk (state S.Store conn.new) → IfErr result (λ e. Executes INSERT.now (columns_of place entry.now) (state S.Store conn.old) (state S.Store conn.new) (Err e)) }
+    ensures fails { HasCleanDisk (state S.Store conn.new) → IfErr result (λ e. Executes INSERT.now
+        (columns_of place entry.now) (state S.Store conn.old) (state S.Store conn.new) (Err e)) }
     ensures limit { conn.new.step_limit ≡ conn.old.step_limit }
     ensures clean { HasCleanDisk (state S.Store conn.new) → HasCleanDisk (state S.Store conn.old) }
 {

@@ -67,13 +67,16 @@ pub trait Keeper {
     /// Adds the entry at the end. After the first error a stop leaves the list with the entry or without, and the keeper is
     /// shut: each later append answers `Shut` and changes nothing.
     fn append(&mut self, entry: &Entry) -> Result<(), KeepFault>
-        ensures kept { OnOk result (is_trusted self.new → Keeps (kept self.old ++ entry.now ∷ []) (kept self.new) (may_leave self.new)) }
-        ensures stopped { failed self.old ≡ 0 → OnErr result (is_trusted self.new → LeavesWithOrWithout (kept self.old) entry.now (may_leave self.new)) }
+        ensures kept { OnOk result (is_trusted self.new
+            → Keeps (kept self.old ++ entry.now ∷ []) (kept self.new) (may_leave self.new)) }
+        ensures stopped { failed self.old ≡ 0 → OnErr result (is_trusted self.new
+            → LeavesWithOrWithout (kept self.old) entry.now (may_leave self.new)) }
         ensures open { OnOk result ((failed self.old ≡ 0) × (failed self.new ≡ 0)) }
         ensures counted { failed self.old ≡ 0 → OnErr result (failed self.new ≡ 1) }
         ensures named { failed self.old ≡ 0 → IsErrOf result KeepFault.Shut → ⊥ }
         ensures shut { failed self.old ≢ 0 → (result ≡ Err KeepFault.Shut) × (self.new ≡ self.old) }
-        ensures site { is_trusted self.new → (meta : Meta) → is_of self.old meta → is_of self.new meta }
+        ensures site { is_trusted self.new
+            → (meta : Meta) → is_of self.old meta → is_of self.new meta }
         ensures trusted { is_trusted self.new → is_trusted self.old };
 
     /// Adds the entries at the end, all at once. After the first error a stop leaves the list with all of them or with none,

@@ -58,7 +58,8 @@ impl ListKeeper {
     /// The append with this number, counted from 1 from now on, answers `Disk`, and its entry is kept where `is_stored`; or
     /// `Memory`, where there is none to keep it, and it is not kept. The number 0 stands for the next append too.
     pub fn fail_at(&mut self, append: u64, is_stored: bool)
-        ensures { self.new ≡ record self.old { failing = Some (record { append = append; is_stored = is_stored }) } }
+        ensures { self.new ≡ record self.old
+            { failing = Some (record { append = append; is_stored = is_stored }) } }
     {
         self.failing = Some(Failing { append, is_stored });
     }
@@ -113,14 +114,18 @@ impl Keeper for ListKeeper {
     /// As of every keeper; and `Disk` only where `fail_at` says so, with the entry kept where it says so. There the
     /// append is never Ok.
     fn append(&mut self, entry: &Entry) -> Result<(), KeepFault>
-        ensures added { OnOk result ((self.old.failures ≡ 0) × (self.new ≡ record self.old { kept = self.old.kept ++ entry.now ∷ []; failing = one_less self.old.failing })) }
+        ensures added { OnOk result ((self.old.failures ≡ 0) × (self.new ≡ record self.old
+            { kept = self.old.kept ++ entry.now ∷ []; failing = one_less self.old.failing })) }
         ensures due { FailsNext self.old.failing → IsErr result }
-        ensures disk { result ≡ Err KeepFault.Disk → FailsNext self.old.failing × (self.new.kept ≡ left_by self.old.failing self.old.kept entry.now) }
+        ensures disk { result ≡ Err KeepFault.Disk → FailsNext self.old.failing
+            × (self.new.kept ≡ left_by self.old.failing self.old.kept entry.now) }
         ensures memory { result ≡ Err KeepFault.Memory → self.new.kept ≡ self.old.kept }
-        ensures stopped { OnErr result ((self.new.kept ≡ self.old.kept) ⊎ (self.new.kept ≡ self.old.kept ++ entry.now ∷ [])) }
+        ensures stopped { OnErr result
+            ((self.new.kept ≡ self.old.kept) ⊎ (self.new.kept ≡ self.old.kept ++ entry.now ∷ [])) }
         ensures counted { self.old.failures ≡ 0 → OnErr result (self.new.failures ≡ 1) }
         ensures named { self.old.failures ≡ 0 → result ≢ Err KeepFault.Shut }
-        ensures shut { self.old.failures ≢ 0 → (result ≡ Err KeepFault.Shut) × (self.new ≡ self.old) }
+        ensures shut { self.old.failures ≢ 0
+            → (result ≡ Err KeepFault.Shut) × (self.new ≡ self.old) }
     {
         self.append_all(slice::from_ref(entry))
     }

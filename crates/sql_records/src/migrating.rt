@@ -27,15 +27,24 @@ const UPDATE: &str = "UPDATE meta SET version = 2";
 
 // Raises the version to the second, in one transaction of its own.
 fn set_version<S: Alter>(conn: &mut Connection<S>) -> Result<(), Error>
-    requires rest { HasCleanDisk (state S.Store conn.old) → (place : ℕ) × IsAtRest (state S.Store conn.old) place }
-    requires legal { HasCleanDisk (state S.Store conn.old) → IsLegalFirst (state S.Store conn.old).now.trees }
-    ensures rest { HasCleanDisk (state S.Store conn.new) → OnOk result ((place : ℕ) → IsAtRest (state S.Store conn.old) place → IsAtRest (state S.Store conn.new) place) }
-    ensures set { HasCleanDisk (state S.Store conn.new) → OnOk result (IsMigrated (state S.Store conn.old).now.trees (state S.Store conn.new).now.trees) }
-    ensures leaves { HasCleanDisk (state S.Store conn.new) → OnOk result (LeavesOnly (history_in (state S.Store conn.old).now.trees) (MayLeaveIn (state S.Store conn.new))) }
-    ensures site { HasCleanDisk (state S.Store conn.new) → OnOk result ((meta : Numbers) → HasMetaAs First meta (state S.Store conn.old).now.trees → LeavesSite (state S.Store conn.new) meta) }
-    ensures crash { HasCleanDisk (state S.Store conn.new) → LeavesAsBeforeOrMigrated (state S.Store conn.old) (state S.Store conn.new) }
-    ensures as_before { HasCleanDisk (state S.Store conn.new) → OnErr result (IsAsBefore (state S.Store conn.old) (state S.Store conn.new)) }
-    ensures fails { HasCleanDisk (state S.Store conn.new) → IfErr result (λ e. Executes UPDATE.now [] (state S.Store conn.old) (state S.Store conn.new) (Err e)) }
+    requires rest { HasCleanDisk (state S.Store conn.old)
+        → (place : ℕ) × IsAtRest (state S.Store conn.old) place }
+    requires legal { HasCleanDisk (state S.Store conn.old)
+        → IsLegalFirst (state S.Store conn.old).now.trees }
+    ensures rest { HasCleanDisk (state S.Store conn.new) → OnOk result ((place : ℕ)
+        → IsAtRest (state S.Store conn.old) place → IsAtRest (state S.Store conn.new) place) }
+    ensures set { HasCleanDisk (state S.Store conn.new) → OnOk result
+        (IsMigrated (state S.Store conn.old).now.trees (state S.Store conn.new).now.trees) }
+    ensures leaves { HasCleanDisk (state S.Store conn.new) → OnOk result (LeavesOnly
+        (history_in (state S.Store conn.old).now.trees) (MayLeaveIn (state S.Store conn.new))) }
+    ensures site { HasCleanDisk (state S.Store conn.new) → OnOk result ((meta : Numbers) → HasMetaAs
+        First meta (state S.Store conn.old).now.trees → LeavesSite (state S.Store conn.new) meta) }
+    ensures crash { HasCleanDisk (state S.Store conn.new)
+        → LeavesAsBeforeOrMigrated (state S.Store conn.old) (state S.Store conn.new) }
+    ensures as_before { HasCleanDisk (state S.Store conn.new)
+        → OnErr result (IsAsBefore (state S.Store conn.old) (state S.Store conn.new)) }
+    ensures fails { HasCleanDisk (state S.Store conn.new) → IfErr result
+        (λ e. Executes UPDATE.now [] (state S.Store conn.old) (state S.Store conn.new) (Err e)) }
     ensures limit { conn.new.step_limit ≡ conn.old.step_limit }
     ensures clean { HasCleanDisk (state S.Store conn.new) → HasCleanDisk (state S.Store conn.old) }
 {
@@ -79,7 +88,8 @@ fn of_replay(fault: ReplayFault) -> MigrateFault
 fn check_history(alloc: Global, meta: Meta, entries: Vec<Entry>) -> Result<(), MigrateFault>
     requires { meta.me < meta.sites }
     ensures legal { OnOk result (IsLegal (office_of meta) entries.items) }
-    ensures fault { IfErr result (λ fault. (illegal : Illegal) × IsReplayFault (office_of meta) entries.items illegal × (fault ≡ of_replay illegal)) }
+    ensures fault { IfErr result (λ fault. (illegal : Illegal)
+        × IsReplayFault (office_of meta) entries.items illegal × (fault ≡ of_replay illegal)) }
 {
     match Book::replay(alloc, meta.me, meta.sites, meta.limit, entries) {
         Ok(_) => Ok(()),
@@ -89,16 +99,24 @@ fn check_history(alloc: Global, meta: Meta, entries: Vec<Entry>) -> Result<(), M
 
 // Whether the records are of the first version, with a legal history. It writes nothing.
 fn check_first<S: Alter>(alloc: Global, conn: &mut Connection<S>) -> Result<(), MigrateFault>
-    ensures busy { conn.old.in_transaction ≡ true → (result ≡ Err MigrateFault.Disk) × (conn.new ≡ conn.old) }
+    ensures busy { conn.old.in_transaction ≡ true
+        → (result ≡ Err MigrateFault.Disk) × (conn.new ≡ conn.old) }
     ensures outside { OnOk result (conn.old.in_transaction ≡ false) }
     ensures schema { OnOk result (IsOurs conn.old.schema) }
-    ensures settled { conn.old.in_transaction ≡ false → IsTrue (state S.Store conn.old).is_open → (state S.Store conn.old).now ≡ (state S.Store conn.old).committed }
-    ensures rest { HasCleanDisk (state S.Store conn.new) → OnOk result (IsAtRest (state S.Store conn.new) (length (history_in (state S.Store conn.old).now.trees))) }
-    ensures first { HasCleanDisk (state S.Store conn.new) → OnOk result (IsLegalFirst (state S.Store conn.old).now.trees) }
-    ensures same { HasCleanDisk (state S.Store conn.new) → OnOk result (IsUnchanged (state S.Store conn.old) (state S.Store conn.new)) }
-    ensures undone { HasCleanDisk (state S.Store conn.new) → OnErr result (IsLeftOrUndone (state S.Store conn.old) (state S.Store conn.new)) }
-    ensures fault { HasCleanDisk (state S.Store conn.new) → IfErr result (IsUnfit S.Store conn.old conn.new) }
-    ensures left { HasCleanDisk (state S.Store conn.new) → LeavesNoMore (state S.Store conn.old) (state S.Store conn.new) }
+    ensures settled { conn.old.in_transaction ≡ false → IsTrue (state S.Store conn.old).is_open
+        → (state S.Store conn.old).now ≡ (state S.Store conn.old).committed }
+    ensures rest { HasCleanDisk (state S.Store conn.new) → OnOk result (IsAtRest
+        (state S.Store conn.new) (length (history_in (state S.Store conn.old).now.trees))) }
+    ensures first { HasCleanDisk (state S.Store conn.new)
+        → OnOk result (IsLegalFirst (state S.Store conn.old).now.trees) }
+    ensures same { HasCleanDisk (state S.Store conn.new)
+        → OnOk result (IsUnchanged (state S.Store conn.old) (state S.Store conn.new)) }
+    ensures undone { HasCleanDisk (state S.Store conn.new)
+        → OnErr result (IsLeftOrUndone (state S.Store conn.old) (state S.Store conn.new)) }
+    ensures fault { HasCleanDisk (state S.Store conn.new)
+        → IfErr result (IsUnfit S.Store conn.old conn.new) }
+    ensures left { HasCleanDisk (state S.Store conn.new)
+        → LeavesNoMore (state S.Store conn.old) (state S.Store conn.new) }
     ensures limit { conn.new.step_limit ≡ conn.old.step_limit }
     ensures clean { HasCleanDisk (state S.Store conn.new) → HasCleanDisk (state S.Store conn.old) }
 {
@@ -123,24 +141,35 @@ impl<S: Alter> Records<S> {
     /// the numbers (`NotOurs`) and the entries (`Damaged`). `Memory` and `Disk` come at the call that fails; `Disk` too
     /// where a transaction is open, which changes nothing.
     pub fn migrate(alloc: Global, conn: &mut Connection<S>) -> Result<(), MigrateFault>
-        ensures busy { conn.old.in_transaction ≡ true → (result ≡ Err MigrateFault.Disk) × (conn.new ≡ conn.old) }
+        ensures busy { conn.old.in_transaction ≡ true
+            → (result ≡ Err MigrateFault.Disk) × (conn.new ≡ conn.old) }
         ensures schema { OnOk result (IsOurs conn.old.schema) }
-        ensures first { HasCleanDisk (state S.Store conn.new) → OnOk result (IsLegalFirst (state S.Store conn.old).now.trees) }
-        ensures set { HasCleanDisk (state S.Store conn.new) → OnOk result (IsMigrated (state S.Store conn.old).now.trees (state S.Store conn.new).now.trees) }
-        ensures rest { HasCleanDisk (state S.Store conn.new) → OnOk result (IsAtRest (state S.Store conn.new) (length (history_in (state S.Store conn.old).now.trees))) }
-        ensures leaves { HasCleanDisk (state S.Store conn.new) → OnOk result (LeavesOnly (history_in (state S.Store conn.old).now.trees) (MayLeaveIn (state S.Store conn.new))) }
-        ensures site { HasCleanDisk (state S.Store conn.new) → OnOk result ((meta : Numbers) → HasMetaAs First meta (state S.Store conn.old).now.trees → LeavesSite (state S.Store conn.new) meta) }
-        ensures crash { HasCleanDisk (state S.Store conn.new) → LeavesAsBeforeOrMigrated (state S.Store conn.old) (state S.Store conn.new) }
+        ensures first { HasCleanDisk (state S.Store conn.new)
+            → OnOk result (IsLegalFirst (state S.Store conn.old).now.trees) }
+        ensures set { HasCleanDisk (state S.Store conn.new) → OnOk result
+            (IsMigrated (state S.Store conn.old).now.trees (state S.Store conn.new).now.trees) }
+        ensures rest { HasCleanDisk (state S.Store conn.new) → OnOk result (IsAtRest
+            (state S.Store conn.new) (length (history_in (state S.Store conn.old).now.trees))) }
+        ensures leaves { HasCleanDisk (state S.Store conn.new) → OnOk result (LeavesOnly
+            (history_in (state S.Store conn.old).now.trees) (MayLeaveIn (state S.Store conn.new))) }
+        ensures site { HasCleanDisk (state S.Store conn.new)
+            → OnOk result ((meta : Numbers) → HasMetaAs First
+            meta (state S.Store conn.old).now.trees → LeavesSite (state S.Store conn.new) meta) }
+        ensures crash { HasCleanDisk (state S.Store conn.new)
+            → LeavesAsBeforeOrMigrated (state S.Store conn.old) (state S.Store conn.new) }
         ensures either { conn.old.in_transaction ≡ false → IsTrue (state S.Store conn.old).is_open → HasCleanDisk (state S.Store conn.new)
             → LeavesItOrMigrated (state S.Store conn.old).now.trees (state S.Store conn.new) }
         ensures reads { conn.old.in_transaction ≡ false → IsTrue (state S.Store conn.old).is_open → HasCleanDisk (state S.Store conn.new)
             → LeavesSameEntries (state S.Store conn.old).now.trees (state S.Store conn.new) }
         ensures refused { HasCleanDisk (state S.Store conn.new) → IfErr result (λ fault. fault ≢ MigrateFault.Memory → fault ≢ MigrateFault.Disk
             → LeavesNoMore (state S.Store conn.old) (state S.Store conn.new)) }
-        ensures as_before { HasCleanDisk (state S.Store conn.new) → OnErr result (IsAsBefore (state S.Store conn.old) (state S.Store conn.new)) }
-        ensures fault { HasCleanDisk (state S.Store conn.new) → IfErr result (IsMigrateFault S.Store conn.old conn.new) }
+        ensures as_before { HasCleanDisk (state S.Store conn.new)
+            → OnErr result (IsAsBefore (state S.Store conn.old) (state S.Store conn.new)) }
+        ensures fault { HasCleanDisk (state S.Store conn.new)
+            → IfErr result (IsMigrateFault S.Store conn.old conn.new) }
         ensures limit { conn.new.step_limit ≡ conn.old.step_limit }
-        ensures clean { HasCleanDisk (state S.Store conn.new) → HasCleanDisk (state S.Store conn.old) }
+        ensures clean { HasCleanDisk (state S.Store conn.new)
+            → HasCleanDisk (state S.Store conn.old) }
     {
         check_first(alloc, conn)?;
         set_version(conn)?;

@@ -33,10 +33,14 @@ fn read_rows<S: Alter>(conn: &mut Connection<S>) -> Result<Vec<Row>, OpenFault>
     requires { HasCleanDisk (state S.Store conn.old) → IsOurs (state S.Store conn.old).now.schema }
     ensures shown { HasCleanDisk (state S.Store conn.new) → IfOk result
         (λ rows. AreInOrder ((state S.Store conn.old).now.trees entries_tree) rows.items) }
-    ensures same { HasCleanDisk (state S.Store conn.new) → OnOk result (IsUnchanged (state S.Store conn.old) (state S.Store conn.new)) }
-    ensures undone { HasCleanDisk (state S.Store conn.new) → OnErr result (IsLeftOrUndone (state S.Store conn.old) (state S.Store conn.new)) }
-    ensures fault { HasCleanDisk (state S.Store conn.new) → IfErr result (IsStoreFault (state S.Store conn.old) (state S.Store conn.new)) }
-    ensures left { HasCleanDisk (state S.Store conn.new) → LeavesNoMore (state S.Store conn.old) (state S.Store conn.new) }
+    ensures same { HasCleanDisk (state S.Store conn.new)
+        → OnOk result (IsUnchanged (state S.Store conn.old) (state S.Store conn.new)) }
+    ensures undone { HasCleanDisk (state S.Store conn.new)
+        → OnErr result (IsLeftOrUndone (state S.Store conn.old) (state S.Store conn.new)) }
+    ensures fault { HasCleanDisk (state S.Store conn.new)
+        → IfErr result (IsStoreFault (state S.Store conn.old) (state S.Store conn.new)) }
+    ensures left { HasCleanDisk (state S.Store conn.new)
+        → LeavesNoMore (state S.Store conn.old) (state S.Store conn.new) }
     ensures limit { conn.new.step_limit ≡ conn.old.step_limit }
     ensures clean { HasCleanDisk (state S.Store conn.new) → HasCleanDisk (state S.Store conn.old) }
 {
@@ -60,9 +64,11 @@ fn read_next(alloc: Global, read: Version, place: u64, row: &Row) -> Result<Entr
     ensures placed { OnOk result (column row.now 0 ≡ Int (pos place)) }
     ensures reads { IfOk result (λ entry. entry_of row.now ≡ Some entry) }
     ensures version { OnOk result (IsOfVersion read row.now) }
-    ensures named { IfErr result (λ fault. (fault ≡ OpenFault.Memory) ⊎ (fault ≡ OpenFault.Damaged place)) }
+    ensures named { IfErr result
+        (λ fault. (fault ≡ OpenFault.Memory) ⊎ (fault ≡ OpenFault.Damaged place)) }
     ensures damaged { result ≡ Err (OpenFault.Damaged place) → ¬ IsEntryIn read place row.now }
-    ensures memory { result ≡ Err OpenFault.Memory → (column row.now 0 ≡ Int (pos place)) × IsOfVersion read row.now × WantsForEntry row.now }
+    ensures memory { result ≡ Err OpenFault.Memory
+        → (column row.now 0 ≡ Int (pos place)) × IsOfVersion read row.now × WantsForEntry row.now }
 {
     if !is_at(place, column_at(row, 0)) || !is_of_version(read, row) {
         return Err(OpenFault::Damaged { place });
@@ -77,7 +83,9 @@ fn read_next(alloc: Global, read: Version, place: u64, row: &Row) -> Result<Entr
 fn read_entries(alloc: Global, read: Version, rows: &[Row]) -> Result<Vec<Entry>, OpenFault>
     ensures whole { OnOk result (AreWholeIn read 0 rows.now) }
     ensures entries { IfOk result (λ entries. entries.items ≡ filter_map entry_of rows.now) }
-    ensures fault { IfErr result (λ fault. ((fault ≡ OpenFault.Memory) × ((place : ℕ) × IsWantedAt read place rows.now)) ⊎ ((place : ℕ) × (fault ≡ OpenFault.Damaged place) × IsFirstDamaged read place rows.now)) }
+    ensures fault { IfErr result
+        (λ fault. ((fault ≡ OpenFault.Memory) × ((place : ℕ) × IsWantedAt read place rows.now))
+        ⊎ ((place : ℕ) × (fault ≡ OpenFault.Damaged place) × IsFirstDamaged read place rows.now)) }
 {
     let mut entries = Vec::new(alloc);
     'rows: for (place, row) in rows.iter().enumerate() {
@@ -198,14 +206,19 @@ fn only(mut rows: Vec<Row>) -> Option<Row>
 // The numbers in `meta`, of this version.
 fn read_meta<S: Alter>(read: Version, conn: &mut Connection<S>) -> Result<Meta, OpenFault>
     requires { HasCleanDisk (state S.Store conn.old) → IsOurs (state S.Store conn.old).now.schema }
-    ensures meta { HasCleanDisk (state S.Store conn.new) → IfOk result (λ meta. HasMetaAs read meta (state S.Store conn.old).now.trees) }
+    ensures meta { HasCleanDisk (state S.Store conn.new)
+        → IfOk result (λ meta. HasMetaAs read meta (state S.Store conn.old).now.trees) }
     ensures numbers { IfOk result AreNumbers }
-    ensures same { HasCleanDisk (state S.Store conn.new) → OnOk result (IsUnchanged (state S.Store conn.old) (state S.Store conn.new)) }
-    ensures undone { HasCleanDisk (state S.Store conn.new) → OnErr result (IsLeftOrUndone (state S.Store conn.old) (state S.Store conn.new)) }
-    ensures fault { HasCleanDisk (state S.Store conn.new) → IfErr result (IsMetaFault read (state S.Store conn.old) (state S.Store conn.new)) }
+    ensures same { HasCleanDisk (state S.Store conn.new)
+        → OnOk result (IsUnchanged (state S.Store conn.old) (state S.Store conn.new)) }
+    ensures undone { HasCleanDisk (state S.Store conn.new)
+        → OnErr result (IsLeftOrUndone (state S.Store conn.old) (state S.Store conn.new)) }
+    ensures fault { HasCleanDisk (state S.Store conn.new)
+        → IfErr result (IsMetaFault read (state S.Store conn.old) (state S.Store conn.new)) }
     ensures counts { (state S.Store conn.old).faults ≤ (state S.Store conn.new).faults }
     ensures limit { (state S.Store conn.new).step_limit ≡ (state S.Store conn.old).step_limit }
-    ensures left { HasCleanDisk (state S.Store conn.new) → LeavesNoMore (state S.Store conn.old) (state S.Store conn.new) }
+    ensures left { HasCleanDisk (state S.Store conn.new)
+        → LeavesNoMore (state S.Store conn.old) (state S.Store conn.new) }
     ensures clean { HasCleanDisk (state S.Store conn.new) → HasCleanDisk (state S.Store conn.old) }
 {
     let rows = conn.query_all(META_SELECT, &[])?;
@@ -259,10 +272,13 @@ fn foreign_told(error: Error) -> OpenFault
 // transaction says that nothing is written, whatever the database makes of the query.
 fn foreign_fault<S: Alter>(read: Version, conn: &mut Connection<S>) -> OpenFault
     ensures named { IsForeignFault read result }
-    ensures undone { HasCleanDisk (state S.Store conn.new) → IsLeftOrUndone (state S.Store conn.old) (state S.Store conn.new) }
+    ensures undone { HasCleanDisk (state S.Store conn.new)
+        → IsLeftOrUndone (state S.Store conn.old) (state S.Store conn.new) }
     ensures busy { conn.old.in_transaction ≡ true → result ≡ OpenFault.NotOurs }
-    ensures cause { conn.old.in_transaction ≡ false → HasCleanDisk (state S.Store conn.new) → IsForeignCauseAs S.Store conn.old read result }
-    ensures left { HasCleanDisk (state S.Store conn.new) → LeavesNoMore (state S.Store conn.old) (state S.Store conn.new) }
+    ensures cause { conn.old.in_transaction ≡ false
+        → HasCleanDisk (state S.Store conn.new) → IsForeignCauseAs S.Store conn.old read result }
+    ensures left { HasCleanDisk (state S.Store conn.new)
+        → LeavesNoMore (state S.Store conn.old) (state S.Store conn.new) }
     ensures limit { conn.new.step_limit ≡ conn.old.step_limit }
     ensures clean { HasCleanDisk (state S.Store conn.new) → HasCleanDisk (state S.Store conn.old) }
 {
@@ -284,18 +300,27 @@ pub fn read_as<S: Alter>(
     read: Version,
     conn: &mut Connection<S>,
 ) -> Result<(Vec<Entry>, Meta), OpenFault>
-    ensures entries { HasCleanDisk (state S.Store conn.new) → IfOk result (λ it. it.0.items ≡ history_in (state S.Store conn.old).now.trees) }
-    ensures whole { HasCleanDisk (state S.Store conn.new) → OnOk result (AreWholeIn read 0 (rows_in (state S.Store conn.old).now.trees)) }
-    ensures meta { HasCleanDisk (state S.Store conn.new) → IfOk result (λ it. HasMetaAs read it.1 (state S.Store conn.old).now.trees) }
+    ensures entries { HasCleanDisk (state S.Store conn.new)
+        → IfOk result (λ it. it.0.items ≡ history_in (state S.Store conn.old).now.trees) }
+    ensures whole { HasCleanDisk (state S.Store conn.new)
+        → OnOk result (AreWholeIn read 0 (rows_in (state S.Store conn.old).now.trees)) }
+    ensures meta { HasCleanDisk (state S.Store conn.new)
+        → IfOk result (λ it. HasMetaAs read it.1 (state S.Store conn.old).now.trees) }
     ensures numbers { IfOk result (λ it. AreNumbers it.1) }
     ensures schema { OnOk result (IsOurs conn.old.schema) }
     ensures live { IsLive (state S.Store conn.old) }
-    ensures same { HasCleanDisk (state S.Store conn.new) → OnOk result (IsUnchanged (state S.Store conn.old) (state S.Store conn.new)) }
-    ensures undone { HasCleanDisk (state S.Store conn.new) → OnErr result (IsLeftOrUndone (state S.Store conn.old) (state S.Store conn.new)) }
-    ensures fault { HasCleanDisk (state S.Store conn.new) → IfErr result (IsReadFault read (state S.Store conn.old) (state S.Store conn.new)) }
-    ensures busy { ¬ IsOurs conn.old.schema → conn.old.in_transaction ≡ true → result ≡ Err OpenFault.NotOurs }
-    ensures foreign { ¬ IsOurs conn.old.schema → conn.old.in_transaction ≡ false → HasCleanDisk (state S.Store conn.new) → IfErr result (IsForeignCauseAs S.Store conn.old read) }
-    ensures left { HasCleanDisk (state S.Store conn.new) → LeavesNoMore (state S.Store conn.old) (state S.Store conn.new) }
+    ensures same { HasCleanDisk (state S.Store conn.new)
+        → OnOk result (IsUnchanged (state S.Store conn.old) (state S.Store conn.new)) }
+    ensures undone { HasCleanDisk (state S.Store conn.new)
+        → OnErr result (IsLeftOrUndone (state S.Store conn.old) (state S.Store conn.new)) }
+    ensures fault { HasCleanDisk (state S.Store conn.new)
+        → IfErr result (IsReadFault read (state S.Store conn.old) (state S.Store conn.new)) }
+    ensures busy { ¬ IsOurs conn.old.schema
+        → conn.old.in_transaction ≡ true → result ≡ Err OpenFault.NotOurs }
+    ensures foreign { ¬ IsOurs conn.old.schema → conn.old.in_transaction ≡ false → HasCleanDisk
+        (state S.Store conn.new) → IfErr result (IsForeignCauseAs S.Store conn.old read) }
+    ensures left { HasCleanDisk (state S.Store conn.new)
+        → LeavesNoMore (state S.Store conn.old) (state S.Store conn.new) }
     ensures limit { conn.new.step_limit ≡ conn.old.step_limit }
     ensures clean { HasCleanDisk (state S.Store conn.new) → HasCleanDisk (state S.Store conn.old) }
 {
@@ -317,18 +342,27 @@ pub fn read_records<S: Alter>(
     alloc: Global,
     conn: &mut Connection<S>,
 ) -> Result<(Vec<Entry>, Meta), OpenFault>
-    ensures entries { HasCleanDisk (state S.Store conn.new) → IfOk result (λ it. it.0.items ≡ history_in (state S.Store conn.old).now.trees) }
-    ensures whole { HasCleanDisk (state S.Store conn.new) → OnOk result (AreWhole 0 (rows_in (state S.Store conn.old).now.trees)) }
-    ensures meta { HasCleanDisk (state S.Store conn.new) → IfOk result (λ it. HasMeta it.1 (state S.Store conn.old).now.trees) }
+    ensures entries { HasCleanDisk (state S.Store conn.new)
+        → IfOk result (λ it. it.0.items ≡ history_in (state S.Store conn.old).now.trees) }
+    ensures whole { HasCleanDisk (state S.Store conn.new)
+        → OnOk result (AreWhole 0 (rows_in (state S.Store conn.old).now.trees)) }
+    ensures meta { HasCleanDisk (state S.Store conn.new)
+        → IfOk result (λ it. HasMeta it.1 (state S.Store conn.old).now.trees) }
     ensures numbers { IfOk result (λ it. AreNumbers it.1) }
     ensures schema { OnOk result (IsOurs conn.old.schema) }
     ensures live { IsLive (state S.Store conn.old) }
-    ensures same { HasCleanDisk (state S.Store conn.new) → OnOk result (IsUnchanged (state S.Store conn.old) (state S.Store conn.new)) }
-    ensures undone { HasCleanDisk (state S.Store conn.new) → OnErr result (IsLeftOrUndone (state S.Store conn.old) (state S.Store conn.new)) }
-    ensures fault { HasCleanDisk (state S.Store conn.new) → IfErr result (IsOpenFault (state S.Store conn.old) (state S.Store conn.new)) }
-    ensures busy { ¬ IsOurs conn.old.schema → conn.old.in_transaction ≡ true → result ≡ Err OpenFault.NotOurs }
-    ensures foreign { ¬ IsOurs conn.old.schema → conn.old.in_transaction ≡ false → HasCleanDisk (state S.Store conn.new) → IfErr result (IsForeignCause S.Store conn.old) }
-    ensures left { HasCleanDisk (state S.Store conn.new) → LeavesNoMore (state S.Store conn.old) (state S.Store conn.new) }
+    ensures same { HasCleanDisk (state S.Store conn.new)
+        → OnOk result (IsUnchanged (state S.Store conn.old) (state S.Store conn.new)) }
+    ensures undone { HasCleanDisk (state S.Store conn.new)
+        → OnErr result (IsLeftOrUndone (state S.Store conn.old) (state S.Store conn.new)) }
+    ensures fault { HasCleanDisk (state S.Store conn.new)
+        → IfErr result (IsOpenFault (state S.Store conn.old) (state S.Store conn.new)) }
+    ensures busy { ¬ IsOurs conn.old.schema
+        → conn.old.in_transaction ≡ true → result ≡ Err OpenFault.NotOurs }
+    ensures foreign { ¬ IsOurs conn.old.schema → conn.old.in_transaction ≡ false
+        → HasCleanDisk (state S.Store conn.new) → IfErr result (IsForeignCause S.Store conn.old) }
+    ensures left { HasCleanDisk (state S.Store conn.new)
+        → LeavesNoMore (state S.Store conn.old) (state S.Store conn.new) }
     ensures limit { conn.new.step_limit ≡ conn.old.step_limit }
     ensures clean { HasCleanDisk (state S.Store conn.new) → HasCleanDisk (state S.Store conn.old) }
 {

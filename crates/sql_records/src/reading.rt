@@ -159,7 +159,8 @@ fn refund_in_columns(
     amount: ValueRef<'_>,
     target: ValueRef<'_>,
 ) -> Option<Request>
-    ensures { result ≡ refund_in_columns (owned event.entry) (owned amount.entry) (owned target.entry) }
+    ensures { result ≡ refund_in_columns
+        (owned event.entry) (owned amount.entry) (owned target.entry) }
 {
     let sale = request_number_in(target)?;
     let part = part_in(amount)?;
@@ -186,7 +187,8 @@ fn request_of(
     amount: ValueRef<'_>,
     target: ValueRef<'_>,
 ) -> Option<Request>
-    ensures { result ≡ request_of verb (owned event.entry) (owned amount.entry) (owned target.entry) }
+    ensures { result ≡ request_of
+        verb (owned event.entry) (owned amount.entry) (owned target.entry) }
 {
     match verb {
         Verb::Announce => announce_of(event, amount, target),
@@ -205,7 +207,8 @@ pub fn request_in(
     amount: ValueRef<'_>,
     target: ValueRef<'_>,
 ) -> Option<Request>
-    ensures { result ≡ request_in (owned word.entry) (owned event.entry) (owned amount.entry) (owned target.entry) }
+    ensures { result ≡ request_in
+        (owned word.entry) (owned event.entry) (owned amount.entry) (owned target.entry) }
 {
     let verb = verb_in(word)?;
     request_of(verb, event, amount, target)
@@ -363,7 +366,8 @@ impl EntryHead {
 
 #[tactic(auto, unfolding(crate::specs::Rows::asked_of))]
 fn asked_head(row: &Row) -> Option<EntryHead>
-    ensures { (delta : State) → option_map (λ head. with_delta head delta) result ≡ asked_of row.now delta }
+    ensures { (delta : State)
+        → option_map (λ head. with_delta head delta) result ≡ asked_of row.now delta }
 {
     let number = request_number_in(column_at(row, 2))?;
     let request = request_in(
@@ -382,7 +386,8 @@ fn asked_head(row: &Row) -> Option<EntryHead>
 
 #[tactic(auto, unfolding(crate::specs::Rows::joined_of))]
 fn joined_head(row: &Row) -> Option<EntryHead>
-    ensures { (delta : State) → option_map (λ head. with_delta head delta) result ≡ joined_of row.now delta }
+    ensures { (delta : State)
+        → option_map (λ head. with_delta head delta) result ≡ joined_of row.now delta }
 {
     let peer = site_in(column_at(row, 1))?;
     if asks_nothing(row) {
@@ -394,7 +399,8 @@ fn joined_head(row: &Row) -> Option<EntryHead>
 
 #[tactic(auto, unfolding(crate::specs::Rows::grown_of))]
 fn grown_head(row: &Row) -> Option<EntryHead>
-    ensures { (delta : State) → option_map (λ head. with_delta head delta) result ≡ grown_of row.now }
+    ensures { (delta : State)
+        → option_map (λ head. with_delta head delta) result ≡ grown_of row.now }
 {
     let sites = sites_in(column_at(row, 6))?;
     if only_grows(row) {
@@ -405,7 +411,8 @@ fn grown_head(row: &Row) -> Option<EntryHead>
 }
 
 fn own_head(row: &Row) -> Option<EntryHead>
-    ensures { (delta : State) → option_map (λ head. with_delta head delta) result ≡ own_of row.now delta }
+    ensures { (delta : State)
+        → option_map (λ head. with_delta head delta) result ≡ own_of row.now delta }
 {
     if is_grow(column_at(row, 3)) {
         grown_head(row)
@@ -416,7 +423,8 @@ fn own_head(row: &Row) -> Option<EntryHead>
 
 // What the columns beside the delta stand for, if they are those of an entry.
 fn head_of(row: &Row) -> Option<EntryHead>
-    ensures { (delta : State) → option_map (λ head. with_delta head delta) result ≡ entry_with row.now delta }
+    ensures { (delta : State)
+        → option_map (λ head. with_delta head delta) result ≡ entry_with row.now delta }
 {
     if is_null(column_at(row, 1)) {
         own_head(row)

@@ -64,9 +64,11 @@ fn store<S: Alter>(
     place: u64,
     entry: &Entry,
 ) -> Result<(), KeepFault>
-    requires rest { HasCleanDisk (state S.Store conn.old) → IsAtRest (state S.Store conn.old) place }
+    requires rest { HasCleanDisk (state S.Store conn.old)
+        → IsAtRest (state S.Store conn.old) place }
     ensures low { OnOk result (place < most) }
-    ensures rest { HasCleanDisk (state S.Store conn.new) → OnOk result (IsAtRest (state S.Store conn.new) (place + 1)) }
+    ensures rest { HasCleanDisk (state S.Store conn.new)
+        → OnOk result (IsAtRest (state S.Store conn.new) (place + 1)) }
     ensures added { HasCleanDisk (state S.Store conn.new) → OnOk result
         (history_in (state S.Store conn.new).now.trees ≡ history_in (state S.Store conn.old).now.trees ++ entry.now ∷ []) }
     ensures stopped { HasCleanDisk (state S.Store conn.new)
@@ -208,14 +210,20 @@ impl<S: Alter> Keeper for Records<S> {
     /// As of every keeper; behind `Memory` nothing was done, or what the INSERT began is undone, and `Disk` comes
     /// only where there is no room for the entry or its INSERT failed.
     fn append(&mut self, entry: &Entry) -> Result<(), KeepFault>
-        ensures kept { OnOk result (IsTrusted S.Store self.new → Keeps (kept_in S.Store self.old ++ entry.now ∷ []) (kept_in S.Store self.new) (MayLeave S.Store self.new)) }
-        ensures stopped { self.old.failures ≡ 0 → OnErr result (IsTrusted S.Store self.new → LeavesWithOrWithout (kept_in S.Store self.old) entry.now (MayLeave S.Store self.new)) }
+        ensures kept { OnOk result
+            (IsTrusted S.Store self.new → Keeps (kept_in S.Store self.old ++ entry.now ∷ [])
+            (kept_in S.Store self.new) (MayLeave S.Store self.new)) }
+        ensures stopped { self.old.failures ≡ 0 → OnErr result (IsTrusted S.Store self.new →
+            LeavesWithOrWithout (kept_in S.Store self.old) entry.now (MayLeave S.Store self.new)) }
         ensures open { OnOk result ((self.old.failures ≡ 0) × (self.new.failures ≡ 0)) }
         ensures counted { self.old.failures ≡ 0 → OnErr result (self.new.failures ≡ 1) }
         ensures named { self.old.failures ≡ 0 → IsErrOf result KeepFault.Shut → ⊥ }
-        ensures shut { self.old.failures ≢ 0 → (result ≡ Err KeepFault.Shut) × (self.new ≡ self.old) }
-        ensures cause { IfErr result (λ fault. IsTrusted S.Store self.new → IsKeepFault S.Store self.old self.new entry.now fault) }
-        ensures site { IsTrusted S.Store self.new → (meta : Numbers) → IsOf S.Store self.old meta → IsOf S.Store self.new meta }
+        ensures shut { self.old.failures ≢ 0
+            → (result ≡ Err KeepFault.Shut) × (self.new ≡ self.old) }
+        ensures cause { IfErr result (λ fault. IsTrusted S.Store self.new
+            → IsKeepFault S.Store self.old self.new entry.now fault) }
+        ensures site { IsTrusted S.Store self.new
+            → (meta : Numbers) → IsOf S.Store self.old meta → IsOf S.Store self.new meta }
         ensures numbers { OnOk result (IsTrusted S.Store self.new
             → (state S.Store self.new.conn).now.trees meta_tree ≡ (state S.Store self.old.conn).now.trees meta_tree) }
         ensures limit { self.new.conn.step_limit ≡ self.old.conn.step_limit }
@@ -295,22 +303,36 @@ impl<S: Alter + Drop> Records<S> {
     ) -> Result<(Records<S>, Vec<Entry>, Meta), OpenFault>
         ensures foreign { ¬ IsOurs conn.schema → IsErr result }
         ensures busy { conn.in_transaction ≡ true → result ≡ Err OpenFault.Disk }
-        ensures fault { conn.in_transaction ≡ false → IfErr result (λ fault. (after : Held S) × (HasCleanDisk (state S.Store after) → HasCleanDisk (state S.Store conn) × IsOpenFault (state S.Store conn) (state S.Store after) fault)) }
-        ensures version { ¬ IsOurs conn.schema → conn.in_transaction ≡ false → IfErr result (λ fault. (after : Held S) × (HasCleanDisk (state S.Store after) → IsForeignCause S.Store conn fault)) }
-        ensures entries { IfOk result (λ it. IsTrusted S.Store it.0 → it.1.items ≡ kept_in S.Store it.0) }
-        ensures meta { IfOk result (λ it. IsTrusted S.Store it.0 → HasMeta it.2 (state S.Store it.0.conn).now.trees) }
-        ensures given { IfOk result (λ it. IsTrusted S.Store it.0 → (meta : Numbers) → HasMeta meta (state S.Store conn).now.trees → it.2 ≡ meta) }
+        ensures fault { conn.in_transaction ≡ false → IfErr result (λ fault. (after : Held S)
+            × (HasCleanDisk (state S.Store after) → HasCleanDisk (state S.Store conn)
+            × IsOpenFault (state S.Store conn) (state S.Store after) fault)) }
+        ensures version { ¬ IsOurs conn.schema
+            → conn.in_transaction ≡ false → IfErr result (λ fault. (after : Held S)
+            × (HasCleanDisk (state S.Store after) → IsForeignCause S.Store conn fault)) }
+        ensures entries { IfOk result
+            (λ it. IsTrusted S.Store it.0 → it.1.items ≡ kept_in S.Store it.0) }
+        ensures meta { IfOk result
+            (λ it. IsTrusted S.Store it.0 → HasMeta it.2 (state S.Store it.0.conn).now.trees) }
+        ensures given { IfOk result (λ it. IsTrusted S.Store it.0
+            → (meta : Numbers) → HasMeta meta (state S.Store conn).now.trees → it.2 ≡ meta) }
         ensures numbers { IfOk result (λ it. AreNumbers it.2) }
-        ensures holds { IfOk result (λ it. IsTrusted S.Store it.0 → IsSiteIn it.2 (state S.Store conn).now.trees × (opened_in (state S.Store conn).now.trees ≡ Some it.1.items)) }
+        ensures holds { IfOk result
+            (λ it. IsTrusted S.Store it.0 → IsSiteIn it.2 (state S.Store conn).now.trees
+            × (opened_in (state S.Store conn).now.trees ≡ Some it.1.items)) }
         ensures site { IfOk result (λ it. IsTrusted S.Store it.0 → IsOf S.Store it.0 it.2) }
-        ensures same { IfOk result (λ it. IsTrusted S.Store it.0 → (state S.Store it.0.conn).now ≡ (state S.Store conn).now) }
-        ensures unchanged { IfOk result (λ it. IsTrusted S.Store it.0 → IsUnchanged (state S.Store conn) (state S.Store it.0.conn)) }
-        ensures leaves { IfOk result (λ it. IsTrusted S.Store it.0 → LeavesOnly (kept_in S.Store it.0) (MayLeave S.Store it.0)) }
+        ensures same { IfOk result (λ it. IsTrusted S.Store it.0
+            → (state S.Store it.0.conn).now ≡ (state S.Store conn).now) }
+        ensures unchanged { IfOk result (λ it. IsTrusted S.Store it.0
+            → IsUnchanged (state S.Store conn) (state S.Store it.0.conn)) }
+        ensures leaves { IfOk result (λ it. IsTrusted S.Store it.0
+            → LeavesOnly (kept_in S.Store it.0) (MayLeave S.Store it.0)) }
         ensures open { IfOk result (λ it. it.0.failures ≡ 0) }
         ensures limit { IfOk result (λ it. it.0.conn.step_limit ≡ conn.step_limit) }
         ensures settled { OnOk result (conn.in_transaction ≡ false) }
-        ensures autocommit { IfOk result (λ it. IsTrusted S.Store it.0 → (state S.Store it.0.conn).in_transaction ≡ false) }
-        ensures clean { IfOk result (λ it. IsTrusted S.Store it.0 → HasCleanDisk (state S.Store conn)) }
+        ensures autocommit { IfOk result
+            (λ it. IsTrusted S.Store it.0 → (state S.Store it.0.conn).in_transaction ≡ false) }
+        ensures clean { IfOk result
+            (λ it. IsTrusted S.Store it.0 → HasCleanDisk (state S.Store conn)) }
     {
         let is_settled = conn.is_autocommit();
         if !is_settled {

@@ -4,10 +4,9 @@
 //! on. The next command opens what was written, or what of it was synced.
 
 use book_core::Limit;
-use desk_lines::{Line, read_line};
 use operator_cli::{Status, ask_store, grow_store, import_store, init_store, list_store};
 use request_ledger::{Request, RequestNumber};
-use rights_lattice::{SiteId, Sites};
+use rights_lattice::{Amount, Event, SiteId, Sites};
 use site_desk::SiteBook;
 use sql_records::Records;
 use sqlite::{Connection, FileStore, Files, Options};
@@ -86,10 +85,10 @@ fn grow(
     grow_store(alloc, conn, sites, out, err)
 }
 
-fn request(rt: &impl Abort, line: &[u8]) -> (RequestNumber, Request) {
-    match read_line(line) {
-        Ok(Line::Ask { number, request }) => (number, request),
-        _ => panic!(rt; "a request"),
+fn sale(rt: &impl Abort, seats: u64) -> Request {
+    Request::Sell {
+        event: Event::read(b"gala").expect(rt, "a name"),
+        amount: Amount::of(seats).expect(rt, "an amount"),
     }
 }
 
@@ -108,10 +107,13 @@ fn ask_all(
         Ok(book) => book,
         Err((records, _)) => return (Status::Failed, Some(records.close())),
     };
+    let fifth = RequestNumber::of(5).expect(rt, "a number");
+    let sixth = RequestNumber::of(6).expect(rt, "a number");
+    let seventh = RequestNumber::of(7).expect(rt, "a number");
     let requests = [
-        request(rt, b"sell 5 gala 40"),
-        request(rt, b"sell 6 gala 3"),
-        request(rt, b"sell 7 gala 2"),
+        (fifth, sale(rt, 40)),
+        (sixth, sale(rt, 3)),
+        (seventh, sale(rt, 2)),
     ];
     let status = match book.ask_all(rt, alloc, requests.as_slice()) {
         Ok(answers) => {

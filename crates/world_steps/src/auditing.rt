@@ -51,7 +51,8 @@ pub fn audit(alloc: Global, books: &[&Book]) -> Result<Vec<(Event, Totals)>, Aud
         → IsWhole (books_of books.now) × IsFirstAhead (books_of books.now) v o }
     ensures memory { result ≡ Err AuditFault.Memory
         → IsWhole (books_of books.now) × NoneIsAhead (books_of books.now) }
-    ensures in_order { IfOk result (λ _. IsWhole (books_of books.now) × NoneIsAhead (books_of books.now)) }
+    ensures in_order { IfOk result
+        (λ _. IsWhole (books_of books.now) × NoneIsAhead (books_of books.now)) }
     ensures lines { IfOk result (λ lines. lines.items ≡ lines_in (books_of books.now)) }
     ensures not_oversold { IfOk result (λ _. AreNotOversold (books_of books.now)) }
 {

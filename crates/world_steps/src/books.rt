@@ -20,7 +20,8 @@ pub(crate) fn listed(alloc: Global, names: &BTreeSet<Event>) -> Result<Vec<Event
 
 /// Adds the names that a book knows.
 pub(crate) fn add_names(names: &mut BTreeSet<Event>, book: &Book) -> Result<(), AllocError>
-    ensures { OnOk result (AddsNames names.old.keys names.new.keys (state_of book.now.history).names) }
+    ensures { OnOk result
+        (AddsNames names.old.keys names.new.keys (state_of book.now.history).names) }
 {
     'names: for place in 0..book.event_count() {
         let Some(event) = book.event_at(place) else {

@@ -74,8 +74,10 @@ impl Node {
         requires site { to < sites_of self.old.book.office self.old.book.history }
         requires other { to ≢ self.old.book.office.me }
         requires acked { (peer : ℕ) → get_or self.old.acked peer 0 ≤ length self.old.book.history }
-        ensures message { IfOk result (λ message. message ≡ next self.old.book.office.me (site_of self.old) to) }
-        ensures memory { OnErr result (IsSome (next self.old.book.office.me (site_of self.old) to)) }
+        ensures message { IfOk result
+            (λ message. message ≡ next self.old.book.office.me (site_of self.old) to) }
+        ensures memory { OnErr result
+            (IsSome (next self.old.book.office.me (site_of self.old) to)) }
         ensures unchanged { self.new ≡ self.old }
     {
         self.exchange.next(alloc, &self.book, to)
@@ -84,7 +86,8 @@ impl Node {
     // Takes an acknowledgement of the first entries of its history.
     fn ack(&mut self, by: SiteId, upto: Upto) -> Result<(), AllocError>
         requires { upto ≤ length self.old.book.history }
-        ensures taken { OnOk result (self.new ≡ record self.old { acked = set self.old.acked by (max (get_or self.old.acked by 0) upto) }) }
+        ensures taken { OnOk result (self.new ≡ record self.old
+            { acked = set self.old.acked by (max (get_or self.old.acked by 0) upto) }) }
         ensures wanted { OnErr result (get_or self.old.acked by 0 < upto) }
         ensures unchanged { OnErr result (self.new ≡ self.old) }
     {
@@ -144,10 +147,13 @@ pub fn ask(
     request: &Request,
 ) -> Result<Outcome, WorldFault>
     ensures office { node.new.book.office ≡ node.old.book.office }
-    ensures outcome { IfOk result (λ o. o ≡ answered (decision node.old.book.office node.old.book.history number request.now)) }
+    ensures outcome { IfOk result (λ o.
+        o ≡ answered (decision node.old.book.office node.old.book.history number request.now)) }
     ensures memory { IfErr result (λ fault. fault ≡ WorldFault.Memory) }
-    ensures wanted { result ≡ Err WorldFault.Memory → IsFresh (decision node.old.book.office node.old.book.history number request.now) }
-    ensures entered { OnOk result (site_of node.new ≡ with_entry (entry_of_ask node.old.book.office node.old.book.history number request.now) (site_of node.old)) }
+    ensures wanted { result ≡ Err WorldFault.Memory
+        → IsFresh (decision node.old.book.office node.old.book.history number request.now) }
+    ensures entered { OnOk result (site_of node.new ≡ with_entry (entry_of_ask
+        node.old.book.office node.old.book.history number request.now) (site_of node.old)) }
     ensures unchanged { OnErr result (site_of node.new ≡ site_of node.old) }
 {
     match node.book.plan(alloc, number, request) {
@@ -183,8 +189,10 @@ pub fn judge(book: &Book, message: &Message) -> Judged
 /// history and what is acknowledged.
 pub fn take(node: &mut Node, alloc: Global, message: &Message) -> Result<(), AllocError>
     ensures office { node.new.book.office ≡ node.old.book.office }
-    ensures changed { OnOk result (site_of node.new ≡ site_after (verdict node.old.book.office node.old.book.history message.now) message.now (site_of node.old)) }
-    ensures wanted { OnErr result (MayTake (verdict node.old.book.office node.old.book.history message.now) (site_of node.old) message.now) }
+    ensures changed { OnOk result (site_of node.new ≡ site_after (verdict
+        node.old.book.office node.old.book.history message.now) message.now (site_of node.old)) }
+    ensures wanted { OnErr result (MayTake (verdict
+        node.old.book.office node.old.book.history message.now) (site_of node.old) message.now) }
     ensures unchanged { OnErr result (site_of node.new ≡ site_of node.old) }
 {
     match (judge(&node.book, message), message) {
@@ -200,7 +208,8 @@ pub fn take(node: &mut Node, alloc: Global, message: &Message) -> Result<(), All
 fn join(book: &mut Book, alloc: Global, peer: SiteId, delta: &Delta) -> Result<(), AllocError>
     requires { join_decision book.old.office book.old.history peer delta.now ≡ join.Joins }
     ensures office { book.new.office ≡ book.old.office }
-    ensures joined { OnOk result (book.new.history ≡ book.old.history ++ Joined peer delta.now ∷ []) }
+    ensures joined { OnOk result
+        (book.new.history ≡ book.old.history ++ Joined peer delta.now ∷ []) }
     ensures unchanged { OnErr result (book.new.history ≡ book.old.history) }
 {
     let copy = delta.copy(alloc)?;
@@ -230,8 +239,10 @@ pub fn stop(
     ensures outcome { IfOk result (λ o. o ≡ Outcome.Stopped) }
     ensures memory { IfErr result (λ fault. fault ≡ WorldFault.Memory) }
     ensures stores { result ≡ Err WorldFault.Memory → IsTrue stored }
-    ensures wanted { result ≡ Err WorldFault.Memory → MayStore node.old.book.office node.old.book.history sent.now input.now }
-    ensures stopped { OnOk result (site_of node.new ≡ stopped_with (entry_of_input node.old.book.office node.old.book.history sent.now input.now) stored (site_of node.old)) }
+    ensures wanted { result ≡ Err WorldFault.Memory
+        → MayStore node.old.book.office node.old.book.history sent.now input.now }
+    ensures stopped { OnOk result (site_of node.new ≡ stopped_with (entry_of_input
+        node.old.book.office node.old.book.history sent.now input.now) stored (site_of node.old)) }
     ensures unchanged { OnErr result (site_of node.new ≡ site_of node.old) }
 {
     if stored && store(&mut node.book, alloc, sent, input).is_err() {
@@ -246,7 +257,8 @@ fn store(book: &mut Book, alloc: Global, sent: &[Message], input: &Input) -> Res
     requires there { IsTrue (is_there sent.now input.now) }
     requires kind { IsGrowth input.now → ⊥ }
     ensures office { book.new.office ≡ book.old.office }
-    ensures stored { OnOk result (book.new.history ≡ extended (entry_of_input book.old.office book.old.history sent.now input.now) book.old.history) }
+    ensures stored { OnOk result (book.new.history ≡ extended
+        (entry_of_input book.old.office book.old.history sent.now input.now) book.old.history) }
     ensures wanted { OnErr result (MayStore book.old.office book.old.history sent.now input.now) }
     ensures unchanged { OnErr result (book.new.history ≡ book.old.history) }
 {
@@ -265,8 +277,10 @@ fn store_request(
     request: &Request,
 ) -> Result<(), AllocError>
     ensures office { book.new.office ≡ book.old.office }
-    ensures stored { OnOk result (book.new.history ≡ extended (entry_of_ask book.old.office book.old.history number request.now) book.old.history) }
-    ensures wanted { OnErr result (IsFresh (decision book.old.office book.old.history number request.now)) }
+    ensures stored { OnOk result (book.new.history ≡ extended
+        (entry_of_ask book.old.office book.old.history number request.now) book.old.history) }
+    ensures wanted { OnErr result
+        (IsFresh (decision book.old.office book.old.history number request.now)) }
     ensures unchanged { OnErr result (book.new.history ≡ book.old.history) }
 {
     match book.plan(alloc, number, request) {
@@ -282,7 +296,8 @@ fn store_request(
 // Enters what taking the message adds.
 fn store_delta(book: &mut Book, alloc: Global, message: &Message) -> Result<(), AllocError>
     ensures office { book.new.office ≡ book.old.office }
-    ensures stored { OnOk result (book.new.history ≡ extended (entry_of_take book.old.office book.old.history message.now) book.old.history) }
+    ensures stored { OnOk result (book.new.history
+        ≡ extended (entry_of_take book.old.office book.old.history message.now) book.old.history) }
     ensures wanted { OnErr result (verdict book.old.office book.old.history message.now ≡ Joins) }
     ensures unchanged { OnErr result (book.new.history ≡ book.old.history) }
 {

@@ -107,9 +107,11 @@ impl World {
         number: RequestNumber,
         request: &Request,
     ) -> Result<Outcome, WorldFault>
-        ensures outcome { IfOk result (λ o. outcome self.old (Step.Ask site number request.now) ≡ Ok o) }
+        ensures outcome { IfOk result
+            (λ o. outcome self.old (Step.Ask site number request.now) ≡ Ok o) }
         ensures fault { IfErr result (IsDue self.old (Step.Ask site number request.now)) }
-        ensures memory { result ≡ Err WorldFault.Memory → MayWantMemory self.old (Step.Ask site number request.now) }
+        ensures memory { result ≡ Err WorldFault.Memory
+            → MayWantMemory self.old (Step.Ask site number request.now) }
         ensures made { OnOk result (self.new ≡ after self.old (Step.Ask site number request.now)) }
         ensures unchanged { OnErr result (self.new ≡ self.old) }
     {
@@ -146,7 +148,8 @@ impl World {
     ) -> Result<Outcome, WorldFault>
         ensures outcome { IfOk result (λ o. outcome self.old (Step.Stop site input stored) ≡ Ok o) }
         ensures fault { IfErr result (IsDue self.old (Step.Stop site input stored)) }
-        ensures memory { result ≡ Err WorldFault.Memory → MayWantMemory self.old (Step.Stop site input stored) }
+        ensures memory { result ≡ Err WorldFault.Memory
+            → MayWantMemory self.old (Step.Stop site input stored) }
         ensures made { OnOk result (self.new ≡ after self.old (Step.Stop site input stored)) }
         ensures unchanged { OnErr result (self.new ≡ self.old) }
     {
@@ -172,10 +175,13 @@ impl World {
         sites: Sites,
         stored: bool,
     ) -> Result<Outcome, WorldFault>
-        ensures outcome { IfOk result (λ o. outcome self.old (Step.Stop site (Input.Grow sites) stored) ≡ Ok o) }
+        ensures outcome { IfOk result
+            (λ o. outcome self.old (Step.Stop site (Input.Grow sites) stored) ≡ Ok o) }
         ensures fault { IfErr result (IsDue self.old (Step.Stop site (Input.Grow sites) stored)) }
-        ensures memory { result ≡ Err WorldFault.Memory → MayWantMemory self.old (Step.Stop site (Input.Grow sites) stored) }
-        ensures made { OnOk result (self.new ≡ after self.old (Step.Stop site (Input.Grow sites) stored)) }
+        ensures memory { result ≡ Err WorldFault.Memory
+            → MayWantMemory self.old (Step.Stop site (Input.Grow sites) stored) }
+        ensures made { OnOk result
+            (self.new ≡ after self.old (Step.Stop site (Input.Grow sites) stored)) }
         ensures unchanged { OnErr result (self.new ≡ self.old) }
     {
         if stored {
@@ -188,7 +194,8 @@ impl World {
     fn grow(&mut self, alloc: Global, site: SiteId, sites: Sites) -> Result<Outcome, WorldFault>
         ensures outcome { IfOk result (λ o. outcome self.old (Step.Grow site sites) ≡ Ok o) }
         ensures fault { IfErr result (IsDue self.old (Step.Grow site sites)) }
-        ensures memory { result ≡ Err WorldFault.Memory → MayWantMemory self.old (Step.Grow site sites) }
+        ensures memory { result ≡ Err WorldFault.Memory
+            → MayWantMemory self.old (Step.Grow site sites) }
         ensures made { OnOk result (self.new ≡ after self.old (Step.Grow site sites)) }
         ensures unchanged { OnErr result (self.new ≡ self.old) }
     {
@@ -289,7 +296,8 @@ impl World {
     fn deliver(&mut self, alloc: Global, index: usize) -> Result<Outcome, WorldFault>
         ensures outcome { IfOk result (λ o. outcome self.old (Step.Deliver index) ≡ Ok o) }
         ensures fault { IfErr result (IsDue self.old (Step.Deliver index)) }
-        ensures memory { result ≡ Err WorldFault.Memory → MayWantMemory self.old (Step.Deliver index) }
+        ensures memory { result ≡ Err WorldFault.Memory
+            → MayWantMemory self.old (Step.Deliver index) }
         ensures made { OnOk result (self.new ≡ after self.old (Step.Deliver index)) }
         ensures unchanged { OnErr result (self.new ≡ self.old) }
     {
@@ -326,8 +334,10 @@ impl World {
         ensures outcomes { IfOk result (λ os. map Ok os.items ≡ outcomes steps.items self.old) }
         ensures made { OnOk result (self.new ≡ run steps.items self.old) }
         ensures stopped { IfErr result (λ e. self.new ≡ run (take e.0 steps.items) self.old) }
-        ensures before { IfErr result (λ e. (answers : List Outcome) × (map Ok answers ≡ outcomes (take e.0 steps.items) self.old)) }
-        ensures fault { IfErr result (λ e. IsSomeAnd (slice_get steps.items e.0) (λ step. IsDue self.new step e.1)) }
+        ensures before { IfErr result (λ e. (answers : List Outcome)
+            × (map Ok answers ≡ outcomes (take e.0 steps.items) self.old)) }
+        ensures fault { IfErr result
+            (λ e. IsSomeAnd (slice_get steps.items e.0) (λ step. IsDue self.new step e.1)) }
         ensures promises { HoldsPromises self.new }
     {
         // Names what a world keeps, which the prover wants to see before the steps.
@@ -351,8 +361,10 @@ impl World {
     /// were done.
     pub fn totals(&self, event: Event) -> Totals
         ensures totals { result ≡ totals_of self.now event }
-        ensures never_oversold { outstanding event (all_operations self.now) ≤ released event (all_operations self.now) }
-        ensures refunds { refunded event (all_operations self.now) ≤ sold event (all_operations self.now) }
+        ensures never_oversold { outstanding
+            event (all_operations self.now) ≤ released event (all_operations self.now) }
+        ensures refunds { refunded
+            event (all_operations self.now) ≤ sold event (all_operations self.now) }
     {
         let mut totals = Totals {
             released: 0,

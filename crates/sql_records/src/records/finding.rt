@@ -42,14 +42,20 @@ fn find_rows<S: Alter>(
     conn: &mut Connection<S>,
     number: RequestNumber,
 ) -> Result<Vec<Row>, FindFault>
-    requires rest { HasCleanDisk (state S.Store conn.old) → (count : ℕ) × IsAtRest (state S.Store conn.old) count }
-    ensures rows { HasCleanDisk (state S.Store conn.new) → IfOk result (λ rows. rows.items ≡ map found_columns (filter (has_number number) (rows_in (state S.Store conn.old).now.trees))) }
-    ensures same { HasCleanDisk (state S.Store conn.new) → OnOk result (IsUnchanged (state S.Store conn.old) (state S.Store conn.new)) }
-    ensures undone { HasCleanDisk (state S.Store conn.new) → OnErr result (IsLeftOrUndone (state S.Store conn.old) (state S.Store conn.new)) }
-    ensures left { HasCleanDisk (state S.Store conn.new) → LeavesNoMore (state S.Store conn.old) (state S.Store conn.new) }
+    requires rest { HasCleanDisk (state S.Store conn.old)
+        → (count : ℕ) × IsAtRest (state S.Store conn.old) count }
+    ensures rows { HasCleanDisk (state S.Store conn.new) → IfOk result (λ rows. rows.items ≡ map
+        found_columns (filter (has_number number) (rows_in (state S.Store conn.old).now.trees))) }
+    ensures same { HasCleanDisk (state S.Store conn.new)
+        → OnOk result (IsUnchanged (state S.Store conn.old) (state S.Store conn.new)) }
+    ensures undone { HasCleanDisk (state S.Store conn.new)
+        → OnErr result (IsLeftOrUndone (state S.Store conn.old) (state S.Store conn.new)) }
+    ensures left { HasCleanDisk (state S.Store conn.new)
+        → LeavesNoMore (state S.Store conn.old) (state S.Store conn.new) }
     ensures limit { conn.new.step_limit ≡ conn.old.step_limit }
     ensures clean { HasCleanDisk (state S.Store conn.new) → HasCleanDisk (state S.Store conn.old) }
-    ensures fault { HasCleanDisk (state S.Store conn.new) → IfErr result (IsQueryFault (state S.Store conn.old) (state S.Store conn.new)) }
+    ensures fault { HasCleanDisk (state S.Store conn.new)
+        → IfErr result (IsQueryFault (state S.Store conn.old) (state S.Store conn.new)) }
     ensures shut { result ≢ Err FindFault.Shut }
     ensures damaged { (place : ℕ) → result ≢ Err (FindFault.Damaged place) }
 {
@@ -59,14 +65,21 @@ fn find_rows<S: Alter>(
 
 // What each row with this event says, by place.
 fn list_rows<S: Alter>(conn: &mut Connection<S>, event: &Event) -> Result<Vec<Row>, FindFault>
-    requires rest { HasCleanDisk (state S.Store conn.old) → (count : ℕ) × IsAtRest (state S.Store conn.old) count }
-    ensures rows { HasCleanDisk (state S.Store conn.new) → IfOk result (λ rows. rows.items ≡ map listed_columns (filter (has_event event.now) (rows_in (state S.Store conn.old).now.trees))) }
-    ensures same { HasCleanDisk (state S.Store conn.new) → OnOk result (IsUnchanged (state S.Store conn.old) (state S.Store conn.new)) }
-    ensures undone { HasCleanDisk (state S.Store conn.new) → OnErr result (IsLeftOrUndone (state S.Store conn.old) (state S.Store conn.new)) }
-    ensures left { HasCleanDisk (state S.Store conn.new) → LeavesNoMore (state S.Store conn.old) (state S.Store conn.new) }
+    requires rest { HasCleanDisk (state S.Store conn.old)
+        → (count : ℕ) × IsAtRest (state S.Store conn.old) count }
+    ensures rows { HasCleanDisk (state S.Store conn.new)
+        → IfOk result (λ rows. rows.items ≡ map listed_columns
+        (filter (has_event event.now) (rows_in (state S.Store conn.old).now.trees))) }
+    ensures same { HasCleanDisk (state S.Store conn.new)
+        → OnOk result (IsUnchanged (state S.Store conn.old) (state S.Store conn.new)) }
+    ensures undone { HasCleanDisk (state S.Store conn.new)
+        → OnErr result (IsLeftOrUndone (state S.Store conn.old) (state S.Store conn.new)) }
+    ensures left { HasCleanDisk (state S.Store conn.new)
+        → LeavesNoMore (state S.Store conn.old) (state S.Store conn.new) }
     ensures limit { conn.new.step_limit ≡ conn.old.step_limit }
     ensures clean { HasCleanDisk (state S.Store conn.new) → HasCleanDisk (state S.Store conn.old) }
-    ensures fault { HasCleanDisk (state S.Store conn.new) → IfErr result (IsQueryFault (state S.Store conn.old) (state S.Store conn.new)) }
+    ensures fault { HasCleanDisk (state S.Store conn.new)
+        → IfErr result (IsQueryFault (state S.Store conn.old) (state S.Store conn.new)) }
     ensures shut { result ≢ Err FindFault.Shut }
     ensures damaged { (place : ℕ) → result ≢ Err (FindFault.Damaged place) }
 {
@@ -126,7 +139,8 @@ fn damaged(row: &Row) -> FindFault
 fn first_of(rows: &[Row]) -> Result<Option<Found>, FindFault>
     ensures ok { IfOk result (λ found. option_map Some found ≡ first_found rows.now) }
     ensures err { OnErr result (first_found rows.now ≡ Some None) }
-    ensures damaged { IfErr result (λ fault. (values : Rowed) × (slice_get rows.now 0 ≡ Some values) × (fault ≡ damage_of values)) }
+    ensures damaged { IfErr result (λ fault. (values : Rowed)
+        × (slice_get rows.now 0 ≡ Some values) × (fault ≡ damage_of values)) }
     ensures shut { result ≢ Err FindFault.Shut }
 {
     match rows.first() {
@@ -141,7 +155,8 @@ fn first_of(rows: &[Row]) -> Result<Option<Found>, FindFault>
 // What each row says.
 fn all_of(alloc: Global, rows: &[Row]) -> Result<Vec<Listed>, FindFault>
     ensures ok { IfOk result (λ listed. map Some listed.items ≡ map listed_of rows.now) }
-    ensures damaged { IfErr result (λ fault. ((fault ≡ FindFault.Memory) × ReadsSome rows.now) ⊎ IsFirstUnread rows.now fault) }
+    ensures damaged { IfErr result (λ fault. ((fault ≡ FindFault.Memory) × ReadsSome rows.now)
+        ⊎ IsFirstUnread rows.now fault) }
     ensures shut { result ≢ Err FindFault.Shut }
 {
     // The prover has to meet the types of what a `Listed` holds.
@@ -163,16 +178,23 @@ impl<S: Alter> Records<S> {
     /// After an error but `Shut` the records are shut; `Shut` changes nothing. `Damaged` comes only where the store
     /// does not return what was written to it.
     pub fn find(&mut self, number: RequestNumber) -> Result<Option<Found>, FindFault>
-        ensures found { IfOk result (λ found. IsTrusted S.Store self.new → found ≡ found_in (kept_in S.Store self.old) number) }
-        ensures same { OnOk result (IsTrusted S.Store self.new → IsUnchanged (state S.Store self.old.conn) (state S.Store self.new.conn)) }
-        ensures undone { OnErr result (IsTrusted S.Store self.new → IsLeftOrUndone (state S.Store self.old.conn) (state S.Store self.new.conn)) }
-        ensures still { OnErr result (IsTrusted S.Store self.new → IsUndisturbed (state S.Store self.old.conn) (state S.Store self.new.conn)) }
+        ensures found { IfOk result (λ found. IsTrusted S.Store self.new
+            → found ≡ found_in (kept_in S.Store self.old) number) }
+        ensures same { OnOk result (IsTrusted S.Store self.new
+            → IsUnchanged (state S.Store self.old.conn) (state S.Store self.new.conn)) }
+        ensures undone { OnErr result (IsTrusted S.Store self.new
+            → IsLeftOrUndone (state S.Store self.old.conn) (state S.Store self.new.conn)) }
+        ensures still { OnErr result (IsTrusted S.Store self.new
+            → IsUndisturbed (state S.Store self.old.conn) (state S.Store self.new.conn)) }
         ensures failures { OnOk result ((self.old.failures ≡ 0) × (self.new.failures ≡ 0)) }
-        ensures fault { self.old.failures ≡ 0 → IfErr result (λ fault. IsTrusted S.Store self.new → IsQueryFault (state S.Store self.old.conn) (state S.Store self.new.conn) fault) }
-        ensures shut { self.old.failures ≢ 0 → (result ≡ Err FindFault.Shut) × (self.new ≡ self.old) }
+        ensures fault { self.old.failures ≡ 0 → IfErr result (λ fault. IsTrusted S.Store self.new
+            → IsQueryFault (state S.Store self.old.conn) (state S.Store self.new.conn) fault) }
+        ensures shut { self.old.failures ≢ 0
+            → (result ≡ Err FindFault.Shut) × (self.new ≡ self.old) }
         ensures named { self.old.failures ≡ 0 → result ≢ Err FindFault.Shut }
         ensures shuts { self.old.failures ≡ 0 → OnErr result (self.new.failures ≡ 1) }
-        ensures left { IsTrusted S.Store self.new → LeavesNoMore (state S.Store self.old.conn) (state S.Store self.new.conn) }
+        ensures left { IsTrusted S.Store self.new
+            → LeavesNoMore (state S.Store self.old.conn) (state S.Store self.new.conn) }
         ensures limit { self.new.conn.step_limit ≡ self.old.conn.step_limit }
         ensures trusted { IsTrusted S.Store self.new → IsTrusted S.Store self.old }
     {
@@ -191,16 +213,24 @@ impl<S: Alter> Records<S> {
     /// After an error but `Shut` the records are shut; `Shut` changes nothing. `Damaged` comes only where the store
     /// does not return what was written to it.
     pub fn list(&mut self, event: Event) -> Result<Vec<Listed>, FindFault>
-        ensures listed { IfOk result (λ listed. IsTrusted S.Store self.new → listed.items ≡ listed_in (kept_in S.Store self.old) event) }
-        ensures same { OnOk result (IsTrusted S.Store self.new → IsUnchanged (state S.Store self.old.conn) (state S.Store self.new.conn)) }
-        ensures undone { OnErr result (IsTrusted S.Store self.new → IsLeftOrUndone (state S.Store self.old.conn) (state S.Store self.new.conn)) }
-        ensures still { OnErr result (IsTrusted S.Store self.new → IsUndisturbed (state S.Store self.old.conn) (state S.Store self.new.conn)) }
+        ensures listed { IfOk result (λ listed. IsTrusted S.Store self.new
+            → listed.items ≡ listed_in (kept_in S.Store self.old) event) }
+        ensures same { OnOk result (IsTrusted S.Store self.new
+            → IsUnchanged (state S.Store self.old.conn) (state S.Store self.new.conn)) }
+        ensures undone { OnErr result (IsTrusted S.Store self.new
+            → IsLeftOrUndone (state S.Store self.old.conn) (state S.Store self.new.conn)) }
+        ensures still { OnErr result (IsTrusted S.Store self.new
+            → IsUndisturbed (state S.Store self.old.conn) (state S.Store self.new.conn)) }
         ensures failures { OnOk result ((self.old.failures ≡ 0) × (self.new.failures ≡ 0)) }
-        ensures fault { self.old.failures ≡ 0 → IfErr result (λ fault. IsTrusted S.Store self.new → IsListFault (state S.Store self.old.conn) (state S.Store self.new.conn) (listed_in (kept_in S.Store self.old) event) fault) }
-        ensures shut { self.old.failures ≢ 0 → (result ≡ Err FindFault.Shut) × (self.new ≡ self.old) }
+        ensures fault { self.old.failures ≡ 0 → IfErr result
+            (λ fault. IsTrusted S.Store self.new → IsListFault (state S.Store self.old.conn)
+            (state S.Store self.new.conn) (listed_in (kept_in S.Store self.old) event) fault) }
+        ensures shut { self.old.failures ≢ 0
+            → (result ≡ Err FindFault.Shut) × (self.new ≡ self.old) }
         ensures named { self.old.failures ≡ 0 → result ≢ Err FindFault.Shut }
         ensures shuts { self.old.failures ≡ 0 → OnErr result (self.new.failures ≡ 1) }
-        ensures left { IsTrusted S.Store self.new → LeavesNoMore (state S.Store self.old.conn) (state S.Store self.new.conn) }
+        ensures left { IsTrusted S.Store self.new
+            → LeavesNoMore (state S.Store self.old.conn) (state S.Store self.new.conn) }
         ensures limit { self.new.conn.step_limit ≡ self.old.conn.step_limit }
         ensures trusted { IsTrusted S.Store self.new → IsTrusted S.Store self.old }
     {
@@ -220,13 +250,20 @@ fn find_first<S: Alter>(
     conn: &mut Connection<S>,
     number: RequestNumber,
 ) -> Result<Option<Found>, FindFault>
-    requires rest { HasCleanDisk (state S.Store conn.old) → (count : ℕ) × IsAtRest (state S.Store conn.old) count }
-    ensures found { HasCleanDisk (state S.Store conn.new) → IfOk result (λ found. found ≡ found_in (history_in (state S.Store conn.old).now.trees) number) }
-    ensures fault { HasCleanDisk (state S.Store conn.new) → IfErr result (IsQueryFault (state S.Store conn.old) (state S.Store conn.new)) }
-    ensures same { HasCleanDisk (state S.Store conn.new) → OnOk result (IsUnchanged (state S.Store conn.old) (state S.Store conn.new)) }
-    ensures undone { HasCleanDisk (state S.Store conn.new) → OnErr result (IsLeftOrUndone (state S.Store conn.old) (state S.Store conn.new)) }
-    ensures still { HasCleanDisk (state S.Store conn.new) → OnErr result (IsUndisturbed (state S.Store conn.old) (state S.Store conn.new)) }
-    ensures left { HasCleanDisk (state S.Store conn.new) → LeavesNoMore (state S.Store conn.old) (state S.Store conn.new) }
+    requires rest { HasCleanDisk (state S.Store conn.old)
+        → (count : ℕ) × IsAtRest (state S.Store conn.old) count }
+    ensures found { HasCleanDisk (state S.Store conn.new) → IfOk result
+        (λ found. found ≡ found_in (history_in (state S.Store conn.old).now.trees) number) }
+    ensures fault { HasCleanDisk (state S.Store conn.new)
+        → IfErr result (IsQueryFault (state S.Store conn.old) (state S.Store conn.new)) }
+    ensures same { HasCleanDisk (state S.Store conn.new)
+        → OnOk result (IsUnchanged (state S.Store conn.old) (state S.Store conn.new)) }
+    ensures undone { HasCleanDisk (state S.Store conn.new)
+        → OnErr result (IsLeftOrUndone (state S.Store conn.old) (state S.Store conn.new)) }
+    ensures still { HasCleanDisk (state S.Store conn.new)
+        → OnErr result (IsUndisturbed (state S.Store conn.old) (state S.Store conn.new)) }
+    ensures left { HasCleanDisk (state S.Store conn.new)
+        → LeavesNoMore (state S.Store conn.old) (state S.Store conn.new) }
     ensures limit { conn.new.step_limit ≡ conn.old.step_limit }
     ensures clean { HasCleanDisk (state S.Store conn.new) → HasCleanDisk (state S.Store conn.old) }
     ensures shut { result ≢ Err FindFault.Shut }
@@ -241,13 +278,21 @@ fn list_all<S: Alter>(
     conn: &mut Connection<S>,
     event: &Event,
 ) -> Result<Vec<Listed>, FindFault>
-    requires rest { HasCleanDisk (state S.Store conn.old) → (count : ℕ) × IsAtRest (state S.Store conn.old) count }
-    ensures listed { HasCleanDisk (state S.Store conn.new) → IfOk result (λ listed. listed.items ≡ listed_in (history_in (state S.Store conn.old).now.trees) event.now) }
-    ensures fault { HasCleanDisk (state S.Store conn.new) → IfErr result (IsListFault (state S.Store conn.old) (state S.Store conn.new) (listed_in (history_in (state S.Store conn.old).now.trees) event.now)) }
-    ensures same { HasCleanDisk (state S.Store conn.new) → OnOk result (IsUnchanged (state S.Store conn.old) (state S.Store conn.new)) }
-    ensures undone { HasCleanDisk (state S.Store conn.new) → OnErr result (IsLeftOrUndone (state S.Store conn.old) (state S.Store conn.new)) }
-    ensures still { HasCleanDisk (state S.Store conn.new) → OnErr result (IsUndisturbed (state S.Store conn.old) (state S.Store conn.new)) }
-    ensures left { HasCleanDisk (state S.Store conn.new) → LeavesNoMore (state S.Store conn.old) (state S.Store conn.new) }
+    requires rest { HasCleanDisk (state S.Store conn.old)
+        → (count : ℕ) × IsAtRest (state S.Store conn.old) count }
+    ensures listed { HasCleanDisk (state S.Store conn.new) → IfOk result (λ listed.
+        listed.items ≡ listed_in (history_in (state S.Store conn.old).now.trees) event.now) }
+    ensures fault { HasCleanDisk (state S.Store conn.new)
+        → IfErr result (IsListFault (state S.Store conn.old) (state S.Store conn.new)
+        (listed_in (history_in (state S.Store conn.old).now.trees) event.now)) }
+    ensures same { HasCleanDisk (state S.Store conn.new)
+        → OnOk result (IsUnchanged (state S.Store conn.old) (state S.Store conn.new)) }
+    ensures undone { HasCleanDisk (state S.Store conn.new)
+        → OnErr result (IsLeftOrUndone (state S.Store conn.old) (state S.Store conn.new)) }
+    ensures still { HasCleanDisk (state S.Store conn.new)
+        → OnErr result (IsUndisturbed (state S.Store conn.old) (state S.Store conn.new)) }
+    ensures left { HasCleanDisk (state S.Store conn.new)
+        → LeavesNoMore (state S.Store conn.old) (state S.Store conn.new) }
     ensures limit { conn.new.step_limit ≡ conn.old.step_limit }
     ensures clean { HasCleanDisk (state S.Store conn.new) → HasCleanDisk (state S.Store conn.old) }
     ensures shut { result ≢ Err FindFault.Shut }

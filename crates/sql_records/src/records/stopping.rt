@@ -18,8 +18,10 @@ use std::alloc::Global;
 
 // The store stops and comes back with a database that it may leave.
 fn come_back<S: Alter + Reopen + Drop>(alloc: Global, conn: Connection<S>) -> Option<Connection<S>>
-    ensures left { IfSome result (λ again. HasCleanDisk (state S.Store again) → (state S.Store conn).may_leave (state S.Store again).now.trees) }
-    ensures sound { IfSome result (λ again. HasCleanDisk (state S.Store again) → IsDatabase (state S.Store again).now) }
+    ensures left { IfSome result (λ again. HasCleanDisk (state S.Store again)
+        → (state S.Store conn).may_leave (state S.Store again).now.trees) }
+    ensures sound { IfSome result
+        (λ again. HasCleanDisk (state S.Store again) → IsDatabase (state S.Store again).now) }
     ensures fresh { IfSome result IsNew }
 {
     let mut store = conn.into_store();
@@ -45,10 +47,14 @@ impl<S: Alter + Reopen + Drop> Records<S> {
         alloc: Global,
         conn: Connection<S>,
     ) -> Result<(Records<S>, Vec<Entry>, Meta), Option<OpenFault>>
-        ensures found { IfOk result (λ it. IsTrusted S.Store it.0 → Finds (state S.Store conn) it.2 it.1.items) }
-        ensures numbers { IfOk result (λ it. IsTrusted S.Store it.0 → (meta : Numbers) → LeavesSite (state S.Store conn) meta → it.2 ≡ meta) }
+        ensures found { IfOk result
+            (λ it. IsTrusted S.Store it.0 → Finds (state S.Store conn) it.2 it.1.items) }
+        ensures numbers { IfOk result (λ it. IsTrusted S.Store it.0
+            → (meta : Numbers) → LeavesSite (state S.Store conn) meta → it.2 ≡ meta) }
         ensures fault { IfErr result (λ fault. IfSome fault (IsFoundAfterStop S.Store conn)) }
-        ensures opens { IfErr result (λ fault. (after : Held S) × (HasCleanDisk (state S.Store after) → (meta : Numbers) → LeavesSite (state S.Store conn) meta → CanBeOpened (MayLeaveIn (state S.Store conn)) → IsAfterStop fault)) }
+        ensures opens { IfErr result (λ fault. (after : Held S) ×
+            (HasCleanDisk (state S.Store after) → (meta : Numbers) → LeavesSite (state S.Store conn)
+            meta → CanBeOpened (MayLeaveIn (state S.Store conn)) → IsAfterStop fault)) }
     {
         let Some(again) = come_back(alloc, conn) else {
             return Err(None);
