@@ -50,7 +50,9 @@ COMMANDS = [
     (["init", "new.db", "0", "2", "1000"], "", (0, "done\n"), (1, "already-there\n")),
 ]
 # An office closes where an entry cannot be stored, or a thread cannot be started.
-OFFICE_ENDS = [(-9, "open\n", ""), (3, "", "memory\n"), *((3, "open\n", f"{word}\n") for word in ("memory", "closed 1", "not-started"))]
+# (One that ends by itself may be killed as it does.)
+OFFICE_ENDS = [(-9, "open\n", ""), (3, "", "memory\n")]
+OFFICE_ENDS += [(status, "open\n", f"{word}\n") for word in ("memory", "closed 1", "not-started") for status in (3, -9)]
 # `store`: what could not be stored is an entry.
 STORING = ("import", "grow")
 
