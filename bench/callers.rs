@@ -1,6 +1,6 @@
 // Calls the port of this machine that is named by as many connections as are named, each from a thread of its own, and has
 // each sell a seat so often, each line behind the reply to the one before. Prints the microseconds from the first line to
-// the last reply.
+// the last reply, and of one sale: the median, the 99th percentile and the worst.
 //
 // usage: callers PORT CALLERS SALES
 
@@ -19,17 +19,21 @@ fn connected(port: u16) -> TcpStream {
     }
 }
 
-fn sell(stream: &TcpStream, caller: u64, sales: u64) {
+fn sell(stream: &TcpStream, caller: u64, sales: u64) -> Vec<u128> {
     let mut replies = BufReader::new(stream);
     let mut out = stream;
     let mut reply = String::new();
+    let mut times = Vec::with_capacity(sales as usize);
     for sale in 0..sales {
         let line = format!("sell {} gala 1\n", 10 + caller * sales + sale);
+        let began = Instant::now();
         out.write_all(line.as_bytes()).expect("a connection");
         reply.clear();
         replies.read_line(&mut reply).expect("a reply");
         assert_eq!(reply, "done\n");
+        times.push(began.elapsed().as_micros());
     }
+    times
 }
 
 fn main() {
@@ -45,14 +49,15 @@ fn main() {
             thread::spawn(move || {
                 stream.set_nodelay(true).expect("a connection");
                 ready.wait();
-                sell(&stream, caller as u64, sales);
+                sell(&stream, caller as u64, sales)
             })
         })
         .collect();
     ready.wait();
     let began = Instant::now();
-    for thread in threads {
-        thread.join().expect("a caller");
-    }
-    println!("{}", began.elapsed().as_micros());
+    let mut times: Vec<u128> = threads.into_iter().flat_map(|thread| thread.join().expect("a caller")).collect();
+    let taken = began.elapsed().as_micros();
+    times.sort_unstable();
+    let at = |part: f64| times[((times.len() - 1) as f64 * part) as usize];
+    println!("{} {} {} {}", taken, at(0.5), at(0.99), at(1.0));
 }

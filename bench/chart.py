@@ -1,26 +1,36 @@
 #!/usr/bin/env python3
 """Draws what bench/serve.py or bench/together.py printed, from standard input, as bars in an SVG on standard output.
 
-usage: serve.py PROGRAM > bench/serve.run; chart.py < bench/serve.run > docs/sales.svg
-       together.py --slower 0,2000 NAME=PROGRAM .. > bench/together.run; chart.py < bench/together.run > docs/together.svg
+usage: serve.py PROGRAM > RUN; chart.py < RUN > CHART
+       together.py --slower 0,2000 NAME=PROGRAM .. > bench/together.run; chart.py < bench/together.run >
+       docs/together.svg
 """
 import itertools
 import re
 import sys
+from collections.abc import Iterable, Iterator, Mapping
 
 WIDTH, HEIGHT, LEFT, BASE, TALLEST = 640, 270, 60, 250, 190
 TITLE = 'Durable sales a second at one site, by callers'
 INKS = {
-    'boxoffice': '#1f5f99', 'PostgreSQL, two statements': '#c2703d', 'PostgreSQL, one statement': '#dfb08c',
-    'PostgreSQL': '#c2703d', 'Redis': '#8a9a5b',
+    'boxoffice': '#1f5f99',
+    'PostgreSQL, two statements': '#c2703d',
+    'PostgreSQL, one statement': '#dfb08c',
+    'PostgreSQL': '#c2703d',
+    'Redis': '#8a9a5b',
 }
 # For programs under other names.
 BLUES = ('#9dbfe0', '#5c8fc0', '#143d63')
 
 
-def read(lines):
-    """A chart for each disk: its title, and for each count of callers the rates by their names, as they were printed."""
-    charts = []
+# For each count of callers the rates by their names.
+Groups = list[tuple[str, dict[str, int]]]
+
+
+def read(lines: Iterable[str]) -> list[tuple[str, Groups]]:
+    """A chart for each disk: its title, and for each count of callers the rates by their names, as they were
+    printed."""
+    charts: list[tuple[str, Groups]] = []
     for line in lines:
         disk = re.match(r'(\S.+) \(4 kB and a sync ', line)
         callers = re.match(r'(\d+) callers(?:: (\d+) )?', line)
@@ -35,12 +45,12 @@ def read(lines):
     return charts
 
 
-def step_of(most):
+def step_of(most: int) -> int:
     """The least of 1, 2, 5, 10, 20 .. that reaches it in at most five steps."""
     return next(step for step in (unit * 10**k for k in itertools.count() for unit in (1, 2, 5)) if 5 * step >= most)
 
 
-def chart(title, groups, inks, width):
+def chart(title: str, groups: Groups, inks: Mapping[str, str], width: int) -> Iterator[str]:
     step = step_of(max(max(rates.values()) for _, rates in groups))
     top = -(-max(max(rates.values()) for _, rates in groups) // step) * step
     yield '<text x="10" y="20">%s</text>' % title
@@ -54,12 +64,22 @@ def chart(title, groups, inks, width):
         bar = (room - 40) / len(inks)
         for name, rate in rates.items():
             at, tall = x + list(inks).index(name) * bar, rate / top * TALLEST
-            yield '<rect x="%.1f" y="%.1f" width="%.1f" height="%.1f" fill="%s"/>' % (at, BASE - tall, bar - 4, tall, inks[name])
-            yield '<text x="%.1f" y="%.1f" text-anchor="middle" font-size="10">%s</text>' % (at + bar / 2 - 2, BASE - tall - 3, format(rate, ','))
+            yield '<rect x="%.1f" y="%.1f" width="%.1f" height="%.1f" fill="%s"/>' % (
+                at,
+                BASE - tall,
+                bar - 4,
+                tall,
+                inks[name],
+            )
+            yield '<text x="%.1f" y="%.1f" text-anchor="middle" font-size="10">%s</text>' % (
+                at + bar / 2 - 2,
+                BASE - tall - 3,
+                format(rate, ','),
+            )
         yield '<text x="%.1f" y="%d" text-anchor="middle">%s</text>' % (x + (room - 40) / 2, BASE + 16, callers)
 
 
-def main():
+def main() -> None:
     charts = read(sys.stdin)
     if not charts:
         sys.exit(__doc__)
@@ -75,7 +95,10 @@ def main():
     y = HEIGHT * len(charts) + 8
     for k, (name, ink) in enumerate(inks.items()):
         x = LEFT + 190 * k
-        print('<rect x="%d" y="%d" width="10" height="10" fill="%s"/><text x="%d" y="%d">%s</text>' % (x, y, ink, x + 15, y + 9, name))
+        print(
+            '<rect x="%d" y="%d" width="10" height="10" fill="%s"/><text x="%d" y="%d">%s</text>'
+            % (x, y, ink, x + 15, y + 9, name)
+        )
     print('</svg>')
 
 

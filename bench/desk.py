@@ -5,22 +5,23 @@ usage: desk.py SITE_TRIAL
 
 SITE_TRIAL is the built site_trial, whose desk lies over a list in memory. It is compared with bench/plain_desk.rs, an
 unproved program over Rust's standard library alone with one Mutex round a HashMap and a Vec, which rustc has to be
-there for; both are made for the same processor (x86-64-v2). Both read all lines, answer those of each session in a thread
-of its own, hold what the sessions were given against the history, and write all replies, which have to be the same. The
-cost of a sale is that of 440,000 sales less that of 40,000, so that the starts are not in it; what a sale costs to read,
-to answer, to hold against the history and to write is. They run in turn, and each time is the best of three. The second
-ratio is to the plain program where it copies each entry to a second list, as the list in memory does.
+there for; both are made for the same processor (x86-64-v2). Both read all lines, answer those of each session in a
+thread of its own, hold what the sessions were given against the history, and write all replies, which have to be the
+same. The cost of a sale is that of 440,000 sales less that of 40,000, so that the starts are not in it; what a sale
+costs to read, to answer, to hold against the history and to write is. They run in turn, and each time is the best of
+three. The second ratio is to the plain program where it copies each entry to a second list, as the list in memory does.
 """
-import os
 import subprocess
 import sys
 import tempfile
 import time
 
+from offices import compiled
+
 FEW, MANY = 40000, 440000
 
 
-def sessions(threads, sales):
+def sessions(threads: int, sales: int) -> bytes:
     """So many sales in as many sessions as there are threads."""
     each = sales // threads
     lines = [''.join('sell %d gala 1\n' % (3 + k * each + place) for place in range(each)) for k in range(threads)]
@@ -28,7 +29,7 @@ def sessions(threads, sales):
     return '#'.join(['', *opening, '=' + '|'.join(lines)]).encode()
 
 
-def timed(words, given, sales):
+def timed(words: list[str], given: bytes, sales: int) -> tuple[float, bytes]:
     began = time.perf_counter()
     printed = subprocess.run(words, input=given, stdout=subprocess.PIPE, check=True).stdout
     took = time.perf_counter() - began
@@ -37,14 +38,11 @@ def timed(words, given, sales):
     return took, printed
 
 
-def main(words):
+def main(words: list[str]) -> None:
     if len(words) != 1:
         sys.exit(__doc__)
-    here = os.path.dirname(os.path.abspath(__file__))
     with tempfile.TemporaryDirectory() as folder:
-        plain = os.path.join(folder, 'plain_desk')
-        source = os.path.join(here, 'plain_desk.rs')
-        subprocess.run(['rustc', '--edition', '2021', '-O', '-C', 'target-cpu=x86-64-v2', source, '-o', plain], check=True)
+        plain = compiled(folder, 'plain_desk', '-C', 'target-cpu=x86-64-v2')
         programs = words, [plain], [plain, 'kept']
         for threads in (1, 2, 4, 8):
             times = {}
@@ -55,7 +53,10 @@ def main(words):
                     sys.exit('%d sessions: the answers differ' % threads)
                 times[sales] = [min(row[k][0] for row in runs) for k in range(3)]
             ours, theirs, kept = ((MANY - FEW) / (many - few) for few, many in zip(times[FEW], times[MANY]))
-            print('%d sessions: %.0f sales a second, ratio to the plain program %.2f, with a second list %.2f' % (threads, ours, ours / theirs, ours / kept))
+            print(
+                '%d sessions: %.0f sales a second, ratio to the plain program %.2f, with a second list %.2f'
+                % (threads, ours, ours / theirs, ours / kept)
+            )
 
 
 main(sys.argv[1:])

@@ -1,43 +1,107 @@
-"""What scripts that time the built program share: files of a site with seats to sell, ports, and the callers of callers.rs."""
+"""What scripts that time the built program share, over tests/lib: a site with seats to sell, offices that callers.rs
+sells at, and programs that rustc makes. What is not as it should be is printed, and ends the run (`well`)."""
+
 import os
-import socket
 import subprocess
+import sys
+import tempfile
+from collections.abc import Sequence
+from typing import NamedTuple
 
+HERE = os.path.dirname(os.path.abspath(__file__))
+sys.path.insert(0, os.path.join(HERE, '..', 'tests'))
+from lib import CHECKS, Office, call, ended, free_port, make_site, same, started  # noqa: E402
+
+# (trials have their files in memory; here the disk is what is timed)
+tempfile.tempdir = None
 SEATS = 1000000
+FILE = 'site.db'
 
 
-def free_port():
-    with socket.socket() as probe:
-        probe.bind(('127.0.0.1', 0))
-        return probe.getsockname()[1]
+class Timed(NamedTuple):
+    """Sales a second, and the microseconds of a sale: the median, the 99th percentile and the worst."""
+
+    rate: float
+    median: float
+    slow: float
+    worst: float
 
 
-def fresh(path):
+def timed_by(rate: float, times: Sequence[float]) -> Timed:
+    """What sales came to that took so many microseconds each, in rising order."""
+    return Timed(rate, *(float(times[int((len(times) - 1) * part)]) for part in (0.5, 0.99, 1.0)))
+
+
+def well() -> None:
+    """Ends a run in which something was not as it should be."""
+    if CHECKS.failed:
+        sys.exit(1)
+
+
+def fresh(path: str) -> None:
     for end in ('', '-wal', '-shm'):
         if os.path.exists(path + end):
             os.remove(path + end)
 
 
-def begun(program, path, sites):
+def begun(program: str, path: str, sites: int) -> None:
     """New records of the first of so many sites."""
     fresh(path)
-    subprocess.run([program, 'init', path, '0', str(sites), '1000000'], stdout=subprocess.DEVNULL, check=True)
+    make_site(*os.path.split(path), 0, sites, program=program)
+    well()
 
 
-def released(program, path):
+def released(program: str, path: str) -> None:
     begun(program, path, 1)
     lines = 'announce 1 gala\nrelease 2 gala %d\n' % SEATS
-    subprocess.run([program, 'ask', path], input=lines, text=True, stdout=subprocess.DEVNULL, check=True)
+    same('the opening', call('.', ['ask', path], lines, program=program), (0, 'done\ndone\n', ''))
+    well()
 
 
-def compiled(folder):
-    """The program of callers.rs."""
-    source, caller = os.path.join(os.path.dirname(os.path.abspath(__file__)), 'callers.rs'), os.path.join(folder, 'callers')
-    subprocess.run(['rustc', '--edition', '2021', '-O', source, '-o', caller], check=True)
-    return caller
+def compiled(folder: str, name: str, *flags: str) -> str:
+    """The program of a source that stands beside this file."""
+    made = os.path.join(folder, name)
+    words = ['rustc', '--edition', '2021', '-O', *flags, os.path.join(HERE, name + '.rs'), '-o', made]
+    subprocess.run(words, check=True)
+    return made
 
 
-def called(caller, port, callers, each):
-    """Sales a second of so many callers who make so many each at a port."""
+def called(caller: str, port: int, callers: int, each: int) -> Timed:
+    """What so many callers came to who make so many sales each at a port."""
     told = subprocess.run([caller, str(port), str(callers), str(each)], stdout=subprocess.PIPE, text=True, check=True)
-    return callers * each / int(told.stdout) * 1e6
+    taken, *times = map(float, told.stdout.split())
+    return Timed(callers * each / taken * 1e6, *times)
+
+
+def office_rate(program: str, caller: str, folder: str, env: dict[str, str], callers: int, each: int) -> Timed:
+    """What so many callers come to who make so many sales each at a new office, whose audit finds as many."""
+    released(program, os.path.join(folder, FILE))
+    office = Office(folder, FILE, program=program, env=env)
+    try:
+        well()
+        rate = called(caller, office.port, callers, each)
+        office.close()
+    finally:
+        office.program.kill()
+    check_sums(program, call(folder, ['audit', FILE], program=program), callers * each)
+    return rate
+
+
+def serve_rate(program: str, caller: str, folder: str, env: dict[str, str], callers: int, each: int) -> Timed:
+    """The same through `serve`, which ends with its callers and prints what an audit does."""
+    released(program, os.path.join(folder, FILE))
+    port = free_port()
+    serving = started(folder, port, callers, 0, [FILE], program=program, env=env)
+    try:
+        rate = called(caller, port, callers, each)
+        found = ended(serving)
+    finally:
+        serving.kill()
+    check_sums(program, found, callers * each)
+    return rate
+
+
+def check_sums(program: str, found: tuple[int, str, str], sales: int) -> None:
+    sums = 'gala released %d sold %d refunded 0 outstanding %d\n' % (SEATS, sales, sales)
+    same('what %s sold' % program, found, (0, sums, ''))
+    well()

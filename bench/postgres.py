@@ -5,6 +5,8 @@ import shutil
 import subprocess
 import sys
 
+from offices import Timed, timed_by
+
 TAKE = "UPDATE events SET seats_left = seats_left - 1 WHERE name = 'gala' AND seats_left >= 1"
 TWO_STATEMENTS = (
     "BEGIN;\n%s;\n"
@@ -16,7 +18,7 @@ ONE_STATEMENT = (
 )
 
 
-def installed():
+def installed() -> str | None:
     """The folder of the newest server that has pgbench beside it, or nothing."""
     found = sorted(glob.glob('/usr/lib/postgresql/*/bin/pgbench'))
     return os.path.dirname(found[-1]) if found else None
@@ -25,7 +27,7 @@ def installed():
 class Postgres:
     """A server of its own in a folder, reached over a local socket alone."""
 
-    def __init__(self, binaries, folder, env=None):
+    def __init__(self, binaries: str, folder: str, env: dict[str, str] | None = None) -> None:
         self.binaries = binaries
         self.folder = os.path.join(folder, 'postgres')
         os.mkdir(self.folder)
@@ -37,32 +39,42 @@ class Postgres:
         self.data = os.path.join(self.folder, 'data')
         self.run('initdb', '-D', self.data, '-A', 'trust', '-U', 'seller')
         options = "-k %s -c listen_addresses='' -c synchronous_commit=on -c fsync=on" % self.folder
-        self.run('pg_ctl', '-D', self.data, '-w', '-l', os.path.join(self.folder, 'log'), '-o', options, 'start', env=env)
+        self.run(
+            'pg_ctl', '-D', self.data, '-w', '-l', os.path.join(self.folder, 'log'), '-o', options, 'start', env=env
+        )
         self.sql('CREATE TABLE events (name TEXT PRIMARY KEY, seats_left BIGINT NOT NULL)')
         self.sql('CREATE TABLE requests (number BIGINT PRIMARY KEY, event TEXT NOT NULL, amount BIGINT NOT NULL)')
         self.sql('CREATE SEQUENCE numbers CACHE 1000')
         self.sql("INSERT INTO events VALUES ('gala', 1000000000)")
 
-    def run(self, name, *words, env=None):
-        words = [*self.as_user, os.path.join(self.binaries, name), *words]
-        done = subprocess.run(words, stdout=subprocess.PIPE, stderr=subprocess.STDOUT, text=True, cwd=self.folder, env=env)
+    def run(self, name: str, *words: str, env: dict[str, str] | None = None) -> str:
+        every = [*self.as_user, os.path.join(self.binaries, name), *words]
+        done = subprocess.run(
+            every, stdout=subprocess.PIPE, stderr=subprocess.STDOUT, text=True, cwd=self.folder, env=env
+        )
         if done.returncode:
             sys.exit('%s: %s' % (name, done.stdout))
         return done.stdout
 
-    def sql(self, line):
+    def sql(self, line: str) -> None:
         self.run('psql', '-h', self.folder, '-U', 'seller', '-d', 'postgres', '-q', '-c', line)
 
-    def rate(self, form, callers, each):
-        """Sales a second of so many clients that make so many each."""
+    def rate(self, form: str, callers: int, each: int) -> Timed:
+        """What so many clients came to that make so many sales each."""
+        for old in glob.glob(os.path.join(self.folder, 'times.*')):
+            os.remove(old)
         script = os.path.join(self.folder, 'sale.sql')
         with open(script, 'w') as out:
             out.write(form)
-        told = self.run(
-            'pgbench', '-h', self.folder, '-U', 'seller', '-n', '-M', 'prepared', '-f', script,
-            '-c', str(callers), '-j', str(min(callers, os.cpu_count())), '-t', str(each), 'postgres',
-        )
-        return next(float(line.split()[2]) for line in told.splitlines() if line.startswith('tps'))
+        words = ['-h', self.folder, '-U', 'seller', '-n', '-M', 'prepared', '-f', script, '-l', '--log-prefix=times']
+        threads = min(callers, os.cpu_count() or 1)
+        told = self.run('pgbench', *words, '-c', str(callers), '-j', str(threads), '-t', str(each), 'postgres')
+        times = []
+        for name in glob.glob(os.path.join(self.folder, 'times.*')):
+            with open(name) as log:
+                times += [int(line.split()[2]) for line in log]
+        rate = next(float(line.split()[2]) for line in told.splitlines() if line.startswith('tps'))
+        return timed_by(rate, sorted(times))
 
-    def stop(self):
+    def stop(self) -> None:
         self.run('pg_ctl', '-D', self.data, '-m', 'fast', 'stop')

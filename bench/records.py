@@ -19,26 +19,39 @@ import tempfile
 import time
 
 from memory import memory
-from offices import begun, fresh, released
+from offices import begun, fresh, released, well
+
+from lib import call, opened, same
 
 TABLE = (
-    'CREATE TABLE entries (pos INTEGER PRIMARY KEY, peer INTEGER, number INTEGER UNIQUE, verb TEXT, event TEXT, amount INTEGER,'
+    'CREATE TABLE entries (pos INTEGER PRIMARY KEY, peer INTEGER, number INTEGER UNIQUE, verb TEXT, event TEXT,'
+    ' amount INTEGER,'
     ' target INTEGER, reply TEXT, rest INTEGER, delta TEXT NOT NULL) STRICT'
 )
+INSERT = 'INSERT INTO entries VALUES (?1, ?2, ?3, ?4, ?5, ?6, ?7, ?8, ?9, ?10)'
 
 
-def piped(program, path, sales):
+def row(k: int, place: int) -> tuple[object, ...]:
+    """The entry of the k-th sale, from 0."""
+    return place, None, 3 + k, 'sell', 'gala', 1, None, 'done', None, 'used gala 0 %d\n' % (k + 1)
+
+
+def piped(program: str, path: str, sales: int) -> float:
     released(program, path)
     lines = ''.join('sell %d gala 1\n' % (3 + k) for k in range(sales))
     began = time.perf_counter()
-    subprocess.run([program, 'ask', path], input=lines, text=True, stdout=subprocess.DEVNULL, check=True)
-    return time.perf_counter() - began
+    found = call('.', ['ask', path], lines, program=program)
+    took = time.perf_counter() - began
+    same('the sales', found, (0, sales * 'done\n', ''))
+    well()
+    return took
 
 
-def typed(program, path, sales):
+def typed(program: str, path: str, sales: int) -> float:
     released(program, path)
     lines = [b'sell %d gala 1\n' % (3 + k) for k in range(sales)]
     with subprocess.Popen([program, 'ask', path], stdin=subprocess.PIPE, stdout=subprocess.PIPE, bufsize=0) as session:
+        assert session.stdin and session.stdout
         to, of = session.stdin.fileno(), session.stdout.fileno()
         began = time.perf_counter()
         for line in lines:
@@ -48,7 +61,7 @@ def typed(program, path, sales):
         return time.perf_counter() - began
 
 
-def theirs(path, sales):
+def theirs(path: str, sales: int) -> float:
     fresh(path)
     db = sqlite3.connect(path, isolation_level=None)
     db.execute('PRAGMA journal_mode=WAL')
@@ -58,24 +71,21 @@ def theirs(path, sales):
     db = sqlite3.connect(path, isolation_level=None)
     db.execute('PRAGMA synchronous=FULL')
     for k in range(sales):
-        columns = (k, None, 3 + k, 'sell', 'gala', 1, None, 'done', None, 'used gala 0 %d\n' % (k + 1))
-        db.execute('INSERT INTO entries VALUES (?1, ?2, ?3, ?4, ?5, ?6, ?7, ?8, ?9, ?10)', columns)
+        db.execute(INSERT, row(k, k))
     db.close()
     return time.perf_counter() - began
 
 
-def filled(program, path, sales):
+def filled(program: str, path: str, sales: int) -> None:
     """A file of so many sales behind two entries, which C SQLite writes in one transaction."""
     released(program, path)
-    db = sqlite3.connect(path, isolation_level=None)
-    db.execute('BEGIN')
-    rows = ((2 + k, None, 3 + k, 'sell', 'gala', 1, None, 'done', None, 'used gala 0 %d\n' % (k + 1)) for k in range(sales))
-    db.executemany('INSERT INTO entries VALUES (?1, ?2, ?3, ?4, ?5, ?6, ?7, ?8, ?9, ?10)', rows)
-    db.execute('COMMIT')
-    db.close()
+    with opened(*os.path.split(path)) as db:
+        db.execute('BEGIN')
+        db.executemany(INSERT, map(row, range(sales), range(2, sales + 2)))
+        db.execute('COMMIT')
 
 
-def taking(program, path, marks):
+def taking(program: str, path: str, marks: int) -> tuple[float, float]:
     """The shortest time of three imports of a delta of so many marks, and the most memory that one took, in bytes."""
     message = path + '.message'
     with open(message, 'w') as out:
@@ -92,19 +102,21 @@ def taking(program, path, marks):
     return min(times), memory(words, message)
 
 
-def opening(program, path):
+def opening(program: str, path: str) -> float:
     times = []
     for _ in range(3):
         began = time.perf_counter()
-        subprocess.run([program, 'find', path, '2'], stdout=subprocess.DEVNULL, check=True)
+        found = call('.', ['find', path, '2'], program=program)
         times.append(time.perf_counter() - began)
+        same('what is found', found, (0, '1 done\n', ''))
+    well()
     return min(times)
 
 
-def main(words):
+def main(words: list[str]) -> None:
     if len(words) not in (1, 2):
         sys.exit(__doc__)
-    program = words[0]
+    program = os.path.abspath(words[0])
     with tempfile.TemporaryDirectory(dir=words[1] if len(words) == 2 else None) as folder:
         path, plain = os.path.join(folder, 'ours.db'), os.path.join(folder, 'theirs.db')
         sales = 5000

@@ -8,29 +8,34 @@ Says what differs and ends with status 1 where anything does.
 
 import os
 import sys
-import tempfile
 
-from trial import FORGED, call, change, make_sites, opened, same, try_each
+from lib import call, change, FORGED, make_sites, opened, same, try_each
 
 # What each site asks, in this order, with what is delivered between.
-NORTH = ["announce 1 gala", "release 2 gala 100", "cede 3 gala 40 1", "sell 4 gala 7", "sell 5 gala 5", "refund 7 4 2", "refund 6 4"]
+NORTH = [
+    "announce 1 gala",
+    "release 2 gala 100",
+    "cede 3 gala 40 1",
+    "sell 4 gala 7",
+    "sell 5 gala 5",
+    "refund 7 4 2",
+    "refund 6 4",
+]
 SOUTH = ["sell 1 gala 30", "sell 2 gala 11", "announce 3 expo", "release 4 expo 9", "sell 5 expo 2", "refund 6 1"]
 
-# The disk is not what is tried here.
-tempfile.tempdir = "/dev/shm" if os.path.isdir("/dev/shm") else None
 # How many files an audit may have, and how many `serve`.
 MOST_FILES = 64
 MOST_SERVED = 16
 
 
-def asked(folder, file, lines):
+def asked(folder: str, file: str, lines: list[str]) -> None:
     status, out, err = call(folder, ["ask", file], "".join(line + "\n" for line in lines))
     same(f"ask {file}", (status, len(out.splitlines()), err), (0, len(lines), ""))
 
 
-def summed(folder, files):
+def summed(folder: str, files: list[str]) -> str:
     """The lines of an audit, from the entries of all files by C SQLite."""
-    sums = {}
+    sums: dict[str, list[int]] = {}
     for file in files:
         with opened(folder, file) as records:
             for (event,) in records.execute("SELECT event FROM entries WHERE verb = 'announce' AND reply = 'done'"):
@@ -51,7 +56,7 @@ def summed(folder, files):
     )
 
 
-def two_sites(folder):
+def two_sites(folder: str) -> list[str]:
     make_sites(folder, ["north.db", "south.db"])
     both = ["audit", "north.db", "south.db"]
     same("two new sites", call(folder, both), (0, "", ""))
@@ -67,7 +72,7 @@ def two_sites(folder):
     return both
 
 
-def refusals(folder, both):
+def refusals(folder: str, both: list[str]) -> None:
     same("one of two", call(folder, ["audit", "north.db"]), (1, "not-whole\n", ""))
     same("in another order", call(folder, ["audit", "south.db", "north.db"]), (1, "not-whole\n", ""))
     same("a file twice", call(folder, ["audit", "north.db", "north.db"]), (3, "", "disk\n"))
@@ -82,17 +87,22 @@ def refusals(folder, both):
     same("the first fault ends it", call(folder, both + ["west.db"]), (3, "", "damaged 4\n"))
 
 
-def sums_and_refusals(folder):
+def sums_and_refusals(folder: str) -> None:
     refusals(folder, two_sites(folder))
 
 
-def many_sites(folder):
-    """More sites than may be served, and as many as there may be, each with an event of its own: one less is not whole."""
+def many_sites(folder: str) -> None:
+    """More sites than may be served, and as many as there may be, each with an event of its own: one less is not
+    whole."""
     for count in [MOST_SERVED + 1, MOST_FILES]:
         files = [f"{count}-{site}.db" for site in range(count)]
         make_sites(folder, files)
         for site, file in enumerate(files):
-            asked(folder, file, [f"announce 1 event-{site}", f"release 2 event-{site} {site + 9}", f"sell 3 event-{site} {site + 1}"])
+            asked(
+                folder,
+                file,
+                [f"announce 1 event-{site}", f"release 2 event-{site} {site + 9}", f"sell 3 event-{site} {site + 1}"],
+            )
         wanted = summed(folder, files)
         same(f"the lines of {count} sites", len(wanted.splitlines()), count)
         same(f"the audit of {count} sites", call(folder, ["audit", *files]), (0, wanted, ""))

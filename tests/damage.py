@@ -6,15 +6,14 @@ was kept, to change no byte of a file that it refuses, and to keep all that was 
 Usage: tests/damage.py [PROGRAM] [--full] [--strict]     (PROGRAM: crates/boxoffice/out/boxoffice)
 
 Two kinds of damage cannot be told from a file that was never damaged, and are counted apart: a log whose end is lost is
-as one that a stop cut short, so that answers are those of an older state; and where C SQLite too finds a sound file with
-other rows, answers are by those rows. With `--strict` they fail as well.
+as one that a stop cut short, so that answers are those of an older state; and where C SQLite too finds a sound file
+with other rows, answers are by those rows. With `--strict` they fail as well.
 
 With `--full` each byte of the file is turned, and each that the log holds, those behind its headers for one command in
 turn, and a few of the zeros behind them; else one of eight of a spread of them and of the headers.
 Says what differs and ends with status 1 where anything does.
 """
 
-import collections
 import concurrent.futures
 import os
 import re
@@ -22,16 +21,13 @@ import sqlite3
 import subprocess
 import sys
 import tempfile
+from collections.abc import Iterable, Iterator
 
-# `trial` takes the first word for the program.
-FLAGS = [word for word in sys.argv[1:] if word.startswith("--")]
-sys.argv = [word for word in sys.argv if not word.startswith("--")]
+from lib import asked_and_killed, call, CHECKS, Checks, EMPTY_LOG, free_port, MEMORY, opened, OPTIONS, ROWS, text_of
+from lib.model import Site, audit
+from lib.program import Found
 
-from trial import PROGRAM, call, free_port, opened
-
-FULL = "--full" in FLAGS
-STRICT = "--strict" in FLAGS
-MEMORY = "/dev/shm" if os.path.isdir("/dev/shm") else None
+FULL, STRICT = OPTIONS.flag("full"), OPTIONS.flag("strict")
 PROCESSES = os.cpu_count() or 2 if FULL else 2
 # How far the bytes of the spread are from one another.
 SPREAD = 37
@@ -42,16 +38,35 @@ LOG_HEADER = 32
 FRAME_HEADER = 24
 FRAME = FRAME_HEADER + PAGE
 FILE, LOG, PEER = "site.db", "site.db-wal", "peer.db"
-ROWS = "SELECT pos, peer, number, verb, event, amount, target, reply, rest, delta FROM entries ORDER BY pos"
-# The log that a command may leave beside a database that it had to open.
-EMPTY_LOG = 41
 # So many may be put behind a log that another program wrote.
 ZEROS = 9
 
-FIRST = ["announce 1 gala", "announce 2 gala", "release 3 gala 100", "cede 4 gala 40 1", "sell 5 gala 61", "sell 6 gala 7"]
+FIRST = [
+    "announce 1 gala",
+    "announce 2 gala",
+    "release 3 gala 100",
+    "cede 4 gala 40 1",
+    "sell 5 gala 61",
+    "sell 6 gala 7",
+]
 PEERS = ["sell 1 gala 4", "cede 2 gala 9 0", "announce 3 expo", "release 4 expo 50", "cede 5 expo 20 0", "refund 6 1"]
-SECOND = ["refund 7 6", "refund 8 6", "refund 9 5", "cede 10 gala 1 0", "cede 11 gala 1 2", "sell 12 late 1", "sell 13 expo 6"]
-IN_LOG = ["release 14 gala 1000000000000", "sell 15 gala 3", "announce 16 late", "sell 17 gala 99", "refund 18 13", "sell 19 gala 5"]
+SECOND = [
+    "refund 7 6",
+    "refund 8 6",
+    "refund 9 5",
+    "cede 10 gala 1 0",
+    "cede 11 gala 1 2",
+    "sell 12 late 1",
+    "sell 13 expo 6",
+]
+IN_LOG = [
+    "release 14 gala 1000000000000",
+    "sell 15 gala 3",
+    "announce 16 late",
+    "sell 17 gala 99",
+    "refund 18 13",
+    "sell 19 gala 5",
+]
 # What the peer tells once more, in which a cession is new.
 NEWS = "delta 1 0 9\nname expo\nname gala\ngave gala 1 0 11\nend\n"
 SESSION = ["left gala", "sell 1000 gala 1", "left gala", "sell 6 gala 7", "sell 19 gala 5"]
@@ -60,138 +75,15 @@ RIGHT = "right"
 WORDS = re.compile(r"(not-ours|other-schema -?\d+|damaged \d+|disk|memory|store)\n")
 
 
-def text_of(lines):
-    return "".join(line + "\n" for line in lines)
-
-
-# What a history comes to.
-
-
-class History:
-    """The numbers and the entries of a site, and what is answered by them."""
-
-    def __init__(self, me, sites, rows):
-        self.me, self.sites, self.rows = me, sites, list(rows)
-        self.names, self.cells = set(), {}
-        for row in self.rows:
-            for item in row[9].splitlines():
-                self.join(item)
-
-    def join(self, item):
-        """Whether the item, a line of a message, is news."""
-        kind, event, *cell = item.split(" ")
-        if kind == "name":
-            is_new = event not in self.names
-            self.names.add(event)
-            return is_new
-        *sites, value = map(int, cell)
-        key = (event, ["gave", "used", "back"].index(kind), *sites)
-        is_new = value > self.cells.get(key, 0)
-        self.cells[key] = max(value, self.cells.get(key, 0))
-        return is_new
-
-    def with_row(self, *columns):
-        return History(self.me, self.sites, [*self.rows, (len(self.rows), *columns)])
-
-    def grow(self, count):
-        """The word for a growth to so many sites, and the history behind it."""
-        if count <= max([self.sites, *(row[6] for row in self.rows if row[3] == "grow")]):
-            return 1, "not-more\n", self
-        return 0, "grown\n", self.with_row(None, None, "grow", None, None, count, None, None, "")
-
-    def left(self, event):
-        """Released, given and taken back, less given away and sold."""
-        rights = 0
-        for (name, kind, *sites), value in self.cells.items():
-            if name == event and kind == 0 and sites[1] == self.me:
-                rights += value
-            elif name == event and kind == 0 and sites[0] == self.me:
-                rights -= value
-            elif name == event and sites[0] == self.me:
-                rights += value if kind == 2 else -value
-        return rights
-
-    def ask(self, line):
-        """The reply to a look, or to a sale, and the history behind it."""
-        verb, *words = line.split(" ")
-        if verb == "left":
-            return (f"left {self.left(words[0])}" if words[0] in self.names else "unknown"), self
-        number, event, seats = int(words[0]), words[1], int(words[2])
-        for row in self.rows:
-            if row[2] == number:
-                return (reply_of(row) if row[3:7] == (verb, event, seats, None) else "reused"), self
-        reply, rest, delta = "done", None, ""
-        if event not in self.names:
-            reply = "unknown"
-        elif self.left(event) < seats:
-            reply, rest = "short", self.left(event)
-        else:
-            delta = f"used {event} {self.me} {self.cells.get((event, 1, self.me), 0) + seats}\n"
-        behind = self.with_row(None, number, verb, event, seats, None, reply, rest, delta)
-        return reply_of(behind.rows[-1]), behind
-
-    def session(self, lines):
-        replies, behind = [], self
-        for line in lines:
-            reply, behind = behind.ask(line)
-            replies.append(reply)
-        return text_of(replies), behind
-
-    def find(self, number):
-        found = [f"{row[0]} {reply_of(row)}\n" for row in self.rows if row[2] == number]
-        return (0, found[0]) if found else (1, "none\n")
-
-    def listed(self, event):
-        found = [f"{row[0]} {line_of(row)} {reply_of(row)}\n" for row in self.rows if row[4] == event]
-        return (0, "".join(found)) if found else (1, "none\n")
-
-    def message(self, to):
-        if not self.rows:
-            return 1, "nothing\n"
-        items = [f"name {name}" for name in sorted(self.names)]
-        for (event, kind, *sites), value in sorted(self.cells.items()):
-            items.append(" ".join([["gave", "used", "back"][kind], event, *map(str, sites), str(value)]))
-        return 0, text_of([f"delta {self.me} {to} {len(self.rows)}", *items, "end"])
-
-    def take(self, message):
-        """The word for a delta of the peer, which names no row of this site, and the history behind it."""
-        items = message.splitlines()[1:-1]
-        copy = History(self.me, self.sites, self.rows)
-        if not any([copy.join(item) for item in items]):
-            return "nothing-new\n", self
-        return "joined\n", self.with_row(1, *[None] * 7, text_of(items))
-
-
-def reply_of(row):
-    reply, rest = row[7:9]
-    return reply if rest is None else f"{reply} {rest}"
-
-
-def line_of(row):
-    return " ".join(str(column) for column in [row[3], row[2], *row[4:7]] if column is not None)
-
-
-def audit_of(histories):
-    """The lines of an audit, or the site that shows more of another's row than that one."""
-    for viewer in histories:
-        for owner in histories:
-            for cell, value in viewer.cells.items():
-                if cell[2] == owner.me and value > owner.cells.get(cell, 0):
-                    return 1, f"ahead {viewer.me} {owner.me}\n"
-    lines = []
-    for event in sorted(set().union(*(history.names for history in histories))):
-        released, sold, refunded = (
-            sum(history.cells.get((event, *cell(history.me)), 0) for history in histories)
-            for cell in [lambda me: (0, me, me), lambda me: (1, me), lambda me: (2, me)]
-        )
-        lines.append(f"{event} released {released} sold {sold} refunded {refunded} outstanding {sold - refunded}")
-    return 0, text_of(lines)
-
+# Files by their names.
+Parts = dict[str, bytes]
+# The words of a command, with its name and its input.
+Command = tuple[str, list[str], str]
 
 # The files as they are before.
 
 
-def read_by_sqlite(folder, file):
+def read_by_sqlite(folder: str, file: str) -> Site | None:
     """The history that C SQLite finds, or None where it finds no sound file."""
     try:
         with opened(folder, file) as db:
@@ -200,16 +92,16 @@ def read_by_sqlite(folder, file):
             ((kind, version, me, sites),) = db.execute("SELECT kind, version, me, sites FROM meta").fetchall()
             if (kind, version) != ("ticket-escrow", 2):
                 return None
-            return History(me, sites, db.execute(ROWS).fetchall())
+            return Site(me, sites, rows=db.execute(ROWS).fetchall())
     except (sqlite3.Error, ValueError, TypeError, AttributeError, UnicodeDecodeError):
         return None
 
 
-def log_is_empty(log):
+def log_is_empty(log: bytes | None) -> bool:
     return log is None or len(log) in (0, EMPTY_LOG)
 
 
-def write(folder, parts):
+def write(folder: str, parts: Parts) -> None:
     """Leaves these files in the folder and no others."""
     for name in os.listdir(folder):
         if name not in parts:
@@ -219,7 +111,7 @@ def write(folder, parts):
             file.write(content)
 
 
-def read(folder, names):
+def read(folder: str, names: Iterable[str]) -> Parts:
     parts = {}
     for name in names:
         if os.path.exists(os.path.join(folder, name)):
@@ -228,22 +120,12 @@ def read(folder, names):
     return parts
 
 
-def must(words, told, wanted):
+def must(words: str, told: object, wanted: object) -> None:
     if told != wanted:
         sys.exit(f"{words}: found {told!r}, wanted {wanted!r}")
 
 
-def asked_and_killed(folder, lines, file=FILE):
-    program = subprocess.Popen([PROGRAM, "ask", file], stdin=subprocess.PIPE, stdout=subprocess.PIPE, cwd=folder)
-    program.stdin.write(text_of(lines).encode())
-    program.stdin.flush()
-    for _ in lines:
-        program.stdout.readline()
-    program.kill()
-    program.communicate()
-
-
-def make(folder):
+def make(folder: str) -> None:
     """The files of two sites: entries of each kind, and at the first site some that stand in the log alone."""
     for me, file in enumerate([FILE, PEER]):
         must("init", call(folder, ["init", file, str(me), "2", "1000"]), (0, "done\n", ""))
@@ -254,26 +136,28 @@ def make(folder):
     back = call(folder, ["export", PEER, "0"])[1]
     must("import", call(folder, ["import", FILE], back), (0, "joined\n", ""))
     must("ask", call(folder, ["ask", FILE], text_of(SECOND))[::2], (0, ""))
-    asked_and_killed(folder, IN_LOG)
+    asked_and_killed(folder, FILE, IN_LOG)
 
 
 class Variant:
     """A site's file and log, what they hold, and the least that the file alone holds."""
 
-    def __init__(self, name, parts):
+    def __init__(self, name: str, parts: Parts) -> None:
         self.name = name
         self.parts = {part: content for part, content in parts.items() if part in (FILE, LOG)}
         self.peer = {part: content for part, content in parts.items() if part.startswith(PEER)}
         self.history, self.peers = self.read({**self.parts, **self.peer})
         self.in_file = len(self.read({FILE: self.parts[FILE], **self.peer})[0].rows)
 
-    def read(self, parts):
+    def read(self, parts: Parts) -> tuple[Site, Site]:
         with tempfile.TemporaryDirectory(dir=MEMORY) as folder:
             write(folder, parts)
-            return read_by_sqlite(folder, FILE), read_by_sqlite(folder, PEER)
+            history, peers = read_by_sqlite(folder, FILE), read_by_sqlite(folder, PEER)
+            assert history and peers
+            return history, peers
 
 
-def make_variants():
+def make_variants() -> dict[str, Variant]:
     """As after a session that was killed, the same once its log is gone, and as after a session that ended."""
     with tempfile.TemporaryDirectory(dir=MEMORY) as folder:
         make(folder)
@@ -283,10 +167,12 @@ def make_variants():
         ended = read(folder, names)
         must("the log behind it", log_is_empty(ended.get(LOG)), True)
         gone = {part: content for part, content in killed.items() if part != LOG}
-        return {name: Variant(name, parts) for name, parts in [("killed", killed), ("log gone", gone), ("ended", ended)]}
+        return {
+            name: Variant(name, parts) for name, parts in [("killed", killed), ("log gone", gone), ("ended", ended)]
+        }
 
 
-VARIANTS = {}
+VARIANTS: dict[str, Variant] = {}
 
 # Damage.
 
@@ -294,13 +180,13 @@ VARIANTS = {}
 class Damage:
     """What is done to a copy: of a variant, to a part, by a name; or what stands in its place."""
 
-    def __init__(self, variant, part, how, *values):
+    def __init__(self, variant: str, part: str, how: str, *values: int) -> None:
         self.variant, self.part, self.how, self.values = variant, part, how, values
 
-    def __str__(self):
+    def __str__(self) -> str:
         return f"{self.variant}: {self.part} {self.how} {' '.join(map(str, self.values))}"
 
-    def done(self, parts):
+    def done(self, parts: Parts) -> Parts:
         content = parts[self.part]
         match self.how:
             case "untouched":
@@ -322,19 +208,19 @@ class Damage:
         return {**parts, self.part: behind}
 
 
-def frames(log):
+def frames(log: bytes) -> range:
     """Where the frames of a log begin that hold anything, and the one behind them."""
     return range(LOG_HEADER, len(log.rstrip(b"\0")) + FRAME, FRAME)
 
 
-def headers(part, content):
+def headers(part: str, content: bytes) -> set[int]:
     """The places of the headers: of the file, of its pages and their cells, of the log and of its frames."""
     if part == FILE:
         return {*range(100), *(at + k for at in range(0, len(content), PAGE) for k in range(24))}
     return {*range(LOG_HEADER), *(at + k for at in frames(content) for k in range(FRAME_HEADER))}
 
 
-def places(part, content):
+def places(part: str, content: bytes) -> list[tuple[int, int]]:
     """The bytes that are turned, each with what it is turned by."""
     end = len(content)
     heads = {at for at in headers(part, content) if at < end}
@@ -347,13 +233,13 @@ def places(part, content):
     return sorted({(at, 0xFF) for at in heads} | {(at, (0xFF, 1)[k % 2]) for k, at in enumerate(spread)})
 
 
-def pages(part, content):
+def pages(part: str, content: bytes) -> list[tuple[int, int]]:
     if part == FILE:
         return [(at, at + PAGE) for at in range(0, len(content), PAGE)]
     return [(at, at + FRAME) for at in frames(content)]
 
 
-def damages(variant):
+def damages(variant: Variant) -> Iterator[Damage]:
     for part, content in variant.parts.items():
         yield Damage(variant.name, part, "untouched")
         for at, mask in places(part, content):
@@ -368,7 +254,7 @@ def damages(variant):
 # Commands, and what they may tell.
 
 
-def commands():
+def commands() -> list[Command]:
     return [
         ("ask", ["ask", FILE], text_of(SESSION)),
         ("find", ["find", FILE, "13"], ""),
@@ -383,59 +269,52 @@ def commands():
     ]
 
 
-def right(name, history, peers):
+def right(name: str, history: Site, peers: Site) -> tuple[int, str, Site]:
     """The status and answer by a history, and the history behind it."""
+    behind = history.copy()
     match name:
         case "ask":
-            replies, behind = history.session(SESSION)
-            return 0, replies, behind
+            return 0, behind.session(SESSION), behind
         case "find":
-            return *history.find(13), history
+            word = behind.find(13)
+            return int(word == "none"), word + "\n", behind
         case "list":
-            return *history.listed("gala"), history
+            return *listed(behind), behind
         case "export":
-            return *history.message(1), history
+            message = behind.message(1)
+            return (1, "nothing\n", behind) if message == "nothing" else (0, message, behind)
         case "import":
-            word, behind = history.take(NEWS)
-            return 0, word, behind
+            return 0, behind.take(NEWS)[0] + "\n", behind
         case "audit" | "serve":
-            return *audit_of([history, peers]), history
+            return *audit([behind, peers]), behind
         case "grow":
-            return history.grow(3)
+            word = behind.grow(3)
+            return int(word != "grown"), word + "\n", behind
         case "migrate":
-            return 1, "nothing\n", history
-        case "init":
-            return 1, "already-there\n", history
+            return 1, "nothing\n", behind
+        case _:
+            return 1, "already-there\n", behind
 
 
-class Finding:
-    """What was told how often, and what differs."""
-
-    def __init__(self):
-        self.told = collections.Counter()
-        self.passed = 0
-        self.differing = []
-
-    def add(self, other):
-        self.told += other.told
-        self.passed += other.passed
-        self.differing += other.differing
+def listed(history: Site) -> tuple[int, str]:
+    """The status and the answer to `list` of the gala."""
+    return (0, text_of(history.listed("gala"))) if history.listed("gala") else (1, "none\n")
 
 
 class Judge:
     """Looks at what a command told of one damaged copy."""
 
-    def __init__(self, folder, damage, finding):
+    def __init__(self, folder: str, damage: Damage, finding: Checks) -> None:
         self.folder, self.damage, self.finding = folder, damage, finding
         self.variant = VARIANTS[damage.variant]
         self.parts = damage.done(self.variant.parts)
-        self.seen = None
+        self.seen: Site | None = None
         self.is_seen = False
 
-    def run(self, name, words, given):
+    def run(self, name: str, words: list[str], given: str) -> None:
         write(self.folder, {**self.parts, **self.variant.peer})
         try:
-            told = call(self.folder, words, given, 20)
+            told = call(self.folder, words, given)
         except (subprocess.TimeoutExpired, UnicodeDecodeError) as fault:
             return self.differs(name, f"{fault!r}")
         kind, is_right = self.judged(name, *told)
@@ -445,10 +324,10 @@ class Judge:
         else:
             self.differs(name, f"{kind}: told {told!r}")
 
-    def differs(self, name, text):
-        self.finding.differing.append(f"{self.damage}: {name}: {text}")
+    def differs(self, name: str, text: str) -> None:
+        self.finding.differs(f"{self.damage}: {name}: {text}")
 
-    def judged(self, name, status, out, err):
+    def judged(self, name: str, status: int, out: str, err: str) -> tuple[str, bool]:
         """The kind of what was told, and whether it may be."""
         is_word = WORDS.fullmatch(err) is not None
         if status not in (0, 1, 3) or is_word != (status == 3) or (err and not is_word):
@@ -463,7 +342,7 @@ class Judge:
                 return kind + (f" and {err.strip()}" if err else ""), kind == RIGHT or not STRICT
         return "by nothing that was kept", False
 
-    def refused(self, name, err):
+    def refused(self, name: str, err: str) -> tuple[str, bool]:
         left = read(self.folder, self.parts)
         word = re.sub(r"\d+", "K", err.strip())
         log, before = left.get(LOG), self.parts.get(LOG)
@@ -473,24 +352,24 @@ class Judge:
             return word, True
         return f"{word} and another empty log", log_is_empty(log) and log_is_empty(before)
 
-    def histories(self):
+    def histories(self) -> Iterator[tuple[str, Site]]:
         """What answers may go by: what was kept, else what damage that nobody can tell makes of it."""
         whole = self.variant.history
         yield RIGHT, whole
         if self.damage.part == LOG:
             for count in range(self.variant.in_file, len(whole.rows)):
-                yield "an older state", History(whole.me, whole.sites, whole.rows[:count])
-        if self.seen_by_sqlite() is not None:
-            yield "other rows", self.seen
+                yield "an older state", whole.copy(whole.rows[:count])
+        if (seen := self.seen_by_sqlite()) is not None:
+            yield "other rows", seen
 
-    def seen_by_sqlite(self):
+    def seen_by_sqlite(self) -> Site | None:
         if not self.is_seen:
             with tempfile.TemporaryDirectory(dir=MEMORY) as folder:
                 write(folder, self.parts)
                 self.seen, self.is_seen = read_by_sqlite(folder, FILE), True
         return self.seen
 
-    def is_by(self, name, history, status, out):
+    def is_by(self, name: str, history: Site, status: int, out: str) -> bool:
         wanted, answer, behind = right(name, history, self.variant.peers)
         if status != wanted and status != 3:
             return False
@@ -503,7 +382,7 @@ class Judge:
             return is_closed and replies[:stored] == answers[:stored] and self.is_kept(history, behind, history)
         return False
 
-    def is_kept(self, history, *behind):
+    def is_kept(self, history: Site, *behind: Site) -> bool:
         """Whether the files hold one of these histories, as C SQLite reads them and as the program lists them."""
         read_back = read_by_sqlite(self.folder, FILE)
         if read_back is None:
@@ -512,12 +391,12 @@ class Judge:
                 return False
         elif read_back.rows not in [one.rows for one in behind]:
             return False
-        if history in behind:
+        if any(history.rows == one.rows for one in behind):
             return True
-        return call(self.folder, ["list", FILE, "gala"]) in [(*one.listed("gala"), "") for one in behind]
+        return call(self.folder, ["list", FILE, "gala"]) in [(*listed(one), "") for one in behind]
 
 
-def tried(damage):
+def tried(damage: Damage) -> list[Command]:
     """The commands that are tried of it. What stands behind a log's headers is told by the sums in them alone."""
     every = commands()
     if FULL and damage.part == LOG and damage.how == "turned":
@@ -528,8 +407,8 @@ def tried(damage):
     return every
 
 
-def try_damages(some):
-    finding = Finding()
+def try_damages(some: Iterable[Damage]) -> Checks:
+    finding = Checks(quiet=True)
     with tempfile.TemporaryDirectory(dir=MEMORY) as folder:
         for damage in some:
             judge = Judge(folder, damage, finding)
@@ -541,7 +420,7 @@ def try_damages(some):
 # A history that could not stand.
 
 
-def spoilt(variant):
+def spoilt(variant: Variant) -> Parts:
     """The site's files with a seat more in its release, which stands in the log."""
     with tempfile.TemporaryDirectory(dir=MEMORY) as folder:
         write(folder, {**variant.parts, **variant.peer})
@@ -551,18 +430,18 @@ def spoilt(variant):
             return read(folder, [FILE, LOG])
 
 
-def with_log(variant):
+def with_log(variant: Variant) -> Parts:
     """The peer's files with what it was last asked in the log alone."""
     with tempfile.TemporaryDirectory(dir=MEMORY) as folder:
         write(folder, variant.peer)
-        asked_and_killed(folder, ["sell 7 gala 1"], PEER)
+        asked_and_killed(folder, PEER, ["sell 7 gala 1"])
         return read(folder, [PEER, PEER + "-wal"])
 
 
-def try_spoilt(variant):
-    """All pages are sound, and each row is that of an entry: it is told, and neither the file nor its log is changed, nor
-    those of another site that were opened before it."""
-    finding = Finding()
+def try_spoilt(variant: Variant) -> Checks:
+    """All pages are sound, and each row is that of an entry: it is told, and neither the file nor its log is changed,
+    nor those of another site that were opened before it."""
+    finding = Checks(quiet=True)
     parts = {**spoilt(variant), **with_log(variant)}
     behind = [parts, {**parts, LOG: parts[LOG] + bytes(ZEROS)}]
     # The history is none of `init`'s and `migrate`'s affair.
@@ -572,21 +451,21 @@ def try_spoilt(variant):
     for command, words, given in all_words:
         with tempfile.TemporaryDirectory(dir=MEMORY) as folder:
             write(folder, parts)
-            told = call(folder, words, given, 20)
+            told = call(folder, words, given)
             left = read(folder, parts)
         if told == (3, "", "damaged 2\n") and left in behind:
             finding.told["spoilt: damaged 2"] += 1
             finding.passed += 1
         else:
             what = "as they were" if left in behind else "others"
-            finding.differing.append(f"{variant.name}, spoilt: {command}: told {told!r}, the files are {what}")
+            finding.differs(f"{variant.name}, spoilt: {command}: told {told!r}, the files are {what}")
     return finding
 
 
 # Files of other programs.
 
 
-def foreign_files():
+def foreign_files() -> Parts:
     with tempfile.TemporaryDirectory(dir=MEMORY) as folder:
         with opened(folder, "other.db") as db:
             db.execute("CREATE TABLE seats (number INTEGER PRIMARY KEY, name TEXT)")
@@ -607,23 +486,23 @@ def foreign_files():
     }
 
 
-def try_foreign(name, content):
+def try_foreign(name: str, content: bytes) -> Checks:
     """Nothing of it is changed, alone and beside the log of a site, and nothing is answered from it."""
-    finding = Finding()
+    finding = Checks(quiet=True)
     killed = VARIANTS["killed"]
     for log in [None, killed.parts[LOG]]:
         parts = {FILE: content, **({} if log is None else {LOG: log})}
         for command, words, given in commands():
             with tempfile.TemporaryDirectory(dir=MEMORY) as folder:
                 write(folder, {**parts, **killed.peer})
-                told = call(folder, words, given, 20)
+                told = call(folder, words, given)
                 left = read(folder, [FILE, LOG])
             what = f"{name}{'' if log is None else ' beside a log'}: {command}"
             judge_foreign(finding, what, command, parts, told, left)
     return finding
 
 
-def judge_foreign(finding, what, command, parts, told, left):
+def judge_foreign(finding: Checks, what: str, command: str, parts: Parts, told: Found, left: Parts) -> None:
     status, out, err = told
     is_left = left[FILE] == parts[FILE] and (left.get(LOG) == parts.get(LOG) or log_is_empty(left.get(LOG)))
     if status == 3 and WORDS.fullmatch(err) and not out and is_left:
@@ -636,38 +515,30 @@ def judge_foreign(finding, what, command, parts, told, left):
         finding.told["foreign: already-there"] += 1
         finding.passed += 1
     else:
-        finding.differing.append(f"{what}: told {told!r}, the file is {'' if left[FILE] == parts[FILE] else 'not '}as it was")
+        finding.differs(f"{what}: told {told!r}, the file is {'' if left[FILE] == parts[FILE] else 'not '}as it was")
 
 
-def try_all(finding):
+def try_all() -> int:
     for name, content in foreign_files().items():
-        finding.add(try_foreign(name, content))
+        CHECKS.add(try_foreign(name, content))
     for variant in VARIANTS.values():
-        finding.add(try_spoilt(variant))
-    for text in finding.differing:
-        print(text[:1000], flush=True)
+        CHECKS.add(try_spoilt(variant))
     all_damages = [damage for variant in VARIANTS.values() for damage in damages(variant)]
     if not FULL:
         all_damages = all_damages[::PART]
     few = [all_damages[at : at + 20] for at in range(0, len(all_damages), 20)]
     with concurrent.futures.ProcessPoolExecutor(PROCESSES) as pool:
         for one in pool.map(try_damages, few):
-            for text in one.differing:
-                print(text[:1000], flush=True)
-            finding.add(one)
+            CHECKS.add(one)
     return len(all_damages)
 
 
-def main():
-    unknown = set(FLAGS) - {"--full", "--strict"}
-    if unknown:
-        sys.exit(f"{unknown.pop()} is no flag")
+def main() -> int:
+    OPTIONS.check()
     VARIANTS.update(make_variants())
-    finding = Finding()
-    count = try_all(finding)
-    print(f"{count} damaged copies; " + ", ".join(f"{what} {often}" for what, often in sorted(finding.told.items())))
-    print(f"{finding.passed} passed, {len(finding.differing)} failed")
-    return 1 if finding.differing else 0
+    count = try_all()
+    print(f"{count} damaged copies; " + ", ".join(f"{what} {often}" for what, often in sorted(CHECKS.told.items())))
+    return CHECKS.end()
 
 
 if __name__ == "__main__":

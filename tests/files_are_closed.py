@@ -3,9 +3,10 @@
 
 Usage: tests/files_are_closed.py [PROGRAM]     (PROGRAM: crates/boxoffice/out/boxoffice)
 
-A command with status 0 or 1 leaves no entry in a log: each file holds all by itself. Where a file cannot take what its log
-holds, the command says `disk` behind its answer, and the log still holds it. A session of `serve` whose request cannot be
-stored is told so, and `serve` ends with `closed`. Prints what differs, and ends with status 1 where anything does.
+A command with status 0 or 1 leaves no entry in a log: each file holds all by itself. Where a file cannot take what its
+log holds, the command says `disk` behind its answer, and the log still holds it. A session of `serve` whose request
+cannot be stored is told so, and `serve` ends with `closed`. Prints what differs, and ends with status 1 where anything
+does.
 """
 
 import os
@@ -14,41 +15,48 @@ import shutil
 import subprocess
 import sys
 import tempfile
+from collections.abc import Mapping, Sequence
+from typing import Any
 
-from serving import Caller, ended, started
-from trial import PROGRAM, SECONDS, call, free_port, intact, make_sites, opened, same, try_each
+from lib import (
+    asked_and_killed,
+    call,
+    Caller,
+    EMPTY_LOG,
+    ended,
+    free_port,
+    intact,
+    make_sites,
+    opened,
+    PROGRAM,
+    ROWS,
+    same,
+    SECONDS,
+    started,
+    try_each,
+)
+from lib.model import Row
+from lib.program import Found
 
-# The disk is not what is tried here.
-tempfile.tempdir = "/dev/shm" if os.path.isdir("/dev/shm") else None
 FILES = ["north.db", "south.db"]
-ROWS = "SELECT pos, peer, number, verb, event, amount, target, reply, rest, delta FROM entries ORDER BY pos"
 # More than the pages of a new file hold.
 EVENTS = 300
-# The bytes of a log without entries, and of one that holds some dozens.
-EMPTY_LOG = 41
 MOST_LOG = 1 << 20
 AUDIT = [f"event-{number} released 0 sold 0 refunded 0 outstanding 0\n" for number in range(1, EVENTS + 1)]
 LISTED = "4 announce 5 event-5 done\n"
 
 
-def size(folder, name):
+def size(folder: str, name: str) -> int:
     path = os.path.join(folder, name)
     return os.path.getsize(path) if os.path.exists(path) else 0
 
 
-def asked_and_killed(folder, file):
-    """A session that is killed once it has answered, so that its entries stand in the log."""
-    lines = "".join(f"announce {number} event-{number}\n" for number in range(1, EVENTS + 1))
-    program = subprocess.Popen([PROGRAM, "ask", file], stdin=subprocess.PIPE, stdout=subprocess.PIPE, cwd=folder, text=True)
-    program.stdin.write(lines)
-    program.stdin.flush()
-    replies = [program.stdout.readline() for _ in range(EVENTS)]
-    program.kill()
-    program.communicate()
-    same(f"the replies of {file}", replies, ["done\n"] * EVENTS)
+def asked(folder: str, file: str) -> None:
+    lines = [f"announce {number} event-{number}" for number in range(1, EVENTS + 1)]
+    same(f"the replies of {file}", asked_and_killed(folder, file, lines), ["done\n"] * EVENTS)
 
 
-def rows(folder, names):
+def rows(folder: str, names: Sequence[str]) -> list[Row]:
     """The entries that C SQLite finds in a copy of these files."""
     with tempfile.TemporaryDirectory() as copy:
         for name in names:
@@ -59,7 +67,7 @@ def rows(folder, names):
             return db.execute(ROWS).fetchall()
 
 
-def commands():
+def commands() -> list[tuple[list[str], int, int, str]]:
     """Commands, which of the files they open, their status and what they print. None makes an entry."""
     both = "".join(sorted(AUDIT))
     return [
@@ -80,14 +88,14 @@ def commands():
     ]
 
 
-def restored(folder, kept):
+def restored(folder: str, kept: str) -> None:
     """The files as they were."""
     for name in os.listdir(folder):
         os.remove(os.path.join(folder, name))
     shutil.copytree(kept, folder, dirs_exist_ok=True)
 
 
-def closed_well(folder, kept, wanted):
+def closed_well(folder: str, kept: str, wanted: Mapping[str, list[Row]]) -> None:
     for words, count, status, out in commands():
         restored(folder, kept)
         same(f"{words}", call(folder, words), (status, out, ""))
@@ -98,18 +106,18 @@ def closed_well(folder, kept, wanted):
     restored(folder, kept)
 
 
-def limited(most):
+def limited(most: int) -> dict[str, Any]:
     """No file may have more bytes than this; a write beyond them fails, and no signal ends the program."""
     return {"restore_signals": False, "preexec_fn": lambda: resource.setrlimit(resource.RLIMIT_FSIZE, (most, most))}
 
 
-def with_limit(folder, words, most):
-    options = {"stdin": subprocess.DEVNULL, "capture_output": True, "text": True, "cwd": folder, "timeout": SECONDS}
-    done = subprocess.run([PROGRAM, *words], check=False, **options, **limited(most))
+def with_limit(folder: str, words: list[str], most: int) -> Found:
+    options: dict[str, Any] = {"stdin": subprocess.DEVNULL, "capture_output": True, "text": True, **limited(most)}
+    done = subprocess.run([PROGRAM, *words], cwd=folder, timeout=SECONDS, check=False, **options)
     return done.returncode, done.stdout, done.stderr
 
 
-def closing_fails(folder, kept, wanted):
+def closing_fails(folder: str, kept: str, wanted: Mapping[str, list[Row]]) -> None:
     """The file cannot grow, so what its log holds cannot be moved there."""
     for words, count, status, out in commands():
         restored(folder, kept)
@@ -120,19 +128,19 @@ def closing_fails(folder, kept, wanted):
         same(f"{words} where it may", call(folder, words), (status, out, ""))
 
 
-def logs_and_files(folder):
+def logs_and_files(folder: str) -> None:
     with tempfile.TemporaryDirectory() as kept:
         make_sites(kept, FILES)
         for file in FILES:
-            asked_and_killed(kept, file)
+            asked(kept, file)
         wanted = {file: rows(kept, [file, file + "-wal"]) for file in FILES}
         closed_well(folder, kept, wanted)
         closing_fails(folder, kept, wanted)
 
 
-def ask_until_refused(caller):
+def ask_until_refused(caller: Caller) -> tuple[list[str], str, str]:
     """The lines that were answered `done`, and the first that was not, with its reply."""
-    answered = []
+    answered: list[str] = []
     for number in range(10, 10 + 10 * EVENTS):
         line = f"announce {number} event-{number}"
         reply = caller.ask(line)
@@ -142,8 +150,9 @@ def ask_until_refused(caller):
     return answered, "", "done"
 
 
-def storing_fails(folder):
-    """A log that may not grow: the request that cannot be stored is told so, and all sessions of its site are closed."""
+def storing_fails(folder: str) -> None:
+    """A log that may not grow: the request that cannot be stored is told so, and all sessions of its site are
+    closed."""
     make_sites(folder, ["only.db"])
     same("ask", call(folder, ["ask", "only.db"], "announce 1 gala\nrelease 2 gala 9\n"), (0, "done\ndone\n", ""))
     port = free_port()

@@ -11,8 +11,9 @@ import shutil
 import sqlite3
 import subprocess
 import sys
+from collections.abc import Iterable, Sequence
 
-from trial import PROGRAM, SECONDS, call, change, free_port, intact, opened, same, try_each
+from lib import begun, call, change, free_port, intact, opened, same, SECONDS, try_each
 
 # Each request of a first evening with its reply.
 ASKED = [
@@ -24,7 +25,8 @@ ASKED = [
 # What operators make of a file: statistics, an index and a view for reports, a table of their own.
 TENDED = [
     "CREATE INDEX report ON entries(event, verb)",
-    "CREATE VIEW sold AS SELECT event, sum(amount) AS seats FROM entries WHERE verb = 'sell' AND reply = 'done' GROUP BY event",
+    "CREATE VIEW sold AS SELECT event, sum(amount) AS seats FROM entries"
+    " WHERE verb = 'sell' AND reply = 'done' GROUP BY event",
     "CREATE TABLE notes (text TEXT)",
     "INSERT INTO notes VALUES ('the gala is on the first night')",
     "ANALYZE",
@@ -35,34 +37,34 @@ TENDED = [
 EMPTY_LOG = 41
 
 
-def run(folder, words, given=""):
+def run(folder: str, words: list[str], given: str = "") -> str:
     status, out, err = call(folder, words, given)
     same(f"{words}: status and standard error", (status, err), (0, ""))
     return out
 
 
-def ask(folder, file, asked):
+def ask(folder: str, file: str, asked: Sequence[tuple[str, str]]) -> None:
     lines, replies = "".join(line + "\n" for line, _ in asked), "".join(reply + "\n" for _, reply in asked)
     same(f"{file}: replies", run(folder, ["ask", file], lines), replies)
 
 
-def make(folder, file, site=0):
+def make(folder: str, file: str, site: int = 0) -> None:
     same(f"{file}: init", run(folder, ["init", file, str(site), "2", "1000"]), "done\n")
 
 
-def commands(file):
+def commands(file: str) -> list[list[str]]:
     """The commands that open a site's file and read its history."""
     lookups = [["ask", file], ["find", file, "1"], ["list", file, "gala"], ["export", file, "1"], ["import", file]]
     return [*lookups, ["grow", file, "3"], ["audit", file], ["serve", str(free_port()), "0", "0", file]]
 
 
-def all_commands(file):
+def all_commands(file: str) -> list[list[str]]:
     """Those, and the one that reads no history of a file of this schema. Only `init` makes a file."""
     return [*commands(file), ["migrate", file]]
 
 
-def tree(folder):
-    found = {}
+def tree(folder: str) -> dict[str, str | bytes]:
+    found: dict[str, str | bytes] = {}
     for name in sorted(os.listdir(folder)):
         path = os.path.join(folder, name)
         if not os.path.exists(path):
@@ -74,19 +76,24 @@ def tree(folder):
 
 
 # Each of these commands ends with this word, and no byte of the folder is another.
-def refused(folder, what, all_words, word):
+def refused(folder: str, what: str, all_words: Iterable[list[str]], word: str) -> None:
     before = tree(folder)
     for words in all_words:
         same(f"{what}: {words}", call(folder, words, "quit\n"), (3, "", word + "\n"))
         same(f"{what}: the folder after {words}", tree(folder), before)
 
 
-def tended(folder):
+def tended(folder: str) -> None:
     make(folder, "north.db")
     make(folder, "south.db", 1)
     ask(folder, "north.db", ASKED)
     change(folder, "north.db", TENDED)
-    more = [("sell 4 gala 3", "done"), ("sell 5 gala 61", "short 57"), ("sell 6 gala 2", "done"), ("left gala", "left 55")]
+    more = [
+        ("sell 4 gala 3", "done"),
+        ("sell 5 gala 61", "short 57"),
+        ("sell 6 gala 2", "done"),
+        ("left gala", "left 55"),
+    ]
     ask(folder, "north.db", more)
     same("find", run(folder, ["find", "north.db", "6"]), "5 done\n")
     kept = ASKED + more[1:3]
@@ -109,7 +116,7 @@ def tended(folder):
     ask(folder, "north.db", [("refund 7 6", "done"), ("left gala", "left 57")])
 
 
-def too_short(folder):
+def too_short(folder: str) -> None:
     refused(folder, "a missing file", all_commands("missing"), "not-ours")
     for name, content in [("empty", b""), ("one", b"x")]:
         with open(os.path.join(folder, name), "wb") as file:
@@ -119,13 +126,13 @@ def too_short(folder):
     ask(folder, "empty", ASKED)
 
 
-def link_to_nothing(folder):
+def link_to_nothing(folder: str) -> None:
     os.symlink("nowhere.db", os.path.join(folder, "link.db"))
     refused(folder, "a link to no file", all_commands("link.db"), "not-ours")
     refused(folder, "a link to no file", [["init", "link.db", "0", "2", "1000"]], "disk")
 
 
-def paths_as_they_stand(folder):
+def paths_as_they_stand(folder: str) -> None:
     for name in [":memory:", "file:x", "file:x?mode=memory"]:
         refused(folder, name, all_commands(name), "not-ours")
         make(folder, name)
@@ -135,10 +142,12 @@ def paths_as_they_stand(folder):
     make(folder, os.path.join(folder, "whole.db"))
     os.mkdir(os.path.join(folder, "inner"))
     make(os.path.join(folder, "inner"), "../beside.db")
-    same("their files", [os.path.isfile(os.path.join(folder, name)) for name in ["whole.db", "beside.db"]], [True, True])
+    same(
+        "their files", [os.path.isfile(os.path.join(folder, name)) for name in ["whole.db", "beside.db"]], [True, True]
+    )
 
 
-def no_database(folder):
+def no_database(folder: str) -> None:
     texts = [("notes.txt", b"what to do tonight\n" * 400), ("short.txt", b"notes\n"), ("zeros", bytes(4096))]
     for name, content in texts:
         with open(os.path.join(folder, name), "wb") as file:
@@ -153,7 +162,7 @@ def no_database(folder):
         same(f"the folder after {words}, but for a log that holds nothing", (after, len(log)), (before, EMPTY_LOG))
 
 
-def damaged(folder):
+def damaged(folder: str) -> None:
     make(folder, "site.db")
     ask(folder, "site.db", ASKED)
     with opened(folder, "site.db") as db:
@@ -171,13 +180,17 @@ def damaged(folder):
             for words in all_words:
                 same(f"page {root} damaged: {words}", call(folder, words, "quit\n"), (3, "", "disk\n"))
             with open(path, "r+b") as file:
-                same(f"page {root} damaged: the file", file.read(), whole[: (root - 1) * size] + rot + whole[root * size :])
+                same(
+                    f"page {root} damaged: the file",
+                    file.read(),
+                    whole[: (root - 1) * size] + rot + whole[root * size :],
+                )
                 file.seek(0)
                 file.write(whole)
     same("mended", run(folder, ["find", "site.db", "4"]), "3 done\n")
 
 
-def other_records(folder):
+def other_records(folder: str) -> None:
     changes = [
         ("newer", ["UPDATE meta SET version = 7"], "other-schema 7"),
         ("wider", ["ALTER TABLE meta ADD COLUMN zone TEXT", "UPDATE meta SET version = 3"], "other-schema 3"),
@@ -199,14 +212,18 @@ def other_records(folder):
             intact(f"{name}: integrity", db)
 
 
-def locked_out(folder):
+def locked_out(folder: str) -> None:
     """What cannot be read beside our tables locks a site out until it is dropped again, and no entry is lost."""
     changes = [
         ("partial", ["CREATE INDEX report ON entries(event) WHERE verb = 'sell'"], ["DROP INDEX report"]),
         ("expression", ["CREATE INDEX report ON entries(event || verb)"], ["DROP INDEX report"]),
         ("trigger", ["CREATE TRIGGER seen AFTER INSERT ON entries BEGIN SELECT 1; END"], ["DROP TRIGGER seen"]),
         ("window", ["CREATE VIEW sold AS SELECT sum(amount) OVER (ORDER BY pos) FROM entries"], ["DROP VIEW sold"]),
-        ("refers", ["CREATE TABLE a (n INTEGER PRIMARY KEY)", "CREATE TABLE b (n INTEGER REFERENCES a(n))"], ["DROP TABLE b"]),
+        (
+            "refers",
+            ["CREATE TABLE a (n INTEGER PRIMARY KEY)", "CREATE TABLE b (n INTEGER REFERENCES a(n))"],
+            ["DROP TABLE b"],
+        ),
         (
             "added",
             ["CREATE TABLE a (n INTEGER)", "INSERT INTO a VALUES (1)", "ALTER TABLE a ADD COLUMN m INTEGER DEFAULT 7"],
@@ -234,12 +251,14 @@ def locked_out(folder):
     ask(folder, "vacuumed", [("sell 5 gala 2", "done"), ("left gala", "left 55")])
 
 
-def made_anew(folder):
+def made_anew(folder: str) -> None:
     """Our tables, made anew by hand, are ours only by the same texts, in the same order, with no table before them."""
     make(folder, "site.db")
     ask(folder, "site.db", ASKED)
     with opened(folder, "site.db") as db:
-        meta, entries = (text for (text,) in db.execute("SELECT sql FROM sqlite_schema WHERE type = 'table' ORDER BY rootpage"))
+        meta, entries = (
+            text for (text,) in db.execute("SELECT sql FROM sqlite_schema WHERE type = 'table' ORDER BY rootpage")
+        )
         rows = {name: db.execute(f"SELECT * FROM {name}").fetchall() for name in ["meta", "entries"]}
     checked = meta.replace("sites INTEGER NOT NULL", "sites INTEGER NOT NULL CHECK (sites > 0)")
     changes = [
@@ -262,7 +281,7 @@ def made_anew(folder):
                 same(f"{name}: {words}", call(folder, words, "quit\n"), (3, "", "not-ours\n"))
 
 
-def in_use(folder):
+def in_use(folder: str) -> None:
     make(folder, "site.db")
     with opened(folder, "site.db") as db:
         db.execute("BEGIN EXCLUSIVE")
@@ -271,12 +290,17 @@ def in_use(folder):
     ask(folder, "site.db", ASKED)
 
 
-def not_plain_files(folder):
-    """A folder, and a file of two names, are told as `disk`, and so is a file whose journal C SQLite has to play back first."""
+def not_plain_files(folder: str) -> None:
+    """A folder, and a file of two names, are told as `disk`, and so is a file whose journal C SQLite has to play back
+    first."""
     os.mkdir(os.path.join(folder, "folder.db"))
     for words in all_commands("folder.db") + [["init", "folder.db", "0", "2", "1000"]]:
         same(f"a folder: {words}", call(folder, words, "quit\n"), (3, "", "disk\n"))
-    same("made beside or in a folder", (os.listdir(folder), os.listdir(os.path.join(folder, "folder.db"))), (["folder.db"], []))
+    same(
+        "made beside or in a folder",
+        (os.listdir(folder), os.listdir(os.path.join(folder, "folder.db"))),
+        (["folder.db"], []),
+    )
     shutil.rmtree(os.path.join(folder, "folder.db"))
     make(folder, "site.db")
     ask(folder, "site.db", ASKED)
@@ -302,13 +326,13 @@ def not_plain_files(folder):
         ask(folder, name, [("sell 5 gala 2", "done"), ("left gala", "left 55")])
 
 
-def input_still_open(folder):
+def input_still_open(folder: str) -> None:
     """A command whose records are refused ends though its input does not."""
     make(folder, "site.db")
     change(folder, "site.db", ["UPDATE meta SET version = 7"])
     for words in [["ask", "site.db"], ["import", "site.db"]]:
-        pipes = {"stdin": subprocess.PIPE, "stdout": subprocess.PIPE, "stderr": subprocess.PIPE}
-        with subprocess.Popen([PROGRAM, *words], cwd=folder, **pipes) as program:
+        with begun(folder, words, stdin=subprocess.PIPE) as program:
+            assert program.stdout and program.stderr
             try:
                 status = program.wait(SECONDS)
             except subprocess.TimeoutExpired:
@@ -318,8 +342,14 @@ def input_still_open(folder):
             same(f"{words}, its input open", told, (3, b"", b"other-schema 7\n"))
 
 
-def words_not_understood(folder):
-    for words in [["find", b"\xff.db", "1"], ["init", b"\xff.db", "0", "2", "1000"], ["list", "site.db", b"gal\xe4"], [b"\xff"]]:
+def words_not_understood(folder: str) -> None:
+    bad: list[list[str | bytes]] = [
+        ["find", b"\xff.db", "1"],
+        ["init", b"\xff.db", "0", "2", "1000"],
+        ["list", "site.db", b"gal\xe4"],
+        [b"\xff"],
+    ]
+    for words in bad:
         status, out, err = call(folder, words)
         same(f"{words}: status and standard output", (status, out), (2, ""))
         same(f"{words}: a text", err.strip() != "", True)

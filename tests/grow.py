@@ -9,7 +9,7 @@ Says what differs and ends with status 1 where anything does.
 
 import sys
 
-from trial import call, change, intact, make_sites, opened, same, try_each
+from lib import call, change, intact, make_sites, opened, same, try_each
 
 NORTH, SOUTH, EAST = "north.db", "south.db", "east.db"
 SALES = "announce 1 gala\nrelease 2 gala 100\ncede 3 gala 40 1\nsell 4 gala 3\n"
@@ -17,28 +17,28 @@ ROW = "SELECT peer, number, verb, event, amount, target, reply, rest, delta FROM
 GROWN = (None, None, "grow", None, None, 3, None, None, "")
 
 
-def grows(folder, file, count, word, status):
+def grows(folder: str, file: str, count: int, word: str, status: int) -> None:
     same(f"{file} to {count}", call(folder, ["grow", file, str(count)]), (status, word + "\n", ""))
 
 
-def told(folder, words, status, out, given=""):
+def told(folder: str, words: list[str], status: int, out: str, given: str = "") -> None:
     same(" ".join(words), call(folder, words, given), (status, out, ""))
 
 
-def message(folder, file, to):
+def message(folder: str, file: str, to: int) -> str:
     status, text, err = call(folder, ["export", file, str(to)])
     same(f"export {file} {to}", (status, err), (0, ""))
     return text
 
 
-def growth_kept(folder, file, place):
+def growth_kept(folder: str, file: str, place: int) -> None:
     with opened(folder, file) as db:
         intact(f"{file}: integrity", db)
         same(f"{file}: the growth", db.execute(ROW, (place,)).fetchone(), GROWN)
         same(f"{file}: the count at first", db.execute("SELECT sites FROM meta").fetchone(), (2,))
 
 
-def site_more(folder):
+def site_more(folder: str) -> None:
     """A third site, while the second has not grown yet."""
     make_sites(folder, [NORTH, SOUTH])
     told(folder, ["ask", NORTH], 0, "done\n" * 4, SALES)
@@ -61,7 +61,7 @@ def site_more(folder):
     told(folder, ["ask", EAST], 0, "done\nshort 0\n", "sell 1 gala 7\nsell 2 gala 1\n")
 
 
-def site_that_has_not_grown(folder):
+def site_that_has_not_grown(folder: str) -> None:
     site_more(folder)
     before = message(folder, SOUTH, 0)
     for file in [NORTH, EAST]:
@@ -82,7 +82,7 @@ def site_that_has_not_grown(folder):
     told(folder, ["serve", "7393", "0", "2", NORTH, SOUTH, EAST], 0, totals)
 
 
-def refusals(folder):
+def refusals(folder: str) -> None:
     """A full history, counts that are none, and growths that stand where none may."""
     same("init", call(folder, ["init", NORTH, "0", "2", "1"]), (0, "done\n", ""))
     told(folder, ["ask", NORTH], 0, "done\n", "announce 1 gala\n")
@@ -94,8 +94,19 @@ def refusals(folder):
     same("no file", call(folder, ["grow", "none.db", "3"]), (3, "", "not-ours\n"))
     same("init", call(folder, ["init", SOUTH, "1", "2", "1000"]), (0, "done\n", ""))
     grows(folder, SOUTH, 64, "grown", 0)
-    for spoiled in ["delta = 'name gala' || char(10)", "target = 65", "target = 2", "target = NULL", "number = 1", "reply = 'done'"]:
-        change(folder, SOUTH, ["DELETE FROM entries", "INSERT INTO entries (pos, verb, target, delta) VALUES (0, 'grow', 5, '')"])
+    for spoiled in [
+        "delta = 'name gala' || char(10)",
+        "target = 65",
+        "target = 2",
+        "target = NULL",
+        "number = 1",
+        "reply = 'done'",
+    ]:
+        change(
+            folder,
+            SOUTH,
+            ["DELETE FROM entries", "INSERT INTO entries (pos, verb, target, delta) VALUES (0, 'grow', 5, '')"],
+        )
         told(folder, ["find", SOUTH, "1"], 1, "none\n")
         change(folder, SOUTH, [f"UPDATE entries SET {spoiled}"])
         same(spoiled, call(folder, ["find", SOUTH, "1"]), (3, "", "damaged 0\n"))

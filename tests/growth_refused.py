@@ -2,13 +2,13 @@
 """Runs the built program, and a site in memory, with one request for memory refused: the first, the second, and so on
 until nothing is refused.
 
-Usage: tests/growth_refused.py [PROGRAM [TRIAL]] [--full]
-    (PROGRAM: crates/boxoffice/out/boxoffice; TRIAL: crates/site_trial/out/site_trial)
+Usage: tests/growth_refused.py [PROGRAM [TRIAL ..]] [--driver=DRIVER] [--full]
+    (PROGRAM: crates/boxoffice/out/boxoffice; DRIVER: crates/site_trial/out/site_trial)
 
-A script ends with all that it prints, or with a front of it and `memory`. What a site is told it answers or refuses, and then
-answers as if it had not been told before. Sessions at one desk are answered, refused or broken off, and have a receipt or a
-look for each answer. Of two sessions of `serve` one request of many is refused, by `--full` each of them. Prints what
-differs, and ends with status 1 where anything does.
+A script ends with all that it prints, or with a front of it and `memory`. What a site is told it answers or refuses,
+and then answers as if it had not been told before. Sessions at one desk are answered, refused or broken off, and have a
+receipt or a look for each answer. Of two sessions of `serve` one request of many is refused, by `--full` each of them.
+Prints what differs, and ends with status 1 where anything does.
 """
 
 import concurrent.futures
@@ -17,18 +17,14 @@ import os
 import re
 import shutil
 import socket
+import subprocess
 import sys
 import time
+from collections.abc import Callable, Iterable
 
-FULL = "--full" in sys.argv
-sys.argv = [word for word in sys.argv if not word.startswith("--")]
+from lib.refuser import begun, ended, make_refuser
+from lib import call, DRIVER, free_port, OPTIONS, PROGRAM, same, SECONDS, try_each
 
-from refuser import begun, ended, make_refuser
-from trial import HERE, PROGRAM, SECONDS, call, free_port, same, try_each
-
-TRIAL = os.path.abspath(
-    sys.argv[2] if len(sys.argv) > 2 else os.path.join(HERE, "..", "crates", "site_trial", "out", "site_trial")
-)
 # More requests than any of the runs makes.
 MANY = 100_000
 SELLING = b"sites 1\n0 announce 1 gala\n0 release 2 gala 100\n0 sell 3 gala 3\n"
@@ -51,8 +47,9 @@ RESTARTED = (
 )
 
 
-# Two sessions of one site that has released 100 seats, and what each may write: nothing where its thread or its buffer was
-# refused, else a line for each line, of which the second shows the own sale where it was made, and perhaps the other's.
+# Two sessions of one site that has released 100 seats, and what each may write: nothing where its thread or its buffer
+# was refused, else a line for each line, of which the second shows the own sale where it was made, and perhaps the
+# other's.
 SESSIONS = [b"sell 10 gala 3\nleft gala\n", b"sell 20 gala 4\nleft gala\n"]
 SALES = [("10", 3), ("20", 4)]
 REPLIES = [
@@ -61,10 +58,10 @@ REPLIES = [
 ]
 SERVE_WORDS = [b"memory\n", b"disk\n", b"not-started\n", b"accept\n", b"bind\n", b"closed 0\n"]
 # One of so many requests of `serve` is refused: most of them are made while its file is opened.
-STEP = 1 if FULL else 41
+STEP = 1 if OPTIONS.flag("full") else 41
 
 
-def refuse_each(what, run, step=1):
+def refuse_each(what: str, run: Callable[[str, int], bool], step: int = 1) -> None:
     """Runs with each request refused, or with one of so many, until none is; `run` judges, and tells whether it was."""
     for number in range(1, MANY, step):
         if not run(f"{what}: request {number}", number):
@@ -73,11 +70,15 @@ def refuse_each(what, run, step=1):
     same(f"{what}: requests end", False, True)
 
 
-def scripts(folder):
+def scripts(folder: str) -> None:
     refuser = make_refuser(folder)
-    for what, script, printed in [("selling", SELLING, SOLD), ("ceding", CEDING, CEDED), ("restarting", RESTARTING, RESTARTED)]:
+    for what, script, printed in [
+        ("selling", SELLING, SOLD),
+        ("ceding", CEDING, CEDED),
+        ("restarting", RESTARTING, RESTARTED),
+    ]:
 
-        def run(which, number):
+        def run(which: str, number: int) -> bool:
             was_refused, (status, out, err) = ended(*begun(refuser, number, [PROGRAM, "world"], folder), script)
             if status == 3 and was_refused:
                 same(which, (printed.startswith(out), err), (True, b"memory\n"))
@@ -110,26 +111,27 @@ ONE = [
 REFUSED = ["memory\n", "store\n", "refused\n", "ended badly\n"]
 
 
-def told(refuser, folder, number, pieces):
+def told(refuser: str, folder: str, number: int, pieces: Iterable[str]) -> tuple[bool, tuple[int, bytes], str]:
     """Whether the request was refused, and how the site ended that was told these pieces, and what it wrote."""
     given = "".join("\0" + piece for piece in pieces)
-    was_refused, (status, out, err) = ended(*begun(refuser, number, [TRIAL], folder), given.encode())
+    was_refused, (status, out, err) = ended(*begun(refuser, number, [DRIVER], folder), given.encode())
     return was_refused, (status, err), out.decode()
 
 
-def cut(text, fronts):
+def cut(text: str, fronts: Iterable[str]) -> tuple[str, str]:
     """The front that the text begins with, if there is one, and what stands behind it."""
     front = next((front for front in fronts if text.startswith(front)), "")
     return front, text[len(front) :]
 
 
-def books(folder):
-    """Each piece is told twice, with a new start between, so that the second finds what the first left: all or nothing."""
+def books(folder: str) -> None:
+    """Each piece is told twice, with a new start between, so that the second finds what the first left: all or
+    nothing."""
     refuser = make_refuser(folder)
     for me, rows in [(0, ZERO), (1, ONE)]:
         pieces = [f"!{me} 2 1000", *(piece for said, _ in rows for piece in (said, "~", said))]
 
-        def run(which, number):
+        def run(which: str, number: int) -> bool:
             was_refused, end, rest = told(refuser, folder, number, pieces)
             if was_refused and end[0] == 1 and rest == "":
                 return True  # There was no book yet.
@@ -146,25 +148,32 @@ def books(folder):
         refuse_each(f"the book of site {me}", run)
 
 
-def may_write(own, other):
+def may_write(own: int, other: int) -> str:
     """What a session that sells so many of 100 seats may write at a desk, and be given, where another sells so many."""
-    done = rf"left ({100 - own}|{100 - own - other})\nreceipts 1 looks 1|(memory|closed)\nreceipts 1 looks 0|ended badly\nreceipts 1 looks 1"
+    done = rf"left ({100 - own}|{100 - own - other})\nreceipts 1 looks 1|(memory|closed)\nreceipts 1 looks 0"
+    done += r"|ended badly\nreceipts 1 looks 1"
     refused = rf"memory\nleft (100|{100 - other})\nreceipts 0 looks 1|(store|closed)\nclosed\nreceipts 0 looks 0"
     return rf"(done\n({done})|{refused}|ended badly\nreceipts [01] looks 0)\n"
 
 
-def at_once(folder):
+def at_once(folder: str) -> None:
     """Sessions sell at one desk, and the same is asked twice again behind a new start: each sale is entered once."""
     refuser = make_refuser(folder)
     lines = [text.decode() for text in SESSIONS]
     for what, sessions, replies, again, last in [
         ("a session at a desk", lines[:1], may_write(3, 0), "done\nleft 97\n", "done\nleft 97\n"),
-        ("two sessions at a desk", lines, may_write(3, 4) + may_write(4, 3), "done\nleft 9[37]\ndone\nleft 93\n", "done\nleft 93\n" * 2),
+        (
+            "two sessions at a desk",
+            lines,
+            may_write(3, 4) + may_write(4, 3),
+            "done\nleft 9[37]\ndone\nleft 93\n",
+            "done\nleft 93\n" * 2,
+        ),
     ]:
         asked = "?" + "".join(sessions)
         pieces = ["!0 2 1000", "?announce 1 gala\nrelease 2 gala 100\n", "=" + "|".join(sessions), "~", asked, asked]
 
-        def run(which, number):
+        def run(which: str, number: int) -> bool:
             was_refused, end, text = told(refuser, folder, number, pieces)
             if was_refused and (end[0] == 1 or not text.startswith("done\ndone\n")):
                 return True  # There was no desk, or no seat to sell.
@@ -178,7 +187,7 @@ def at_once(folder):
         refuse_each(what, run)
 
 
-def talked(program, port, lines):
+def talked(program: subprocess.Popen[bytes], port: int, lines: bytes) -> bytes | None:
     """What a session of `serve` wrote, or None where the program ended before it listened."""
     while program.poll() is None:
         try:
@@ -191,7 +200,7 @@ def talked(program, port, lines):
     return None
 
 
-def served(refuser, folder, which, number):
+def served(refuser: str, folder: str, which: str, number: int) -> bool:
     """Sells from two connections of `serve`, and asks for the same again behind it."""
     shutil.copyfile(os.path.join(folder, "first.db"), os.path.join(folder, "site.db"))
     with contextlib.suppress(FileNotFoundError):
@@ -216,11 +225,15 @@ def served(refuser, folder, which, number):
             same(f"{which}: request {request} is in the file", (found[0], found[1].endswith(" done\n")), (0, True))
     again = b"".join(SESSIONS).decode()
     asked = call(folder, ["ask", "site.db"], again)
-    same(f"{which}: asked again", (asked[0], asked[1].splitlines()[::2], asked[1].splitlines()[-1]), (0, ["done", "done"], "left 93"))
+    same(
+        f"{which}: asked again",
+        (asked[0], asked[1].splitlines()[::2], asked[1].splitlines()[-1]),
+        (0, ["done", "done"], "left 93"),
+    )
     return was_refused
 
 
-def sessions(folder):
+def sessions(folder: str) -> None:
     refuser = make_refuser(folder)
     same("init", call(folder, ["init", "first.db", "0", "1", "1000"]), (0, "done\n", ""))
     same("ask", call(folder, ["ask", "first.db"], "announce 1 gala\nrelease 2 gala 100\n"), (0, "done\ndone\n", ""))

@@ -11,8 +11,11 @@ Says what differs and ends with status 1 where anything does.
 import os
 import shutil
 import sys
+from collections.abc import Iterable, Sequence
 
-from trial import HERE, call, change, intact, opened, same, try_each
+from lib import call, change, HERE, intact, opened, same, try_each
+from lib.model import Row
+from lib.program import Found
 
 FILE = "site.db"
 TOTALS = "gala released 5 sold 5 refunded 5 outstanding 0\n"
@@ -38,23 +41,23 @@ OTHERS = [
 ]
 
 
-def meta_as(version):
+def meta_as(version: int) -> list[Row]:
     return [(1, "ticket-escrow", version, 0, 1, 1000)]
 
 
-def place(folder, statements=()):
+def place(folder: str, statements: Sequence[str] = ()) -> None:
     """Puts the file of the first schema there, and changes it by C SQLite."""
     shutil.copyfile(os.path.join(HERE, "schema-1.db"), os.path.join(folder, FILE))
     if statements:
         change(folder, FILE, statements)
 
 
-def bytes_of(folder):
+def bytes_of(folder: str) -> bytes:
     with open(os.path.join(folder, FILE), "rb") as file:
         return file.read()
 
 
-def holds(folder, what, version, rows):
+def holds(folder: str, what: str, version: int, rows: Sequence[Row]) -> None:
     with opened(folder, FILE) as db:
         intact(f"{what}: integrity", db)
         same(f"{what}: meta", db.execute(META).fetchall(), meta_as(version))
@@ -62,18 +65,18 @@ def holds(folder, what, version, rows):
 
 
 # Each of these ends with this word, and the file is as it was.
-def refused(folder, what, all_words, word):
+def refused(folder: str, what: str, all_words: Iterable[list[str]], word: str) -> None:
     before = bytes_of(folder)
     for words in all_words:
         same(f"{what}: {words}", call(folder, words, "quit\n"), (3, "", word + "\n"))
         same(f"{what}: the file after {words}", bytes_of(folder), before)
 
 
-def migrate(folder, what, found):
+def migrate(folder: str, what: str, found: Found) -> None:
     same(f"{what}: migrate", call(folder, ["migrate", FILE]), found)
 
 
-def raised(folder):
+def raised(folder: str) -> None:
     place(folder)
     holds(folder, "first", 1, HISTORY)
     migrate(folder, "first", (0, "migrated\n", ""))
@@ -89,14 +92,14 @@ def raised(folder):
     migrate(folder, "with parts", (1, "nothing\n", ""))
 
 
-def refused_before(folder):
+def refused_before(folder: str) -> None:
     place(folder)
     refused(folder, "the first schema", OTHERS, "other-schema 1")
     same("init", call(folder, ["init", FILE, "0", "1", "1000"]), (1, "already-there\n", ""))
     migrate(folder, "behind the refusals", (0, "migrated\n", ""))
 
 
-def made_anew(folder):
+def made_anew(folder: str) -> None:
     same("init", call(folder, ["init", FILE, "0", "1", "1000"]), (0, "done\n", ""))
     migrate(folder, "a new file", (1, "nothing\n", ""))
     holds(folder, "a new file", 2, [])
@@ -105,10 +108,12 @@ def made_anew(folder):
     holds(folder, "no entry", 2, [])
 
 
-def beside_others(folder):
+def beside_others(folder: str) -> None:
     """What others made in the file stays as it was."""
     made = ["CREATE TABLE notes (text TEXT)", "INSERT INTO notes VALUES ('the gala is on the first night')"]
-    place(folder, [*made, "CREATE INDEX report ON entries(event, verb)", "CREATE VIEW sales AS SELECT event FROM entries"])
+    place(
+        folder, [*made, "CREATE INDEX report ON entries(event, verb)", "CREATE VIEW sales AS SELECT event FROM entries"]
+    )
     with opened(folder, FILE) as db:
         before = db.execute(SCHEMA).fetchall()
     migrate(folder, "beside others", (0, "migrated\n", ""))
@@ -120,7 +125,7 @@ def beside_others(folder):
     same("the notes", notes, [("the gala is on the first night",)])
 
 
-def other_versions(folder):
+def other_versions(folder: str) -> None:
     for version in [7, 3, 0, -1]:
         place(folder, [f"UPDATE meta SET version = {version}"])
         refused(folder, f"version {version}", [["migrate", FILE], *OTHERS], f"other-schema {version}")
@@ -128,7 +133,7 @@ def other_versions(folder):
     refused(folder, "version 2 with a column more", [["migrate", FILE]], "not-ours")
 
 
-def none_of_ours(folder):
+def none_of_ours(folder: str) -> None:
     changes = [
         ["UPDATE meta SET kind = 'seats'"],
         ["UPDATE meta SET me = 1"],
@@ -145,7 +150,7 @@ def none_of_ours(folder):
     same("it is not made", os.path.exists(os.path.join(folder, "missing.db")), False)
 
 
-def damaged(folder):
+def damaged(folder: str) -> None:
     changes = [
         ("a hole", "DELETE FROM entries WHERE pos = 1", 1),
         ("a verb", "UPDATE entries SET verb = 'hold' WHERE pos = 2", 2),
@@ -166,7 +171,7 @@ def damaged(folder):
         refused(folder, what, OTHERS, "other-schema 1")
 
 
-def in_use(folder):
+def in_use(folder: str) -> None:
     place(folder)
     with opened(folder, FILE) as db:
         db.execute("BEGIN EXCLUSIVE")

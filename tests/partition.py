@@ -1,21 +1,24 @@
 #!/usr/bin/env python3
-"""Tills sell at three sites, two at each, while lines are cut and slowed, messages come late, twice and after newer ones, and
-offices, brokers and scripts are killed (SIGKILL), in rounds of some seconds. By a folder, and by brokers in network namespaces.
+"""Tills sell at three sites, two at each, while lines are cut and slowed, messages come late, twice and after newer
+ones, and offices, brokers and scripts are killed (SIGKILL), in rounds of some seconds. By a folder, and by brokers in
+network namespaces.
 
-Usage: tests/partition.py [PROGRAM [folder|brokers ..]] [--rounds=N] [--within=SECONDS] [--pause=SECONDS] [--seed=N]
+Usage: tests/partition.py [PROGRAM] [folder|brokers ..] [--rounds=N] [--within=SECONDS] [--pause=SECONDS] [--seed=N]
        [--longest=SECONDS]
-       (PROGRAM: crates/boxoffice/out/boxoffice; 3 rounds of each; within 10 seconds; tills pause up to 0.03 seconds; each of both
-       may take so many SECONDS: 120, and 40 for each round)
+       (PROGRAM: crates/boxoffice/out/boxoffice; 3 rounds of each; within 30 seconds; tills pause up to 0.03 seconds;
+       each of both may take so many SECONDS: 300, and 60 for each round)
 
-At each look no site knows of more seats sold than released, and neither do the tills' journals. When all is whole again, all sites
-have to agree within so many SECONDS. Then each reply that a till read has to be in its site's file once, under its number, and no
-request beside them; and by C SQLite's sums each seat is sold or left somewhere.
+At each look no site knows of more seats sold than released, and neither do the tills' journals. When all is whole
+again, all sites have to agree within so many SECONDS. Then each reply that a till read has to be in its site's file
+once, under its number, and no request beside them; and by C SQLite's sums each seat is sold or left somewhere.
 
-The seed, printed first, gives what happens, though not at which moment of a request. Says what differs and ends with status 1
-where anything does, also where it does not end in time. Without mosquitto, or the right to make network namespaces (root and
-iproute2), brokers are not tried; without netem in the kernel, no packet is lost, repeated or reordered, and only a relay delays
-what a site publishes. It says so and passes.
+The seed, printed first, gives what happens, though not at which moment of a request. Says what differs and ends with
+status 1 where anything does, also where it does not end in time. Without mosquitto, or the right to make network
+namespaces (root and iproute2), brokers are not tried; without netem in the kernel, no packet is lost, repeated or
+reordered, and only a relay delays what a site publishes. It says so and passes.
 """
+
+from __future__ import annotations
 
 import collections
 import contextlib
@@ -27,46 +30,46 @@ import re
 import shutil
 import signal
 import socket
+import sqlite3
 import subprocess
 import sys
-import tempfile
 import threading
 import time
+from collections.abc import Callable, Iterator, Sequence
+from typing import Any
 
-# `trial` takes the first word for the program.
-GIVEN = dict(word[2:].split("=") for word in sys.argv if word.startswith("--"))
-SEED = int(GIVEN.get("seed", random.SystemRandom().randrange(10**9)))
-ROUNDS, WITHIN, PAUSE = int(GIVEN.get("rounds", 3)), float(GIVEN.get("within", 10)), float(GIVEN.get("pause", 0.03))
-LONGEST = float(GIVEN.get("longest", 120 + 40 * ROUNDS))
-sys.argv = [word for word in sys.argv if not word.startswith("--")]
+from lib import call, intact, Office, opened, Operator, OPTIONS, same, SECONDS, try_each
+from lib.exchanges import CITIES, FOLDER, NEEDED, OFTEN, Brokers, quiet_port
+from lib.trials import AT_END
 
-from exchange import CITIES, FOLDER, NEEDED, Brokers, quiet_port
-from serving import Office, Operator
-from trial import HERE, SECONDS, call, intact, opened, same, try_each
-
-sys.path.insert(0, os.path.join(HERE, "..", "clients", "python"))
 import boxoffice
-from boxoffice import Done
+from boxoffice import Done, Result, Till
 
-tempfile.tempdir = "/dev/shm" if os.path.isdir("/dev/shm") else None
+SEED = OPTIONS.seed()
+ROUNDS, WITHIN, PAUSE = OPTIONS.count("rounds", 3), OPTIONS.number("within", 30), OPTIONS.number("pause", 0.03)
+LONGEST = OPTIONS.number("longest", 300 + 60 * ROUNDS)
 SITES, TILLS, FIRST_RELEASE, RELEASE = range(3), range(2), 300, 40
-EVERY, PORT = "0.2", 8883
+PORT = 8883
 # What a site's line does to its packets, where the kernel can.
 NETEM = "netem delay 80ms 60ms reorder 25% 50% duplicate 10% loss 5%".split()
 TOTALS = re.compile("totals released ([0-9]+) sold ([0-9]+) refunded ([0-9]+) open ([0-9]+|none)")
 
 
+# What breaks at a site until the end of a `with`, which has what it is.
+Fault = Callable[[int], contextlib.AbstractContextManager[str]]
+# The words that run a site's script, and what its environment has more.
+Script = tuple[list[str], dict[str, str]]
 LIBC = ctypes.CDLL(None, use_errno=True)
 
 
 class Space:
     """A network namespace of a site's own, with a line to a switch."""
 
-    def __init__(self, me):
+    def __init__(self, me: int) -> None:
         self.name, self.line = f"box-{os.getpid()}-{me}", f"line{me}"
         self.words = ["ip", "netns", "exec", self.name]
 
-    def make(self, hub, address):
+    def make(self, hub: str, address: str) -> None:
         ip("netns", "add", self.name)
         ip("link", "add", "line", "netns", self.name, "type", "veth", "peer", "name", self.line, "netns", hub)
         ip("-n", hub, "link", "set", self.line, "master", "switch", "up")
@@ -74,7 +77,7 @@ class Space:
         ip("-n", self.name, "link", "set", "lo", "up")
         ip("-n", self.name, "link", "set", "line", "up")
 
-    def enter(self):
+    def enter(self) -> None:
         """This thread's sockets belong to the namespace from here on."""
         handle = os.open(f"/run/netns/{self.name}", os.O_RDONLY)
         failed = LIBC.setns(handle, 0x40000000)
@@ -83,21 +86,21 @@ class Space:
             raise OSError(ctypes.get_errno(), "setns")
 
 
-def ip(*words, program="ip"):
+def ip(*words: str, program: str = "ip") -> None:
     subprocess.run([program, *words], check=True, capture_output=True, timeout=SECONDS)
 
 
 class Relay(threading.Thread):
     """Passes on the connections of a site to one broker, and delays each piece by up to `delay` seconds."""
 
-    def __init__(self, space, target):
+    def __init__(self, space: Space, target: tuple[str, int]) -> None:
         super().__init__(daemon=True)
         self.space, self.target, self.delay, self.is_ready = space, target, 0.0, threading.Event()
         self.port = 0
         self.start()
         self.is_ready.wait(SECONDS)
 
-    def run(self):
+    def run(self) -> None:
         self.space.enter()
         listener = socket.create_server(("127.0.0.1", 0))
         self.port = listener.getsockname()[1]
@@ -105,7 +108,7 @@ class Relay(threading.Thread):
         while True:
             threading.Thread(target=self.serve, args=(listener.accept()[0],), daemon=True).start()
 
-    def serve(self, near):
+    def serve(self, near: socket.socket) -> None:
         self.space.enter()
         with near, contextlib.suppress(OSError), socket.create_connection(self.target, 20) as far:
             far.settimeout(None)
@@ -114,7 +117,7 @@ class Relay(threading.Thread):
             self.pump(near, far)
             back.join(20)
 
-    def pump(self, source, sink):
+    def pump(self, source: socket.socket, sink: socket.socket) -> None:
         with contextlib.suppress(OSError):
             while piece := source.recv(4096):
                 time.sleep(random.uniform(0, self.delay))
@@ -123,7 +126,7 @@ class Relay(threading.Thread):
             sink.shutdown(socket.SHUT_WR)
 
 
-def contents(path):
+def contents(path: str) -> bytes:
     """Those of a file; none where it is not there."""
     with contextlib.suppress(FileNotFoundError), open(path, "rb") as file:
         return file.read()
@@ -131,41 +134,52 @@ def contents(path):
 
 
 class ByFolder:
-    """Each site has a folder of its own. What a site wrote is copied to the others, unless either is cut off. To a site whose line
-    is slow each text comes twice, up to a second late: so it comes again, and after a newer one."""
+    """Each site has a folder of its own. What a site wrote is copied to the others, unless either is cut off. To a site
+    whose line is slow each text comes twice, up to a second late: so it comes again, and after a newer one."""
 
-    def __init__(self, folder, chance):
-        self.folder, self.chance, self.is_over, self.came = folder, chance, threading.Event(), collections.Counter()
-        # Sites that are cut off; to which nothing comes; whose line is slow; and what was in their folders some rounds ago.
-        self.cut, self.held, self.slow, self.late = set(), set(), set(), {}
-        # What is under way to sites whose lines are slow. By paths: what was sent, how often that changed, and which came last.
-        self.under_way, self.sent, self.changes, self.last = [], {}, collections.Counter(), {}
+    def __init__(self, folder: str, chance: random.Random) -> None:
+        self.folder, self.chance, self.is_over = folder, chance, threading.Event()
+        self.came: collections.Counter[str] = collections.Counter()
+        # Sites that are cut off; to which nothing comes; whose line is slow; and what was in their folders some rounds
+        # ago.
+        self.cut: set[int] = set()
+        self.held: set[int] = set()
+        self.slow: set[int] = set()
+        self.late: dict[str, bytes] = {}
+        # What is under way to sites whose lines are slow. By paths: what was sent, how often that changed, and which
+        # came last.
+        self.under_way: list[tuple[float, int, int, str, bytes, int]] = []
+        self.sent: dict[str, bytes] = {}
+        self.changes: collections.Counter[str] = collections.Counter()
+        self.last: dict[str, int] = {}
         for me in SITES:
             os.mkdir(self.place(me))
         self.thread = threading.Thread(target=self.run, daemon=True)
         self.thread.start()
 
-    def place(self, me):
+    def place(self, me: int) -> str:
         return os.path.join(self.folder, f"shared-{me}")
 
-    def enter(self, me):
+    def enter(self, me: int) -> None:
         """What a thread or a program of a site does first."""
 
-    def port(self, me):
+    def port(self, me: int) -> int:
         return quiet_port()
 
-    def script(self, me):
-        return [FOLDER, str(me), str(len(SITES)), f"{CITIES[me]}.db", self.place(me), "--every", EVERY], {}
+    def script(self, me: int) -> Script:
+        return [FOLDER, str(me), str(len(SITES)), f"{CITIES[me]}.db", self.place(me), *OFTEN], {}
 
-    def run(self):
+    def run(self) -> None:
         while not self.is_over.wait(0.05):
             for me, peer in itertools.permutations(SITES, 2):
                 for name in os.listdir(self.place(me)) if self.is_open(me, peer) else ():
                     if name.startswith(f"{me}-"):
-                        self.send(me, peer, contents(os.path.join(self.place(me), name)), os.path.join(self.place(peer), name))
+                        self.send(
+                            me, peer, contents(os.path.join(self.place(me), name)), os.path.join(self.place(peer), name)
+                        )
             self.deliver()
 
-    def send(self, me, peer, text, path):
+    def send(self, me: int, peer: int, text: bytes, path: str) -> None:
         is_new = text != self.sent.get(path)
         self.sent[path] = text
         self.changes[path] += is_new
@@ -175,10 +189,10 @@ class ByFolder:
             late = [time.monotonic() + random.uniform(0, 1) for _ in range(2)]
             self.under_way += [(at, me, peer, path, text, self.changes[path]) for at in late]
 
-    def is_open(self, me, peer):
+    def is_open(self, me: int, peer: int) -> bool:
         return not {me, peer} & self.cut and peer not in self.held
 
-    def deliver(self):
+    def deliver(self) -> None:
         """What was slow arrives, in the order of its delays."""
         for piece in sorted(self.under_way):
             at, me, peer, path, text, change = piece
@@ -188,42 +202,42 @@ class ByFolder:
                 self.put(path, text, change)
                 self.under_way.remove(piece)
 
-    def put(self, path, text, change):
+    def put(self, path: str, text: bytes, change: int) -> None:
         self.last[path] = change
         if contents(path) != text:
             with open(path, "wb") as file:
                 file.write(text)
 
-    def faults(self):
+    def faults(self) -> list[Fault]:
         return [self.is_cut, self.is_slow, self.is_torn, self.comes_late]
 
     @contextlib.contextmanager
-    def is_cut(self, me):
+    def is_cut(self, me: int) -> Iterator[str]:
         self.cut.add(me)
         yield f"{CITIES[me]} is cut off"
         self.cut.discard(me)
 
     @contextlib.contextmanager
-    def is_slow(self, me):
+    def is_slow(self, me: int) -> Iterator[str]:
         self.slow.add(me)
         yield f"what comes to {CITIES[me]} comes late, twice, and after newer ones"
         self.slow.discard(me)
 
-    def hold(self, me):
+    def hold(self, me: int) -> list[str]:
         """The files of others in the folder of a site, to which nothing comes from here on."""
         self.held.add(me)
         time.sleep(0.1)
         return [os.path.join(self.place(me), name) for name in os.listdir(self.place(me)) if name[0] not in f"{me}."]
 
     @contextlib.contextmanager
-    def is_torn(self, me):
+    def is_torn(self, me: int) -> Iterator[str]:
         for path in self.hold(me):
             os.truncate(path, os.path.getsize(path) // 2)
         yield f"what came to {CITIES[me]} is torn"
         self.held.discard(me)
 
     @contextlib.contextmanager
-    def comes_late(self, me):
+    def comes_late(self, me: int) -> Iterator[str]:
         """What others wrote some rounds ago takes the place of what they wrote last."""
         for path in self.hold(me):
             now = contents(path)
@@ -236,7 +250,7 @@ class ByFolder:
         yield f"older messages come to {CITIES[me]}"
         self.held.discard(me)
 
-    def end(self):
+    def end(self) -> None:
         self.is_over.set()
         self.thread.join(SECONDS)
 
@@ -244,9 +258,11 @@ class ByFolder:
 class ByBrokers:
     """Each site has a network namespace, with a broker, and a relay to each other broker."""
 
-    def __init__(self, folder, chance, has_netem):
+    def __init__(self, folder: str, chance: random.Random, has_netem: bool) -> None:
         self.folder, self.chance, self.has_netem = folder, chance, has_netem
-        self.old, self.came, self.brokers = {}, collections.Counter(), None
+        self.old: dict[str, bytes] = {}
+        self.came: collections.Counter[str] = collections.Counter()
+        self.brokers: Brokers | None = None
         self.hub, self.spaces = f"box-{os.getpid()}-hub", [Space(me) for me in SITES]
         try:
             self.make()
@@ -254,7 +270,7 @@ class ByBrokers:
             self.end()
             raise
 
-    def make(self):
+    def make(self) -> None:
         ip("netns", "add", self.hub)
         ip("-n", self.hub, "link", "add", "switch", "type", "bridge")
         ip("-n", self.hub, "link", "set", "switch", "up")
@@ -264,31 +280,33 @@ class ByBrokers:
         self.brokers = Brokers(self.folder, hosts, [space.words for space in self.spaces])
         self.relays = {(me, peer): Relay(self.spaces[me], hosts[peer]) for me, peer in itertools.permutations(SITES, 2)}
 
-    def enter(self, me):
+    def enter(self, me: int) -> None:
         self.spaces[me].enter()
 
-    def port(self, me):
+    def port(self, me: int) -> int:
         return 7000
 
-    def script(self, me):
+    def script(self, me: int) -> Script:
+        assert self.brokers
         words, place = self.brokers.script(me, f"{CITIES[me]}.db")
         peers = [f"{peer}=127.0.0.1:{self.relays[me, peer].port}" for peer in SITES if peer != me]
         return [*words[: -len(peers)], *peers], place
 
-    def faults(self):
-        return [self.is_cut, self.is_slow, self.is_killed, self.comes_late, *([self.is_noisy] if self.has_netem else [])]
+    def faults(self) -> list[Fault]:
+        noisy: list[Fault] = [self.is_noisy] if self.has_netem else []
+        return [self.is_cut, self.is_slow, self.is_killed, self.comes_late, *noisy]
 
-    def set_line(self, me, state):
+    def set_line(self, me: int, state: str) -> None:
         ip("-n", self.hub, "link", "set", self.spaces[me].line, state)
 
     @contextlib.contextmanager
-    def is_cut(self, me):
+    def is_cut(self, me: int) -> Iterator[str]:
         self.set_line(me, "down")
         yield f"{CITIES[me]} is cut off"
         self.set_line(me, "up")
 
     @contextlib.contextmanager
-    def is_slow(self, me):
+    def is_slow(self, me: int) -> Iterator[str]:
         relays = [relay for pair, relay in self.relays.items() if me in pair]
         for relay in relays:
             relay.delay = 0.6
@@ -297,7 +315,7 @@ class ByBrokers:
             relay.delay = 0.0
 
     @contextlib.contextmanager
-    def is_noisy(self, me):
+    def is_noisy(self, me: int) -> Iterator[str]:
         ends = [(self.spaces[me].name, "line"), (self.hub, self.spaces[me].line)]
         for space, line in ends:
             ip("-n", space, "qdisc", "replace", "dev", line, "root", *NETEM, program="tc")
@@ -306,14 +324,16 @@ class ByBrokers:
             ip("-n", space, "qdisc", "del", "dev", line, "root", program="tc")
 
     @contextlib.contextmanager
-    def is_killed(self, me):
+    def is_killed(self, me: int) -> Iterator[str]:
+        assert self.brokers
         self.brokers.kill(me)
         yield f"the broker of {CITIES[me]} is killed"
         self.brokers.start(me)
 
     @contextlib.contextmanager
-    def comes_late(self, me):
-        """What a site had published, at first or some rounds ago, comes to the others again after what it published last."""
+    def comes_late(self, me: int) -> Iterator[str]:
+        """What a site had published, at first or some rounds ago, comes to the others again after what it published
+        last."""
         topics = [(peer, f"sites/{peer}/{me}/{kind}") for peer in SITES if peer != me for kind in ("delta", "ack")]
         for peer, topic in topics:
             self.old[topic] = self.old.get(topic) or self.retained(peer, topic)
@@ -321,17 +341,17 @@ class ByBrokers:
         for peer, topic in topics:
             earlier, now = self.old[topic], self.retained(peer, topic)
             if earlier:
-                words = ["mosquitto_pub", "-k", "5", "-q", "1", "-r", "-h", f"10.79.0.{peer + 1}", "-p", str(PORT), "-t", topic]
-                self.mosquitto(me, [*words, "-s"], earlier)
+                words = ["mosquitto_pub", "-k", "5", "-q", "1", "-r", "-h", f"10.79.0.{peer + 1}", "-p", str(PORT)]
+                self.mosquitto(me, [*words, "-t", topic, "-s"], earlier)
                 self.came["after a newer one" if earlier != now else "twice"] += 1
             if self.chance.random() < 0.5:
                 self.old[topic] = now
 
-    def retained(self, me, topic):
+    def retained(self, me: int, topic: str) -> bytes:
         """What a site's own broker holds for it; nothing where that is away."""
         return self.mosquitto(me, ["mosquitto_sub", "-k", "5", "-C", "1", "-W", "1", "-N", "-t", topic])
 
-    def mosquitto(self, me, words, given=b""):
+    def mosquitto(self, me: int, words: list[str], given: bytes = b"") -> bytes:
         """What a client of a site prints, unless it takes long."""
         place = {**os.environ, "XDG_CONFIG_HOME": os.path.join(self.folder, str(me))}
         with contextlib.suppress(subprocess.TimeoutExpired):
@@ -339,22 +359,28 @@ class ByBrokers:
             return subprocess.run(words, input=given, env=place, timeout=2, capture_output=True, check=False).stdout
         return b""
 
-    def end(self):
+    def end(self) -> None:
         if self.brokers:
             self.brokers.end()
         for name in [self.hub, *(space.name for space in self.spaces)]:
             subprocess.run(["ip", "netns", "del", name], check=False, capture_output=True, timeout=SECONDS)
 
 
+# How the sites reach each other, as it is made in a folder.
+Line = Callable[[str, random.Random], "ByFolder | ByBrokers"]
+
+
 class Seller(threading.Thread):
     """A till of a site. It sells and gives back for as long as it may, and ends with no request open."""
 
-    def __init__(self, world, me, first):
+    def __init__(self, world: World, me: int, first: int) -> None:
         super().__init__(daemon=True)
         self.world, self.me, self.first, self.chance = world, me, first, random.Random(SEED + first)
-        self.path, self.sales, self.failed = os.path.join(world.folder, f"till-{first}.journal"), [], None
+        self.path = os.path.join(world.folder, f"till-{first}.journal")
+        self.sales: list[int] = []
+        self.failed: Exception | None = None
 
-    def run(self):
+    def run(self) -> None:
         try:
             self.world.line.enter(self.me)
             with self.world.till(self.me, self.path, self.first) as till:
@@ -364,7 +390,7 @@ class Seller(threading.Thread):
         except Exception as error:
             self.failed = error
 
-    def once(self, till):
+    def once(self, till: Till) -> None:
         if self.sales and self.chance.random() < 0.25:
             self.world.asked(till, till.refund, self.sales.pop(self.chance.randrange(len(self.sales))), 1)
             return
@@ -379,68 +405,84 @@ class Seller(threading.Thread):
 class World:
     """Three sites with their offices, scripts and tills."""
 
-    def __init__(self, folder, kind):
+    def __init__(self, folder: str, kind: Line) -> None:
         self.folder, self.chance, self.is_over = folder, random.Random(SEED), threading.Event()
-        self.line, self.offices, self.scripts, self.looked = kind(folder, self.chance), {}, {}, 0
-        self.released, self.ports, self.deck = FIRST_RELEASE, [self.line.port(me) for me in SITES], []
+        self.line, self.looked = kind(folder, self.chance), 0
+        self.offices: dict[int, Office] = {}
+        self.scripts: dict[int, subprocess.Popen[bytes]] = {}
+        self.released, self.ports = FIRST_RELEASE, [self.line.port(me) for me in SITES]
+        self.deck: list[Fault] = []
 
-    def till(self, me, path, first, seconds=SECONDS):
-        return boxoffice.Till(self.ports[me], path, first, first + 999_999, seconds)
+    def till(self, me: int, path: str, first: int, seconds: float = SECONDS) -> Till:
+        return Till(self.ports[me], path, first, first + 999_999, seconds)
 
-    def asked(self, till, ask, *words):
+    def asked(self, till: Till | Clerk, ask: Callable[..., Result], *words: str | int) -> Result:
         """The result, however long the office is away."""
         end = time.monotonic() + 6 * SECONDS
         while True:
             try:
-                return till.resume()[1] if till.journal.open else ask(*words)
+                resumed = till.resume() if till.journal.open else None
+                return resumed[1] if resumed else ask(*words)
             except boxoffice.Unanswered:
                 if time.monotonic() > end:
                     raise
 
-    def open(self, me):
+    def open(self, me: int) -> None:
         # (A program that checks itself, as one unproved does, takes up a long history slowly.)
-        place = {"seconds": 5 * SECONDS, "preexec_fn": lambda: self.line.enter(me)}
+        place: dict[str, Any] = {"seconds": 5 * SECONDS, "preexec_fn": lambda: self.line.enter(me)}
         self.offices[me] = Office(self.folder, f"{CITIES[me]}.db", self.ports[me], **place)
 
-    def start(self, me):
+    def start(self, me: int) -> None:
         words, place = self.line.script(me)
         with open(os.path.join(self.folder, f"{me}.said"), "ab") as said:
-            more = {"env": {**os.environ, **place}, "stderr": said, "preexec_fn": lambda: self.line.enter(me)}
-            self.scripts[me] = subprocess.Popen([sys.executable, *words], cwd=self.folder, start_new_session=True, **more)
+            more: dict[str, Any] = {
+                "env": {**os.environ, **place},
+                "stderr": said,
+                "preexec_fn": lambda: self.line.enter(me),
+            }
+            self.scripts[me] = subprocess.Popen(
+                [sys.executable, *words], cwd=self.folder, start_new_session=True, **more
+            )
 
-    def stop(self, me):
+    def stop(self, me: int) -> None:
         """Kills the script of a site with what it had started."""
         os.killpg(self.scripts[me].pid, signal.SIGKILL)
         self.scripts[me].wait(SECONDS)
 
     @contextlib.contextmanager
-    def office_killed(self, me):
+    def office_killed(self, me: int) -> Iterator[str]:
         self.offices[me].kill()
         yield f"the office of {CITIES[me]} is killed"
         self.open(me)
 
     @contextlib.contextmanager
-    def script_killed(self, me):
+    def script_killed(self, me: int) -> Iterator[str]:
         self.stop(me)
         yield f"the script of {CITIES[me]} is killed"
         self.start(me)
 
-    def draw(self, count):
+    def draw(self, count: int) -> list[Fault]:
         """So many kinds of fault, each in its turn."""
         if len(self.deck) < count:
-            rest = [fault for fault in [*self.line.faults(), self.office_killed, self.script_killed] if fault not in self.deck]
+            rest = [
+                fault
+                for fault in [*self.line.faults(), self.office_killed, self.script_killed]
+                if fault not in self.deck
+            ]
             self.deck += self.chance.sample(rest, len(rest))
         drawn, self.deck = self.deck[:count], self.deck[count:]
         return drawn
 
-    def ask(self, me, line):
+    def ask(self, me: int, line: str) -> str:
         """The reply of a site at its socket; nothing where its office is away."""
-        with contextlib.suppress(OSError), contextlib.closing(Operator(self.offices[me].path)) as operator:
-            operator.close = operator.go_away
-            return operator.ask(line)
+        with contextlib.suppress(OSError):
+            operator = Operator(self.offices[me].path)
+            with contextlib.ExitStack() as stack:
+                stack.callback(operator.go_away)
+                return operator.ask(line)
         return ""
 
-    def look(self):
+    def look(self) -> None:
         """No site knows of more sold than released, and neither do the tills."""
         for me in SITES:
             if found := TOTALS.fullmatch(self.ask(me, "totals gala")):
@@ -451,26 +493,26 @@ class World:
         sold, back = self.sold()
         same("the tills sold at most what was released", sold - back <= self.released, True)
 
-    def journals(self):
+    def journals(self) -> dict[int, list[tuple[str, str]]]:
         """By sites the requests of the journals with their replies; an open one has none."""
-        asked = {me: [] for me in SITES}
+        asked: dict[int, list[tuple[str, str]]] = {me: [] for me in SITES}
         for name in os.listdir(self.folder):
             if name.startswith("till-"):
                 with open(os.path.join(self.folder, name), encoding="ascii") as file:
                     asked[int(name[5]) - 1] += re.findall("ask (.*)\n(?:reply [0-9]+ (.*)\n)?", file.read())
         return asked
 
-    def taken(self):
+    def taken(self) -> collections.Counter[str]:
         """What became of how many messages, as the scripts said it."""
-        words = collections.Counter()
+        words: collections.Counter[str] = collections.Counter()
         for me in SITES:
             with open(os.path.join(self.folder, f"{me}.said"), encoding="utf-8") as said:
                 words.update(re.findall("(?:delta|ack) from [0-9]: ([a-z-]+)", said.read()))
         return words
 
-    def sold(self):
-        """How many seats the tills sold, by what they read, and how many they gave back. (What is open may have been given back,
-        and sold again to a till that has read of it. So sales are counted first.)"""
+    def sold(self) -> list[int]:
+        """How many seats the tills sold, by what they read, and how many they gave back. (What is open may have been
+        given back, and sold again to a till that has read of it. So sales are counted first.)"""
         found = []
         for verb, replies in [("sell", ["done"]), ("refund", ["done", ""])]:
             lines = [line.split() for asked in self.journals().values() for line, reply in asked if reply in replies]
@@ -478,7 +520,7 @@ class World:
         return found
 
 
-def clerks_move(world, clerks):
+def clerks_move(world: World, clerks: Sequence[Clerk]) -> None:
     """More seats are released, and some are ceded from site to site."""
     world.released += RELEASE
     same("a release", type(world.asked(clerks[0], clerks[0].release, "gala", RELEASE)), Done)
@@ -489,7 +531,7 @@ def clerks_move(world, clerks):
         world.asked(clerks[me], clerks[me].cede, "gala", int(left[1]) // 2 or 1, peer)
 
 
-def one_round(world, clerks, at, is_said):
+def one_round(world: World, clerks: Sequence[Clerk], at: int, is_said: bool) -> None:
     """Two or three things break, for a second or two; meanwhile clerks go on at the sites that are there."""
     faults = world.draw(world.chance.choice([2, 3]))
     with contextlib.ExitStack() as stack:
@@ -504,11 +546,13 @@ def one_round(world, clerks, at, is_said):
     world.look()
 
 
-def agreed(world, begin):
+def agreed(world: World, begin: float) -> tuple[float, int, int]:
     """How long after the last fault all sites agree on what the tills sold."""
     sold, back = world.sold()
     wanted = f"totals released {world.released} sold {sold} refunded {back} open {world.released - sold + back}"
-    while (found := [world.ask(me, "totals gala") for me in SITES]) != [wanted] * 3 and time.monotonic() < begin + SECONDS:
+    while (found := [world.ask(me, "totals gala") for me in SITES]) != [
+        wanted
+    ] * 3 and time.monotonic() < begin + SECONDS:
         time.sleep(0.05)
     took = time.monotonic() - begin
     same("all sites agree", found, [wanted] * 3)
@@ -516,7 +560,7 @@ def agreed(world, begin):
     return took, sold, back
 
 
-def in_file(db):
+def in_file(db: sqlite3.Connection) -> list[Any]:
     """The requests of a file with their replies, by C SQLite."""
     names = "CASE verb WHEN 'announce' THEN event WHEN 'refund' THEN target || ' ' || amount"
     names += " WHEN 'cede' THEN event || ' ' || amount || ' ' || target ELSE event || ' ' || amount END"
@@ -524,9 +568,10 @@ def in_file(db):
     return db.execute(f"SELECT {columns} FROM entries WHERE number IS NOT NULL").fetchall()
 
 
-def summed(world, left, sold, back):
+def summed(world: World, left: Sequence[int], sold: int, back: int) -> int:
     """Files against journals; and each seat is sold or left somewhere."""
-    journals, sums = world.journals(), {}
+    journals = world.journals()
+    sums: dict[str, int] = {}
     for me in SITES:
         with opened(world.folder, f"{CITIES[me]}.db") as db:
             intact(CITIES[me], db)
@@ -541,11 +586,13 @@ def summed(world, left, sold, back):
     same("each seat is sold or left", sold - back + sum(left), world.released)
     text = f"gala released {world.released} sold {sold} refunded {back} outstanding {sold - back}\n"
     # (A program that checks itself, as one unproved does, sums up slowly.)
-    same("the audit", call(world.folder, ["audit", *(f"{city}.db" for city in CITIES)], "", 20 * SECONDS), (0, text, ""))
+    same(
+        "the audit", call(world.folder, ["audit", *(f"{city}.db" for city in CITIES)], "", 20 * SECONDS), (0, text, "")
+    )
     return sum(len(asked) for asked in journals.values())
 
 
-def begun(world):
+def begun(world: World) -> list[Clerk]:
     """Offices, scripts, and for each site a clerk's till, with the seats given out."""
     for me in SITES:
         same("init", call(world.folder, ["init", f"{CITIES[me]}.db", str(me), "3", "1000000"]), (0, "done\n", ""))
@@ -561,16 +608,16 @@ def begun(world):
 class Clerk:
     """A till that the main thread, which is in no namespace, asks in the namespace of its site."""
 
-    def __init__(self, world, me):
+    def __init__(self, world: World, me: int) -> None:
         self.world, self.me, self.path = world, me, os.path.join(world.folder, f"till-{me + 1}000000.journal")
-        self.till = self.inside(lambda: world.till(me, self.path, (me + 1) * 1_000_000))
+        self.till: Till = self.inside(lambda: world.till(me, self.path, (me + 1) * 1_000_000))
         self.journal = self.till.journal
 
-    def inside(self, ask):
+    def inside(self, ask: Callable[[], Any]) -> Any:
         """What a call gives, in a thread that is in the namespace."""
-        found = []
+        found: list[tuple[Any, boxoffice.TillError | None]] = []
 
-        def run():
+        def run() -> None:
             self.world.line.enter(self.me)
             try:
                 found.append((ask(), None))
@@ -580,19 +627,20 @@ class Clerk:
         thread = threading.Thread(target=run, daemon=True)
         thread.start()
         thread.join(5 * SECONDS)
-        if found[0][1]:
-            raise found[0][1]
-        return found[0][0]
+        given, error = found[0]
+        if error:
+            raise error
+        return given
 
-    def __getattr__(self, verb):
+    def __getattr__(self, verb: str) -> Callable[..., Any]:
         return lambda *words: self.inside(lambda: getattr(self.till, verb)(*words))
 
 
-def tried(folder, kind, is_said):
-    world, clerks, begin = None, [], time.monotonic()
-    watch = threading.Timer(LONGEST, lambda: gives_up(world, folder))
-    watch.daemon = True
-    watch.start()
+def tried(folder: str, kind: Line, is_said: bool) -> None:
+    world: World | None = None
+    clerks: list[Clerk] = []
+    begin = time.monotonic()
+    AT_END[:] = [lambda: ended(world)]
     try:
         world = World(folder, kind)
         clerks = begun(world)
@@ -614,16 +662,18 @@ def tried(folder, kind, is_said):
             world.stop(me)
             world.offices[me].close()
         count = summed(world, left, sold, back)
-        print(f"{ROUNDS} rounds in {time.monotonic() - begin:.0f} s: {count} requests, {sold} seats sold, {back} given back, "
-              f"{world.released} released; {world.looked} looks; all agreed after {took:.1f} s")
+        print(
+            f"{ROUNDS} rounds in {time.monotonic() - begin:.0f} s: {count} requests, "
+            f"{sold} seats sold, {back} given back, "
+            f"{world.released} released; {world.looked} looks; all agreed after {took:.1f} s"
+        )
         for what, counts in [("messages", world.taken()), ("made to come", world.line.came)]:
             print(f"{what}:", ", ".join(f"{word} {count}" for word, count in counts.most_common()))
     finally:
-        watch.cancel()
         ended(world)
 
 
-def settled(world, sold, back):
+def settled(world: World, sold: int, back: int) -> list[int]:
     """What is left at each site once nothing is under way."""
     end = time.monotonic() + SECONDS
     while True:
@@ -633,7 +683,7 @@ def settled(world, sold, back):
         time.sleep(0.1)
 
 
-def ended(world):
+def ended(world: World | None) -> None:
     """Nothing that was started stays, whatever becomes of the rest."""
     if world:
         world.is_over.set()
@@ -646,17 +696,7 @@ def ended(world):
                     stack.callback(world.stop, me)
 
 
-def gives_up(world, folder):
-    """The verdict where a trial does not end."""
-    print(f"it has not ended after {LONGEST:.0f} s\npartition: 1 differs", flush=True)
-    try:
-        ended(world)
-        shutil.rmtree(folder, ignore_errors=True)
-    finally:
-        os._exit(1)
-
-
-def probed():
+def probed() -> tuple[list[str], bool]:
     """What this machine lacks for brokers to be tried, and whether its kernel has netem."""
     if lacks := [name for name in (*NEEDED, "ip") if not shutil.which(name)]:
         return lacks, False
@@ -676,23 +716,22 @@ def probed():
         subprocess.run(["ip", "netns", "del", probe], check=False, capture_output=True, timeout=SECONDS)
 
 
-def folder_trial(folder):
+def folder_trial(folder: str) -> None:
     print("by a folder:", flush=True)
     tried(folder, ByFolder, ROUNDS > 3)
 
 
-def broker_trial(folder):
+def broker_trial(folder: str) -> None:
     lacks, has_netem = probed()
     if lacks:
         print(f"by brokers: not tried, without {', '.join(lacks)}")
         return
-    print("by brokers:" if has_netem else "by brokers (without netem: no packet is lost, repeated or reordered):", flush=True)
-    tried(folder, lambda *words: ByBrokers(*words, has_netem), ROUNDS > 3)
+    print(
+        "by brokers:" if has_netem else "by brokers (without netem: no packet is lost, repeated or reordered):",
+        flush=True,
+    )
+    tried(folder, lambda folder, chance: ByBrokers(folder, chance, has_netem), ROUNDS > 3)
 
 
 TRIALS = {"folder": folder_trial, "brokers": broker_trial}
-# What was started ends with a run that is told to end.
-signal.signal(signal.SIGTERM, lambda *_: sys.exit(1))
-print(f"the seed is {SEED}", flush=True)
-chosen = [TRIALS[word] for word in sys.argv[1:] if word in TRIALS] or TRIALS.values()
-sys.exit(try_each(chosen, "partition: 0 differ", "partition: {} differ"))
+sys.exit(try_each(TRIALS, "partition: 0 differ", "partition: {} differ", LONGEST))

@@ -9,8 +9,10 @@ Says what differs and ends with status 1 where anything does.
 import os
 import subprocess
 import sys
+from collections.abc import Sequence
 
-from trial import HERE, PROGRAM, SECONDS, intact, opened, same, try_each
+from lib import HERE, intact, opened, PROGRAM, same, SECONDS, try_each
+from lib.model import Row
 
 META = (
     "CREATE TABLE meta (one INTEGER PRIMARY KEY CHECK (one = 1), kind TEXT NOT NULL, version INTEGER NOT NULL,"
@@ -54,19 +56,22 @@ MESSAGE = f"delta 0 1 20\n{ITEMS}end\n"
 JOINED = (0, None, None, None, None, None, None, None, ITEMS)
 
 
-def run(words, given="", status=0):
+def run(words: list[str], given: str = "", status: int = 0) -> str:
     done = subprocess.run([PROGRAM, *words], input=given, capture_output=True, text=True, timeout=SECONDS)
     same(f"status of {' '.join(words)}", done.returncode, status)
     return done.stdout
 
 
-def read(folder, file, me, rows):
+def read(folder: str, file: str, me: int, rows: Sequence[Row]) -> None:
     path = os.path.join(folder, file)
     with opened(folder, file) as db:
         intact(f"{path}: integrity", db)
         texts = db.execute("SELECT name, sql FROM sqlite_schema WHERE type = 'table' ORDER BY name").fetchall()
         same(f"{path}: tables", texts, [("entries", ENTRIES), ("meta", META)])
-        strict = db.execute("SELECT name, strict FROM pragma_table_list WHERE schema = 'main' AND name IN ('meta', 'entries') ORDER BY name")
+        strict = db.execute(
+            "SELECT name, strict FROM pragma_table_list"
+            " WHERE schema = 'main' AND name IN ('meta', 'entries') ORDER BY name"
+        )
         same(f"{path}: strict", strict.fetchall(), [("entries", 1), ("meta", 1)])
         meta = db.execute("SELECT one, kind, version, me, sites, bound FROM meta").fetchall()
         same(f"{path}: meta", meta, [(1, "ticket-escrow", 2, me, 2, 1000)])
@@ -78,7 +83,7 @@ def read(folder, file, me, rows):
         same(f"{path}: place {place}", row, (place, *wanted))
 
 
-def two_sites(folder):
+def two_sites(folder: str) -> None:
     first, second = os.path.join(folder, "first.db"), os.path.join(folder, "second.db")
     same("init of the first site", run(["init", first, "0", "2", "1000"]), "done\n")
     same("init of the second site", run(["init", second, "1", "2", "1000"]), "done\n")
@@ -98,7 +103,9 @@ def two_sites(folder):
     same("find", run(["find", first, "5"]), "4 short 60\n")
     listed = [f"{place} {line} {reply}\n" for place, (line, reply, _) in enumerate(ASKED) if " gala" in line]
     same("list", run(["list", first, "gala"]), "".join(listed))
-    with opened(folder, "first.db") as db, open(os.path.join(HERE, "..", "examples", "tickets-out.sql"), encoding="utf-8") as query:
+    with opened(folder, "first.db") as db, open(
+        os.path.join(HERE, "..", "examples", "tickets-out.sql"), encoding="utf-8"
+    ) as query:
         same("the tickets that are out", db.execute(query.read()).fetchall(), OUT)
 
 

@@ -15,9 +15,23 @@ import subprocess
 import sys
 import threading
 import time
+from collections.abc import Sequence
 
-from serving import Caller, ended, is_reached, started
-from trial import FORGED, SECONDS, call, free_port, intact, make_sites, opened, same, try_each
+from lib import (
+    call,
+    Caller,
+    ended,
+    FORGED,
+    free_port,
+    intact,
+    is_reached,
+    make_sites,
+    opened,
+    same,
+    SECONDS,
+    started,
+    try_each,
+)
 
 CALLERS = 8
 SALES = 20
@@ -30,7 +44,7 @@ LINE = "gala released 100 sold 100 refunded 0 outstanding 100\n"
 LINE_BEHIND_NC = "gala released 102 sold 102 refunded 0 outstanding 102\n"
 
 
-def offices(folder):
+def offices(folder: str) -> list[str]:
     """The files of two new sites, of which the first has seats and ceded some."""
     files = ["north.db", "south.db"]
     make_sites(folder, files)
@@ -39,7 +53,7 @@ def offices(folder):
     return files
 
 
-def sell(number, caller, replies):
+def sell(number: int, caller: Caller, replies: dict[int, str]) -> None:
     """Asks for a seat at a time, once the site has some, and keeps each reply under its request's number."""
     end = time.monotonic() + SECONDS
     while caller.ask("left gala") == "unknown" and time.monotonic() < end:
@@ -47,24 +61,28 @@ def sell(number, caller, replies):
     for k in range(SALES):
         line = f"sell {number * 100 + k + 10} gala 1"
         replies[number * 100 + k + 10] = caller.ask(line)
-    same(f"the first sale of caller {number} again", caller.ask(f"sell {number * 100 + 10} gala 1"), replies[number * 100 + 10])
+    same(
+        f"the first sale of caller {number} again",
+        caller.ask(f"sell {number * 100 + 10} gala 1"),
+        replies[number * 100 + 10],
+    )
     same(f"a line of caller {number} that cannot be read", caller.ask("sell"), "bad-line")
     same(f"caller {number} is let go", caller.quit(), True)
 
 
-def kept(folder, file):
+def kept(folder: str, file: str) -> dict[int, str]:
     with opened(folder, file) as records:
         asked = records.execute("SELECT number, reply, rest FROM entries WHERE verb = 'sell'").fetchall()
         intact(f"the file {file}", records)
     return {number: reply if rest is None else f"{reply} {rest}" for number, reply, rest in asked}
 
 
-def sell_at_once(folder, files):
+def sell_at_once(folder: str, files: list[str]) -> None:
     port = free_port()
     serving = started(folder, port, CALLERS, 1000, files)
     # The connection at each place comes to the site whose number is the place modulo the count of sites.
     callers = [Caller(port) for _ in range(CALLERS)]
-    replies = {}
+    replies: dict[int, str] = {}
     threads = [threading.Thread(target=sell, args=(number, caller, replies)) for number, caller in enumerate(callers)]
     for thread in threads:
         thread.start()
@@ -80,7 +98,7 @@ def sell_at_once(folder, files):
     same("the audit behind it", call(folder, ["audit", *files]), (0, LINE, ""))
 
 
-def netcat(folder, files):
+def netcat(folder: str, files: list[str]) -> str:
     """A session by `nc`, whose input is a pipe, beside one at the other site. Tells the audit's line behind it."""
     if shutil.which("nc") is None:
         print("serve at once: there is no nc here, so no session by it")
@@ -89,7 +107,9 @@ def netcat(folder, files):
     serving = started(folder, port, 2, 0, files)
     caller = Caller(port)
     lines = b"left gala\nrelease 5000 gala 2\nsell 5001 gala 2\nsell 5002 gala 1\nquit\n"
-    told = subprocess.run(["nc", "127.0.0.1", str(port)], input=lines, capture_output=True, timeout=SECONDS, check=False)
+    told = subprocess.run(
+        ["nc", "127.0.0.1", str(port)], input=lines, capture_output=True, timeout=SECONDS, check=False
+    )
     same("what nc was answered", told.stdout, b"left 0\ndone\ndone\nshort 0\n")
     same("what is left beside it", caller.ask("left gala"), "left 0")
     same("the caller beside nc is let go", caller.quit(), True)
@@ -99,7 +119,7 @@ def netcat(folder, files):
     return LINE_BEHIND_NC
 
 
-def bad_sessions(folder, files, line):
+def bad_sessions(folder: str, files: list[str], line: str) -> None:
     """A session that ends by a fault changes neither the status nor the others, and its connection is ended."""
     port = free_port()
     serving = started(folder, port, 3, 0, files)
@@ -112,7 +132,7 @@ def bad_sessions(folder, files, line):
     same("the end of bad sessions", ended(serving), (0, line, ""))
 
 
-def this_machine_alone(folder, files, line):
+def this_machine_alone(folder: str, files: list[str], line: str) -> None:
     """While it waits for its second connection, it listens to 127.0.0.1, and not to every address of this machine."""
     port = free_port()
     serving = started(folder, port, 2, 0, files)
@@ -124,7 +144,7 @@ def this_machine_alone(folder, files, line):
     same("the end of two sessions", ended(serving), (0, line, ""))
 
 
-def forged(folder, files):
+def forged(folder: str, files: list[str]) -> None:
     """A view above its owner's row is told in place of the sums, behind the sessions, whose sales stay."""
     same("a forged message", call(folder, ["import", files[1]], FORGED), (0, "joined\n", ""))
     port = free_port()
@@ -136,7 +156,7 @@ def forged(folder, files):
     same("what was entered stays", call(folder, ["find", files[0], "7000"])[1].split(" ", 1)[1], "done\n")
 
 
-def refusals(folder, files, line):
+def refusals(folder: str, files: list[str], line: str) -> None:
     north, south = files
     port = str(free_port())
     same("one of two", call(folder, ["serve", port, "1", "0", north]), (1, "not-whole\n", ""))
@@ -155,11 +175,11 @@ def refusals(folder, files, line):
     same("no session", no_session, (0, line, ""))
 
 
-def at_once(callers, lines):
+def at_once(callers: Sequence[Caller], lines: list[list[str]]) -> list[list[str]]:
     """The replies to each caller's lines, asked in threads."""
-    replies = [None] * len(callers)
+    replies: list[list[str]] = [[] for _ in callers]
 
-    def ask(place):
+    def ask(place: int) -> None:
         replies[place] = [callers[place].ask(line) for line in lines[place]]
 
     threads = [threading.Thread(target=ask, args=(place,)) for place in range(len(callers))]
@@ -170,7 +190,7 @@ def at_once(callers, lines):
     return replies
 
 
-def two_at_one_site(folder):
+def two_at_one_site(folder: str) -> None:
     """Two connections come to one site, and each sells and looks, with no gate between them."""
     make_sites(folder, ["only.db"])
     asked = call(folder, ["ask", "only.db"], "announce 1 gala\nrelease 2 gala 100\n")
@@ -186,7 +206,7 @@ def two_at_one_site(folder):
     same("what only.db has kept", kept(folder, "only.db"), {10: "done", 20: "done"})
 
 
-def three_sites(folder):
+def three_sites(folder: str) -> None:
     """Each site is sent its own message in one round."""
     files = ["a.db", "b.db", "c.db"]
     make_sites(folder, files)
@@ -198,7 +218,7 @@ def three_sites(folder):
         same(f"what {file} has left", call(folder, ["ask", file], "left gala\n"), (0, left, ""))
 
 
-def all_at_two_sites(folder):
+def all_at_two_sites(folder: str) -> None:
     files = offices(folder)
     sell_at_once(folder, files)
     line = netcat(folder, files)
@@ -208,4 +228,6 @@ def all_at_two_sites(folder):
     forged(folder, files)
 
 
-sys.exit(try_each([two_at_one_site, three_sites, all_at_two_sites], "serve at once: 0 differ", "serve at once: {} differ"))
+sys.exit(
+    try_each([two_at_one_site, three_sites, all_at_two_sites], "serve at once: 0 differ", "serve at once: {} differ")
+)

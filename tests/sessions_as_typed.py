@@ -11,10 +11,12 @@ import os
 import select
 import subprocess
 import sys
+from collections.abc import Iterable
 
-from trial import PROGRAM, call, same, try_each
+from lib import call, PROGRAM, same, try_each
+from lib.program import Found
 
-SECONDS = 30
+SECONDS = 240
 EXAMPLES = os.path.join(os.path.dirname(os.path.abspath(__file__)), "..", "examples")
 
 # Each line of an evening with its reply.
@@ -38,20 +40,21 @@ KEPT = [("1", "0 done"), ("2", "1 done"), ("3", "2 done"), ("4", "3 short 39"), 
 class Session:
     """A running `ask` with a pipe at each end."""
 
-    def __init__(self, folder, file):
-        self.program = subprocess.Popen(
-            [PROGRAM, "ask", file], stdin=subprocess.PIPE, stdout=subprocess.PIPE, stderr=subprocess.PIPE, cwd=folder, bufsize=0
-        )
+    def __init__(self, folder: str, file: str) -> None:
+        pipe, words = subprocess.PIPE, [PROGRAM, "ask", file]
+        self.program = subprocess.Popen(words, stdin=pipe, stdout=pipe, stderr=pipe, cwd=folder, bufsize=0)
 
-    def send(self, text):
+    def send(self, text: str) -> None:
+        assert self.program.stdin
         self.program.stdin.write(text.encode())
 
-    def has_more(self, seconds):
+    def has_more(self, seconds: float) -> bool:
         """Whether output, or its end, comes within these seconds."""
         return bool(select.select([self.program.stdout], [], [], seconds)[0])
 
-    def reply(self):
+    def reply(self) -> str:
         """The next line, or as much of it as came."""
+        assert self.program.stdout
         line = b""
         while not line.endswith(b"\n") and self.has_more(SECONDS):
             byte = self.program.stdout.read(1)
@@ -60,31 +63,31 @@ class Session:
             line += byte
         return line.decode()
 
-    def type(self, typed):
+    def type(self, typed: Iterable[tuple[str, str]]) -> None:
         for line, wanted in typed:
             self.send(line + "\n")
             same(f"the reply to {line!r}", self.reply(), wanted + "\n")
             same(f"behind the reply to {line!r}", self.has_more(0), False)
 
-    def end(self):
+    def end(self) -> Found:
         """What it still prints, with its status and standard error, once nothing more is typed."""
         out, err = self.program.communicate(timeout=SECONDS)
         return self.program.returncode, out.decode(), err.decode()
 
-    def kill(self):
+    def kill(self) -> None:
         self.program.kill()
         self.program.communicate(timeout=SECONDS)
 
 
-def run(folder, words, given=""):
+def run(folder: str, words: list[str], given: str = "") -> Found:
     return call(folder, words, given, SECONDS)
 
 
-def make(folder):
+def make(folder: str) -> None:
     same("init", run(folder, ["init", "site.db", "0", "1", "1000"]), (0, "done\n", ""))
 
 
-def line_by_line(folder):
+def line_by_line(folder: str) -> None:
     make(folder)
     session = Session(folder, "site.db")
     same("before the first line", session.has_more(0.2), False)
@@ -94,7 +97,7 @@ def line_by_line(folder):
         same(f"find {number}", run(folder, ["find", "site.db", number]), (0, kept + "\n", ""))
 
 
-def in_pieces(folder):
+def in_pieces(folder: str) -> None:
     make(folder)
     session = Session(folder, "site.db")
     for piece in ["anno", "unce 1", " gala"]:
@@ -107,7 +110,7 @@ def in_pieces(folder):
     same("a last line without its end", session.end(), (0, "done\n", ""))
 
 
-def until_quit(folder):
+def until_quit(folder: str) -> None:
     make(folder)
     session = Session(folder, "site.db")
     session.type(TYPED[:2])
@@ -117,7 +120,7 @@ def until_quit(folder):
 
 
 # The file is one program's as long as its session lasts.
-def alone(folder):
+def alone(folder: str) -> None:
     make(folder)
     session = Session(folder, "site.db")
     session.type(TYPED[:2])
@@ -127,7 +130,7 @@ def alone(folder):
 
 
 # Whatever was answered is in the file, though the program is killed as soon as its reply is read.
-def killed_behind_a_reply(folder):
+def killed_behind_a_reply(folder: str) -> None:
     make(folder)
     asked = [typed for typed in TYPED if typed[1] not in ("reused", "bad-line")]
     for count in range(1, len(asked) + 1):
@@ -139,7 +142,7 @@ def killed_behind_a_reply(folder):
 
 
 # A newcomer's first script prints what stands beside it.
-def first_night(folder):
+def first_night(folder: str) -> None:
     with open(os.path.join(EXAMPLES, "first-night.script")) as script:
         with open(os.path.join(EXAMPLES, "first-night.expected")) as expected:
             same("the first night", run(folder, ["world"], script.read()), (0, expected.read(), ""))

@@ -9,36 +9,31 @@ ends the command. Prints what differs, and ends with status 1 where anything doe
 """
 
 import contextlib
-import os
 import resource
 import socket
 import sys
-import tempfile
 import time
 
-from serving import Caller, connected, ended, started
-from trial import SECONDS, call, free_port, make_sites, opened, same, try_each
+from lib import call, Caller, connected, ended, free_port, make_sites, opened, same, SECONDS, started, try_each
 
-# The disk is not what is tried here.
-tempfile.tempdir = "/dev/shm" if os.path.isdir("/dev/shm") else None
 MOST_SITES, MOST_CALLERS, MOST_ROUNDS = 16, 1024, 1_000_000
 # More messages over each link than it has room for, many times over.
 CESSIONS = 80
 SEATS = 5
 # How long a ceded seat may be on its way.
-SOON = 20
+SOON = 120
 # What makes the message to the site that takes none a long one, so that the rounds do not end before the sessions.
 EVENTS = 300
 # So many files may be open where not all connections can be accepted.
 FEW_FILES = 16
 
 
-def asked(folder, file, lines):
+def asked(folder: str, file: str, lines: list[str]) -> None:
     told = call(folder, ["ask", file], "".join(line + "\n" for line in lines))
     same(f"ask {file}", told, (0, "done\n" * len(lines), ""))
 
 
-def three_sites(folder):
+def three_sites(folder: str) -> list[str]:
     """Two sites that cede to one another, and one whose full history takes no message, which stays due to it."""
     files = ["north.db", "south.db", "full.db"]
     for site, limit in enumerate([100_000, 100_000, 1]):
@@ -49,7 +44,7 @@ def three_sites(folder):
     return files
 
 
-def comes(caller, wanted):
+def comes(caller: Caller, wanted: int) -> bool:
     """Whether the site has so many seats soon."""
     end = time.monotonic() + SOON
     while time.monotonic() < end:
@@ -58,7 +53,7 @@ def comes(caller, wanted):
     return False
 
 
-def cede_to_and_fro(north, south):
+def cede_to_and_fro(north: Caller, south: Caller) -> int:
     """Cedes a seat to the other site and back; how often it came."""
     for k in range(CESSIONS):
         number = 1000 + k
@@ -71,7 +66,7 @@ def cede_to_and_fro(north, south):
     return CESSIONS
 
 
-def cessions(folder):
+def cessions(folder: str) -> None:
     """The rounds go on while the sessions do, and a cession of a session goes out with one of them."""
     files = three_sites(folder)
     port = free_port()
@@ -88,10 +83,14 @@ def cessions(folder):
         serving.kill()
         serving.communicate(timeout=SECONDS)
     out = call(folder, ["audit", *files])
-    same("the audit behind it", (out[0], out[1].splitlines()[-1]), (0, f"gala released {SEATS} sold 0 refunded 0 outstanding 0"))
+    same(
+        "the audit behind it",
+        (out[0], out[1].splitlines()[-1]),
+        (0, f"gala released {SEATS} sold 0 refunded 0 outstanding 0"),
+    )
 
 
-def callers_that_fit():
+def callers_that_fit() -> int:
     """As many as there may be, or as this process may have open."""
     _, hard = resource.getrlimit(resource.RLIMIT_NOFILE)
     most = MOST_CALLERS + 200 if hard == resource.RLIM_INFINITY else min(MOST_CALLERS + 200, hard)
@@ -99,12 +98,12 @@ def callers_that_fit():
     return min(MOST_CALLERS, most - 200)
 
 
-def numbers_kept(folder, file):
+def numbers_kept(folder: str, file: str) -> set[int]:
     with opened(folder, file) as records:
         return {number for (number,) in records.execute("SELECT number FROM entries WHERE number IS NOT NULL")}
 
 
-def many_callers(folder):
+def many_callers(folder: str) -> None:
     count = callers_that_fit()
     if count < MOST_CALLERS:
         print(f"sites at once: {count} callers, since no more files may be open here")
@@ -127,11 +126,11 @@ def many_callers(folder):
         same(f"who came to site {site}", numbers_kept(folder, file), set(range(site + 1, count + 1, MOST_SITES)))
 
 
-def few_files():
+def few_files() -> None:
     resource.setrlimit(resource.RLIMIT_NOFILE, (FEW_FILES, FEW_FILES))
 
 
-def accepting_fails(folder):
+def accepting_fails(folder: str) -> None:
     make_sites(folder, ["only.db"])
     port = free_port()
     serving = started(folder, port, 2 * FEW_FILES, 0, ["only.db"], preexec_fn=few_files)

@@ -13,30 +13,26 @@ transcript, and ends with status 1 where anything differs.
 import os
 import shlex
 import sys
-import tempfile
+from collections.abc import Iterable
 
-EACH = "--each" in sys.argv
-sys.argv = [word for word in sys.argv if not word.startswith("--")]
+from lib import call, CHECKS, HERE, OPTIONS, same, try_each
+from lib.trials import Trial
 
-import trial
-from trial import HERE, call, same, try_each
-
+EACH = OPTIONS.flag("each")
 FOLDER = os.path.join(HERE, "worked")
 RECORDS = "records.txt"
-# The disk is not what is tried here.
-tempfile.tempdir = "/dev/shm" if os.path.isdir("/dev/shm") else None
 MESSAGE = "delta 0 1 4\nname gala\ngave gala 0 0 100\ngave gala 0 1 40\nend\n"
 
 
 class Command:
     """A call of the program: its words, its input, and what it has to print, to tell and to end with."""
 
-    def __init__(self, words):
+    def __init__(self, words: str) -> None:
         self.words = shlex.split(words)
         self.text = {"<": "", ">": "", "!": "", "~": ""}
         self.status = 0
 
-    def add(self, mark, rest):
+    def add(self, mark: str, rest: str) -> None:
         if mark == "=":
             self.status = int(rest)
         elif mark == "~":
@@ -44,16 +40,16 @@ class Command:
         else:
             self.text[mark] += rest[:-1] if rest.endswith("\\") else rest + "\n"
 
-    def run(self, name, folder):
+    def run(self, name: str, folder: str) -> None:
         status, out, err = call(folder, self.words, self.text["<"])
         begin = self.text["~"]
         told = err if begin and err.startswith(begin) else self.text["!"] or begin
         same(f"{name}: {shlex.join(self.words)}", (status, out, err), (self.status, self.text[">"], told))
 
 
-def transcripts(path):
+def transcripts(path: str) -> list[tuple[str, list[Command]]]:
     """Each transcript of a file: its name and its commands."""
-    found = []
+    found: list[tuple[str, list[Command]]] = []
     with open(path, encoding="ascii") as text:
         for line in filter(None, text.read().split("\n")):
             mark, rest = line[0], line[2:]
@@ -66,18 +62,18 @@ def transcripts(path):
     return found
 
 
-def trial_of(name, commands):
-    def run(folder):
-        before = trial.failures
+def trial_of(name: str, commands: Iterable[Command]) -> Trial:
+    def run(folder: str) -> None:
+        before = CHECKS.failed
         for command in commands:
             command.run(name, folder)
         if EACH:
-            print("ok    " if trial.failures == before else "FAILED", name, flush=True)
+            print("ok    " if CHECKS.failed == before else "FAILED", name, flush=True)
 
     return run
 
 
-def prefixes(folder):
+def prefixes(folder: str) -> None:
     """Each proper prefix of a message is refused as one that was cut off, and the whole is taken."""
     same("prefixes: init", call(folder, ["init", "one.db", "1", "2", "1000"]), (0, "done\n", ""))
     for length in range(len(MESSAGE)):
@@ -85,12 +81,16 @@ def prefixes(folder):
     same("prefixes: all bytes", call(folder, ["import", "one.db"], MESSAGE), (0, "joined\n", ""))
 
 
-def main():
-    files = sys.argv[2:] or sorted(name for name in os.listdir(FOLDER) if name.endswith(".txt"))
-    every = [(f"{file}: {name}", commands) for file in files for name, commands in transcripts(os.path.join(FOLDER, file))]
+def main() -> int:
+    files = OPTIONS.chosen or sorted(name for name in os.listdir(FOLDER) if name.endswith(".txt"))
+    every = [
+        (f"{file}: {name}", commands) for file in files for name, commands in transcripts(os.path.join(FOLDER, file))
+    ]
     same("names of transcripts", len({name for name, _ in every}), len(every))
-    trials = [trial_of(*one) for one in every] + ([prefixes] if RECORDS in files else [])
-    return try_each(trials, f"{len(every)} transcripts are as they are written")
+    trials = {name: trial_of(name, commands) for name, commands in every} | (
+        {"prefixes": prefixes} if RECORDS in files else {}
+    )
+    return try_each(trials, f"{len(every)} transcripts are as they are written", chosen=[])
 
 
 sys.exit(main())

@@ -1,4 +1,6 @@
-"""What the scripts over `serve` and `open` share: how they are started and how they end, and callers that speak to them."""
+"""Programs that stay: how `serve` and `open` are started and how they end, and callers that speak to them."""
+
+from __future__ import annotations
 
 import contextlib
 import os
@@ -6,46 +8,47 @@ import socket
 import subprocess
 import threading
 import time
+from typing import Any
 
-from trial import PROGRAM, SECONDS, call, free_port, intact, opened, same
+from .checks import same
+from .options import PROGRAM
+from .program import SECONDS, Found, begun, call, free_port
+from .sites import EMPTY_LOG, intact, opened
 
-# The file of an office, and the bytes of a log without entries.
-FILE, EMPTY_LOG = "site.db", 41
-
-
-def started(folder, port, sessions, rounds, files, **limits):
-    return subprocess.Popen(
-        [PROGRAM, "serve", str(port), str(sessions), str(rounds), *files],
-        stdin=subprocess.DEVNULL,
-        stdout=subprocess.PIPE,
-        stderr=subprocess.PIPE,
-        cwd=folder,
-        **limits,
-    )
+# The file of an office.
+FILE = "site.db"
 
 
-def ended(serving):
-    """Its status, standard output and standard error; a program that does not end is killed, so that it holds no file."""
+Program = subprocess.Popen[bytes]
+
+
+def started(folder: str, port: int, sessions: int, rounds: int, files: list[str], **more: Any) -> Program:
+    """A `serve`."""
+    return begun(folder, ["serve", str(port), str(sessions), str(rounds), *files], **more)
+
+
+def ended(program: Program, seconds: float = SECONDS) -> Found:
+    """Its status, standard output and standard error; one that does not end is killed, so that it holds no file."""
     try:
-        out, err = serving.communicate(timeout=SECONDS)
+        out, err = program.communicate(timeout=seconds)
     finally:
-        serving.kill()
-    return serving.returncode, out.decode(), err.decode()
+        program.kill()
+    return program.returncode, out.decode(), err.decode()
 
 
-def connected(port, seconds=SECONDS):
+def connected(port: int, seconds: float = SECONDS, program: Program | None = None) -> socket.socket:
     """A connection, once the program listens."""
     end = time.monotonic() + seconds
     while True:
         try:
             return socket.create_connection(("127.0.0.1", port), timeout=SECONDS)
         except OSError:
-            if time.monotonic() > end:
+            if time.monotonic() > end or program and program.poll() is not None:
                 raise
-            time.sleep(0.01)
+            time.sleep(0.005)
 
 
-def is_reached(address, port):
+def is_reached(address: str, port: int) -> bool:
     """Whether anything listens to the port at this address of this machine."""
     try:
         socket.create_connection((address, port), timeout=SECONDS).close()
@@ -57,30 +60,36 @@ def is_reached(address, port):
 class Caller:
     """A session over a connection: each line is sent once the reply to the one before was read."""
 
-    def __init__(self, port, seconds=SECONDS):
-        self.stream = connected(port, seconds)
+    def __init__(self, port: int, seconds: float = SECONDS, program: Program | None = None) -> None:
+        self.stream = connected(port, seconds, program)
         self.lines = self.stream.makefile("r")
 
-    def send(self, line):
+    def send(self, line: str) -> None:
         with contextlib.suppress(ConnectionError):
             self.stream.sendall(line.encode() + b"\n")
 
-    def reply(self):
+    def begin(self, part: str) -> "Caller":
+        """Sends a part of a line. In the middle of one a caller is not idle, however slow the machine is."""
+        with contextlib.suppress(ConnectionError):
+            self.stream.sendall(part.encode())
+        return self
+
+    def reply(self) -> str:
         """The next line, or nothing where the connection has ended."""
         with contextlib.suppress(ConnectionError):
             return self.lines.readline().rstrip("\n")
         return ""
 
-    def ask(self, line):
+    def ask(self, line: str) -> str:
         self.send(line)
         return self.reply()
 
-    def quit(self):
+    def quit(self) -> bool:
         """Whether the connection ends after `quit` with no reply, while other sessions go on."""
         self.send("quit")
         return self.reply() == ""
 
-    def go_away(self):
+    def go_away(self) -> None:
         self.stream.close()
         self.lines.close()
 
@@ -88,21 +97,24 @@ class Caller:
 class Operator(Caller):
     """A session at the socket of an open office."""
 
-    def __init__(self, path):
+    def __init__(self, path: str) -> None:
         self.stream = socket.socket(socket.AF_UNIX)
         self.stream.settimeout(SECONDS)
         self.stream.connect(path)
         self.lines = self.stream.makefile("r")
 
-    def message(self, line):
+    def message(self, line: str) -> str:
         """A message that begins with this line, up to `end`, or to the end of the connection."""
-        return line + "\n" + ("" if line in ("end", "") else self.message(self.reply()))
+        lines = [line]
+        while lines[-1] not in ("end", ""):
+            lines.append(self.reply())
+        return "".join(one + "\n" for one in lines)
 
-    def export(self, to):
+    def export(self, to: int) -> str:
         first = self.ask(f"export {to}")
         return self.message(first) if first.startswith("delta ") else first
 
-    def take(self, message):
+    def take(self, message: str) -> tuple[str, str]:
         """The word that answers a message, and the acknowledgement."""
         word = self.ask("import\n" + message.removesuffix("\n"))
         return word, self.message(self.reply()) if word in ("joined", "nothing-new") else ""
@@ -111,25 +123,33 @@ class Operator(Caller):
 class Office:
     """An office, once callers can come."""
 
-    def __init__(self, folder, file=FILE, port=None, seconds=SECONDS, **limits):
-        self.folder, self.file, self.port = folder, file, port or free_port()
+    def __init__(
+        self,
+        folder: str,
+        file: str = FILE,
+        port: int | None = None,
+        seconds: float = SECONDS,
+        program: str = PROGRAM,
+        **more: Any,
+    ) -> None:
+        self.folder, self.file, self.port, self.built = folder, file, port or free_port(), program
         self.path = os.path.join(folder, file + "-sock")
-        streams = {"stdin": subprocess.DEVNULL, "stdout": subprocess.PIPE, "stderr": subprocess.PIPE}
-        self.program = subprocess.Popen([PROGRAM, "open", str(self.port), file], cwd=folder, **streams, **limits)
+        self.program = begun(folder, ["open", str(self.port), file], program, **more)
         watch = threading.Timer(seconds, self.program.kill)
         watch.start()
-        same(f"what {file} prints as it opens", self.program.stdout.readline(), b"open\n")
+        assert self.program.stdout
+        same(f"what {file} prints as it opens", self.program.stdout.readline(), f"open {self.port} {file}\n".encode())
         watch.cancel()
 
-    def kill(self):
+    def kill(self) -> None:
         self.program.kill()
         same("it was killed", (self.program.wait(SECONDS), *self.program.communicate()), (-9, b"", b""))
 
-    def close(self):
-        same(f"close {self.file}", call(self.folder, ["close", self.file]), (0, "", ""))
+    def close(self) -> None:
+        same(f"close {self.file}", call(self.folder, ["close", self.file], program=self.built), (0, "", ""))
         self.has_ended()
 
-    def has_ended(self):
+    def has_ended(self) -> None:
         """Nothing but the file and a log without entries is left."""
         same(f"the end of {self.file}", ended(self.program), (0, "", ""))
         same(f"no socket of {self.file} is left", os.path.lexists(self.path), False)

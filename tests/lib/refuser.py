@@ -1,15 +1,19 @@
-"""What the trials share that refuse a program one request for memory: a library of a few lines through which the C library's
-malloc is called, made by `cc` or by the compiler that `rt` builds with, and runs with that library.
+"""What the trials share that refuse a program one request for memory: a library of a few lines through which the C
+library's malloc is called, made by `cc` or by the compiler that `rt` builds with, and runs with that library.
 """
+
+from __future__ import annotations
 
 import os
 import shutil
 import subprocess
+from collections.abc import Callable
 
-from trial import SECONDS
+from .program import SECONDS
 
 SOURCE = r"""
-extern void *__libc_malloc(unsigned long), *__libc_calloc(unsigned long, unsigned long), *__libc_realloc(void *, unsigned long);
+extern void *__libc_malloc(unsigned long), *__libc_calloc(unsigned long, unsigned long);
+extern void *__libc_realloc(void *, unsigned long);
 extern char *getenv(const char *);
 extern int *__errno_location(void);
 extern long strtol(const char *, char **, int), write(int, const void *, unsigned long);
@@ -27,7 +31,7 @@ void *realloc(void *block, unsigned long size) { return is_refused() ? 0 : __lib
 """
 
 
-def compiler():
+def compiler() -> list[str]:
     """A C compiler, with what else it has to be told."""
     if shutil.which("cc"):
         return ["cc"]
@@ -35,14 +39,14 @@ def compiler():
     return [os.path.join(os.path.dirname(page), "toolchain", "bin", "clang"), "-fuse-ld=lld", "-nostdlib"]
 
 
-def make_refuser(folder):
+def make_refuser(folder: str) -> str:
     refuser = os.path.join(folder, "refuser.so")
     words = [*compiler(), "-w", "-O1", "-fPIC", "-shared", "-x", "c", "-o", refuser, "-"]
-    subprocess.run(words, input=SOURCE.encode(), check=True)
+    subprocess.run(words, input=SOURCE.encode(), check=True, timeout=SECONDS)
     return refuser
 
 
-def begun(refuser, number, words, folder):
+def begun(refuser: str, number: int, words: list[str], folder: str) -> tuple[subprocess.Popen[bytes], int]:
     """The run in which the request with this number is refused, and where it is told that it was."""
     told, teller = os.pipe()
     try:
@@ -60,7 +64,7 @@ def begun(refuser, number, words, folder):
     return program, told
 
 
-def ended(program, told, given=b""):
+def ended(program: subprocess.Popen[bytes], told: int, given: bytes = b"") -> tuple[bool, tuple[int, bytes, bytes]]:
     """Whether the request came and was refused, and the status, standard output and standard error."""
     try:
         out, err = program.communicate(given, timeout=SECONDS)
@@ -71,7 +75,7 @@ def ended(program, told, given=b""):
     return was_refused, (program.returncode, out, err)
 
 
-def count(was_refused):
+def count(was_refused: Callable[[int], bool]) -> int:
     """How many requests a run makes, where `was_refused` runs and tells whether the request with a number came."""
     most = 1
     while was_refused(most):
@@ -83,7 +87,7 @@ def count(was_refused):
     return least
 
 
-def chosen(total, spread, last):
+def chosen(total: int, spread: int, last: int) -> list[int]:
     """So many requests spread over all, and each of the last ones."""
     step = max(1, total // spread)
     return sorted({*range(1, total + 1, step), *range(max(1, total + 1 - last), total + 1)})
