@@ -6,6 +6,7 @@ ghost use Rattle.rights_lattice.specs.State.{knows};
 ghost use Rattle.rights_lattice.specs.RightsView.{IsWithin};
 ghost use Rattle.local_rights.specs.OpenSeats.{view_in};
 ghost use Rattle.local_rights.specs.Rights.{HasRights, IsPosition, paper_value};
+ghost use Rattle.local_rights.specs.Shares.{share_in};
 ghost use Rattle.book_core.specs.History.{state_of, kept, sale_of, names_known, asked_from, sites_after};
 ghost use Rattle.book_core.specs.Decision.{own_left, sites_of};
 ghost use Rattle.book_core.specs.Legal.{IsLegal};
@@ -18,7 +19,7 @@ use crate::entry::Entry;
 use crate::limit::Limit;
 use crate::plan::Planned;
 use event_catalogue::Catalogue;
-use local_rights::{Counted, ViewTotals, open_seats, totals};
+use local_rights::{Counted, ViewTotals, open_seats, share, totals};
 use request_ledger::{Kept, Ledger, RequestNumber, SaleState};
 use rights_lattice::{Cell, Event, Mark, SiteId, Sites};
 use std::alloc::{AllocError, Global};
@@ -164,6 +165,14 @@ impl Book {
         ensures has_rights { HasRights (state_of self.now.history).cells event self.now.office.me }
     {
         self.rights.left(event)
+    }
+
+    /// The seats of an event that a site may still sell by this site's view; `None` if by it that site spent more than it
+    /// gained.
+    pub fn share(&self, site: SiteId, event: Event) -> Option<u64>
+        ensures share { result ≡ share_in (state_of self.now.history).cells event site }
+    {
+        share(self.rights.rights(), site, event)
     }
 
     /// What all sites released, sold and took back of an event, and the seats that are open, by this site's view; no open

@@ -3,3 +3,4 @@ pub mod Counted
 pub mod Effects
 pub mod OpenSeats
 pub mod Rights
+pub mod Shares

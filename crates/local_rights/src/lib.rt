@@ -3,7 +3,7 @@
 //! A site may sell what it released, was given and took back, less what it gave away and sold. `left` computes that
 //! from the cells; `Counted` holds it beside them for one site, event by event, so that a look-up sums nothing.
 //! `totals` and `open_seats` are the sums of a view: `open_seats` is `None` where some site's rights are negative in
-//! it.
+//! it. `share` is what any site may sell by a view, which `left` cannot tell of a site whose rights are negative.
 //!
 //! Guaranteed: the rights that `Counted` holds are those of its cells and are never negative; `left` requires that.
 //! `laws::rights_are_a_bounded_counter` equates them with the local rights of SRDS 2015, plus what was taken back (our
@@ -21,5 +21,5 @@ pub mod seat_totals;
 
 pub use counted::Counted;
 pub use position::open_seats;
-pub use rights::{left, paper_value, totals};
+pub use rights::{left, paper_value, share, totals};
 pub use seat_totals::{Totals, ViewTotals};

@@ -3,6 +3,7 @@ ghost use Rattle.std.specs.Prelude.{◌≡◌, ◌*◌, ◌≤◌, pos};
 ghost use Rattle.rights_lattice.specs.Cells.{greatest_value};
 ghost use Rattle.rights_lattice.specs.Limits.{site_numbers};
 ghost use Rattle.local_rights.specs.Rights.{HasRights, gained, spent, left_of, rights_of, released_in, sold_in, refunded_in, paper_value};
+ghost use Rattle.local_rights.specs.Shares.{share_in};
 
 use crate::seat_totals::Totals;
 use rights_lattice::{Cell, Event, Rights, SiteId};
@@ -16,6 +17,19 @@ pub fn left(rights: &Rights, me: SiteId, event: Event) -> u64
 {
     let (gained, spent) = gained_and_spent(rights, me, event);
     gained - spent
+}
+
+/// The seats that a site may still sell by this view; `None` if by it the site spent more than it gained, as after a
+/// forged delta.
+pub fn share(rights: &Rights, site: SiteId, event: Event) -> Option<u64>
+    ensures { result ≡ share_in rights.now.cells event site }
+{
+    let (gained, spent) = gained_and_spent(rights, site, event);
+    if spent <= gained {
+        Some(gained - spent)
+    } else {
+        None
+    }
 }
 
 // What the site released, got from other sites and took back, and what it gave to them and sold.

@@ -1,5 +1,5 @@
 -- The INSERTs of several entries in one transaction, and why it ends without them.
-use Rattle.std.proofs.Common.{◌≡◌, ◌⊎◌, inl, inr, ℕ, suc, ◌+◌, ◌<◌, List, [], ◌∷◌, ◌++◌, length, take, get_or, true, Some, Result, Ok, Err, IsErrAnd, refl, sym, ap, subst, ◌∙◌, arith}
+use Rattle.std.proofs.Common.{◌≡◌, inl, inr, ℕ, suc, ◌+◌, ◌<◌, List, [], ◌∷◌, ◌++◌, length, take, get_or, true, Some, Result, Ok, Err, IsErrAnd, sym, ap, subst, ◌∙◌, arith}
 use Rattle.std.specs.Prelude.{slice_get}
 use Rattle.std.proofs.Math.Seq.{take-suc}
 use Rattle.std.proofs.lemmas.List.{length-take-le}
@@ -10,9 +10,8 @@ use Rattle.sqlite.specs.Order.{Row}
 use Rattle.sqlite.specs.Held.{Held, state}
 use Rattle.sqlite.specs.State.{ExecutesInside}
 use Rattle.sqlite.specs.declared.error.Error.{Error}
-use Rattle.sql_records.specs.declared.keeper.KeepFault.{KeepFault}
-use Rattle.sql_records.specs.declared.keeper.KeepFault.TheVariants.{Memory, Disk}
-use Rattle.sql_records.specs.Adding.{FailsToPut, FailsToPutAll, inserting}
+use Rattle.history_keeper.specs.declared.keeper.KeepFault.TheVariants.{Memory, Disk}
+use Rattle.sql_records.specs.Adding.{FailsToPut, inserting}
 use Rattle.sql_records.specs.Faults.{told}
 use Rattle.sql_records.specs.Making.{RunInTurn}
 use Rattle.sql_records.specs.Rows.{columns_of}

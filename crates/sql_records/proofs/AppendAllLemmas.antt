@@ -1,5 +1,5 @@
 -- What one transaction over several entries makes of the history, and what a stop may leave.
-use Rattle.std.proofs.Common.{◌≡◌, ◌≢◌, ◌⊎◌, inl, inr, ℕ, ◌+◌, ◌<◌, List, [], ◌∷◌, ◌++◌, map, take, get_or, arith, Some, None, IsTrue, true, false, length, refl, sym, ap, subst, ◌∙◌, append-nil}
+use Rattle.std.proofs.Common.{◌≡◌, ◌≢◌, ◌⊎◌, inl, inr, ℕ, ◌+◌, ◌<◌, List, [], ◌∷◌, ◌++◌, map, take, get_or, Some, IsTrue, true, false, length, refl, sym, ap, subst, ◌∙◌, append-nil}
 use Rattle.std.proofs.lemmas.List.{append_assoc}
 use Rattle.sqlite.specs.Store.{Ghosts}
 use Rattle.sqlite.specs.Held.{Held, state}
@@ -8,15 +8,15 @@ use Rattle.sqlite.specs.Tree.{Trees}
 use Rattle.sqlite.specs.Effect.{Database, IsDatabase}
 use Rattle.sqlite.specs.State.{State, HasCleanDisk, Survives, Shows}
 use Rattle.book_core.specs.declared.entry.Entry.{Entry}
-use Rattle.sql_records.specs.declared.meta.Meta.{Meta}
+use Rattle.history_keeper.specs.declared.meta.Meta.{Meta}
 use Rattle.sql_records.specs.Layout.{IsOurs, HasMeta, meta_shown}
 use Rattle.sql_records.specs.Rows.{AreWhole}
 use Rattle.sql_records.specs.Held.{Adds, HasMore, IsAdding, IsAtRest, IsSiteIn, MayLeaveIn, LeavesSite, history_in, opened_in, rows_in}
-use Rattle.sql_records.specs.Keeping.{LeavesAllOrNone}
+use Rattle.history_keeper.specs.Keeping.{LeavesAllOrNone}
 use Rattle.sqlite.specs.Steps.{FailsToCommit}
 use Rattle.sqlite.specs.declared.error.Error.{Error}
-use Rattle.sql_records.specs.declared.keeper.KeepFault.{KeepFault}
-use Rattle.sql_records.specs.declared.keeper.KeepFault.TheVariants.{Memory, Disk, Shut}
+use Rattle.history_keeper.specs.declared.keeper.KeepFault.{KeepFault}
+use Rattle.history_keeper.specs.declared.keeper.KeepFault.TheVariants.{Memory, Disk, Shut}
 use Rattle.sql_records.specs.Adding.{FailsToKeep, FailsToPutAll, IsKeepAllFault, inserting}
 use Rattle.sql_records.specs.Faults.{told}
 use Rattle.sql_records.specs.Making.{RunInTurn}

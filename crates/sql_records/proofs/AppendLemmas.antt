@@ -23,12 +23,12 @@ use Rattle.request_ledger.specs.declared.reply.Reply.{Reply}
 use Rattle.request_ledger.specs.declared.reply.Reply.TheVariants.{Done, Known, Unknown, Short, CellFull, NoSale, Refunded, TooMany, ToSelf, NoSite}
 use Rattle.book_core.specs.declared.entry.Entry.{Entry}
 use Rattle.book_core.specs.declared.entry.Entry.TheVariants.{Asked, Joined, Grown}
-use Rattle.sql_records.specs.declared.meta.Meta.{Meta}
+use Rattle.history_keeper.specs.declared.meta.Meta.{Meta}
 use Rattle.sql_records.specs.Texts.{insert_text}
 use Rattle.sql_records.specs.Layout.{IsOurs, ours_and, HasMeta, meta_shown}
 use Rattle.sql_records.specs.Rows.{event_column, amount_column, target_column, rest_column, columns_of, stored, shown, IsStorable, entry_of, in_order, AreWhole}
 use Rattle.sql_records.specs.Held.{IsAdding, IsAtRest, IsSiteIn, MayLeaveIn, LeavesSite, history_in, opened_in, rows_in}
-use Rattle.sql_records.specs.Keeping.{LeavesWithOrWithout}
+use Rattle.history_keeper.specs.Keeping.{LeavesWithOrWithout}
 use Rattle.sql_records.proofs.MakeLemmas.{was_clean}
 use Rattle.sql_records.proofs.EntryBack.{entry_back}
 use Rattle.sql_records.proofs.RowLemmas.{put_next, whole_next, entries_next, read_from}

@@ -19,7 +19,7 @@ use Rattle.sqlite.specs.Listing.{understood}
 use Rattle.sqlite.specs.Effect.{Database, IsDatabase}
 use Rattle.sqlite.specs.State.{State, mode_of, Writes, Executes}
 use Rattle.sqlite.proofs.Callers.{IsPlain, command_of, statement_of, runs_as, one_step}
-use Rattle.sql_records.specs.declared.meta.Meta.{Meta}
+use Rattle.history_keeper.specs.declared.meta.Meta.{Meta}
 use Rattle.sql_records.specs.Texts.{meta_text, entries_text, meta_insert_text}
 use Rattle.sql_records.specs.Layout.{our_schema, no_schema, meta_at, entries_at, meta_of, our_kind, meta_shown, HasMeta}
 use Rattle.sql_records.proofs.InsertLemmas.{went, same_value, cast_null, cast_int, one_zero}

@@ -5,7 +5,7 @@ use Rattle.sqlite.specs.Store.{Ghosts}
 use Rattle.sqlite.specs.declared.error.Error.{Error}
 use Rattle.sqlite.specs.State.{Executes}
 use Rattle.sqlite.specs.Held.{state}
-use Rattle.sql_records.specs.declared.keeper.KeepFault.TheVariants.{Memory, Disk}
+use Rattle.history_keeper.specs.declared.keeper.KeepFault.TheVariants.{Memory, Disk}
 use Rattle.sql_records.specs.Faults.{told}
 use Rattle.sql_records.specs.Texts.{insert_text}
 use Rattle.sql_records.specs.Rows.{columns_of}

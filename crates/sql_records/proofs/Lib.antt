@@ -20,3 +20,4 @@ mod MakeLemmas
 pub mod UpdateLemmas
 pub mod VersionLemmas
 pub mod MigrateLemmas
+pub mod ReadsLemmas

@@ -34,13 +34,14 @@ use Rattle.rights_lattice.specs.EventName.{name_of}
 use Rattle.rights_lattice.proofs.EventLaws.{name_of_found}
 use Rattle.sql_records.specs.declared.lookup.FindFault.{FindFault}
 use Rattle.sql_records.specs.declared.lookup.FindFault.TheVariants as fault
-use Rattle.sql_records.specs.declared.lookup.Found.{Found}
-use Rattle.sql_records.specs.declared.lookup.Listed.{Listed}
+use Rattle.history_keeper.specs.declared.lookup.Found.{Found}
+use Rattle.history_keeper.specs.declared.lookup.Listed.{Listed}
 use Rattle.request_ledger.specs.declared.verb.Verb.{Verb}
 use Rattle.request_ledger.specs.declared.verb.Verb.TheVariants as verb
 use Rattle.sqlite.specs.State.{State as Store}
 use Rattle.sql_records.specs.Rows.{is_null, text_in, number_within, positive_in, site_in, event_in, verb_in, event_column, announce_of, release_of, sell_of, part_in, refund_in_columns, cede_of, request_of, request_in, reply_in, delta_in, asks_nothing, asked_of, joined_of, sites_in, is_grow, only_grows, grown_of, own_of, entry_with, entry_of, AreWhole}
-use Rattle.sql_records.specs.Lookups.{IsFirstUnread, IsListFault, IsQueryFault, ReadsSome, found_in, listed_in, names_event, listing, has_number, has_event, found_columns, listed_columns, found_of, listed_of, first_found}
+use Rattle.history_keeper.specs.Lookups.{found_in, listed_in, names_event, listing}
+use Rattle.sql_records.specs.Lookups.{IsFirstUnread, IsListFault, IsQueryFault, ReadsSome, has_number, has_event, found_columns, listed_columns, found_of, listed_of, first_found}
 
 -- ---- what was read from a value
 

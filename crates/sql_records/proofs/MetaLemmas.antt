@@ -13,7 +13,7 @@ use Rattle.rights_lattice.specs.Limits.{greatest_site, most_sites}
 use Rattle.book_core.specs.Limits.{greatest_limit}
 use Rattle.plain_words.specs.Words.{◌>>=◌}
 use Rattle.plain_words.proofs.WordLaws.{bind_some}
-use Rattle.sql_records.specs.declared.meta.Meta.{Meta}
+use Rattle.history_keeper.specs.declared.meta.Meta.{Meta}
 use Rattle.sql_records.specs.declared.version.Version.{Version}
 use Rattle.sql_records.specs.declared.fault.OpenFault.{OpenFault}
 use Rattle.sql_records.specs.declared.fault.OpenFault.TheVariants.{NotOurs, OtherSchema, Damaged, Memory, Disk}

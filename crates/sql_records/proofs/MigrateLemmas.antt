@@ -9,7 +9,7 @@ use Rattle.book_core.specs.declared.entry.Entry.{Entry}
 use Rattle.book_core.specs.declared.plan.ReplayFault.{ReplayFault}
 use Rattle.book_core.specs.declared.plan.ReplayFault.TheVariants.{IllegalAt, Memory as NoMemory}
 use Rattle.book_core.specs.Replay.{IsReplayFault}
-use Rattle.sql_records.specs.declared.meta.Meta.{Meta}
+use Rattle.history_keeper.specs.declared.meta.Meta.{Meta}
 use Rattle.sql_records.specs.declared.version.Version.TheVariants.{First}
 use Rattle.sql_records.specs.declared.fault.OpenFault.{OpenFault}
 use Rattle.sql_records.specs.declared.fault.OpenFault.TheVariants.{NotOurs, OtherSchema, Damaged, Memory, Disk}
@@ -17,7 +17,8 @@ use Rattle.sql_records.specs.declared.fault.MigrateFault.{MigrateFault}
 use Rattle.sql_records.specs.declared.fault.MigrateFault.TheVariants as migrate
 use Rattle.sql_records.specs.Texts.{update_text}
 use Rattle.sql_records.specs.Faults.{told}
-use Rattle.sql_records.specs.Layout.{IsOurs, HasOtherSchema, office_of}
+use Rattle.history_keeper.specs.Meta.{office_of}
+use Rattle.sql_records.specs.Layout.{IsOurs, HasOtherSchema}
 use Rattle.sql_records.specs.Held.{history_in}
 use Rattle.sql_records.specs.Opening.{IsForeignCauseAs, IsOurFault, IsReadFault}
 use Rattle.sql_records.specs.Migrating.{AreRecordsIn, IsToldAs, of_replay, IsUnread, IsUnfit, IsMigrateFault}

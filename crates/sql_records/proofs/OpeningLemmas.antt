@@ -14,8 +14,8 @@ use Rattle.sqlite.specs.State.{State, IsLive, IsRolledBack, IsUnchanged}
 use Rattle.book_core.specs.declared.entry.Entry.{Entry}
 use Rattle.sql_records.specs.declared.fault.OpenFault.{OpenFault}
 use Rattle.sql_records.specs.declared.fault.OpenFault.TheVariants.{NotOurs, OtherSchema, Damaged, Memory, Disk}
-use Rattle.sql_records.specs.Keeping.{LeavesOnly, LeavesWithOrWithout, Keeps}
-use Rattle.sql_records.specs.declared.meta.Meta.{Meta}
+use Rattle.history_keeper.specs.Keeping.{LeavesOnly, LeavesWithOrWithout, Keeps}
+use Rattle.history_keeper.specs.declared.meta.Meta.{Meta}
 use Rattle.sql_records.specs.declared.version.Version.{Version}
 use Rattle.sql_records.specs.Layout.{IsOurs, HasGoodMeta, HasMeta, HasMetaAs, AreNumbers}
 use Rattle.sql_records.specs.Rows.{entry_of, is_below, rows_below, rows_from_0, AreInOrder, AreWhole, IsEntryIn, AreWholeIn, IsFirstDamaged, IsDamagedAt, IsOfVersion, WantsForEntry}

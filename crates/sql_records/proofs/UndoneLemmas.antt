@@ -1,5 +1,5 @@
 -- What a query that does not answer leaves.
-use Rattle.std.proofs.Common.{◌≡◌, ◌⊎◌, inl, inr, true, List, Option, Some, None, Result, Ok, Err, OnErr, IsTrue, sym, ◌∙◌, ℕ}
+use Rattle.std.proofs.Common.{◌≡◌, ◌⊎◌, inl, inr, true, List, Option, Some, None, Result, Ok, Err, OnOk, OnErr, IsErrAnd, IsTrue, sym, ◌∙◌, ℕ}
 use Rattle.std.proofs.lemmas.Bool.{cond-true}
 use Rattle.sqlite_schema.specs.declared.command.Returning.{Returning}
 use Rattle.sqlite_resolve.specs.declared.compiled.Compiled.{Compiled}
@@ -69,3 +69,7 @@ undone_outside old begun mid new same opened ran back = record {
 pub on_err : {T E : Type 0} (r : Result T E) (P : Type 0) → P → OnErr r P
 on_err (Ok x) P h = tt
 on_err (Err e) P h = h
+
+pub of_err : {T E : Type 0} (r : Result T E) (P : Type 0) (Q : E → Type 0) → IsErrAnd r Q → OnOk r P
+of_err (Ok x) P Q h = absurd h
+of_err (Err e) P Q h = tt

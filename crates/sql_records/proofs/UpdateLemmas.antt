@@ -24,7 +24,7 @@ use Rattle.sqlite_value.proofs.OrderLemmas.{value_cmp-Int}
 use Rattle.sqlite_tied.specs.Compute.{everything}
 use Rattle.sqlite.specs.Listing.{understood}
 use Rattle.sqlite.proofs.Callers.{IsPlain, command_of, one_step, one_permutation}
-use Rattle.sql_records.specs.declared.meta.Meta.{Meta}
+use Rattle.history_keeper.specs.declared.meta.Meta.{Meta}
 use Rattle.sql_records.specs.declared.version.Version.{Version}
 use Rattle.sql_records.specs.declared.version.Version.TheVariants.{First, Second}
 use Rattle.sql_records.specs.Texts.{update_text}

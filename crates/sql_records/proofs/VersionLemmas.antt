@@ -8,7 +8,7 @@ use Rattle.sqlite.specs.Tree.{Trees}
 use Rattle.sqlite.specs.Listing.{understood}
 use Rattle.sqlite.specs.State.{State, HasCleanDisk, Survives, Executes, ExecutesIn, IsNotRun, CommitsBy, mode_of, IsNewestNamed, names_in, begins_at, shows_rows, IsUnchanged, IsRolledBack}
 use Rattle.sqlite.proofs.Callers.{statement_of, runs_as}
-use Rattle.sql_records.specs.declared.meta.Meta.{Meta}
+use Rattle.history_keeper.specs.declared.meta.Meta.{Meta}
 use Rattle.sql_records.proofs.MakeLemmas.{was_clean}
 use Rattle.sql_records.specs.declared.version.Version.TheVariants.{First, Second}
 use Rattle.sql_records.specs.Texts.{update_text}
@@ -16,7 +16,7 @@ use Rattle.sql_records.specs.Layout.{IsOurs, ours_and, meta_shown, HasMeta, HasM
 use Rattle.sql_records.specs.Held.{IsAtRest, LeavesSite, MayLeaveIn, history_in, opened_in, rows_in}
 use Rattle.std.specs.List.{AllByRecursion}
 use Rattle.sql_records.specs.Rows.{AreWhole, AreWholeIn, IsOfVersion, in_order, shown, history_of, entries_from}
-use Rattle.sql_records.specs.Keeping.{LeavesOnly}
+use Rattle.history_keeper.specs.Keeping.{LeavesOnly}
 use Rattle.sql_records.specs.Migrating.{AreRecordsIn, IsLegalFirst, IsMigrated, LeavesAsBeforeOrMigrated, LeavesItOrMigrated, LeavesSameEntries}
 use Rattle.sql_records.proofs.AppendLemmas.{commits_as}
 use Rattle.sql_records.proofs.RowLemmas.{read_from}

@@ -11,8 +11,8 @@ use Rattle.sqlite.specs.Held.{Held, state}
 use Rattle.sqlite.specs.declared.error.Error.{Error}
 use Rattle.sqlite.specs.declared.error.Error.TheVariants.{SqliteFailure}
 use Rattle.sqlite.specs.declared.error.ErrorCode.TheVariants.{OutOfMemory}
-use Rattle.sql_records.specs.declared.keeper.KeepFault.{KeepFault}
-use Rattle.sql_records.specs.declared.keeper.KeepFault.TheVariants.{Memory, Disk, Shut}
+use Rattle.history_keeper.specs.declared.keeper.KeepFault.{KeepFault}
+use Rattle.history_keeper.specs.declared.keeper.KeepFault.TheVariants.{Memory, Disk, Shut}
 use Rattle.sql_records.specs.Faults.{told}
 use Rattle.sql_records.specs.Held.{RecordsView, kept_in, most}
 use Rattle.sql_records.specs.Making.{RunInTurn}

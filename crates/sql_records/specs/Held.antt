@@ -15,10 +15,10 @@ use Rattle.sqlite.specs.declared.error.Error.TheVariants.{SqliteFailure}
 use Rattle.sqlite.specs.declared.error.ErrorCode.TheVariants.{OutOfMemory}
 use Rattle.book_core.specs.History.{delta_of}
 use Rattle.delta_wire.specs.Grammar.{delta_text}
-use Rattle.sql_records.specs.declared.keeper.KeepFault.{KeepFault}
-use Rattle.sql_records.specs.declared.keeper.KeepFault.TheVariants.{Memory, Disk, Shut}
+use Rattle.history_keeper.specs.declared.keeper.KeepFault.{KeepFault}
+use Rattle.history_keeper.specs.declared.keeper.KeepFault.TheVariants.{Memory, Disk, Shut}
 use Rattle.sql_records.specs.Texts.{insert_text}
-use Rattle.sql_records.specs.declared.meta.Meta.{Meta}
+use Rattle.history_keeper.specs.declared.meta.Meta.{Meta}
 use Rattle.sql_records.specs.Layout.{our_schema, meta_tree, IsOurs, HasMeta, AreNumbers}
 use Rattle.sql_records.specs.Rows.{shown, columns_of, HasRoom, in_order, history_of, entries_from, AreWhole}
 

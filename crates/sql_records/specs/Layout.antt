@@ -19,9 +19,8 @@ use Rattle.sqlite_schema.specs.declared.schema.Index.{Index}
 use Rattle.sqlite_schema.specs.declared.schema.View.{View}
 use Rattle.sqlite_schema.specs.Names.{same_name}
 use Rattle.rights_lattice.specs.Limits.{most_sites}
-use Rattle.book_core.specs.Decision.{Office}
 use Rattle.book_core.specs.Limits.{greatest_limit}
-use Rattle.sql_records.specs.declared.meta.Meta.{Meta}
+use Rattle.history_keeper.specs.declared.meta.Meta.{Meta}
 use Rattle.sql_records.specs.declared.version.Version.{Version}
 use Rattle.sql_records.specs.declared.version.Version.TheVariants.{First, Second}
 
@@ -164,10 +163,6 @@ meta_tree = 0
 
 abbrev pub meta_rows : Trees → List Row
 meta_rows db = map meta_shown (db meta_tree)
-
--- the site that the numbers of the records are of
-abbrev pub office_of : Meta → Office
-office_of meta = record { me = meta.me; sites = meta.sites; limit = meta.limit }
 
 -- the one row has these numbers, under this version
 abbrev pub HasMetaAs : Version → Meta → Trees → Type 0

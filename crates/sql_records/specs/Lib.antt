@@ -1,12 +1,11 @@
 pub mod Adding
 pub mod Faults
 pub mod Held
-pub mod Keeping
 pub mod Layout
-pub mod ListView
 pub mod Lookups
 pub mod Making
 pub mod Migrating
+pub mod Opened
 pub mod Opening
 pub mod Restarting
 pub mod Rows

@@ -1,6 +1,5 @@
 -- What the records are asked: what is kept under a number, and which requests name an event. (Our own.)
-use Rattle.std.specs.Prelude.{ℕ, Bool, false, List, [], ◌∷◌, Option, Some, None, pos, map, filter, take, slice_get, unwrap_or, ◌≡◌, ◌⊎◌, ◌<◌, length, IsSome}
-use Rattle.std.specs.Option.{option_map}
+use Rattle.std.specs.Prelude.{ℕ, Bool, List, [], ◌∷◌, Option, Some, None, pos, map, take, slice_get, unwrap_or, ◌≡◌, ◌⊎◌, ◌<◌, length, IsSome}
 use Rattle.sqlite.specs.declared.types.Value.{Value}
 use Rattle.sqlite.specs.declared.types.Value.TheVariants.{Int, Text}
 use Rattle.sqlite.specs.Collation.TheVariants.{Binary}
@@ -8,43 +7,16 @@ use Rattle.sqlite.specs.Order.{Row, column}
 use Rattle.sqlite_sql.specs.declared.ops.BinaryOp.TheVariants.{Compare}
 use Rattle.sqlite_sql.specs.declared.ops.CompareOp.TheVariants.{Eq}
 use Rattle.sqlite_sql.specs.Ops.{binary, is_true}
-use Rattle.rights_lattice.specs.Cell.{same_event}
-use Rattle.request_ledger.specs.declared.request.Request.{Request}
-use Rattle.request_ledger.specs.declared.request.Request.TheVariants.{Announce, Release, Sell, Refund, Cede}
-use Rattle.request_ledger.specs.declared.reply.Kept.{Kept}
-use Rattle.book_core.specs.declared.entry.Entry.{Entry}
-use Rattle.book_core.specs.History.{asked, kept}
 use Rattle.plain_words.specs.Words.{◌>>=◌}
 use Rattle.sqlite.specs.State.{State, IsUnchanged}
 use Rattle.sql_records.specs.Faults.{HasDiskCause, IsUndoneForMemory}
 use Rattle.sql_records.specs.declared.lookup.FindFault.{FindFault}
 use Rattle.sql_records.specs.declared.lookup.FindFault.TheVariants.{Shut, Damaged, Memory, Disk}
-use Rattle.sql_records.specs.declared.lookup.Found.{Found}
-use Rattle.sql_records.specs.declared.lookup.Listed.{Listed}
+use Rattle.history_keeper.specs.declared.lookup.Found.{Found}
+use Rattle.history_keeper.specs.declared.lookup.Listed.{Listed}
 use Rattle.sql_records.specs.Rows.{positive_in, request_in, reply_in}
 
--- ---- over the entries
-
--- the place and the reply of what is kept under a number
-abbrev pub found_in : List Entry → ℕ → Option Found
-found_in h number = option_map (λ k. record { place = k.place; reply = k.reply }) (kept h number)
-
--- the request names the event
-abbrev pub names_event : List ℕ → Request → Bool
-names_event name (Announce event) = same_event event name
-names_event name (Release event amount) = same_event event name
-names_event name (Sell event amount) = same_event event name
-names_event name (Refund sale part) = false
-names_event name (Cede event to amount) = same_event event name
-
-abbrev pub listing : ℕ × Kept → Listed
-listing a = record { place = a.1.place; number = a.0; request = a.1.request; reply = a.1.reply }
-
--- the requests that name an event, by place
-abbrev pub listed_in : List Entry → List ℕ → List Listed
-listed_in h name = map listing (filter (λ a. names_event name a.1.request) (asked h))
-
--- ---- over the rows, each as a query shows its ten columns
+-- ---- the rows, each as a query shows its ten columns
 
 -- the request number is this one, as SQL compares values
 abbrev pub has_number : ℕ → Row → Bool

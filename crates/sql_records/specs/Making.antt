@@ -11,7 +11,7 @@ use Rattle.sqlite.specs.declared.error.Error.TheVariants.{SqliteFailure}
 use Rattle.sqlite.specs.declared.error.ErrorCode.TheVariants.{OutOfMemory}
 use Rattle.sql_records.specs.declared.fault.InitFault.{InitFault}
 use Rattle.sql_records.specs.declared.fault.InitFault.TheVariants.{AlreadyThere, Memory, Disk}
-use Rattle.sql_records.specs.declared.meta.Meta.{Meta}
+use Rattle.history_keeper.specs.declared.meta.Meta.{Meta}
 use Rattle.sql_records.specs.Texts.{meta_text, entries_text, meta_insert_text}
 use Rattle.sql_records.specs.Layout.{no_schema, has_our_table, meta_of}
 

@@ -1,8 +1,8 @@
 -- What raising the version of the records leaves, and why it is not raised. (Our own.)
-use Rattle.std.specs.Prelude.{◌≡◌, ◌≢◌, ◌⊎◌, [], Bool, true, false, Some, Err, IsTrue}
+use Rattle.std.specs.Prelude.{◌≡◌, ◌≢◌, ◌⊎◌, [], Bool, true, false, Some, Result, Err, IsTrue, IfErr, OnOk, OnErr, length}
 use Rattle.sqlite.specs.Store.{Ghosts}
 use Rattle.sqlite.specs.Tree.{Trees}
-use Rattle.sqlite.specs.State.{State, Executes, IsUnchanged}
+use Rattle.sqlite.specs.State.{State, Executes, HasCleanDisk, IsUnchanged}
 use Rattle.sqlite.specs.Held.{Held, state}
 use Rattle.sqlite.specs.declared.error.Error.{Error}
 use Rattle.sqlite.specs.declared.error.Error.TheVariants.{SqliteFailure}
@@ -11,7 +11,7 @@ use Rattle.book_core.specs.declared.plan.ReplayFault.{ReplayFault}
 use Rattle.book_core.specs.declared.plan.ReplayFault.TheVariants as replay
 use Rattle.book_core.specs.Legal.{IsLegal}
 use Rattle.book_core.specs.Replay.{IsReplayFault}
-use Rattle.sql_records.specs.declared.meta.Meta.{Meta}
+use Rattle.history_keeper.specs.declared.meta.Meta.{Meta}
 use Rattle.sql_records.specs.declared.version.Version.{Version}
 use Rattle.sql_records.specs.declared.version.Version.TheVariants.{First, Second}
 use Rattle.sql_records.specs.declared.fault.OpenFault.{OpenFault}
@@ -20,9 +20,11 @@ use Rattle.sql_records.specs.declared.fault.MigrateFault.{MigrateFault}
 use Rattle.sql_records.specs.declared.fault.MigrateFault.TheVariants.{NotOurs, OtherSchema, Nothing, Damaged, Memory, Disk}
 use Rattle.sql_records.specs.Texts.{update_text}
 use Rattle.sql_records.specs.Faults.{HasDiskCause, IsUndoneForMemory}
-use Rattle.sql_records.specs.Layout.{IsOurs, version_number, HasMetaAs, HasOtherSchema, HasNoMeta, AreNumbers, office_of}
+use Rattle.history_keeper.specs.Meta.{office_of}
+use Rattle.history_keeper.specs.Keeping.{LeavesOnly}
+use Rattle.sql_records.specs.Layout.{IsOurs, version_number, HasMetaAs, HasOtherSchema, HasNoMeta, AreNumbers}
 use Rattle.sql_records.specs.Rows.{AreWholeIn}
-use Rattle.sql_records.specs.Held.{entries_tree, rows_in, history_in, opened_in}
+use Rattle.sql_records.specs.Held.{IsAtRest, LeavesNoMore, LeavesSite, MayLeaveIn, entries_tree, rows_in, history_in, opened_in}
 use Rattle.sql_records.specs.Opening.{IsEntriesFault, IsForeignCauseAs}
 
 -- ---- what is left
@@ -122,3 +124,22 @@ module _ {S : Type 0} (g : Ghosts S) (conn : Held S) where
     -- why records are not migrated
     abbrev pub IsMigrateFault : MigrateFault → Type 0
     IsMigrateFault fault = IsUnfit fault ⊎ (IsOurs conn.schema × IsUnset fault)
+
+-- What a call that migrates does: the records get the second version, or this is why not. A stop leaves what it could leave before, or the
+-- same entries in the second version.
+pub record MigrateCall {S : Type 0} (g : Ghosts S) (old new : Held S) (result : Result (Unit {0}) MigrateFault) : Type 0 where
+  pub busy : old.in_transaction ≡ true → (result ≡ Err Disk) × (new ≡ old)
+  pub schema : OnOk result (IsOurs old.schema)
+  pub first : HasCleanDisk (state g new) → OnOk result (IsLegalFirst (state g old).now.trees)
+  pub set : HasCleanDisk (state g new) → OnOk result (IsMigrated (state g old).now.trees (state g new).now.trees)
+  pub rest : HasCleanDisk (state g new) → OnOk result (IsAtRest (state g new) (length (history_in (state g old).now.trees)))
+  pub leaves : HasCleanDisk (state g new) → OnOk result (LeavesOnly (history_in (state g old).now.trees) (MayLeaveIn (state g new)))
+  pub site : HasCleanDisk (state g new) → OnOk result ((meta : Meta) → HasMetaAs First meta (state g old).now.trees → LeavesSite (state g new) meta)
+  pub crash : HasCleanDisk (state g new) → LeavesAsBeforeOrMigrated (state g old) (state g new)
+  pub either : old.in_transaction ≡ false → IsTrue (state g old).is_open → HasCleanDisk (state g new) → LeavesItOrMigrated (state g old).now.trees (state g new)
+  pub reads : old.in_transaction ≡ false → IsTrue (state g old).is_open → HasCleanDisk (state g new) → LeavesSameEntries (state g old).now.trees (state g new)
+  pub refused : HasCleanDisk (state g new) → IfErr result (λ fault. fault ≢ Memory → fault ≢ Disk → LeavesNoMore (state g old) (state g new))
+  pub as_before : HasCleanDisk (state g new) → OnErr result (IsAsBefore (state g old) (state g new))
+  pub fault : HasCleanDisk (state g new) → IfErr result (IsMigrateFault g old new)
+  pub limit : new.step_limit ≡ old.step_limit
+  pub clean : HasCleanDisk (state g new) → HasCleanDisk (state g old)

@@ -1,5 +1,5 @@
 -- What an open answers of a database that it does not read. (Our own.)
-use Rattle.std.specs.Prelude.{◌≡◌, ◌≢◌, ◌⊎◌, ℕ, ℤ, pos, take, slice_get, nat_lt, IsSome, if◌then◌else◌, true, false, IsTrue, List, [], ◌∷◌, Option, Some, None}
+use Rattle.std.specs.Prelude.{◌≡◌, ◌≢◌, ◌⊎◌, ℕ, ℤ, pos, take, slice_get, nat_lt, IsSome, if◌then◌else◌, true, false, IsTrue, List, [], ◌∷◌, Option, Some, None, Result, OnOk, OnErr}
 use Rattle.sqlite.specs.declared.types.Value.{Value}
 use Rattle.sqlite.specs.declared.types.Value.TheVariants.{Int, Text}
 use Rattle.sqlite.specs.Order.{Row, column}
@@ -13,7 +13,7 @@ use Rattle.sqlite.specs.declared.error.Error.TheVariants.{SqliteFailure}
 use Rattle.sqlite.specs.declared.error.ErrorCode.TheVariants.{OutOfMemory, SystemIoFailure, DatabaseCorrupt, DiskFull, Closed}
 use Rattle.plain_words.specs.Words.{◌>>=◌}
 use Rattle.book_core.specs.Limits.{greatest_limit}
-use Rattle.sql_records.specs.declared.meta.Meta.{Meta}
+use Rattle.history_keeper.specs.declared.meta.Meta.{Meta}
 use Rattle.sql_records.specs.declared.fault.OpenFault.{OpenFault}
 use Rattle.sql_records.specs.declared.fault.OpenFault.TheVariants.{NotOurs, OtherSchema, Damaged, Memory, Disk}
 use Rattle.sql_records.specs.Rows.{number_within, site_in, sites_in, entry_of, rows_from_0, AreInOrder, AreWholeIn, IsDamagedAt, IsOfVersion, WantsForEntry}
@@ -22,7 +22,7 @@ use Rattle.sql_records.specs.declared.version.Version.TheVariants.{Second}
 use Rattle.sql_records.specs.Layout.{IsOurs, our_kind, version_number, HasOtherSchema, HasGoodMeta, HasNoMeta}
 use Rattle.sql_records.specs.Faults.{HasDiskCause, IsUndoneForMemory}
 use Rattle.sql_records.specs.Texts.{meta_select_text}
-use Rattle.sql_records.specs.Held.{entries_tree}
+use Rattle.sql_records.specs.Held.{entries_tree, LeavesNoMore}
 
 abbrev pub int_in : Value → Option ℤ
 int_in (Int n) = Some n
@@ -179,6 +179,15 @@ IsUndone old new = (new.now ≡ old.committed) × (new.in_transaction ≡ false)
 pub record IsLeftOrUndone (old new : State) : Type 0 where
   pub kept : KeepsCommit old new
   pub shows : IsTrue new.is_open → IsLeft old new ⊎ IsUndone old new
+
+-- A call that only reads. Where the disk is clean after it, it was clean before, and a crash leaves nothing that it could not leave
+-- before; an answer changed nothing, and an error committed nothing.
+pub record Reads {S T F : Type 0} (g : Ghosts S) (old new : Held S) (result : Result T F) : Type 0 where
+  pub limit : new.step_limit ≡ old.step_limit
+  pub clean : HasCleanDisk (state g new) → HasCleanDisk (state g old)
+  pub left : HasCleanDisk (state g new) → LeavesNoMore (state g old) (state g new)
+  pub same : HasCleanDisk (state g new) → OnOk result (IsUnchanged (state g old) (state g new))
+  pub undone : HasCleanDisk (state g new) → OnErr result (IsLeftOrUndone (state g old) (state g new))
 
 -- what may be at fault in the next open after a stop: memory or the disk
 abbrev pub IsAfterStop : Option OpenFault → Type 0

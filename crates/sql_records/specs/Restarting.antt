@@ -1,14 +1,14 @@
 -- What an open finds after a crash, over the states alone. (Our own.)
-use Rattle.std.specs.Prelude.{◌≡◌, List, Option, Some, Result, Ok, Err, IfOk, IfErr}
+use Rattle.std.specs.Prelude.{◌≡◌, List, Some, Result, Ok, Err, IfOk, IfErr}
 use Rattle.sqlite.specs.Effect.{IsDatabase}
 use Rattle.sqlite.specs.Held.{Held, state}
 use Rattle.sqlite.specs.State.{State}
 use Rattle.sqlite.specs.Store.{Ghosts}
 use Rattle.book_core.specs.declared.entry.Entry.{Entry}
 use Rattle.sql_records.specs.declared.fault.OpenFault.{OpenFault}
-use Rattle.sql_records.specs.declared.meta.Meta.{Meta}
+use Rattle.history_keeper.specs.declared.meta.Meta.{Meta}
 use Rattle.sql_records.specs.Held.{Finds, IsSiteIn, LeavesSite, MayLeaveIn, opened_in}
-use Rattle.sql_records.specs.Keeping.{CanBeOpened, LeavesOnly}
+use Rattle.history_keeper.specs.Keeping.{CanBeOpened, LeavesOnly}
 use Rattle.sql_records.specs.Opening.{IsAfterStop, IsOpenFault}
 
 -- what an open of a database reports: a site's numbers and its entries, or what is at fault

@@ -5,15 +5,16 @@ ghost use Rattle.sqlite.specs.Held.{state};
 ghost use Rattle.sqlite.specs.Values.{bound};
 ghost use Rattle.sql_records.specs.Layout.{no_schema, has_our_table, meta_of};
 ghost use Rattle.sql_records.specs.Held.{IsNew, IsAtRest, LeavesAsBeforeOrNew, LeavesSite, MayLeaveIn};
-ghost use Rattle.sql_records.specs.Keeping.{LeavesOnly};
+ghost use Rattle.history_keeper.specs.Keeping.{LeavesOnly};
+ghost use Rattle.sql_records.specs.Opened.{InitCall, IsMade};
 ghost use Rattle.sql_records.specs.Making.{making, RunInTurn, FailInTurn, FailsToMake, IsRefusal, IsVacant, IsInitFault};
 
 use crate::fault::InitFault;
-use crate::meta::{KIND, Meta};
 use crate::records::Records;
 use crate::shape::has_our_table;
-use crate::version::Version;
+use crate::version::{KIND, Version};
 use book_core::Limit;
+use history_keeper::Meta;
 use rights_lattice::{SiteId, Sites};
 use sqlite::types::ValueRef;
 use sqlite::{Alter, Connection, Error, Transaction};
@@ -89,14 +90,8 @@ fn make<S: Alter>(conn: &mut Connection<S>, meta: Meta) -> Result<(), Error>
     requires me { meta.me < meta.sites }
     requires outside { conn.old.in_transaction ≡ false }
     requires empty { conn.old.schema ≡ no_schema }
-    ensures rest { HasCleanDisk (state S.Store conn.new)
-        → OnOk result (IsAtRest (state S.Store conn.new) 0) }
     ensures made { HasCleanDisk (state S.Store conn.new)
-        → OnOk result (IsNew meta (state S.Store conn.new).now) }
-    ensures leaves { HasCleanDisk (state S.Store conn.new)
-        → OnOk result (LeavesOnly [] (MayLeaveIn (state S.Store conn.new))) }
-    ensures site { HasCleanDisk (state S.Store conn.new)
-        → OnOk result (LeavesSite (state S.Store conn.new) meta) }
+        → OnOk result (IsMade (state S.Store conn.new) meta) }
     ensures crash { HasCleanDisk (state S.Store conn.new)
         → LeavesAsBeforeOrNew meta (state S.Store conn.old) (state S.Store conn.new) }
     ensures as_before { HasCleanDisk (state S.Store conn.new) → IsTrue (state S.Store conn.new).is_open → OnErr result
@@ -131,31 +126,8 @@ impl<S: Alter> Records<S> {
         limit: Limit,
     ) -> Result<(), InitFault>
         requires me { me < sites }
-        ensures there { (result ≡ Err InitFault.AlreadyThere)
-            ↔ IsTrue (has_our_table conn.old.schema) }
-        ensures other { has_our_table conn.old.schema ≡ false
-            → conn.old.schema ≢ no_schema → (result ≡ Err InitFault.Disk) × (conn.new ≡ conn.old) }
-        ensures busy { has_our_table conn.old.schema ≡ false → conn.old.in_transaction ≡ true
-            → (result ≡ Err InitFault.Disk) × (conn.new ≡ conn.old) }
-        ensures as_it_was { result ≡ Err InitFault.AlreadyThere → conn.new ≡ conn.old }
-        ensures rest { HasCleanDisk (state S.Store conn.new)
-            → OnOk result (IsAtRest (state S.Store conn.new) 0) }
-        ensures made { HasCleanDisk (state S.Store conn.new) → OnOk result
-            (IsNew (record { me = me; sites = sites; limit = limit }) (state S.Store conn.new).now) }
-        ensures leaves { HasCleanDisk (state S.Store conn.new)
-            → OnOk result (LeavesOnly [] (MayLeaveIn (state S.Store conn.new))) }
-        ensures site { HasCleanDisk (state S.Store conn.new) → OnOk result
-            (LeavesSite (state S.Store conn.new) (record { me = me; sites = sites; limit = limit })) }
-        ensures crash { HasCleanDisk (state S.Store conn.new)
-            → LeavesAsBeforeOrNew (record { me = me; sites = sites; limit = limit }) (state S.Store conn.old) (state S.Store conn.new) }
-        ensures as_before { HasCleanDisk (state S.Store conn.new) → IsTrue (state S.Store conn.new).is_open → OnErr result
-            ((state S.Store conn.new).committed ≡ (state S.Store conn.old).committed) }
-        ensures fault { HasCleanDisk (state S.Store conn.new) → IfErr result
-            (IsInitFault S.Store conn.old (record { me = me; sites = sites; limit = limit })) }
-        ensures limit { conn.new.step_limit ≡ conn.old.step_limit }
-        ensures ended { conn.old.in_transaction ≡ false → conn.new.in_transaction ≡ false }
-        ensures clean { HasCleanDisk (state S.Store conn.new)
-            → HasCleanDisk (state S.Store conn.old) }
+        ensures { InitCall S.Store conn.old conn.new
+            (record { me = me; sites = sites; limit = limit }) result }
     {
         if let Some(fault) = refusal(conn) {
             return Err(fault);

@@ -1,7 +1,9 @@
-//! Why a site's records are not made or not opened.
+//! Why a site's records are not made or not opened, and why an entry is not kept.
 ghost use Rattle.std.specs.Prelude.{◌≡◌};
+ghost use Rattle.history_keeper.specs.declared.keeper.KeepFault.TheVariants.{Memory, Disk};
 ghost use Rattle.sql_records.specs.Faults.{told};
 
+use history_keeper::KeepFault;
 use sqlite::{Error as StoreError, ErrorCode};
 use std::alloc::{AllocError, AllocFailed};
 use thiserror::Error;
@@ -121,6 +123,13 @@ impl<T: Drop> From<AllocFailed<T>> for OpenFault {
     fn from(_error: AllocFailed<T>) -> OpenFault {
         OpenFault::Memory
     }
+}
+
+/// Why an entry is not known to be kept, for an error of the store.
+pub(crate) fn keep_fault(error: StoreError) -> KeepFault
+    ensures { result ≡ told Memory Disk error }
+{
+    told(KeepFault::Memory, KeepFault::Disk, error)
 }
 
 /// The fault for an error of the store: the first for want of memory, the second for each other error.

@@ -3,12 +3,12 @@ ghost use Rattle.std.specs.Prelude.{true, ◌≡◌, ◌<◌, ◌+◌, ◌^◌, 
 ghost use Rattle.sqlite.specs.State.{HasCleanDisk, Executes, Survives};
 ghost use Rattle.sqlite.specs.Held.{state};
 ghost use Rattle.book_core.specs.History.{delta_of};
-ghost use Rattle.sql_records.specs.declared.meta.Meta.{Meta};
+ghost use Rattle.history_keeper.specs.declared.meta.Meta.{Meta};
 ghost use Rattle.delta_wire.specs.Grammar.{IsDelta, delta_text};
 ghost use Rattle.sql_records.specs.Rows.{HasRoom, columns_of};
 ghost use Rattle.sql_records.specs.Adding.{RunsInsert};
 ghost use Rattle.sql_records.specs.Held.{Adds, IsAtRest, LeavesSite, MayLeaveIn, history_in};
-ghost use Rattle.sql_records.specs.Keeping.{LeavesWithOrWithout};
+ghost use Rattle.history_keeper.specs.Keeping.{LeavesWithOrWithout};
 ghost use Rattle.sql_records.specs.Layout.{meta_tree};
 
 use crate::columns::columns;

@@ -1,25 +1,8 @@
-//! What the records are asked, and why they do not tell.
+//! Why the records do not answer a question.
 use crate::fault::told;
-use request_ledger::{Reply, Request, RequestNumber};
 use sqlite::Error as StoreError;
 use std::alloc::AllocFailed;
 use thiserror::Error;
-
-/// A request that was decided: its place in the history and its reply.
-#[derive(Clone, Copy, Debug, PartialEq, Eq)]
-pub struct Found {
-    pub place: u64,
-    pub reply: Reply,
-}
-
-/// A request that names an event: its place in the history, and what was asked and answered.
-#[derive(Clone, Copy, Debug, PartialEq, Eq)]
-pub struct Listed {
-    pub place: u64,
-    pub number: RequestNumber,
-    pub request: Request,
-    pub reply: Reply,
-}
 
 /// Why a question to the records has no answer. Each but `Shut` shuts the records, which change nothing then.
 #[derive(Clone, Copy, Debug, PartialEq, Eq, Error)]

@@ -2,24 +2,25 @@
 ghost use Rattle.std.specs.Prelude.{◌≡◌, ◌≢◌, ◌<◌, ℕ, true, false, length, Err, OnOk, OnErr, IfErr, IsTrue, []};
 ghost use Rattle.sqlite.specs.State.{HasCleanDisk, Executes, IsUnchanged};
 ghost use Rattle.sqlite.specs.Held.{state};
-ghost use Rattle.sql_records.specs.declared.meta.Meta.{Meta as Numbers};
+ghost use Rattle.history_keeper.specs.declared.meta.Meta.{Meta as Numbers};
 ghost use Rattle.sql_records.specs.declared.version.Version.TheVariants.{First};
-ghost use Rattle.sql_records.specs.Layout.{IsOurs, HasMetaAs, office_of};
+ghost use Rattle.history_keeper.specs.Meta.{office_of};
+ghost use Rattle.sql_records.specs.Layout.{IsOurs, HasMetaAs};
 ghost use Rattle.book_core.specs.declared.plan.ReplayFault.{ReplayFault as Illegal};
 ghost use Rattle.book_core.specs.Legal.{IsLegal};
 ghost use Rattle.book_core.specs.Replay.{IsReplayFault};
-ghost use Rattle.sql_records.specs.Opening.{IsLeftOrUndone};
+ghost use Rattle.sql_records.specs.Opening.{Reads};
 ghost use Rattle.sql_records.specs.Held.{IsAtRest, LeavesNoMore, LeavesSite, MayLeaveIn, history_in};
-ghost use Rattle.sql_records.specs.Keeping.{LeavesOnly};
-ghost use Rattle.sql_records.specs.Migrating.{IsAsBefore, IsMigrated, LeavesAsBeforeOrMigrated, LeavesItOrMigrated, LeavesSameEntries, IsLegalFirst, IsToldAs, of_replay, IsUnfit, IsMigrateFault};
+ghost use Rattle.history_keeper.specs.Keeping.{LeavesOnly};
+ghost use Rattle.sql_records.specs.Migrating.{IsAsBefore, IsMigrated, LeavesAsBeforeOrMigrated, LeavesItOrMigrated, IsLegalFirst, IsToldAs, MigrateCall, of_replay, IsUnfit};
 
 use crate::fault::{MigrateFault, OpenFault};
-use crate::meta::Meta;
 use crate::opening::read_as;
 use crate::records::Records;
 use crate::shape::is_ours;
 use crate::version::Version;
 use book_core::{Book, Entry, ReplayFault};
+use history_keeper::Meta;
 use sqlite::{Alter, Connection, Error};
 use std::alloc::Global;
 
@@ -109,16 +110,9 @@ fn check_first<S: Alter>(alloc: Global, conn: &mut Connection<S>) -> Result<(), 
         (state S.Store conn.new) (length (history_in (state S.Store conn.old).now.trees))) }
     ensures first { HasCleanDisk (state S.Store conn.new)
         → OnOk result (IsLegalFirst (state S.Store conn.old).now.trees) }
-    ensures same { HasCleanDisk (state S.Store conn.new)
-        → OnOk result (IsUnchanged (state S.Store conn.old) (state S.Store conn.new)) }
-    ensures undone { HasCleanDisk (state S.Store conn.new)
-        → OnErr result (IsLeftOrUndone (state S.Store conn.old) (state S.Store conn.new)) }
     ensures fault { HasCleanDisk (state S.Store conn.new)
         → IfErr result (IsUnfit S.Store conn.old conn.new) }
-    ensures left { HasCleanDisk (state S.Store conn.new)
-        → LeavesNoMore (state S.Store conn.old) (state S.Store conn.new) }
-    ensures limit { conn.new.step_limit ≡ conn.old.step_limit }
-    ensures clean { HasCleanDisk (state S.Store conn.new) → HasCleanDisk (state S.Store conn.old) }
+    ensures reads { Reads S.Store conn.old conn.new result }
 {
     let is_settled = conn.is_autocommit();
     if !is_settled {
@@ -141,35 +135,7 @@ impl<S: Alter> Records<S> {
     /// the numbers (`NotOurs`) and the entries (`Damaged`). `Memory` and `Disk` come at the call that fails; `Disk` too
     /// where a transaction is open, which changes nothing.
     pub fn migrate(alloc: Global, conn: &mut Connection<S>) -> Result<(), MigrateFault>
-        ensures busy { conn.old.in_transaction ≡ true
-            → (result ≡ Err MigrateFault.Disk) × (conn.new ≡ conn.old) }
-        ensures schema { OnOk result (IsOurs conn.old.schema) }
-        ensures first { HasCleanDisk (state S.Store conn.new)
-            → OnOk result (IsLegalFirst (state S.Store conn.old).now.trees) }
-        ensures set { HasCleanDisk (state S.Store conn.new) → OnOk result
-            (IsMigrated (state S.Store conn.old).now.trees (state S.Store conn.new).now.trees) }
-        ensures rest { HasCleanDisk (state S.Store conn.new) → OnOk result (IsAtRest
-            (state S.Store conn.new) (length (history_in (state S.Store conn.old).now.trees))) }
-        ensures leaves { HasCleanDisk (state S.Store conn.new) → OnOk result (LeavesOnly
-            (history_in (state S.Store conn.old).now.trees) (MayLeaveIn (state S.Store conn.new))) }
-        ensures site { HasCleanDisk (state S.Store conn.new)
-            → OnOk result ((meta : Numbers) → HasMetaAs First
-            meta (state S.Store conn.old).now.trees → LeavesSite (state S.Store conn.new) meta) }
-        ensures crash { HasCleanDisk (state S.Store conn.new)
-            → LeavesAsBeforeOrMigrated (state S.Store conn.old) (state S.Store conn.new) }
-        ensures either { conn.old.in_transaction ≡ false → IsTrue (state S.Store conn.old).is_open → HasCleanDisk (state S.Store conn.new)
-            → LeavesItOrMigrated (state S.Store conn.old).now.trees (state S.Store conn.new) }
-        ensures reads { conn.old.in_transaction ≡ false → IsTrue (state S.Store conn.old).is_open → HasCleanDisk (state S.Store conn.new)
-            → LeavesSameEntries (state S.Store conn.old).now.trees (state S.Store conn.new) }
-        ensures refused { HasCleanDisk (state S.Store conn.new) → IfErr result (λ fault. fault ≢ MigrateFault.Memory → fault ≢ MigrateFault.Disk
-            → LeavesNoMore (state S.Store conn.old) (state S.Store conn.new)) }
-        ensures as_before { HasCleanDisk (state S.Store conn.new)
-            → OnErr result (IsAsBefore (state S.Store conn.old) (state S.Store conn.new)) }
-        ensures fault { HasCleanDisk (state S.Store conn.new)
-            → IfErr result (IsMigrateFault S.Store conn.old conn.new) }
-        ensures limit { conn.new.step_limit ≡ conn.old.step_limit }
-        ensures clean { HasCleanDisk (state S.Store conn.new)
-            → HasCleanDisk (state S.Store conn.old) }
+        ensures { MigrateCall S.Store conn.old conn.new result }
     {
         check_first(alloc, conn)?;
         set_version(conn)?;

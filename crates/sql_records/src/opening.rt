@@ -11,14 +11,14 @@ ghost use Rattle.sql_records.specs.Layout.{IsOurs, our_kind, version_number, Has
 ghost use Rattle.sql_records.specs.Rows.{entry_of, is_below, rows_below, number_within, IsEntryIn, IsOfVersion, AreInOrder, AreWhole, AreWholeIn, IsFirstDamaged, WantsForEntry};
 ghost use Rattle.sql_records.specs.declared.version.Version.{Version};
 ghost use Rattle.sql_records.specs.Held.{entries_tree, rows_in, history_in, LeavesNoMore};
-ghost use Rattle.sql_records.specs.Opening.{int_in, meta_in, IsRowOf, IsRowFault, IsMetaFault, AreRowsFault, IsStoreFault, IsWantedAt, IsForeignFault, IsForeignCause, IsForeignCauseAs, AreOfVersion, AreTold, foreign_told, IsOpenFault, IsReadFault, IsLeftOrUndone};
+ghost use Rattle.sql_records.specs.Opening.{int_in, meta_in, IsRowOf, IsRowFault, IsMetaFault, AreRowsFault, IsStoreFault, IsWantedAt, IsForeignFault, IsForeignCause, IsForeignCauseAs, AreOfVersion, AreTold, foreign_told, IsOpenFault, IsReadFault, IsLeftOrUndone, Reads};
 
 use crate::fault::OpenFault;
-use crate::meta::{KIND, Meta};
 use crate::reading::{column_at, is_of_version, number_within, read_entry, site_in, sites_in};
 use crate::shape::is_ours;
-use crate::version::Version;
+use crate::version::{KIND, Version};
 use book_core::{Entry, Limit};
+use history_keeper::Meta;
 use sqlite::types::ValueRef;
 use sqlite::{Alter, Connection, Error, ErrorCode, Row};
 use std::alloc::Global;
@@ -33,16 +33,9 @@ fn read_rows<S: Alter>(conn: &mut Connection<S>) -> Result<Vec<Row>, OpenFault>
     requires { HasCleanDisk (state S.Store conn.old) → IsOurs (state S.Store conn.old).now.schema }
     ensures shown { HasCleanDisk (state S.Store conn.new) → IfOk result
         (λ rows. AreInOrder ((state S.Store conn.old).now.trees entries_tree) rows.items) }
-    ensures same { HasCleanDisk (state S.Store conn.new)
-        → OnOk result (IsUnchanged (state S.Store conn.old) (state S.Store conn.new)) }
-    ensures undone { HasCleanDisk (state S.Store conn.new)
-        → OnErr result (IsLeftOrUndone (state S.Store conn.old) (state S.Store conn.new)) }
     ensures fault { HasCleanDisk (state S.Store conn.new)
         → IfErr result (IsStoreFault (state S.Store conn.old) (state S.Store conn.new)) }
-    ensures left { HasCleanDisk (state S.Store conn.new)
-        → LeavesNoMore (state S.Store conn.old) (state S.Store conn.new) }
-    ensures limit { conn.new.step_limit ≡ conn.old.step_limit }
-    ensures clean { HasCleanDisk (state S.Store conn.new) → HasCleanDisk (state S.Store conn.old) }
+    ensures reads { Reads S.Store conn.old conn.new result }
 {
     Ok(conn.query_all(SELECT, &[])?)
 }
@@ -209,17 +202,10 @@ fn read_meta<S: Alter>(read: Version, conn: &mut Connection<S>) -> Result<Meta, 
     ensures meta { HasCleanDisk (state S.Store conn.new)
         → IfOk result (λ meta. HasMetaAs read meta (state S.Store conn.old).now.trees) }
     ensures numbers { IfOk result AreNumbers }
-    ensures same { HasCleanDisk (state S.Store conn.new)
-        → OnOk result (IsUnchanged (state S.Store conn.old) (state S.Store conn.new)) }
-    ensures undone { HasCleanDisk (state S.Store conn.new)
-        → OnErr result (IsLeftOrUndone (state S.Store conn.old) (state S.Store conn.new)) }
     ensures fault { HasCleanDisk (state S.Store conn.new)
         → IfErr result (IsMetaFault read (state S.Store conn.old) (state S.Store conn.new)) }
     ensures counts { (state S.Store conn.old).faults ≤ (state S.Store conn.new).faults }
-    ensures limit { (state S.Store conn.new).step_limit ≡ (state S.Store conn.old).step_limit }
-    ensures left { HasCleanDisk (state S.Store conn.new)
-        → LeavesNoMore (state S.Store conn.old) (state S.Store conn.new) }
-    ensures clean { HasCleanDisk (state S.Store conn.new) → HasCleanDisk (state S.Store conn.old) }
+    ensures reads { Reads S.Store conn.old conn.new result }
 {
     let rows = conn.query_all(META_SELECT, &[])?;
     match only(rows) {
@@ -309,20 +295,13 @@ pub fn read_as<S: Alter>(
     ensures numbers { IfOk result (λ it. AreNumbers it.1) }
     ensures schema { OnOk result (IsOurs conn.old.schema) }
     ensures live { IsLive (state S.Store conn.old) }
-    ensures same { HasCleanDisk (state S.Store conn.new)
-        → OnOk result (IsUnchanged (state S.Store conn.old) (state S.Store conn.new)) }
-    ensures undone { HasCleanDisk (state S.Store conn.new)
-        → OnErr result (IsLeftOrUndone (state S.Store conn.old) (state S.Store conn.new)) }
     ensures fault { HasCleanDisk (state S.Store conn.new)
         → IfErr result (IsReadFault read (state S.Store conn.old) (state S.Store conn.new)) }
     ensures busy { ¬ IsOurs conn.old.schema
         → conn.old.in_transaction ≡ true → result ≡ Err OpenFault.NotOurs }
     ensures foreign { ¬ IsOurs conn.old.schema → conn.old.in_transaction ≡ false → HasCleanDisk
         (state S.Store conn.new) → IfErr result (IsForeignCauseAs S.Store conn.old read) }
-    ensures left { HasCleanDisk (state S.Store conn.new)
-        → LeavesNoMore (state S.Store conn.old) (state S.Store conn.new) }
-    ensures limit { conn.new.step_limit ≡ conn.old.step_limit }
-    ensures clean { HasCleanDisk (state S.Store conn.new) → HasCleanDisk (state S.Store conn.old) }
+    ensures reads { Reads S.Store conn.old conn.new result }
 {
     if !is_ours(conn.schema()) {
         return Err(foreign_fault(read, conn));
@@ -351,20 +330,13 @@ pub fn read_records<S: Alter>(
     ensures numbers { IfOk result (λ it. AreNumbers it.1) }
     ensures schema { OnOk result (IsOurs conn.old.schema) }
     ensures live { IsLive (state S.Store conn.old) }
-    ensures same { HasCleanDisk (state S.Store conn.new)
-        → OnOk result (IsUnchanged (state S.Store conn.old) (state S.Store conn.new)) }
-    ensures undone { HasCleanDisk (state S.Store conn.new)
-        → OnErr result (IsLeftOrUndone (state S.Store conn.old) (state S.Store conn.new)) }
     ensures fault { HasCleanDisk (state S.Store conn.new)
         → IfErr result (IsOpenFault (state S.Store conn.old) (state S.Store conn.new)) }
     ensures busy { ¬ IsOurs conn.old.schema
         → conn.old.in_transaction ≡ true → result ≡ Err OpenFault.NotOurs }
     ensures foreign { ¬ IsOurs conn.old.schema → conn.old.in_transaction ≡ false
         → HasCleanDisk (state S.Store conn.new) → IfErr result (IsForeignCause S.Store conn.old) }
-    ensures left { HasCleanDisk (state S.Store conn.new)
-        → LeavesNoMore (state S.Store conn.old) (state S.Store conn.new) }
-    ensures limit { conn.new.step_limit ≡ conn.old.step_limit }
-    ensures clean { HasCleanDisk (state S.Store conn.new) → HasCleanDisk (state S.Store conn.old) }
+    ensures reads { Reads S.Store conn.old conn.new result }
 {
     read_as(alloc, Version::Second, conn)
 }

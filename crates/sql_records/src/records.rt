@@ -2,20 +2,19 @@
 ghost use Rattle.std.specs.Prelude.{true, length, IfOk, ◌≤◌, ◌≡◌, ◌≢◌, ◌<◌, ◌+◌, ◌++◌, ◌∷◌, [], OnOk, IfErr, Err};
 ghost use Rattle.sqlite.specs.State.{HasCleanDisk, IsUnchanged, Survives};
 ghost use Rattle.sqlite.specs.Held.{state};
-ghost use Rattle.sql_records.specs.declared.meta.Meta.{Meta as Numbers};
+ghost use Rattle.history_keeper.specs.declared.meta.Meta.{Meta as Numbers};
 ghost use Rattle.sql_records.specs.Adding.{IsKeepAllFault, Puts, PutsAll};
 ghost use Rattle.sql_records.specs.Held.{Adds, HasMore, IsAtRest, IsKeepFault, KeepsSite, LeavesSite, MayLeaveIn, history_in, most};
-ghost use Rattle.sql_records.specs.Keeping.{LeavesAllOrNone, LeavesWithOrWithout};
+ghost use Rattle.history_keeper.specs.Keeping.{LeavesAllOrNone, LeavesWithOrWithout};
 ghost use Rattle.sql_records.specs.Layout.{meta_tree};
 
 use crate::columns::fits;
-use crate::fault::OpenFault;
+use crate::fault::{OpenFault, keep_fault};
 use crate::inserting::{insert, insert_in};
-use crate::keeper::{KeepFault, Keeper};
-use crate::meta::Meta;
 use crate::opening::read_records;
 use book_core::Entry;
 use delta_wire::delta_text;
+use history_keeper::{KeepFault, Keeper, Meta};
 use sqlite::{Alter, Connection, Transaction};
 use std::alloc::Global;
 use std::marker::Model;
@@ -87,7 +86,9 @@ fn store<S: Alter>(
     if place >= MOST || !fits(entry, &text) {
         return Err(KeepFault::Disk);
     }
-    insert(conn, place, entry, &text)?;
+    if let Err(error) = insert(conn, place, entry, &text) {
+        return Err(keep_fault(error));
+    }
     Ok(())
 }
 
@@ -114,7 +115,9 @@ fn store_in<S: Alter>(
     if place >= MOST || !fits(entry, &text) {
         return Err(KeepFault::Disk);
     }
-    insert_in(tx, place, entry, &text)?;
+    if let Err(error) = insert_in(tx, place, entry, &text) {
+        return Err(keep_fault(error));
+    }
     Ok(())
 }
 
@@ -178,7 +181,7 @@ fn store_all<S: Alter>(
     match store_each(alloc, &mut tx, place, entries) {
         Ok(next) => match tx.commit() {
             Ok(()) => Ok(next),
-            Err(error) => Err(KeepFault::from(error)),
+            Err(error) => Err(keep_fault(error)),
         },
         Err(fault) => {
             tx.rollback();
@@ -190,9 +193,9 @@ fn store_all<S: Alter>(
 impl<S: Alter> Keeper for Records<S> {
     ghost use Rattle.std.specs.Prelude.{◌≡◌, ◌≢◌, ◌++◌, ◌∷◌, [], OnOk, OnErr, IfErr, IsErrOf, MatchResult, refl};
     ghost use Rattle.std.proofs.Math.Logic.{∥∥₁_map};
-    ghost use Rattle.sql_records.specs.declared.meta.Meta.{Meta as Numbers};
+    ghost use Rattle.history_keeper.specs.declared.meta.Meta.{Meta as Numbers};
     ghost use Rattle.sql_records.specs.Adding.{IsKeepAllFault};
-    ghost use Rattle.sql_records.specs.Keeping.{Keeps, LeavesAllOrNone, LeavesWithOrWithout};
+    ghost use Rattle.history_keeper.specs.Keeping.{Keeps, LeavesAllOrNone, LeavesWithOrWithout};
     ghost use Rattle.sql_records.specs.Held.{kept_in, opened_in, MayLeave, IsOf, IsTrusted, IsKeepFault};
 
     ghost kept = { kept_in S.Store };
@@ -284,14 +287,8 @@ impl<S: Alter> Keeper for Records<S> {
 }
 
 impl<S: Alter + Drop> Records<S> {
-    ghost use Rattle.std.specs.Prelude.{◌≡◌, ◌≢◌, true, false, Some, IfOk, IfErr, IsErr, OnOk};
-    ghost use Rattle.sqlite.specs.State.{HasCleanDisk};
-    ghost use Rattle.sqlite.specs.Held.{Held, state};
-    ghost use Rattle.sql_records.specs.Opening.{IsForeignCause, IsOpenFault};
-    ghost use Rattle.sql_records.specs.Keeping.{LeavesOnly};
-    ghost use Rattle.sql_records.specs.Layout.{IsOurs, HasMeta, AreNumbers};
-    ghost use Rattle.sql_records.specs.declared.meta.Meta.{Meta as Numbers};
-    ghost use Rattle.sql_records.specs.Held.{kept_in, opened_in, IsSiteIn, MayLeave, IsOf, IsTrusted};
+    ghost use Rattle.std.specs.Prelude.{◌≡◌, IfOk, IfErr};
+    ghost use Rattle.sql_records.specs.Opened.{CannotOpen, IsRecordsOf};
 
     /// The records of a database, the entries that they hold, the oldest first, and the site's numbers.
     ///
@@ -301,38 +298,8 @@ impl<S: Alter + Drop> Records<S> {
         alloc: Global,
         mut conn: Connection<S>,
     ) -> Result<(Records<S>, Vec<Entry>, Meta), OpenFault>
-        ensures foreign { ¬ IsOurs conn.schema → IsErr result }
-        ensures busy { conn.in_transaction ≡ true → result ≡ Err OpenFault.Disk }
-        ensures fault { conn.in_transaction ≡ false → IfErr result (λ fault. (after : Held S)
-            × (HasCleanDisk (state S.Store after) → HasCleanDisk (state S.Store conn)
-            × IsOpenFault (state S.Store conn) (state S.Store after) fault)) }
-        ensures version { ¬ IsOurs conn.schema
-            → conn.in_transaction ≡ false → IfErr result (λ fault. (after : Held S)
-            × (HasCleanDisk (state S.Store after) → IsForeignCause S.Store conn fault)) }
-        ensures entries { IfOk result
-            (λ it. IsTrusted S.Store it.0 → it.1.items ≡ kept_in S.Store it.0) }
-        ensures meta { IfOk result
-            (λ it. IsTrusted S.Store it.0 → HasMeta it.2 (state S.Store it.0.conn).now.trees) }
-        ensures given { IfOk result (λ it. IsTrusted S.Store it.0
-            → (meta : Numbers) → HasMeta meta (state S.Store conn).now.trees → it.2 ≡ meta) }
-        ensures numbers { IfOk result (λ it. AreNumbers it.2) }
-        ensures holds { IfOk result
-            (λ it. IsTrusted S.Store it.0 → IsSiteIn it.2 (state S.Store conn).now.trees
-            × (opened_in (state S.Store conn).now.trees ≡ Some it.1.items)) }
-        ensures site { IfOk result (λ it. IsTrusted S.Store it.0 → IsOf S.Store it.0 it.2) }
-        ensures same { IfOk result (λ it. IsTrusted S.Store it.0
-            → (state S.Store it.0.conn).now ≡ (state S.Store conn).now) }
-        ensures unchanged { IfOk result (λ it. IsTrusted S.Store it.0
-            → IsUnchanged (state S.Store conn) (state S.Store it.0.conn)) }
-        ensures leaves { IfOk result (λ it. IsTrusted S.Store it.0
-            → LeavesOnly (kept_in S.Store it.0) (MayLeave S.Store it.0)) }
-        ensures open { IfOk result (λ it. it.0.failures ≡ 0) }
-        ensures limit { IfOk result (λ it. it.0.conn.step_limit ≡ conn.step_limit) }
-        ensures settled { OnOk result (conn.in_transaction ≡ false) }
-        ensures autocommit { IfOk result
-            (λ it. IsTrusted S.Store it.0 → (state S.Store it.0.conn).in_transaction ≡ false) }
-        ensures clean { IfOk result
-            (λ it. IsTrusted S.Store it.0 → HasCleanDisk (state S.Store conn)) }
+        ensures opened { IfOk result (λ it. IsRecordsOf S.Store conn it.0 it.1.items it.2) }
+        ensures fault { IfErr result (CannotOpen S.Store conn) }
     {
         let is_settled = conn.is_autocommit();
         if !is_settled {

@@ -1,6 +1,9 @@
-//! The versions of the records.
+//! The kind of the records, and its versions.
 ghost use Rattle.std.specs.Prelude.{◌≡◌};
 ghost use Rattle.sql_records.specs.Layout.{version_number};
+
+// The kind that the records are of, as the row of `meta` says it.
+pub(crate) const KIND: &[u8] = b"ticket-escrow";
 
 /// A version of the records. Both have the same tables and columns.
 #[derive(Clone, Copy, Debug, PartialEq, Eq)]

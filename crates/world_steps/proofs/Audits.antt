@@ -14,7 +14,8 @@ use Rattle.book_core.specs.Decision.{sites_of}
 use Rattle.book_core.specs.History.{state_of}
 use Rattle.book_core.specs.Legal.{IsLegal}
 use Rattle.book_core.specs.BookView.{BookView}
-use Rattle.world_steps.specs.Audit.{books_of, AreSites, NoneIsAhead}
+use Rattle.world_steps.specs.Audit.{books_of}
+use Rattle.world_steps.specs.Sites.{AreSites, NoneIsAhead}
 use Rattle.book_core.specs.Books.{history_among, AreNotOversold}
 use Rattle.world_steps.proofs.Balance.{office_numbered, not_oversold}
 use Rattle.world_steps.proofs.Names.{past_end}

@@ -1,6 +1,8 @@
 pub mod Audits
 pub mod Balance
 pub mod Delivering
+pub mod Entered
+pub mod Giving
 pub mod Growing
 pub mod Making
 pub mod Positions

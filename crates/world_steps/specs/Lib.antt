@@ -1,8 +1,11 @@
 pub mod Audit
+pub mod Entered
+pub mod Giving
 pub mod NodeView
 pub mod Nodes
 pub mod Outcomes
 pub mod Promises
 pub mod Reaching
+pub mod Sites
 pub mod World
 pub mod WorldCode

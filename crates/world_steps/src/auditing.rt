@@ -2,7 +2,8 @@
 ghost use Rattle.std.specs.Prelude.{◌≡◌, ◌<◌, ◌↔◌, ℕ, None, Err, IfOk, IfSome, IsTrue};
 ghost use Rattle.rights_lattice.specs.Sums.{max_sites};
 ghost use Rattle.book_core.specs.Legal.{IsLegal};
-ghost use Rattle.world_steps.specs.Audit.{AreSites, IsFirstAhead, IsFirstPassed, IsWhole, NoneIsAhead, SeesNoneAbove, StandsAt, books_of, events_in, lines_in, totals_in};
+ghost use Rattle.world_steps.specs.Audit.{books_of, events_in, lines_in, totals_in};
+ghost use Rattle.world_steps.specs.Sites.{AreSites, IsFirstAhead, IsFirstPassed, IsWhole, NoneIsAhead, SeesNoneAbove, StandsAt};
 ghost use Rattle.book_core.specs.Books.{AreNotOversold};
 
 use crate::books::{add_names, listed, with_own};

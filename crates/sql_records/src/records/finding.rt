@@ -1,19 +1,22 @@
 //! Looking up requests, by one query each.
 ghost use Rattle.std.specs.Prelude.{◌≡◌, ◌≢◌, ◌<◌, ◌⊎◌, ℕ, Option, map, filter, slice_get, pos, [], ◌∷◌, Some, None, IfOk, IfErr, OnOk, OnErr};
 ghost use Rattle.std.specs.Option.{option_map};
-ghost use Rattle.sql_records.specs.declared.lookup.Listed.{Listed};
-ghost use Rattle.sqlite.specs.State.{HasCleanDisk, IsUnchanged};
+ghost use Rattle.history_keeper.specs.declared.lookup.Listed.{Listed};
+ghost use Rattle.sqlite.specs.State.{HasCleanDisk};
 ghost use Rattle.sqlite.specs.Held.{state};
 ghost use Rattle.sqlite.specs.Order.{Row as Rowed};
 ghost use Rattle.sqlite.specs.Values.{bound};
 ghost use Rattle.sqlite.specs.declared.types.Value.TheVariants.{Int, Text};
-ghost use Rattle.sql_records.specs.Held.{IsAtRest, IsTrusted, IsUndisturbed, LeavesNoMore, history_in, kept_in, rows_in};
-ghost use Rattle.sql_records.specs.Opening.{IsLeftOrUndone};
-ghost use Rattle.sql_records.specs.Lookups.{IsFirstUnread, IsListFault, IsQueryFault, ReadsSome, damage_of, found_columns, found_in, found_of, first_found, has_event, has_number, listed_columns, listed_in, listed_of, place_in};
+ghost use Rattle.sql_records.specs.Held.{IsAtRest, IsUndisturbed, history_in, rows_in};
+ghost use Rattle.sql_records.specs.Opened.{FindCall, ListCall};
+ghost use Rattle.sql_records.specs.Opening.{Reads};
+ghost use Rattle.history_keeper.specs.Lookups.{found_in, listed_in};
+ghost use Rattle.sql_records.specs.Lookups.{IsFirstUnread, IsListFault, IsQueryFault, ReadsSome, damage_of, found_columns, found_of, first_found, has_event, has_number, listed_columns, listed_of, place_in};
 
 use super::Records;
-use crate::lookup::{FindFault, Found, Listed};
+use crate::lookup::FindFault;
 use crate::reading::{column_at, reply_in, request_in, request_number_in};
+use history_keeper::{Found, Listed};
 use request_ledger::{Request, RequestNumber};
 use rights_lattice::{Amount, Event};
 use sqlite::types::ValueRef;
@@ -46,14 +49,7 @@ fn find_rows<S: Alter>(
         → (count : ℕ) × IsAtRest (state S.Store conn.old) count }
     ensures rows { HasCleanDisk (state S.Store conn.new) → IfOk result (λ rows. rows.items ≡ map
         found_columns (filter (has_number number) (rows_in (state S.Store conn.old).now.trees))) }
-    ensures same { HasCleanDisk (state S.Store conn.new)
-        → OnOk result (IsUnchanged (state S.Store conn.old) (state S.Store conn.new)) }
-    ensures undone { HasCleanDisk (state S.Store conn.new)
-        → OnErr result (IsLeftOrUndone (state S.Store conn.old) (state S.Store conn.new)) }
-    ensures left { HasCleanDisk (state S.Store conn.new)
-        → LeavesNoMore (state S.Store conn.old) (state S.Store conn.new) }
-    ensures limit { conn.new.step_limit ≡ conn.old.step_limit }
-    ensures clean { HasCleanDisk (state S.Store conn.new) → HasCleanDisk (state S.Store conn.old) }
+    ensures reads { Reads S.Store conn.old conn.new result }
     ensures fault { HasCleanDisk (state S.Store conn.new)
         → IfErr result (IsQueryFault (state S.Store conn.old) (state S.Store conn.new)) }
     ensures shut { result ≢ Err FindFault.Shut }
@@ -70,14 +66,7 @@ fn list_rows<S: Alter>(conn: &mut Connection<S>, event: &Event) -> Result<Vec<Ro
     ensures rows { HasCleanDisk (state S.Store conn.new)
         → IfOk result (λ rows. rows.items ≡ map listed_columns
         (filter (has_event event.now) (rows_in (state S.Store conn.old).now.trees))) }
-    ensures same { HasCleanDisk (state S.Store conn.new)
-        → OnOk result (IsUnchanged (state S.Store conn.old) (state S.Store conn.new)) }
-    ensures undone { HasCleanDisk (state S.Store conn.new)
-        → OnErr result (IsLeftOrUndone (state S.Store conn.old) (state S.Store conn.new)) }
-    ensures left { HasCleanDisk (state S.Store conn.new)
-        → LeavesNoMore (state S.Store conn.old) (state S.Store conn.new) }
-    ensures limit { conn.new.step_limit ≡ conn.old.step_limit }
-    ensures clean { HasCleanDisk (state S.Store conn.new) → HasCleanDisk (state S.Store conn.old) }
+    ensures reads { Reads S.Store conn.old conn.new result }
     ensures fault { HasCleanDisk (state S.Store conn.new)
         → IfErr result (IsQueryFault (state S.Store conn.old) (state S.Store conn.new)) }
     ensures shut { result ≢ Err FindFault.Shut }
@@ -178,25 +167,7 @@ impl<S: Alter> Records<S> {
     /// After an error but `Shut` the records are shut; `Shut` changes nothing. `Damaged` comes only where the store
     /// does not return what was written to it.
     pub fn find(&mut self, number: RequestNumber) -> Result<Option<Found>, FindFault>
-        ensures found { IfOk result (λ found. IsTrusted S.Store self.new
-            → found ≡ found_in (kept_in S.Store self.old) number) }
-        ensures same { OnOk result (IsTrusted S.Store self.new
-            → IsUnchanged (state S.Store self.old.conn) (state S.Store self.new.conn)) }
-        ensures undone { OnErr result (IsTrusted S.Store self.new
-            → IsLeftOrUndone (state S.Store self.old.conn) (state S.Store self.new.conn)) }
-        ensures still { OnErr result (IsTrusted S.Store self.new
-            → IsUndisturbed (state S.Store self.old.conn) (state S.Store self.new.conn)) }
-        ensures failures { OnOk result ((self.old.failures ≡ 0) × (self.new.failures ≡ 0)) }
-        ensures fault { self.old.failures ≡ 0 → IfErr result (λ fault. IsTrusted S.Store self.new
-            → IsQueryFault (state S.Store self.old.conn) (state S.Store self.new.conn) fault) }
-        ensures shut { self.old.failures ≢ 0
-            → (result ≡ Err FindFault.Shut) × (self.new ≡ self.old) }
-        ensures named { self.old.failures ≡ 0 → result ≢ Err FindFault.Shut }
-        ensures shuts { self.old.failures ≡ 0 → OnErr result (self.new.failures ≡ 1) }
-        ensures left { IsTrusted S.Store self.new
-            → LeavesNoMore (state S.Store self.old.conn) (state S.Store self.new.conn) }
-        ensures limit { self.new.conn.step_limit ≡ self.old.conn.step_limit }
-        ensures trusted { IsTrusted S.Store self.new → IsTrusted S.Store self.old }
+        ensures { FindCall S.Store self.old self.new number result }
     {
         if self.failures != 0 {
             return Err(FindFault::Shut);
@@ -213,26 +184,7 @@ impl<S: Alter> Records<S> {
     /// After an error but `Shut` the records are shut; `Shut` changes nothing. `Damaged` comes only where the store
     /// does not return what was written to it.
     pub fn list(&mut self, event: Event) -> Result<Vec<Listed>, FindFault>
-        ensures listed { IfOk result (λ listed. IsTrusted S.Store self.new
-            → listed.items ≡ listed_in (kept_in S.Store self.old) event) }
-        ensures same { OnOk result (IsTrusted S.Store self.new
-            → IsUnchanged (state S.Store self.old.conn) (state S.Store self.new.conn)) }
-        ensures undone { OnErr result (IsTrusted S.Store self.new
-            → IsLeftOrUndone (state S.Store self.old.conn) (state S.Store self.new.conn)) }
-        ensures still { OnErr result (IsTrusted S.Store self.new
-            → IsUndisturbed (state S.Store self.old.conn) (state S.Store self.new.conn)) }
-        ensures failures { OnOk result ((self.old.failures ≡ 0) × (self.new.failures ≡ 0)) }
-        ensures fault { self.old.failures ≡ 0 → IfErr result
-            (λ fault. IsTrusted S.Store self.new → IsListFault (state S.Store self.old.conn)
-            (state S.Store self.new.conn) (listed_in (kept_in S.Store self.old) event) fault) }
-        ensures shut { self.old.failures ≢ 0
-            → (result ≡ Err FindFault.Shut) × (self.new ≡ self.old) }
-        ensures named { self.old.failures ≡ 0 → result ≢ Err FindFault.Shut }
-        ensures shuts { self.old.failures ≡ 0 → OnErr result (self.new.failures ≡ 1) }
-        ensures left { IsTrusted S.Store self.new
-            → LeavesNoMore (state S.Store self.old.conn) (state S.Store self.new.conn) }
-        ensures limit { self.new.conn.step_limit ≡ self.old.conn.step_limit }
-        ensures trusted { IsTrusted S.Store self.new → IsTrusted S.Store self.old }
+        ensures { ListCall S.Store self.old self.new event result }
     {
         if self.failures != 0 {
             return Err(FindFault::Shut);
@@ -256,16 +208,9 @@ fn find_first<S: Alter>(
         (λ found. found ≡ found_in (history_in (state S.Store conn.old).now.trees) number) }
     ensures fault { HasCleanDisk (state S.Store conn.new)
         → IfErr result (IsQueryFault (state S.Store conn.old) (state S.Store conn.new)) }
-    ensures same { HasCleanDisk (state S.Store conn.new)
-        → OnOk result (IsUnchanged (state S.Store conn.old) (state S.Store conn.new)) }
-    ensures undone { HasCleanDisk (state S.Store conn.new)
-        → OnErr result (IsLeftOrUndone (state S.Store conn.old) (state S.Store conn.new)) }
     ensures still { HasCleanDisk (state S.Store conn.new)
         → OnErr result (IsUndisturbed (state S.Store conn.old) (state S.Store conn.new)) }
-    ensures left { HasCleanDisk (state S.Store conn.new)
-        → LeavesNoMore (state S.Store conn.old) (state S.Store conn.new) }
-    ensures limit { conn.new.step_limit ≡ conn.old.step_limit }
-    ensures clean { HasCleanDisk (state S.Store conn.new) → HasCleanDisk (state S.Store conn.old) }
+    ensures reads { Reads S.Store conn.old conn.new result }
     ensures shut { result ≢ Err FindFault.Shut }
 {
     let rows = find_rows(conn, number)?;
@@ -285,16 +230,9 @@ fn list_all<S: Alter>(
     ensures fault { HasCleanDisk (state S.Store conn.new)
         → IfErr result (IsListFault (state S.Store conn.old) (state S.Store conn.new)
         (listed_in (history_in (state S.Store conn.old).now.trees) event.now)) }
-    ensures same { HasCleanDisk (state S.Store conn.new)
-        → OnOk result (IsUnchanged (state S.Store conn.old) (state S.Store conn.new)) }
-    ensures undone { HasCleanDisk (state S.Store conn.new)
-        → OnErr result (IsLeftOrUndone (state S.Store conn.old) (state S.Store conn.new)) }
     ensures still { HasCleanDisk (state S.Store conn.new)
         → OnErr result (IsUndisturbed (state S.Store conn.old) (state S.Store conn.new)) }
-    ensures left { HasCleanDisk (state S.Store conn.new)
-        → LeavesNoMore (state S.Store conn.old) (state S.Store conn.new) }
-    ensures limit { conn.new.step_limit ≡ conn.old.step_limit }
-    ensures clean { HasCleanDisk (state S.Store conn.new) → HasCleanDisk (state S.Store conn.old) }
+    ensures reads { Reads S.Store conn.old conn.new result }
     ensures shut { result ≢ Err FindFault.Shut }
 {
     let rows = list_rows(conn, event)?;

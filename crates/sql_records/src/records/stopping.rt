@@ -3,15 +3,15 @@ ghost use Rattle.std.specs.Prelude.{◌≡◌, IfOk, IfErr, IfSome};
 ghost use Rattle.sqlite.specs.Effect.{IsDatabase};
 ghost use Rattle.sqlite.specs.State.{HasCleanDisk};
 ghost use Rattle.sqlite.specs.Held.{Held, IsNew, state};
-ghost use Rattle.sql_records.specs.declared.meta.Meta.{Meta as Numbers};
+ghost use Rattle.history_keeper.specs.declared.meta.Meta.{Meta as Numbers};
 ghost use Rattle.sql_records.specs.Held.{IsTrusted, Finds, LeavesSite, MayLeaveIn};
-ghost use Rattle.sql_records.specs.Keeping.{CanBeOpened};
+ghost use Rattle.history_keeper.specs.Keeping.{CanBeOpened};
 ghost use Rattle.sql_records.specs.Opening.{IsAfterStop, IsFoundAfterStop};
 
 use super::Records;
 use crate::fault::OpenFault;
-use crate::meta::Meta;
 use book_core::Entry;
+use history_keeper::Meta;
 use sqlite::{Alter, Connection};
 use sqlite_trees::store::Reopen;
 use std::alloc::Global;

@@ -14,7 +14,7 @@ returns-in-Ok-clause-rest g c clean =
     let last = state g.S.Store c.read_as.new.conn in
     let autocommit : IsTrue c.is_autocommit-is_settled.result = c.if-not-is_settled.false in
     let outside : c.args.conn.now.in_transaction ≡ false = not-true _ (sym c.is_autocommit-is_settled.ensures.value ∙ autocommit) in
-    on_ok c.check_history.result _ (opened first last (length (history_in first.now.trees)) (c.in-Ok.ensures.same clean) outside (c.is_autocommit-is_settled.ensures.settled autocommit) c.read_as.ensures.live c.in-Ok.ensures.schema (c.in-Ok.ensures.whole clean).0 refl)
+    on_ok c.check_history.result _ (opened first last (length (history_in first.now.trees)) (c.in-Ok.ensures.reads.same clean) outside (c.is_autocommit-is_settled.ensures.settled autocommit) c.read_as.ensures.live c.in-Ok.ensures.schema (c.in-Ok.ensures.whole clean).0 refl)
 
 pub returns-in-Ok-clause-fault : goal.returns-in-Ok-clause-fault
 returns-in-Ok-clause-fault g c clean =
@@ -26,7 +26,7 @@ returns-in-Ok-clause-fault g c clean =
       outside,
       inr (
         c.in-Ok.ensures.schema,
-        no_history old new c.in-Ok.meta c.in-Ok.entries.items it.0 fault (c.in-Ok.ensures.same clean)
+        no_history old new c.in-Ok.meta c.in-Ok.entries.items it.0 fault (c.in-Ok.ensures.reads.same clean)
             (record { numbers = c.in-Ok.ensures.meta clean; within = c.in-Ok.ensures.numbers; whole = c.in-Ok.ensures.whole clean }) (c.in-Ok.ensures.entries clean) it.1 it.2,
       ),
     )) c.check_history.ensures.fault

@@ -1,10 +1,10 @@
-use Rattle.std.proofs.Common.{ℕ, List, true, inl, inr, sym, ap, subst, ◌∙◌, length, arith}
+use Rattle.std.proofs.Common.{ℕ, List, inl, inr, sym, ap, subst, ◌∙◌, length, arith}
 use Rattle.std.proofs.lemmas.Bool.{true≢false}
 use Rattle.sqlite.specs.Held.{state}
 use Rattle.delta_wire.specs.Grammar.{delta_text}
 use Rattle.sql_records.specs.Rows.{HasRoom}
-use Rattle.sql_records.specs.Held.{RecordsView}
-use Rattle.sql_records.proofs.OpeningLemmas.{if_err, leaves_still, rest_count}
+use Rattle.sql_records.specs.Held.{RecordsView, IsKeepFault}
+use Rattle.sql_records.proofs.OpeningLemmas.{leaves_still, rest_count}
 use Rattle.sql_records.proofs.KeepLemmas.{told_keep}
 use Rattle.sql_records.proofs.records.store.Goals as goal
 use Rattle.sql_records.proofs.records.store.Goals.{then-place-ge-MOST-via-then-place-ge-MOST, then-place-ge-MOST-via-else-place-ge-MOST+then-not-fits}
@@ -30,10 +30,9 @@ returns-then-place-ge-MOST-clause-cause g c clean =
           true≢false (sym (w.fits.ensures.1 here) ∙ w.if-not-fits.true)))
     ]
 
-pub returns-in_err-insert-clause-cause : goal.returns-in_err-insert-clause-cause
-returns-in_err-insert-clause-cause g c =
-    if_err c.from_residual-in_err-insert.result _ _ c.from_residual-in_err-insert.ensures.1 (λ f e clean.
+pub returns-in-Err-clause-cause : goal.returns-in-Err-clause-cause
+returns-in-Err-clause-cause g c clean =
     let old : RecordsView g.row.S.Denot = record { conn = c.args.conn.now; failures = 0 } in
     let new : RecordsView g.row.S.Denot = record { conn = c.insert.new.conn; failures = 1 } in
-    let is = told_keep g.S.Store old new c.args.entry.now c.args.place c.in_err-insert.field-0.0 (c.requires.rest (c.insert.ensures.clean clean)) (c.in_err-insert.ensures.fails clean) in
-    rw e is)
+    let is = told_keep g.S.Store old new c.args.entry.now c.args.place c.in-Err.error (c.requires.rest (c.insert.ensures.clean clean)) (c.in-Err.ensures.fails clean) in
+    subst (IsKeepFault g.S.Store old new c.args.entry.now) (sym c.keep_fault.ensures) is

@@ -1,10 +1,10 @@
-use Rattle.std.proofs.Common.{◌≡◌, ◌∙◌, true, false, not, Err, inl, inr, ap, sym, arith, rules}
+use Rattle.std.proofs.Common.{◌≡◌, ◌∙◌, true, not, Err, inl, inr, ap, sym, arith, rules}
 use Rattle.std.proofs.lemmas.Bool.{true≢false}
 use Rattle.sqlite.specs.State.{HasCleanDisk}
 use Rattle.sqlite.specs.Held.{state}
 use Rattle.sql_records.specs.Adding.{IsKeepAllFault}
 use Rattle.sql_records.specs.Held.{HasMore, KeepsSite, MayLeaveIn, RecordsView, history_in}
-use Rattle.sql_records.specs.Keeping.{LeavesAllOrNone}
+use Rattle.history_keeper.specs.Keeping.{LeavesAllOrNone}
 use Rattle.sql_records.proofs.AppendAllLemmas.{adding_fails, commit_fails, leaves_none, stored_leaves, stored_more, stored_site, undone_leaves}
 use Rattle.sql_records.proofs.MakeLemmas.{was_clean}
 use Rattle.sql_records.proofs.OpeningLemmas.{rest_count}
@@ -72,9 +72,9 @@ returns-in-Err-commit-clause-cause g c =
     let last = c.commit.new.self.0 in
     let old : RecordsView g.row.S.Denot = record { conn = conn; failures = 0 } in
     let new : RecordsView g.row.S.Denot = record { conn = last; failures = 1 } in
-    let fact : HasCleanDisk (state g.S.Store last) → IsKeepAllFault g.S.Store old new c.args.entries.now c.from.result = λ clean.
+    let fact : HasCleanDisk (state g.S.Store last) → IsKeepAllFault g.S.Store old new c.args.entries.now c.keep_fault.result = λ clean.
     let was = was_clean (state g.S.Store filled) (state g.S.Store last) _ c.commit.ensures.survives clean in
-    commit_fails g.S.Store conn c.transaction-tx.result.conn.now c.store_each.new.tx.conn.now c.transaction-tx.ensures.begun c.args.place c.args.entries.now c.requires.rest c.store_each.ensures.survives (λ db is_open left. g.met.S.Store.settled conn.store db is_open left) last c.in-Err-commit.error c.from.result was c.from.ensures (c.in-Ok.ensures.runs was) (c.in-Err-commit.ensures.err clean) in
+    commit_fails g.S.Store conn c.transaction-tx.result.conn.now c.store_each.new.tx.conn.now c.transaction-tx.ensures.begun c.args.place c.args.entries.now c.requires.rest c.store_each.ensures.survives (λ db is_open left. g.met.S.Store.settled conn.store db is_open left) last c.in-Err-commit.error c.keep_fault.result was c.keep_fault.ensures (c.in-Ok.ensures.runs was) (c.in-Err-commit.ensures.err clean) in
     search rules
 
 pub returns-in-Err-clause-cause : goal.returns-in-Err-clause-cause

@@ -1,9 +1,9 @@
-use Rattle.std.proofs.Common.{List, ℕ, true, inl, inr, sym, ap, subst, ◌∙◌, length, arith}
+use Rattle.std.proofs.Common.{List, ℕ, inl, inr, sym, ap, subst, ◌∙◌, length, arith}
 use Rattle.std.proofs.lemmas.Bool.{true≢false}
 use Rattle.delta_wire.specs.Grammar.{delta_text}
-use Rattle.sql_records.specs.Adding.{Puts}
+use Rattle.sql_records.specs.Adding.{FailsToPut}
 use Rattle.sql_records.specs.Rows.{HasRoom}
-use Rattle.sql_records.proofs.AddingLemmas.{by_err, told_put}
+use Rattle.sql_records.proofs.AddingLemmas.{told_put}
 use Rattle.sql_records.proofs.records.store_in.Goals as goal
 use Rattle.sql_records.proofs.records.store_in.Goals.{then-place-ge-MOST-via-then-place-ge-MOST, then-place-ge-MOST-via-else-place-ge-MOST+then-not-fits}
 
@@ -17,9 +17,9 @@ returns-then-place-ge-MOST-clause-runs g c clean inside =
           true≢false (sym (w.fits.ensures.1 here) ∙ w.if-not-fits.true)))
     ]
 
-pub returns-in_err-insert_in-clause-runs : goal.returns-in_err-insert_in-clause-runs
-returns-in_err-insert_in-clause-runs g c clean inside =
+pub returns-in-Err-clause-runs : goal.returns-in-Err-clause-runs
+returns-in-Err-clause-runs g c clean inside =
     let old = c.args.tx.now.conn.now in
     let new = c.insert_in.new.tx.conn.now in
-    by_err c.from_residual-in_err-insert_in.result (Puts g.S.Store c.args.place c.args.entry.now old new) _ c.from_residual-in_err-insert_in.ensures.1
-    (λ f e. rw e (told_put g.S.Store c.args.place c.args.entry.now old new c.in_err-insert_in.field-0.0 (c.in_err-insert_in.ensures.runs clean inside)))
+    subst (FailsToPut g.S.Store c.args.place c.args.entry.now old new) (sym c.keep_fault.ensures)
+    (told_put g.S.Store c.args.place c.args.entry.now old new c.in-Err.error (c.in-Err.ensures.runs clean inside))

@@ -1,5 +1,6 @@
 use Rattle.std.proofs.Common.{refl, rules}
-use Rattle.world_steps.specs.Audit.{IsWhole, books_of}
+use Rattle.world_steps.specs.Audit.{books_of}
+use Rattle.world_steps.specs.Sites.{IsWhole}
 use Rattle.world_steps.proofs.Audits.{audited}
 use Rattle.world_steps.proofs.auditing.audit.Goals as goal
 

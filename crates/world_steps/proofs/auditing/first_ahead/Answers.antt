@@ -1,6 +1,7 @@
 use Rattle.std.proofs.Common.{◌≡◌, Some, refl, sym, ◌∙◌, subst, arith}
 use Rattle.std.specs.Prelude.{slice_get}
-use Rattle.world_steps.specs.Audit.{books_of, IsFirstAhead, SeesNoneAbove}
+use Rattle.world_steps.specs.Audit.{books_of}
+use Rattle.world_steps.specs.Sites.{IsFirstAhead, SeesNoneAbove}
 use Rattle.world_steps.proofs.Audits.{found_view, each_more, each_all, length-views}
 use Rattle.world_steps.proofs.auditing.first_ahead.Goals as goal
 

@@ -1,7 +1,8 @@
 use Rattle.std.proofs.Common.{◌≡◌, ◌<◌, ℕ}
 use Rattle.std.specs.Prelude.{Some, slice_get}
 use Rattle.book_core.specs.BookView.{BookView}
-use Rattle.world_steps.specs.Audit.{books_of, SeesNoneAbove}
+use Rattle.world_steps.specs.Audit.{books_of}
+use Rattle.world_steps.specs.Sites.{SeesNoneAbove}
 use Rattle.world_steps.proofs.auditing.first_ahead.Given as goal
 
 abbrev pub invariant-loop-viewer : goal.invariant-loop-viewer

@@ -1,7 +1,8 @@
 use Rattle.std.proofs.Common.{◌≡◌, Some, false, true, sym, ◌∙◌, subst, arith}
 use Rattle.std.specs.Prelude.{slice_get}
 use Rattle.book_core.specs.BookView.{SeesWithin}
-use Rattle.world_steps.specs.Audit.{books_of, IsFirstPassed}
+use Rattle.world_steps.specs.Audit.{books_of}
+use Rattle.world_steps.specs.Sites.{IsFirstPassed}
 use Rattle.world_steps.proofs.Audits.{found_view, each_more, each_all, length-views}
 use Rattle.world_steps.proofs.auditing.first_passed.Goals as goal
 

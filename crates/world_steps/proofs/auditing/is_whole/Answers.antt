@@ -3,7 +3,8 @@ use Rattle.std.specs.Prelude.{IsTrue, slice_get}
 use Rattle.rights_lattice.proofs.TestLaws.{refused, granted}
 use Rattle.book_core.specs.BookView.{BookView}
 use Rattle.book_core.specs.Legal.{IsLegal}
-use Rattle.world_steps.specs.Audit.{books_of, IsWhole, StandsAt}
+use Rattle.world_steps.specs.Audit.{books_of}
+use Rattle.world_steps.specs.Sites.{IsWhole, StandsAt}
 use Rattle.world_steps.proofs.Audits.{found_view, each_more, each_all, length-views}
 use Rattle.world_steps.proofs.auditing.is_whole.Goals as goal
 

@@ -3,7 +3,8 @@ use Rattle.std.specs.Prelude.{Some, slice_get}
 use Rattle.rights_lattice.specs.Sums.{max_sites}
 use Rattle.book_core.specs.Legal.{IsLegal}
 use Rattle.book_core.specs.BookView.{BookView}
-use Rattle.world_steps.specs.Audit.{books_of, StandsAt}
+use Rattle.world_steps.specs.Audit.{books_of}
+use Rattle.world_steps.specs.Sites.{StandsAt}
 use Rattle.world_steps.proofs.auditing.is_whole.Given as goal
 
 abbrev pub invariant-loop-place : goal.invariant-loop-place

@@ -1,6 +1,6 @@
 use Rattle.std.proofs.Common.{◌++◌, ap, subst, ◌∙◌}
 use Rattle.sqlite.specs.Held.{state}
-use Rattle.sql_records.specs.Keeping.{LeavesAllOrNone}
+use Rattle.history_keeper.specs.Keeping.{LeavesAllOrNone}
 use Rattle.sql_records.specs.Held.{MayLeaveIn, kept_in}
 use Rattle.sql_records.proofs.OpeningLemmas.{leaves_only, keeps}
 use Rattle.sql_records.proofs.records.RecordsKeeper.append_all.Goals as goal

@@ -1,6 +1,6 @@
 use Rattle.std.proofs.Common.{subst, sym}
 use Rattle.sqlite.specs.Held.{state}
-use Rattle.sql_records.specs.Keeping.{LeavesOnly}
+use Rattle.history_keeper.specs.Keeping.{LeavesOnly}
 use Rattle.sql_records.specs.Held.{IsTrusted, MayLeave, kept_in}
 use Rattle.sql_records.proofs.OpeningLemmas.{leaves_only}
 use Rattle.sql_records.proofs.records.RecordsKeeper.failures.Goals as goal

@@ -5,7 +5,7 @@ use Rattle.sql_records.specs.Texts.{list_text}
 use Rattle.sql_records.proofs.FindLemmas.{list_shows, list_same, list_left, list_fails, list_undone, list_wants}
 use Rattle.sql_records.proofs.FaultLemmas.{told_fault}
 use Rattle.sql_records.proofs.OpeningLemmas.{if_err}
-use Rattle.sql_records.proofs.UndoneLemmas.{on_err}
+use Rattle.sql_records.proofs.UndoneLemmas.{of_err, on_err}
 use Rattle.sql_records.specs.Lookups.{IsQueryFault}
 use Rattle.sql_records.specs.declared.lookup.FindFault.TheVariants.{Memory, Disk}
 use Rattle.sql_records.proofs.records.finding.list_rows.Goals as goal
@@ -17,23 +17,6 @@ returns-clause-rows g c clean =
     let rest = c.requires.rest (omega (arith, c.query_all.ensures.survives.clean)) in
     list_shows old new c.args.event.now c.in_ok-query_all.field-0.items rest.1.schema rest.1.whole (subst (λ p. Shown list_text p old new c.in_ok-query_all.field-0.items) c.event_param-params.ensures (c.in_ok-query_all.ensures.ok clean))
 
-pub returns-clause-same : goal.returns-clause-same
-returns-clause-same g c clean =
-    let old = state g.S.Store c.args.conn.now in
-    let new = state g.S.Store c.query_all.new.self in
-    let rest = c.requires.rest (omega (arith, c.query_all.ensures.survives.clean)) in
-    list_same old new c.args.event.now c.in_ok-query_all.field-0.items rest.1.schema (subst (λ p. Shown list_text p old new c.in_ok-query_all.field-0.items) c.event_param-params.ensures (c.in_ok-query_all.ensures.ok clean))
-
-pub returns-clause-left : goal.returns-clause-left
-returns-clause-left g c clean =
-    let rest = c.requires.rest (omega (arith, c.query_all.ensures.survives.clean)) in
-    list_left (state g.S.Store c.args.conn.now) (state g.S.Store c.query_all.new.self) _ rest.1.schema c.query_all.ensures.survives clean
-
-pub returns-in_err-query_all-clause-left : goal.returns-in_err-query_all-clause-left
-returns-in_err-query_all-clause-left g c clean =
-    let rest = c.requires.rest (omega (arith, c.query_all.ensures.survives.clean)) in
-    list_left (state g.S.Store c.args.conn.now) (state g.S.Store c.query_all.new.self) _ rest.1.schema c.query_all.ensures.survives clean
-
 pub returns-in_err-query_all-clause-fault : goal.returns-in_err-query_all-clause-fault
 returns-in_err-query_all-clause-fault g c clean =
     let old = state g.S.Store c.args.conn.now in
@@ -42,10 +25,33 @@ returns-in_err-query_all-clause-fault g c clean =
     let fails = subst (λ p. FailsToQuery list_text p old new c.in_err-query_all.field-0.0) c.event_param-params.ensures (c.in_err-query_all.ensures.err clean) in
     if_err c.from_residual.result _ _ c.from_residual.ensures.1 (λ f e. rw e (told_fault (IsQueryFault old new) Memory Disk old new c.in_err-query_all.field-0.0 (list_wants old new c.args.event.now c.in_err-query_all.field-0.0 rest.1.schema fails) (λ h. h) (list_fails old new c.args.event.now c.in_err-query_all.field-0.0 rest.1.schema fails)))
 
-pub returns-in_err-query_all-clause-undone : goal.returns-in_err-query_all-clause-undone
-returns-in_err-query_all-clause-undone g c clean =
+pub returns-clause-reads : goal.returns-clause-reads
+returns-clause-reads g c =
     let old = state g.S.Store c.args.conn.now in
     let new = state g.S.Store c.query_all.new.self in
-    let rest = c.requires.rest (omega (arith, c.query_all.ensures.survives.clean)) in
-    let fails = subst (λ p. FailsToQuery list_text p old new c.in_err-query_all.field-0.0) c.event_param-params.ensures (c.in_err-query_all.ensures.err clean) in
-    on_err c.from_residual.result _ (list_undone old new c.args.event.now c.in_err-query_all.field-0.0 rest.1.schema fails)
+    let survives = c.query_all.ensures.survives in
+    record {
+      limit = survives.limit;
+      clean = λ clean. omega (arith, survives.clean);
+      left = λ clean. let rest = c.requires.rest (omega (arith, survives.clean)) in list_left old new _ rest.1.schema survives clean;
+      same = λ clean.
+          let rest = c.requires.rest (omega (arith, survives.clean)) in
+          list_same old new c.args.event.now c.in_ok-query_all.field-0.items rest.1.schema (subst (λ p. Shown list_text p old new c.in_ok-query_all.field-0.items) c.event_param-params.ensures (c.in_ok-query_all.ensures.ok clean));
+      undone = λ clean. tt;
+    }
+
+pub returns-in_err-query_all-clause-reads : goal.returns-in_err-query_all-clause-reads
+returns-in_err-query_all-clause-reads g c =
+    let old = state g.S.Store c.args.conn.now in
+    let new = state g.S.Store c.query_all.new.self in
+    let survives = c.query_all.ensures.survives in
+    record {
+      limit = survives.limit;
+      clean = λ clean. omega (arith, survives.clean);
+      left = λ clean. let rest = c.requires.rest (omega (arith, survives.clean)) in list_left old new _ rest.1.schema survives clean;
+      same = λ clean. of_err c.from_residual.result _ _ c.from_residual.ensures.1;
+      undone = λ clean.
+          let rest = c.requires.rest (omega (arith, survives.clean)) in
+          let fails = subst (λ p. FailsToQuery list_text p old new c.in_err-query_all.field-0.0) c.event_param-params.ensures (c.in_err-query_all.ensures.err clean) in
+          on_err c.from_residual.result _ (list_undone old new c.args.event.now c.in_err-query_all.field-0.0 rest.1.schema fails);
+    }

@@ -1,0 +1,4 @@
+pub mod Keeping
+pub mod ListView
+pub mod Lookups
+pub mod Meta
