@@ -5,11 +5,11 @@ use Rattle.request_ledger.specs.declared.request.Request.{Request}
 use Rattle.book_core.specs.declared.entry.Entry.{Entry}
 use Rattle.book_core.specs.Decision.{Office, entry_of_ask}
 use Rattle.site_exchange.specs.Exchange.{SitePart}
-use Rattle.sql_records.specs.declared.meta.Meta.{Meta}
+use Rattle.history_keeper.specs.declared.meta.Meta.{Meta}
 use Rattle.site_desk.specs.declared.answer.Answer.{Answer}
 use Rattle.site_desk.specs.declared.fault.AskFault.{AskFault}
 use Rattle.site_desk.specs.declared.fault.AskFault.TheVariants as ask
-use Rattle.sql_records.specs.Keeping.{LeavesEither}
+use Rattle.history_keeper.specs.Keeping.{LeavesEither}
 use Rattle.site_desk.specs.Calls.{AskCall, Keeping}
 use Rattle.site_desk.specs.SiteView.{SiteView, entry_in}
 use Rattle.desk_lines.specs.declared.line.Line.{Line}

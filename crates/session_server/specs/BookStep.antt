@@ -6,7 +6,7 @@ use Rattle.book_core.specs.BookView.{BookView}
 use Rattle.book_core.specs.Decision.{own_left}
 use Rattle.book_core.specs.History.{state_of}
 use Rattle.request_ledger.specs.declared.request.Request.{Request}
-use Rattle.sql_records.specs.Keeping.{LeavesEither}
+use Rattle.history_keeper.specs.Keeping.{LeavesEither}
 use Rattle.site_desk.specs.declared.answer.Answer.{Answer}
 use Rattle.site_desk.specs.declared.fault.AskFault.{AskFault}
 use Rattle.site_desk.specs.declared.fault.AskFault.TheVariants as ask

@@ -1,15 +1,14 @@
 //! The book of a site as what answers a session.
 
 ghost use Rattle.std.specs.Prelude.{◌≡◌};
-ghost use Rattle.site_desk.specs.Calls.{keeping};
 ghost use Rattle.session_server.specs.BookStep.{AnswersAsk, answered_of, look_answer, not_shown, shown_left, shown_totals};
 
 use crate::answerer::Answerer;
 use desk_lines::{Answered, Line};
+use history_keeper::Keeper;
 use request_ledger::{Request, RequestNumber};
 use rights_lattice::Event;
 use site_desk::{Answer, AskFault, LookFault, SiteBook};
-use sql_records::Keeper;
 use std::alloc::Global;
 use std::marker::Model;
 use std::sync::Wait;
@@ -48,7 +47,7 @@ impl<K: Keeper> AtBook<K> {
     }
 
     fn ask(&mut self, number: RequestNumber, request: &Request) -> Answered
-        ensures { AnswersAsk (keeping K.failed K.is_trusted K.kept K.may_leave K.is_of)
+        ensures { AnswersAsk K.Keeper
             self.old self.new number request.now result }
     {
         let came = self.book.ask(self.alloc, number, request);
@@ -77,10 +76,9 @@ impl<K: Keeper> AtBook<K> {
 }
 
 impl<K: Keeper> Answerer for AtBook<K> {
-    ghost use Rattle.site_desk.specs.Calls.{keeping};
     ghost use Rattle.session_server.specs.BookStep.{BookStep};
 
-    ghost step = { BookStep (keeping K.failed K.is_trusted K.kept K.may_leave K.is_of) };
+    ghost step = { BookStep K.Keeper };
 
     fn answer<T: Wait>(&mut self, _rt: &T, line: &Line) -> Answered {
         match line {

@@ -9,10 +9,10 @@ ghost use Rattle.desk_lines.specs.declared.line.Line.TheVariants.{Ask, Left, Tot
 use crate::answerer::Answerer;
 use crate::at_book::not_shown;
 use desk_lines::{Answered, Line};
+use history_keeper::Keeper;
 use request_ledger::{Request, RequestNumber};
 use rights_lattice::Event;
 use site_desk::{Answer, AskFault, Desk, Gate, Opens, Place, Receipt, Seat, Seen};
-use sql_records::Keeper;
 use std::alloc::Global;
 use std::marker::Model;
 use std::sync::Wait;
@@ -78,7 +78,7 @@ impl<'a, K: Keeper, L: Opens, G: Gate> AtDesk<'a, K, L, G> {
 
     fn ask<T: Wait>(&mut self, rt: &T, number: RequestNumber, request: &Request) -> Answered
         ensures { DeskStep (told_at
-            L.office L.began K.failed (SiteInStep K.failed K.is_trusted K.kept K.may_leave))
+            L.office L.began K.failed (SiteInStep K.Keeper))
             (length L.began) self.old (Ask number request.now) result self.new }
     {
         if self.receipts.reserve(1).is_err() {
@@ -93,10 +93,10 @@ impl<'a, K: Keeper, L: Opens, G: Gate> AtDesk<'a, K, L, G> {
     fn look<T: Wait>(&mut self, rt: &T, event: Event) -> Result<Seen, Answered>
         ensures shown { MatchResult result (λ seen. IsLookAt (length L.began) event
             self.old seen self.new) (λ answered. ShowsNothing answered × (self.new ≡ self.old)) }
-        ensures told { MayBeTold (told_at L.office L.began K.failed (SiteInStep K.failed K.is_trusted K.kept K.may_leave)) self.old
-            → MayBeTold (told_at L.office L.began K.failed (SiteInStep K.failed K.is_trusted K.kept K.may_leave)) self.new }
+        ensures told { MayBeTold (told_at L.office L.began K.failed (SiteInStep K.Keeper)) self.old
+            → MayBeTold (told_at L.office L.began K.failed (SiteInStep K.Keeper)) self.new }
         ensures why { IfErr result (WhyNotShown (told_at L.office
-            L.began K.failed (SiteInStep K.failed K.is_trusted K.kept K.may_leave)) event) }
+            L.began K.failed (SiteInStep K.Keeper)) event) }
     {
         if self.looks.reserve(1).is_err() {
             return Err(Answered::Refused(AskFault::Memory));
@@ -111,8 +111,7 @@ impl<'a, K: Keeper, L: Opens, G: Gate> AtDesk<'a, K, L, G> {
     }
 
     fn left<T: Wait>(&mut self, rt: &T, event: Event) -> Answered
-        ensures { DeskStep (told_at L.office L.began K.failed (SiteInStep K.failed K.is_trusted
-            K.kept K.may_leave)) (length L.began) self.old (Left event) result self.new }
+        ensures { DeskStep (told_at L.office L.began K.failed (SiteInStep K.Keeper)) (length L.began) self.old (Left event) result self.new }
     {
         match self.look(rt, event) {
             Ok(seen) => Answered::LeftIs(seen.left),
@@ -121,8 +120,7 @@ impl<'a, K: Keeper, L: Opens, G: Gate> AtDesk<'a, K, L, G> {
     }
 
     fn totals<T: Wait>(&mut self, rt: &T, event: Event) -> Answered
-        ensures { DeskStep (told_at L.office L.began K.failed (SiteInStep K.failed K.is_trusted
-            K.kept K.may_leave)) (length L.began) self.old (TotalsOf event) result self.new }
+        ensures { DeskStep (told_at L.office L.began K.failed (SiteInStep K.Keeper)) (length L.began) self.old (TotalsOf event) result self.new }
     {
         match self.look(rt, event) {
             Ok(seen) => Answered::TotalsAre(seen.totals),
@@ -153,7 +151,7 @@ impl<'a, K: Keeper, L: Opens, G: Gate> Answerer for AtDesk<'a, K, L, G> {
     ghost use Rattle.site_desk.specs.SiteView.{SiteInStep};
     ghost use Rattle.session_server.specs.SeatStep.{DeskStep, told_at};
 
-    ghost step = { DeskStep (told_at L.office L.began K.failed (SiteInStep K.failed K.is_trusted K.kept K.may_leave)) (length L.began) };
+    ghost step = { DeskStep (told_at L.office L.began K.failed (SiteInStep K.Keeper)) (length L.began) };
 
     fn answer<T: Wait>(&mut self, rt: &T, line: &Line) -> Answered {
         self.line = self.line.wrapping_add(1);

@@ -9,8 +9,8 @@ use crate::peer::{Peer, PeerEnd};
 use crate::receiving::{Incoming, IncomingEnd, receive_from};
 use crate::replica::{DeskReplica, Replica};
 use crate::sending::{LinksOf, Outgoing, OutgoingEnd, send_all};
+use history_keeper::Keeper;
 use site_desk::{Desk, Opens};
-use sql_records::Keeper;
 use std::alloc::{AllocError, Global};
 use std::snapshot::Snapshot;
 use std::sync::Wait;
@@ -161,9 +161,9 @@ pub fn exchange_all<T: Threads + Wait + Sync, K: Keeper + Send, L: Opens + Send 
     rounds: u64,
 ) -> Result<Vec<PeerEnd>, ExchangeFault>
     ensures { IfOk result (λ r. AllZip (Exchanged
-        (held_at_desk L.office L.began (SiteInStep K.failed K.is_trusted K.kept K.may_leave))
-        (refused_at_desk L.office L.began (SiteInStep K.failed K.is_trusted K.kept K.may_leave) K.failed)
-        (given_at_desk L.office L.began (SiteInStep K.failed K.is_trusted K.kept K.may_leave))
+        (held_at_desk L.office L.began (SiteInStep K.Keeper))
+        (refused_at_desk L.office L.began (SiteInStep K.Keeper) K.failed)
+        (given_at_desk L.office L.began (SiteInStep K.Keeper))
         rounds) peers.items r.items) }
 {
     exchange(rt, alloc, &DeskReplica { alloc, desk }, peers, rounds)

@@ -7,8 +7,8 @@ ghost use Rattle.session_server.specs.Settled.{AreLinksTold, IsLeftOfNew, ends_t
 use crate::peer::PeerEnd;
 use crate::settling::{Through, Went, settle_all};
 use crate::site::{LinkEnd, Site};
+use history_keeper::Keeper;
 use rights_lattice::SiteId;
-use sql_records::Keeper;
 use std::alloc::{AllocError, Global};
 use std::io::{Read, Write};
 

@@ -5,9 +5,9 @@ ghost use Rattle.session_server.specs.Mesh.{AreJoined, CameTo, GotPeer, IsMesh, 
 
 use crate::peer::Peer;
 use crate::site::Site;
+use history_keeper::Keeper;
 use link_queue::link;
 use rights_lattice::SiteId;
-use sql_records::Keeper;
 use std::alloc::{AllocError, Global};
 use std::io::{Read, Write};
 

@@ -17,8 +17,8 @@ use crate::serve::serve_all;
 use crate::session::{Session, SessionEnd};
 use crate::site::Site;
 use crate::threads::work_beside;
+use history_keeper::Keeper;
 use site_desk::{Desk, FinishFault, Gate, Opens, Receipt, Seat, Seen, SiteBook};
-use sql_records::Keeper;
 use std::alloc::{AllocError, Global};
 use std::io::{Read, Write};
 use std::marker::Brand;
@@ -197,9 +197,9 @@ fn at_once<
     ensures shares { IfOk result (λ r. IfOk r.0 (λ s. shares_of s.1.items
         ≤ shares_of (map (λ s. s.seat) sessions.items) + given_since (length L.began) (flat_map (λ e. e.receipts.items) s.0.items))) }
     ensures peers { IfOk result (λ r. IfOk r.1 (λ ends. AllZip (Exchanged
-        (held_at_desk L.office L.began (SiteInStep K.failed K.is_trusted K.kept K.may_leave))
-        (refused_at_desk L.office L.began (SiteInStep K.failed K.is_trusted K.kept K.may_leave) K.failed)
-        (given_at_desk L.office L.began (SiteInStep K.failed K.is_trusted K.kept K.may_leave))
+        (held_at_desk L.office L.began (SiteInStep K.Keeper))
+        (refused_at_desk L.office L.began (SiteInStep K.Keeper) K.failed)
+        (given_at_desk L.office L.began (SiteInStep K.Keeper))
         rounds) peers.items ends.items)) }
 {
     let begun = Begun {

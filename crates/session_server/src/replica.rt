@@ -4,10 +4,10 @@ ghost use Rattle.std.specs.Prelude.{◌≡◌, ℕ, IfErr, IfOk, IfSome};
 ghost use Rattle.site_exchange.specs.Exchange.{ack_for, receiver};
 ghost use Rattle.site_exchange.specs.declared.message.Message.{Message};
 
+use history_keeper::Keeper;
 use rights_lattice::SiteId;
 use site_desk::{Desk, Opens, Taken};
 use site_exchange::Message;
-use sql_records::Keeper;
 use std::alloc::Global;
 use std::sync::Wait;
 
@@ -47,11 +47,11 @@ impl<'a, K: Keeper, L: Opens> Replica for DeskReplica<'a, K, L> {
     ghost use Rattle.site_desk.specs.SiteView.{SiteInStep};
     ghost use Rattle.session_server.specs.Exchanged.{given_at_desk, held_at_desk, refused_at_desk};
 
-    ghost holds = { held_at_desk L.office L.began (SiteInStep K.failed K.is_trusted K.kept K.may_leave) };
+    ghost holds = { held_at_desk L.office L.began (SiteInStep K.Keeper) };
 
-    ghost refuses = { refused_at_desk L.office L.began (SiteInStep K.failed K.is_trusted K.kept K.may_leave) K.failed };
+    ghost refuses = { refused_at_desk L.office L.began (SiteInStep K.Keeper) K.failed };
 
-    ghost gives = { given_at_desk L.office L.began (SiteInStep K.failed K.is_trusted K.kept K.may_leave) };
+    ghost gives = { given_at_desk L.office L.began (SiteInStep K.Keeper) };
 
     fn next<R: Wait>(&self, rt: &R, to: SiteId) -> Option<Message> {
         match self.desk.next(rt, self.alloc, to) {

@@ -1,9 +1,9 @@
 //! A site that is to run beside others, and what it leaves.
 
 use crate::session::SessionEnd;
+use history_keeper::Keeper;
 use rights_lattice::SiteId;
 use site_desk::{FinishFault, SiteBook};
-use sql_records::Keeper;
 use std::io::{Read, Write};
 
 /// A session that is to come to a site. The number is the one that a gate sees.

@@ -10,7 +10,7 @@ use Rattle.site_desk.specs.Answers.{IsAnswer, IsAskFault}
 use Rattle.site_desk.specs.Batch.{AreAnswered, LeavesAsked, fresh_in, is_fresh}
 use Rattle.std.specs.Prelude.{IfOk, IfErr, OnOk, OnErr}
 use Rattle.site_exchange.specs.Pendings.{ExchangeView, IsExchangeOf}
-use Rattle.sql_records.specs.Keeping.{LeavesAllOrNone}
+use Rattle.history_keeper.specs.Keeping.{LeavesAllOrNone}
 use Rattle.site_desk.specs.Count.{HasOneMoreIf, asked_since}
 use Rattle.site_desk.proofs.Growth.{asked_since_below, asked_since_push, one_more_if_fresh}
 use Rattle.std.proofs.lemmas.List.Sums.{sum_by-cons}

@@ -6,5 +6,6 @@ pub mod Listing
 pub mod Moments
 pub mod Receipts
 pub mod Sent
+pub mod Sharing
 pub mod Shown
 pub mod Stands

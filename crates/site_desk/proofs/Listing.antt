@@ -8,8 +8,8 @@ use Rattle.book_core.specs.declared.entry.Entry.{Entry}
 use Rattle.book_core.specs.declared.entry.Entry.TheVariants.{Asked, Joined, Grown}
 use Rattle.book_core.specs.History.{asked, asked_from}
 use Rattle.book_core.proofs.Kept.{asked-push}
-use Rattle.sql_records.specs.declared.lookup.Listed.{Listed}
-use Rattle.sql_records.specs.Lookups.{listed_in, listing, names_event}
+use Rattle.history_keeper.specs.declared.lookup.Listed.{Listed}
+use Rattle.history_keeper.specs.Lookups.{listed_in, listing, names_event}
 use Rattle.site_desk.specs.Looks.{row_at, row_of, with_row}
 
 -- what one entry more adds

@@ -10,8 +10,9 @@ use Rattle.site_exchange.specs.declared.message.TakeFault.{TakeFault}
 use Rattle.site_exchange.specs.declared.message.TakeFault.TheVariants as take
 use Rattle.site_exchange.specs.Exchange.{Joins, NothingNew, SitePart, ack_for, entry_of_take}
 use Rattle.site_exchange.specs.Taking.{MayTake, site_after, with_entry}
-use Rattle.sql_records.specs.declared.meta.Meta.{Meta}
-use Rattle.sql_records.specs.Keeping.{LeavesEither, LeavesOnly}
+use Rattle.history_keeper.specs.declared.keeper.Keeper.{Ghosts}
+use Rattle.history_keeper.specs.declared.meta.Meta.{Meta}
+use Rattle.history_keeper.specs.Keeping.{LeavesEither, LeavesOnly}
 use Rattle.site_desk.specs.declared.answer.Answer.{Answer}
 use Rattle.site_desk.specs.declared.answer.Taken.{Taken}
 use Rattle.site_desk.specs.declared.fault.AskFault.{AskFault}
@@ -21,16 +22,9 @@ use Rattle.site_desk.specs.Answers.{IsAnswer, IsAskFault, IsGrowFault, IsTakeFau
 use Rattle.site_desk.specs.Batch.{AreAnswered, IsAskAllFault, LeavesAsked, fresh_in}
 use Rattle.site_desk.specs.SiteView.{SiteView, decision_in, entry_in, grow_decision_in, growth_in, site_of, verdict_in}
 
--- what a keeper shows: how often it failed, when it is to be trusted, what it stores, and the list and the site that a crash may leave
-pub record Keeping (K : Type 0) : Type 1 where
-  pub failed : K → ℕ
-  pub is_trusted : K → Type 0
-  pub kept : K → List Entry
-  pub may_leave : K → Option (List Entry) → Type 0
-  pub is_of : K → Meta → Type 0
-
-abbrev pub keeping : {K : Type 0} → (K → ℕ) → (K → Type 0) → (K → List Entry) → (K → Option (List Entry) → Type 0) → (K → Meta → Type 0) → Keeping K
-keeping failed is_trusted kept may_leave is_of = record { failed = failed; is_trusted = is_trusted; kept = kept; may_leave = may_leave; is_of = is_of }
+-- what a keeper shows: the ghost members of its trait
+abbrev pub Keeping : Type 0 → Type 1
+Keeping K = Ghosts K
 
 -- A call that may add an entry: it made what is due, or it left the site as it was and, where the store failed, closed. Of an open site
 -- a crash leaves the history and nothing else; of one whose store failed, the history with the entry or without.

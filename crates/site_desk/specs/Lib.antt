@@ -7,6 +7,7 @@ pub mod Finish
 pub mod Looks
 pub mod Moments
 pub mod Seats
+pub mod Shares
 pub mod SiteView
 pub mod Storing
 pub mod Walk

@@ -5,8 +5,8 @@ use Rattle.book_core.specs.declared.entry.Entry.{Entry}
 use Rattle.book_core.specs.declared.entry.Entry.TheVariants.{Asked}
 use Rattle.book_core.specs.Decision.{Office, own_left}
 use Rattle.book_core.specs.History.{state_of}
-use Rattle.sql_records.specs.declared.lookup.Listed.{Listed}
-use Rattle.sql_records.specs.Lookups.{names_event}
+use Rattle.history_keeper.specs.declared.lookup.Listed.{Listed}
+use Rattle.history_keeper.specs.Lookups.{names_event}
 use Rattle.site_desk.specs.declared.answer.Seen.{Seen}
 use Rattle.site_desk.specs.declared.fault.LookFault.{LookFault}
 use Rattle.site_desk.specs.declared.fault.LookFault.TheVariants as look_fault

@@ -1,15 +1,15 @@
 -- What the book under a desk's lock is at one moment, and what is answered by it then. (Our own.)
-use Rattle.std.specs.Prelude.{◌≡◌, ℕ, true, false, List, Vec, take, length, Option, Result, Ok, Err, IfOk}
+use Rattle.std.specs.Prelude.{◌≡◌, ℕ, true, false, List, Vec, take, length, Option, Some, None, Result, Ok, Err, IfOk}
 use Rattle.rights_lattice.specs.State.{AtOrBelow, knows}
 use Rattle.request_ledger.specs.declared.request.Request.{Request}
 use Rattle.book_core.specs.declared.entry.Entry.{Entry}
 use Rattle.book_core.specs.BookView.{BookView}
 use Rattle.book_core.specs.Decision.{Office, sites_of}
-use Rattle.book_core.specs.History.{state_of}
+use Rattle.book_core.specs.History.{names_known, state_of}
 use Rattle.book_core.specs.Legal.{IsLegal}
-use Rattle.sql_records.specs.declared.lookup.Found.{Found}
-use Rattle.sql_records.specs.declared.lookup.Listed.{Listed}
-use Rattle.sql_records.specs.Lookups.{found_in, listed_in}
+use Rattle.history_keeper.specs.declared.lookup.Found.{Found}
+use Rattle.history_keeper.specs.declared.lookup.Listed.{Listed}
+use Rattle.history_keeper.specs.Lookups.{found_in, listed_in}
 use Rattle.site_exchange.specs.declared.message.Message.{Message}
 use Rattle.site_exchange.specs.declared.message.Message.TheVariants.{Delta, Ack}
 use Rattle.site_exchange.specs.declared.message.TakeFault.{TakeFault}
@@ -17,6 +17,7 @@ use Rattle.site_exchange.specs.Exchange.{ack_for, next}
 use Rattle.site_exchange.specs.Taking.{MayTake}
 use Rattle.site_desk.specs.declared.answer.Answer.{Answer}
 use Rattle.site_desk.specs.declared.answer.Seen.{Seen}
+use Rattle.site_desk.specs.declared.answer.SiteShare.{SiteShare}
 use Rattle.site_desk.specs.declared.answer.Standing.{Standing}
 use Rattle.site_desk.specs.declared.answer.Taken.{Taken}
 use Rattle.site_desk.specs.declared.fault.AskFault.{AskFault}
@@ -29,6 +30,7 @@ use Rattle.site_desk.specs.Calls.{AskAllCall, Keeping, answers_in}
 use Rattle.site_desk.specs.Answers.{IsAnswer, IsAskFault, IsNextFault, IsTaken, IsTakeFault, is_peer}
 use Rattle.site_desk.specs.Looks.{IsLookFault, IsSeenAt}
 use Rattle.site_desk.specs.Finish.{StandsIn}
+use Rattle.site_desk.specs.Shares.{shares_in}
 use Rattle.site_desk.specs.SiteView.{SiteView, decision_in, site_of, verdict_in}
 
 -- the history begins with this one
@@ -99,6 +101,18 @@ abbrev pub Lists : {K Z : Type 0} → List ℕ → Result (Vec Listed Z) LookUpF
 Lists event (Ok listed) site = (site.closed ≡ false) × (listed.items ≡ listed_in site.book.history event)
 Lists event (Err look_up.Closed) site = site.closed ≡ true
 Lists event (Err look_up.Memory) site = site.closed ≡ false
+
+abbrev pub Events : {K Z : Type 0} → Result (Vec (List ℕ) Z) LookUpFault → SiteView K → Type 0
+Events (Ok events) site = (site.closed ≡ false) × (events.items ≡ names_known site.book.history)
+Events (Err look_up.Closed) site = site.closed ≡ true
+Events (Err look_up.Memory) site = site.closed ≡ false
+
+-- no shares of an event that is not known
+abbrev pub Shares : {K Z : Type 0} → List ℕ → Result (Option (Vec SiteShare Z)) LookUpFault → SiteView K → Type 0
+Shares event (Ok None) site = (site.closed ≡ false) × (knows (state_of site.book.history).names event ≡ false)
+Shares event (Ok (Some rows)) site = (site.closed ≡ false) × (knows (state_of site.book.history).names event ≡ true) × (rows.items ≡ shares_in site.book event)
+Shares event (Err look_up.Closed) site = site.closed ≡ true
+Shares event (Err look_up.Memory) site = site.closed ≡ false
 
 abbrev pub Takes : {K : Type 0} → (K → ℕ) → Message → Result Taken TakeFault → SiteView K → Type 0
 Takes failed message (Ok taken) site = (site.closed ≡ false) × IsTaken (verdict_in site.book message) (ack_for message) taken

@@ -10,7 +10,8 @@ use Rattle.book_core.specs.Growing.{GrowDecision, entry_of_grow, grow_decision}
 use Rattle.book_core.specs.OwnRow.{HasOwnRights}
 use Rattle.site_exchange.specs.declared.message.Message.{Message}
 use Rattle.site_exchange.specs.Exchange.{SitePart, Verdict, verdict}
-use Rattle.sql_records.specs.Keeping.{LeavesOnly}
+use Rattle.history_keeper.specs.declared.keeper.Keeper.{Ghosts}
+use Rattle.history_keeper.specs.Keeping.{LeavesOnly}
 
 -- the book, what each peer has acknowledged of it, its keeper, and whether it takes nothing more
 pub record SiteView (K : Type 0) : Type 0 where
@@ -35,8 +36,8 @@ pub record IsInStep (closed : Bool) (failed : ℕ) (is_trusted : Type 0) (kept :
   pub has_rights : HasOwnRights book
 
 -- the same of a site, by what its keeper says of itself
-abbrev pub SiteInStep : {K : Type 0} → (K → ℕ) → (K → Type 0) → (K → List Entry) → (K → Option (List Entry) → Type 0) → SiteView K → Type 0
-SiteInStep failed is_trusted kept may_leave s = IsInStep s.closed (failed s.keeper) (is_trusted s.keeper) (kept s.keeper) (may_leave s.keeper) s.acked s.book
+abbrev pub SiteInStep : {K : Type 0} → Ghosts K → SiteView K → Type 0
+SiteInStep k s = IsInStep s.closed (k.failed s.keeper) (k.is_trusted s.keeper) (k.kept s.keeper) (k.may_leave s.keeper) s.acked s.book
 
 -- the history, and what each peer has acknowledged of it
 abbrev pub site_of : {K : Type 0} → SiteView K → SitePart

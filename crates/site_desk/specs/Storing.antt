@@ -5,10 +5,10 @@ use Rattle.book_core.specs.declared.entry.Entry.{Entry}
 use Rattle.book_core.specs.BookView.{BookView}
 use Rattle.site_exchange.specs.Exchange.{zeros}
 use Rattle.site_exchange.specs.Taking.{extended}
-use Rattle.sql_records.specs.declared.keeper.KeepFault.{KeepFault}
-use Rattle.sql_records.specs.declared.meta.Meta.{Meta}
-use Rattle.sql_records.specs.Keeping.{Keeps, LeavesEither, LeavesOnly, LeavesWithOrWithout}
-use Rattle.sql_records.specs.Layout.{office_of}
+use Rattle.history_keeper.specs.declared.keeper.KeepFault.{KeepFault}
+use Rattle.history_keeper.specs.declared.meta.Meta.{Meta}
+use Rattle.history_keeper.specs.Keeping.{Keeps, LeavesEither, LeavesOnly, LeavesWithOrWithout}
+use Rattle.history_keeper.specs.Meta.{office_of}
 use Rattle.site_desk.specs.declared.answer.Answer.{Answer}
 use Rattle.site_desk.specs.declared.fault.AskFault.{AskFault}
 use Rattle.site_desk.specs.declared.fault.AskFault.TheVariants as ask

@@ -35,6 +35,16 @@ pub struct Seen {
     pub at: usize,
 }
 
+/// What a site may sell of an event by a view, and what it sold and took back of it.
+#[derive(Clone, Copy, PartialEq, Eq, Debug)]
+pub struct SiteShare {
+    pub site: SiteId,
+    /// The seats that it may still sell; `None` if by the view it spent more than it gained, as after a forged delta.
+    pub left: Option<u64>,
+    pub sold: u64,
+    pub back: u64,
+}
+
 /// Which site a book is of, and how long its history is.
 #[derive(Clone, Copy, PartialEq, Eq, Debug)]
 pub struct Standing {

@@ -2,7 +2,6 @@
 ghost use Rattle.std.specs.Prelude.{◌≡◌, ◌≢◌, false, length, IfOk, IfErr};
 ghost use Rattle.book_core.specs.OwnRow.{HasOwnRights};
 ghost use Rattle.site_desk.specs.Answers.{IsAnswer, IsAskFault};
-ghost use Rattle.site_desk.specs.Calls.{keeping};
 ghost use Rattle.site_desk.specs.Storing.{Enters, IsStoredBy};
 ghost use Rattle.site_desk.specs.SiteView.{decision_in, entry_in};
 
@@ -10,8 +9,8 @@ use crate::answer::Answer;
 use crate::fault::AskFault;
 use crate::storing::store;
 use book_core::{Book, Plan, PlanFault};
+use history_keeper::Keeper;
 use request_ledger::{Request, RequestNumber};
-use sql_records::Keeper;
 use std::alloc::Global;
 
 // Answers a request, and keeps and enters what is new.
@@ -22,9 +21,9 @@ pub(crate) fn answer<K: Keeper>(
     number: RequestNumber,
     request: &Request,
 ) -> Result<Answer, AskFault>
-    requires { IsStoredBy (keeping K.failed K.is_trusted K.kept K.may_leave K.is_of)
+    requires { IsStoredBy K.Keeper
         keeper.old book.old.history }
-    ensures enters { Enters (keeping K.failed K.is_trusted K.kept K.may_leave K.is_of)
+    ensures enters { Enters K.Keeper
         book.old book.new keeper.old keeper.new
         (entry_in book.old number request.now) AskFault.Store result }
     ensures answer { IfOk result

@@ -2,19 +2,19 @@
 ghost use Rattle.std.specs.Prelude.{false, ◌≡◌, ◌+◌, ◌≤◌, [], drop, take, length, vec_len, vec_capacity, IsOk, IfOk, IfErr, OnOk, OnErr};
 ghost use Rattle.book_core.specs.OwnRow.{HasOwnRights};
 ghost use Rattle.site_exchange.specs.Taking.{extended};
-ghost use Rattle.sql_records.specs.declared.meta.Meta.{Meta as Numbers};
-ghost use Rattle.sql_records.specs.Keeping.{LeavesAllOrNone};
+ghost use Rattle.history_keeper.specs.declared.meta.Meta.{Meta as Numbers};
+ghost use Rattle.history_keeper.specs.Keeping.{LeavesAllOrNone};
 ghost use Rattle.site_desk.specs.Answers.{IsAnswer, IsAskFault};
 ghost use Rattle.site_desk.specs.Batch.{AreAnswered};
-ghost use Rattle.site_desk.specs.Calls.{keeping, listed};
+ghost use Rattle.site_desk.specs.Calls.{listed};
 ghost use Rattle.site_desk.specs.Storing.{EntersAll, IsStoredBy};
 ghost use Rattle.site_desk.specs.SiteView.{decision_in, entry_in};
 
 use crate::answer::Answer;
 use crate::fault::AskFault;
 use book_core::{Book, Plan, PlanFault};
+use history_keeper::{KeepFault, Keeper};
 use request_ledger::{Request, RequestNumber};
-use sql_records::{KeepFault, Keeper};
 use std::alloc::Global;
 use std::sync::Wait;
 
@@ -80,10 +80,10 @@ fn answer_each(
 
 // Keeps the entries from a place on, all at once; where there are none the keeper is not called.
 fn store_from<K: Keeper>(book: &Book, keeper: &mut K, place: usize) -> Result<(), KeepFault>
-    requires begun { IsStoredBy (keeping K.failed K.is_trusted K.kept K.may_leave K.is_of)
+    requires begun { IsStoredBy K.Keeper
         keeper.old (take place book.now.history) }
     ensures stored { OnOk result (IsStoredBy
-        (keeping K.failed K.is_trusted K.kept K.may_leave K.is_of) keeper.new book.now.history) }
+        K.Keeper keeper.new book.now.history) }
     ensures failed { OnErr result (K.failed keeper.new ≡ 1) }
     ensures stopped { OnErr result (K.is_trusted keeper.new → LeavesAllOrNone
         (take place book.now.history) (drop place book.now.history) (K.may_leave keeper.new)) }
@@ -121,10 +121,10 @@ pub(crate) fn answer_all<R: Wait, K: Keeper>(
     alloc: Global,
     requests: &[(RequestNumber, Request)],
 ) -> Result<Vec<Result<Answer, AskFault>>, AskFault>
-    requires stored { IsStoredBy (keeping K.failed K.is_trusted K.kept K.may_leave K.is_of)
+    requires stored { IsStoredBy K.Keeper
         keeper.old book.old.history }
     requires has_rights { HasOwnRights book.old }
-    ensures enters { EntersAll (keeping K.failed K.is_trusted K.kept K.may_leave K.is_of)
+    ensures enters { EntersAll K.Keeper
         book.old book.new keeper.old keeper.new requests.now (listed result) }
     ensures has_rights { HasOwnRights book.new }
 {

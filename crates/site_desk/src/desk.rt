@@ -3,14 +3,14 @@ ghost use Rattle.std.specs.Prelude.{◌≡◌, ◌≢◌, ◌+◌, ◌<◌, ◌�
 ghost use Rattle.std.specs.List.{AllZip};
 ghost use Rattle.site_exchange.specs.Exchange.{ack_for, receiver};
 ghost use Rattle.site_desk.specs.Answers.{ack_of};
-ghost use Rattle.site_desk.specs.Calls.{fresh_given, keeping};
+ghost use Rattle.site_desk.specs.Calls.{fresh_given};
 ghost use Rattle.site_desk.specs.Count.{asked_since};
 ghost use Rattle.site_desk.specs.Finish.{FindsFirst, HasItsReceipt, StandsIn, WasSeen, handed_back, receipt_of};
-ghost use Rattle.site_desk.specs.Moments.{AsksAtDesk, AtOneMoment, Finds, HoldsDelta, HoldsReceipt, IsAtDesk, IsStanding, Lists, Looks, Replies, Sends, StandsGiven, Takes};
+ghost use Rattle.site_desk.specs.Moments.{AsksAtDesk, AtOneMoment, Events, Finds, HoldsDelta, HoldsReceipt, IsAtDesk, IsStanding, Lists, Looks, Replies, Sends, Shares, StandsGiven, Takes};
 ghost use Rattle.site_desk.specs.Seats.{held, parts_of, shares_of};
 ghost use Rattle.site_desk.specs.SiteView.{SiteInStep, SiteView};
 
-use crate::answer::{Answer, Seen, Standing, Taken};
+use crate::answer::{Answer, Seen, SiteShare, Standing, Taken};
 use crate::fault::{AskFault, LookFault, LookUpFault, NextFault};
 use crate::finish::FinishFault;
 use crate::gate::{Gate, Place};
@@ -18,10 +18,10 @@ use crate::locked::Locked;
 use crate::receipt::Receipt;
 use crate::seat::{Opens, Seat};
 use crate::site_book::SiteBook;
+use history_keeper::{Found, Keeper, Listed};
 use request_ledger::{Request, RequestNumber};
 use rights_lattice::{Event, SiteId};
 use site_exchange::{Message, TakeFault};
-use sql_records::{Found, Keeper, Listed};
 use std::alloc::Global;
 use std::sync::ledger::Blank;
 use std::sync::{Mutex, Wait};
@@ -71,12 +71,9 @@ impl<K: Keeper, L: Opens> Desk<K, L> {
         ensures kept { OnErr result (seat.new ≡ seat.old) }
         ensures place { IfOk result (λ r. r.0.fresh ≡ true → length L.began + seat.old.count ≤
             r.0.place) }
-        ensures answered { AtOneMoment L.office L.began (SiteInStep K.failed K.is_trusted K.kept
-            K.may_leave) (Replies K.failed number request.now result) }
-        ensures stands { IfOk result (λ r. AtOneMoment L.office L.began (SiteInStep K.failed
-            K.is_trusted K.kept K.may_leave) (HoldsReceipt r.1)) }
-        ensures shut { result ≡ Err AskFault.Store → AtOneMoment L.office L.began (SiteInStep
-            K.failed K.is_trusted K.kept K.may_leave) (λ (s : SiteView K). s.closed ≡ true) }
+        ensures answered { AtOneMoment L.office L.began (SiteInStep K.Keeper) (Replies K.failed number request.now result) }
+        ensures stands { IfOk result (λ r. AtOneMoment L.office L.began (SiteInStep K.Keeper) (HoldsReceipt r.1)) }
+        ensures shut { result ≡ Err AskFault.Store → AtOneMoment L.office L.began (SiteInStep K.Keeper) (λ (s : SiteView K). s.closed ≡ true) }
     {
         let mut locked = self.lock.lock(rt);
         let site = locked.site();
@@ -96,17 +93,15 @@ impl<K: Keeper, L: Opens> Desk<K, L> {
         seat: &mut Seat<L>,
         requests: &[(RequestNumber, Request)],
     ) -> Result<Vec<Result<(Answer, Receipt), AskFault>>, AskFault>
-        ensures asked { AsksAtDesk (keeping K.failed K.is_trusted K.kept K.may_leave K.is_of)
-            L.office L.began (SiteInStep K.failed K.is_trusted K.kept K.may_leave)
+        ensures asked { AsksAtDesk K.Keeper
+            L.office L.began (SiteInStep K.Keeper)
             requests.now result }
         ensures receipts { IfOk result (λ given. AllZip HasItsReceipt requests.now given.items) }
         ensures share { IfOk result (λ given. seat.new
             ≡ held seat.old.parts (seat.old.count + fresh_given given.items)) }
         ensures kept { OnErr result (seat.new ≡ seat.old) }
-        ensures stands { IfOk result (λ given. All (StandsGiven L.office L.began (SiteInStep
-            K.failed K.is_trusted K.kept K.may_leave)) given.items) }
-        ensures shut { result ≡ Err AskFault.Store → AtOneMoment L.office L.began (SiteInStep
-            K.failed K.is_trusted K.kept K.may_leave) (λ (s : SiteView K). s.closed ≡ true) }
+        ensures stands { IfOk result (λ given. All (StandsGiven L.office L.began (SiteInStep K.Keeper)) given.items) }
+        ensures shut { result ≡ Err AskFault.Store → AtOneMoment L.office L.began (SiteInStep K.Keeper) (λ (s : SiteView K). s.closed ≡ true) }
     {
         self.lock.lock(rt).ask_all(rt, alloc, seat, requests)
     }
@@ -118,8 +113,7 @@ impl<K: Keeper, L: Opens> Desk<K, L> {
     pub fn look<R: Wait>(&self, rt: &R, seat: &Seat<L>, event: Event) -> Result<Seen, LookFault>
         ensures event { IfOk result (λ seen. seen.event ≡ event) }
         ensures at { IfOk result (λ seen. length L.began + seat.now.count ≤ seen.at) }
-        ensures seen { AtOneMoment L.office L.began (SiteInStep K.failed K.is_trusted K.kept
-            K.may_leave) (Looks event result) }
+        ensures seen { AtOneMoment L.office L.began (SiteInStep K.Keeper) (Looks event result) }
     {
         self.look_when(rt, seat.count(), None, event)
     }
@@ -134,8 +128,7 @@ impl<K: Keeper, L: Opens> Desk<K, L> {
     ) -> Result<Seen, LookFault>
         ensures event { IfOk result (λ seen. seen.event ≡ event) }
         ensures past { IfOk result (λ seen. IfSome place (λ p. p < seen.at)) }
-        ensures seen { AtOneMoment L.office L.began (SiteInStep K.failed K.is_trusted K.kept
-            K.may_leave) (Looks event result) }
+        ensures seen { AtOneMoment L.office L.began (SiteInStep K.Keeper) (Looks event result) }
     {
         self.look_when(rt, 0, place, event)
     }
@@ -151,8 +144,7 @@ impl<K: Keeper, L: Opens> Desk<K, L> {
         ensures event { IfOk result (λ seen. seen.event ≡ event) }
         ensures own { IfOk result (λ seen. length L.began + count ≤ seen.at) }
         ensures past { IfOk result (λ seen. IfSome place (λ p. p < seen.at)) }
-        ensures seen { AtOneMoment L.office L.began (SiteInStep K.failed K.is_trusted K.kept
-            K.may_leave) (Looks event result) }
+        ensures seen { AtOneMoment L.office L.began (SiteInStep K.Keeper) (Looks event result) }
     {
         for _ in rt.forever() {
             let locked = self.lock.lock(rt);
@@ -167,8 +159,7 @@ impl<K: Keeper, L: Opens> Desk<K, L> {
     ///
     /// `Closed` where the book is closed, since what it could not store may be found when it is started again.
     pub fn find<R: Wait>(&self, rt: &R, number: RequestNumber) -> Result<Option<Found>, LookUpFault>
-        ensures found { AtOneMoment L.office L.began (SiteInStep K.failed K.is_trusted K.kept
-            K.may_leave) (Finds number result) }
+        ensures found { AtOneMoment L.office L.began (SiteInStep K.Keeper) (Finds number result) }
     {
         self.lock.lock(rt).find(number)
     }
@@ -182,16 +173,38 @@ impl<K: Keeper, L: Opens> Desk<K, L> {
         alloc: Global,
         event: Event,
     ) -> Result<Vec<Listed>, LookUpFault>
-        ensures listed { AtOneMoment L.office L.began (SiteInStep K.failed K.is_trusted K.kept
-            K.may_leave) (Lists event result) }
+        ensures listed { AtOneMoment L.office L.began (SiteInStep K.Keeper) (Lists event result) }
     {
         self.lock.lock(rt).list(alloc, event)
     }
 
+    /// The names of the events that the site knows, in the order of first knowing.
+    ///
+    /// `Closed` as for `find`, and `Memory`.
+    pub fn events<R: Wait>(&self, rt: &R, alloc: Global) -> Result<Vec<Event>, LookUpFault>
+        ensures events { AtOneMoment L.office L.began (SiteInStep K.Keeper) (Events result) }
+    {
+        self.lock.lock(rt).events(alloc)
+    }
+
+    /// What each site that is recognised may sell of an event, and what it sold and took back, all by one view; `None` if
+    /// the event is not known.
+    ///
+    /// `Closed` as for `find`, and `Memory`.
+    pub fn shares<R: Wait>(
+        &self,
+        rt: &R,
+        alloc: Global,
+        event: Event,
+    ) -> Result<Option<Vec<SiteShare>>, LookUpFault>
+        ensures shares { AtOneMoment L.office L.began (SiteInStep K.Keeper) (Shares event result) }
+    {
+        self.lock.lock(rt).shares(alloc, event)
+    }
+
     /// Which site it is, and how long its history is, also where the book is closed.
     pub fn standing<R: Wait>(&self, rt: &R) -> Standing
-        ensures standing { AtOneMoment L.office L.began (SiteInStep K.failed K.is_trusted K.kept
-            K.may_leave) (IsStanding result) }
+        ensures standing { AtOneMoment L.office L.began (SiteInStep K.Keeper) (IsStanding result) }
     {
         self.lock.lock(rt).standing()
     }
@@ -202,12 +215,9 @@ impl<K: Keeper, L: Opens> Desk<K, L> {
     #[tactic(auto, using(crate::proofs::Sent::ack_taken))]
     pub fn take<R: Wait>(&self, rt: &R, message: Message) -> Result<Taken, TakeFault>
         ensures ack { IfOk result (λ taken. ack_of taken ≡ ack_for message) }
-        ensures taken { AtOneMoment L.office L.began (SiteInStep K.failed K.is_trusted K.kept
-            K.may_leave) (Takes K.failed message result) }
-        ensures held { IfOk result (λ _. AtOneMoment L.office L.began (SiteInStep K.failed
-            K.is_trusted K.kept K.may_leave) (HoldsDelta message)) }
-        ensures shut { result ≡ Err TakeFault.Store → AtOneMoment L.office L.began (SiteInStep
-            K.failed K.is_trusted K.kept K.may_leave) (λ (s : SiteView K). s.closed ≡ true) }
+        ensures taken { AtOneMoment L.office L.began (SiteInStep K.Keeper) (Takes K.failed message result) }
+        ensures held { IfOk result (λ _. AtOneMoment L.office L.began (SiteInStep K.Keeper) (HoldsDelta message)) }
+        ensures shut { result ≡ Err TakeFault.Store → AtOneMoment L.office L.began (SiteInStep K.Keeper) (λ (s : SiteView K). s.closed ≡ true) }
     {
         self.lock.lock(rt).take(message)
     }
@@ -221,8 +231,7 @@ impl<K: Keeper, L: Opens> Desk<K, L> {
         to: SiteId,
     ) -> Result<Option<Message>, NextFault>
         ensures to { IfOk result (λ message. IfSome message (λ m. receiver m ≡ to)) }
-        ensures due { AtOneMoment L.office L.began (SiteInStep K.failed K.is_trusted K.kept
-            K.may_leave) (Sends to result) }
+        ensures due { AtOneMoment L.office L.began (SiteInStep K.Keeper) (Sends to result) }
     {
         self.lock.lock(rt).next(alloc, to)
     }
@@ -252,8 +261,7 @@ impl<K: Keeper, L: Opens> Desk<K, L> {
             FinishFault.SeatsOut) }
 
         // What the book kept, whenever the lock was free.
-        ensures at_desk { IsAtDesk L.office L.began (SiteInStep K.failed K.is_trusted K.kept
-            K.may_leave) (handed_back result) }
+        ensures at_desk { IsAtDesk L.office L.began (SiteInStep K.Keeper) (handed_back result) }
     {
         self.lock.into_inner().finish(seats, receipts, looks)
     }

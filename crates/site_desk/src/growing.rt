@@ -4,14 +4,13 @@ ghost use Rattle.rights_lattice.specs.declared.cell.Cell.{Cell};
 ghost use Rattle.book_core.specs.declared.entry.Entry.TheVariants.{Grown};
 ghost use Rattle.book_core.specs.OwnRow.{HasOwnRights, cell_in};
 ghost use Rattle.site_desk.specs.Answers.{IsGrowFault};
-ghost use Rattle.site_desk.specs.Calls.{keeping};
 ghost use Rattle.site_desk.specs.Storing.{Enters, IsStoredBy};
 ghost use Rattle.site_desk.specs.SiteView.{grow_decision_in, growth_in};
 
 use crate::storing::store;
 use book_core::{Book, GrowFault};
+use history_keeper::Keeper;
 use rights_lattice::Sites;
-use sql_records::Keeper;
 use std::alloc::Global;
 
 // Keeps and enters a count of sites that is more than the count so far.
@@ -21,9 +20,9 @@ pub(crate) fn grow<K: Keeper>(
     alloc: Global,
     sites: Sites,
 ) -> Result<(), GrowFault>
-    requires { IsStoredBy (keeping K.failed K.is_trusted K.kept K.may_leave K.is_of)
+    requires { IsStoredBy K.Keeper
         keeper.old book.old.history }
-    ensures enters { Enters (keeping K.failed K.is_trusted K.kept K.may_leave K.is_of)
+    ensures enters { Enters K.Keeper
         book.old book.new keeper.old keeper.new
         (growth_in book.old sites) GrowFault.Store result }
     ensures growth { OnOk result (growth_in book.old sites ≡ Some (Grown sites)) }

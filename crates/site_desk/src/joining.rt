@@ -6,16 +6,15 @@ ghost use Rattle.book_core.specs.Joining.{entry_of_join, join_decision};
 ghost use Rattle.book_core.specs.OwnRow.{HasOwnRights, cell_in};
 ghost use Rattle.site_exchange.specs.Exchange.{Joins, verdict_of};
 ghost use Rattle.site_desk.specs.Answers.{IsTaken, IsTakeFault};
-ghost use Rattle.site_desk.specs.Calls.{keeping};
 ghost use Rattle.site_desk.specs.Storing.{Enters, IsStoredBy};
 
 use crate::answer::Taken;
 use crate::storing::store;
 use book_core::{Book, JoinPlan};
 use delta_mutators::Delta;
+use history_keeper::Keeper;
 use rights_lattice::SiteId;
 use site_exchange::{Message, TakeFault};
-use sql_records::Keeper;
 
 // Joins a peer's delta, where it holds something new, and answers its acknowledgement.
 pub(crate) fn join<K: Keeper>(
@@ -25,9 +24,9 @@ pub(crate) fn join<K: Keeper>(
     delta: Delta,
     ack: Message,
 ) -> Result<Taken, TakeFault>
-    requires { IsStoredBy (keeping K.failed K.is_trusted K.kept K.may_leave K.is_of)
+    requires { IsStoredBy K.Keeper
         keeper.old book.old.history }
-    ensures enters { Enters (keeping K.failed K.is_trusted K.kept K.may_leave K.is_of)
+    ensures enters { Enters K.Keeper
         book.old book.new keeper.old keeper.new
         (entry_of_join book.old.office book.old.history peer delta) TakeFault.Store result }
     ensures taken { IfOk result (IsTaken (verdict_of (join_decision book.old.office book.old.history

@@ -31,7 +31,7 @@ mod site_book;
 mod storing;
 mod walk;
 
-pub use answer::{Answer, Seen, Standing, Taken};
+pub use answer::{Answer, Seen, SiteShare, Standing, Taken};
 pub use desk::Desk;
 pub use fault::{AskFault, LookFault, LookUpFault, NextFault};
 pub use finish::FinishFault;

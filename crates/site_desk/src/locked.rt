@@ -6,14 +6,14 @@ ghost use Rattle.book_core.specs.History.{state_of};
 ghost use Rattle.site_exchange.specs.Exchange.{next};
 ghost use Rattle.site_desk.specs.Answers.{is_peer};
 ghost use Rattle.site_desk.specs.Looks.{IsSeenAt};
-ghost use Rattle.site_desk.specs.Calls.{AskAllCall, AskCall, TakeCall, answer_in, answers_in, fresh_given, keeping};
+ghost use Rattle.site_desk.specs.Calls.{AskAllCall, AskCall, TakeCall, answer_in, answers_in, fresh_given};
 ghost use Rattle.site_desk.specs.SiteView.{SiteInStep, site_of};
 ghost use Rattle.site_desk.specs.Count.{asked_since};
-ghost use Rattle.site_desk.specs.Moments.{Finds, IsAtDesk, IsStanding, Lists};
+ghost use Rattle.site_desk.specs.Moments.{Events, Finds, IsAtDesk, IsStanding, Lists, Shares};
 ghost use Rattle.site_desk.specs.Finish.{FindsFirst, HasItsReceipt, StandsIn, WasSeen, handed_back, receipt_of};
 ghost use Rattle.site_desk.specs.Seats.{held, parts_of, shares_of};
 
-use crate::answer::{Answer, Seen, Standing, Taken};
+use crate::answer::{Answer, Seen, SiteShare, Standing, Taken};
 use crate::fault::{AskFault, LookFault, LookUpFault, NextFault};
 use crate::finish::{FinishFault, first_stranger, first_stranger_seen, gather};
 use crate::given::give_all;
@@ -21,10 +21,10 @@ use crate::looking_up::{found_in, listed_in};
 use crate::receipt::Receipt;
 use crate::seat::{Opens, Seat};
 use crate::site_book::SiteBook;
+use history_keeper::{Found, Keeper, Listed};
 use request_ledger::{Request, RequestNumber};
 use rights_lattice::{Event, SiteId};
 use site_exchange::{Message, TakeFault};
-use sql_records::{Found, Keeper, Listed};
 use std::alloc::Global;
 use std::marker::Model;
 use std::sync::Wait;
@@ -89,10 +89,10 @@ impl<K: Keeper, L: Opens> Locked<K, L> {
         request: &Request,
     ) -> Result<(Answer, Receipt), AskFault>
         ensures at_desk { IsAtDesk L.office L.began
-            (SiteInStep K.failed K.is_trusted K.kept K.may_leave) self.old }
+            (SiteInStep K.Keeper) self.old }
         ensures stays { IsAtDesk L.office L.began
-            (SiteInStep K.failed K.is_trusted K.kept K.may_leave) self.new }
-        ensures asked { AskCall (keeping K.failed K.is_trusted K.kept K.may_leave K.is_of)
+            (SiteInStep K.Keeper) self.new }
+        ensures asked { AskCall K.Keeper
             self.old self.new number request.now (answer_in result) }
         ensures receipt { IfOk result (λ r. r.1 ≡ receipt_of number request.now r.0) }
         ensures share { IfOk result (λ r. seat.new
@@ -133,10 +133,10 @@ impl<K: Keeper, L: Opens> Locked<K, L> {
         requests: &[(RequestNumber, Request)],
     ) -> Result<Vec<Result<(Answer, Receipt), AskFault>>, AskFault>
         ensures at_desk { IsAtDesk L.office L.began
-            (SiteInStep K.failed K.is_trusted K.kept K.may_leave) self.old }
+            (SiteInStep K.Keeper) self.old }
         ensures stays { IsAtDesk L.office L.began
-            (SiteInStep K.failed K.is_trusted K.kept K.may_leave) self.new }
-        ensures asked { AskAllCall (keeping K.failed K.is_trusted K.kept K.may_leave K.is_of)
+            (SiteInStep K.Keeper) self.new }
+        ensures asked { AskAllCall K.Keeper
             self.old self.new requests.now (answers_in result) }
         ensures receipts { IfOk result
             (λ given. AllZip HasItsReceipt requests.now given.items) }
@@ -196,8 +196,7 @@ impl<K: Keeper, L: Opens> Locked<K, L> {
 
     /// What the history shows of an event that it knows.
     pub fn look(&self, event: Event) -> Result<Seen, LookFault>
-        ensures at_desk { IsAtDesk L.office L.began (SiteInStep K.failed K.is_trusted K.kept
-            K.may_leave) self.now }
+        ensures at_desk { IsAtDesk L.office L.began (SiteInStep K.Keeper) self.now }
         ensures seen { IfOk result (IsSeenAt self.now.book.office self.now.book.history event) }
         ensures at { IfOk result (λ seen. seen.at ≡ length self.now.book.history) }
         ensures closed { (result ≡ Err LookFault.Closed) ↔ (self.now.closed ≡ true) }
@@ -211,8 +210,7 @@ impl<K: Keeper, L: Opens> Locked<K, L> {
 
     /// What is kept under a number.
     pub fn find(&self, number: RequestNumber) -> Result<Option<Found>, LookUpFault>
-        ensures at_desk { IsAtDesk L.office L.began (SiteInStep K.failed K.is_trusted K.kept
-            K.may_leave) self.now }
+        ensures at_desk { IsAtDesk L.office L.began (SiteInStep K.Keeper) self.now }
         ensures found { Finds number result self.now }
     {
         // What the book says of its history.
@@ -225,8 +223,7 @@ impl<K: Keeper, L: Opens> Locked<K, L> {
 
     /// The requests that name an event, by place.
     pub fn list(&self, alloc: Global, event: Event) -> Result<Vec<Listed>, LookUpFault>
-        ensures at_desk { IsAtDesk L.office L.began (SiteInStep K.failed K.is_trusted K.kept
-            K.may_leave) self.now }
+        ensures at_desk { IsAtDesk L.office L.began (SiteInStep K.Keeper) self.now }
         ensures listed { Lists event result self.now }
     {
         // What the book says of its history.
@@ -238,10 +235,29 @@ impl<K: Keeper, L: Opens> Locked<K, L> {
         Ok(listed)
     }
 
+    /// The names of the events that are known.
+    pub fn events(&self, alloc: Global) -> Result<Vec<Event>, LookUpFault>
+        ensures at_desk { IsAtDesk L.office L.began (SiteInStep K.Keeper) self.now }
+        ensures events { Events result self.now }
+    {
+        // What the book says of its history.
+        let _book = self.book.book();
+        self.book.events(alloc)
+    }
+
+    /// What each site may sell of an event; `None` if it is not known.
+    pub fn shares(&self, alloc: Global, event: Event) -> Result<Option<Vec<SiteShare>>, LookUpFault>
+        ensures at_desk { IsAtDesk L.office L.began (SiteInStep K.Keeper) self.now }
+        ensures shares { Shares event result self.now }
+    {
+        // What the book says of its history.
+        let _book = self.book.book();
+        self.book.shares(alloc, event)
+    }
+
     /// Which site it is, and how long its history is.
     pub fn standing(&self) -> Standing
-        ensures at_desk { IsAtDesk L.office L.began (SiteInStep K.failed K.is_trusted K.kept
-            K.may_leave) self.now }
+        ensures at_desk { IsAtDesk L.office L.began (SiteInStep K.Keeper) self.now }
         ensures standing { IsStanding result self.now }
     {
         let book = self.book.book();
@@ -256,10 +272,10 @@ impl<K: Keeper, L: Opens> Locked<K, L> {
     /// Takes a peer's message.
     pub fn take(&mut self, message: Message) -> Result<Taken, TakeFault>
         ensures at_desk { IsAtDesk L.office L.began
-            (SiteInStep K.failed K.is_trusted K.kept K.may_leave) self.old }
+            (SiteInStep K.Keeper) self.old }
         ensures stays { IsAtDesk L.office L.began
-            (SiteInStep K.failed K.is_trusted K.kept K.may_leave) self.new }
-        ensures took { TakeCall (keeping K.failed K.is_trusted K.kept K.may_leave K.is_of)
+            (SiteInStep K.Keeper) self.new }
+        ensures took { TakeCall K.Keeper
             self.old self.new message result }
     {
         // What the book says of its history, before and after.
@@ -271,8 +287,7 @@ impl<K: Keeper, L: Opens> Locked<K, L> {
 
     /// The message that is due to a peer.
     pub fn next(&mut self, alloc: Global, to: SiteId) -> Result<Option<Message>, NextFault>
-        ensures at_desk { IsAtDesk L.office L.began (SiteInStep K.failed K.is_trusted K.kept
-            K.may_leave) self.old }
+        ensures at_desk { IsAtDesk L.office L.began (SiteInStep K.Keeper) self.old }
         ensures message { IfOk result (λ message. message ≡ next self.old.book.office.me (site_of
             self.old) to) }
         ensures closed { (result ≡ Err NextFault.Closed) ↔ (self.old.closed ≡ true) }
@@ -307,8 +322,7 @@ impl<K: Keeper, L: Opens> Locked<K, L> {
             L.began) self.book.history }
 
         // What the types of the book and its keeper keep.
-        ensures at_desk { IsAtDesk L.office L.began (SiteInStep K.failed K.is_trusted K.kept
-            K.may_leave) self }
+        ensures at_desk { IsAtDesk L.office L.began (SiteInStep K.Keeper) self }
     {
         let Locked {
             book,

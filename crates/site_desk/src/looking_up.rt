@@ -1,12 +1,15 @@
-//! What a history tells of its requests.
+//! What a history tells of its requests, its events and each site's share.
 ghost use Rattle.std.specs.Prelude.{◌≡◌, IfOk, OnOk};
-ghost use Rattle.sql_records.specs.Lookups.{found_in, listed_in, names_event};
+ghost use Rattle.book_core.specs.History.{names_known, state_of};
+ghost use Rattle.history_keeper.specs.Lookups.{found_in, listed_in, names_event};
 ghost use Rattle.site_desk.specs.Looks.{row_at, with_row};
+ghost use Rattle.site_desk.specs.Shares.{share_of, shares_in};
 
+use crate::answer::SiteShare;
 use book_core::{Book, Entry};
+use history_keeper::{Found, Listed};
 use request_ledger::{Request, RequestNumber};
-use rights_lattice::Event;
-use sql_records::{Found, Listed};
+use rights_lattice::{Cell, Event, SiteId};
 use std::alloc::{AllocError, Global};
 
 /// What is kept under a number.
@@ -75,4 +78,46 @@ pub(crate) fn listed_in(book: &Book, alloc: Global, event: Event) -> Result<Vec<
         list_at(&mut listed, book, place, event)?;
     }
     Ok(listed)
+}
+
+/// The names of the events that are known, in the order of first knowing.
+pub(crate) fn events_in(book: &Book, alloc: Global) -> Result<Vec<Event>, AllocError>
+    ensures { IfOk result (λ events. events.items ≡ names_known book.now.history) }
+{
+    let mut events = Vec::new(alloc);
+    'places: for place in 0..book.event_count() {
+        let Some(event) = book.event_at(place) else {
+            unreachable!()
+        };
+        events.push(event)?;
+    }
+    Ok(events)
+}
+
+fn share_of(book: &Book, site: SiteId, event: Event) -> SiteShare
+    ensures { result ≡ share_of (state_of book.now.history).cells event site }
+{
+    SiteShare {
+        site,
+        left: book.share(site, event),
+        sold: book.cell(event, Cell::Used { by: site }),
+        back: book.cell(event, Cell::Back { by: site }),
+    }
+}
+
+/// What each site may sell of an event, and what it sold and took back, from site 0 on.
+#[tactic(auto, using(crate::proofs::Sharing::one_more))]
+pub(crate) fn shares_in(
+    book: &Book,
+    alloc: Global,
+    event: Event,
+) -> Result<Vec<SiteShare>, AllocError>
+    ensures { IfOk result (λ rows. rows.items ≡ shares_in book.now event) }
+{
+    let mut rows = Vec::new(alloc);
+    let sites = book.sites();
+    'sites: for number in 0..sites.count() {
+        rows.push(share_of(book, sites.site(number), event))?;
+    }
+    Ok(rows)
 }

@@ -9,26 +9,28 @@ ghost use Rattle.book_core.specs.OwnRow.{HasOwnRights, cell_in};
 ghost use Rattle.book_core.specs.Legal.{IsLegal};
 ghost use Rattle.book_core.specs.Replay.{IsReplayFault};
 ghost use Rattle.site_exchange.specs.Exchange.{next};
-ghost use Rattle.sql_records.specs.Keeping.{LeavesOnly};
-ghost use Rattle.sql_records.specs.Layout.{office_of};
+ghost use Rattle.history_keeper.specs.Keeping.{LeavesOnly};
+ghost use Rattle.history_keeper.specs.Meta.{office_of};
 ghost use Rattle.site_desk.specs.Answers.{is_peer};
 ghost use Rattle.site_desk.specs.Looks.{IsSeenAt};
-ghost use Rattle.site_desk.specs.Calls.{AskAllCall, AskCall, GrowCall, TakeCall, keeping, listed};
+ghost use Rattle.site_desk.specs.Calls.{AskAllCall, AskCall, GrowCall, TakeCall, listed};
+ghost use Rattle.site_desk.specs.Moments.{Events, Shares};
 ghost use Rattle.site_desk.specs.Storing.{IsStarted};
 ghost use Rattle.site_desk.specs.Count.{HasOneMoreIf};
 ghost use Rattle.site_desk.specs.SiteView.{SiteInStep, site_of};
 
-use crate::answer::{Answer, Seen, Taken};
+use crate::answer::{Answer, Seen, SiteShare, Taken};
 use crate::asking::answer;
 use crate::asking_all::answer_all;
-use crate::fault::{AskFault, LookFault, NextFault};
+use crate::fault::{AskFault, LookFault, LookUpFault, NextFault};
 use crate::growing::grow;
 use crate::joining::join;
+use crate::looking_up::{events_in, shares_in};
 use book_core::{Book, Entry, GrowFault, ReplayFault};
+use history_keeper::{Keeper, Meta};
 use request_ledger::{Request, RequestNumber};
 use rights_lattice::{Event, SiteId, Sites};
 use site_exchange::{Exchange, Message, TakeFault, check};
-use sql_records::{Keeper, Meta};
 use std::alloc::Global;
 use std::marker::Model;
 use std::sync::Wait;
@@ -73,8 +75,7 @@ impl<K: Keeper> SiteBook<K> {
         requires site { meta.me < meta.sites }
         requires sound { K.failed keeper ≡ 0 }
         requires kept { K.is_trusted keeper → entries.items ≡ K.kept keeper }
-        ensures started { IfOk result (IsStarted (keeping K.failed K.is_trusted K.kept K.may_leave
-            K.is_of) keeper entries.items meta) }
+        ensures started { IfOk result (IsStarted K.Keeper keeper entries.items meta) }
         ensures legal { IfOk result (λ s. IsLegal s.book.office s.book.history) }
         ensures has_rights { IfOk result (λ s. HasOwnRights s.book) }
         ensures fault { IfErr result
@@ -104,7 +105,7 @@ impl<K: Keeper> SiteBook<K> {
         ensures book { result.now ≡ self.now.book }
         ensures legal { IsLegal self.now.book.office self.now.book.history }
         ensures has_rights { HasOwnRights self.now.book }
-        ensures in_step { SiteInStep K.failed K.is_trusted K.kept K.may_leave self.now }
+        ensures in_step { SiteInStep K.Keeper self.now }
     {
         // What the book says of its history.
         let _len = self.book.len();
@@ -144,7 +145,7 @@ impl<K: Keeper> SiteBook<K> {
         number: RequestNumber,
         request: &Request,
     ) -> Result<Answer, AskFault>
-        ensures asked { AskCall (keeping K.failed K.is_trusted K.kept K.may_leave K.is_of)
+        ensures asked { AskCall K.Keeper
             self.old self.new number request.now result }
         ensures grown { IfOk result
             (λ a. HasOneMoreIf a.fresh a.place self.old.book.history self.new.book.history) }
@@ -171,7 +172,7 @@ impl<K: Keeper> SiteBook<K> {
         alloc: Global,
         requests: &[(RequestNumber, Request)],
     ) -> Result<Vec<Result<Answer, AskFault>>, AskFault>
-        ensures asked { AskAllCall (keeping K.failed K.is_trusted K.kept K.may_leave K.is_of)
+        ensures asked { AskAllCall K.Keeper
             self.old self.new requests.now (listed result) }
         ensures sites { sites_of self.new.book.office self.new.book.history
             ≡ sites_of self.old.book.office self.old.book.history }
@@ -193,7 +194,7 @@ impl<K: Keeper> SiteBook<K> {
     /// was acknowledged.
     #[tactic(auto, using(crate::proofs::Growth::sites_taken))]
     pub fn take(&mut self, message: Message) -> Result<Taken, TakeFault>
-        ensures took { TakeCall (keeping K.failed K.is_trusted K.kept K.may_leave K.is_of)
+        ensures took { TakeCall K.Keeper
             self.old self.new message result }
         ensures sites { sites_of self.new.book.office self.new.book.history
             ≡ sites_of self.old.book.office self.old.book.history }
@@ -233,7 +234,7 @@ impl<K: Keeper> SiteBook<K> {
     /// `NotMore` where the book is open and the count is not above the count so far. Other errors are as for a request;
     /// neither `NotMore` nor a full history wants memory.
     pub fn grow(&mut self, alloc: Global, sites: Sites) -> Result<(), GrowFault>
-        ensures grown { GrowCall (keeping K.failed K.is_trusted K.kept K.may_leave K.is_of)
+        ensures grown { GrowCall K.Keeper
             self.old self.new sites result }
         ensures sites { OnOk result (sites_of self.new.book.office self.new.book.history ≡ sites) }
         ensures cells { (event : List ℕ) (cell : Cell)
@@ -295,5 +296,35 @@ impl<K: Keeper> SiteBook<K> {
             totals: self.book.totals(event),
             at: self.book.len(),
         })
+    }
+
+    /// The names of the events that the site knows, in the order of first knowing.
+    ///
+    /// `Closed` if the book is closed, and `Memory`.
+    pub fn events(&self, alloc: Global) -> Result<Vec<Event>, LookUpFault>
+        ensures events { Events result self.now }
+    {
+        if self.is_closed {
+            return Err(LookUpFault::Closed);
+        }
+        let events = events_in(&self.book, alloc)?;
+        Ok(events)
+    }
+
+    /// What each site that is recognised may sell of an event, and what it sold and took back, from site 0 on; `None` if
+    /// the event is not known.
+    ///
+    /// `Closed` if the book is closed, and `Memory`.
+    pub fn shares(&self, alloc: Global, event: Event) -> Result<Option<Vec<SiteShare>>, LookUpFault>
+        ensures shares { Shares event result self.now }
+    {
+        if self.is_closed {
+            return Err(LookUpFault::Closed);
+        }
+        if !self.book.knows(event) {
+            return Ok(None);
+        }
+        let rows = shares_in(&self.book, alloc, event)?;
+        Ok(Some(rows))
     }
 }

@@ -2,11 +2,10 @@
 ghost use Rattle.std.specs.Prelude.{◌≡◌, ◌++◌, ◌∷◌, [], OnOk, OnErr};
 ghost use Rattle.book_core.specs.OwnRow.{HasOwnRights, LeavesOwnRow};
 ghost use Rattle.book_core.specs.Plans.{IsReady};
-ghost use Rattle.site_desk.specs.Calls.{keeping};
 ghost use Rattle.site_desk.specs.Storing.{Appends, IsStoredBy};
 
 use book_core::{Book, Planned};
-use sql_records::{KeepFault, Keeper};
+use history_keeper::{KeepFault, Keeper};
 
 // Keeps a planned entry, and enters it only then.
 pub(crate) fn store<K: Keeper>(
@@ -15,12 +14,12 @@ pub(crate) fn store<K: Keeper>(
     planned: Planned,
 ) -> Result<(), KeepFault>
     requires ready { IsReady book.old planned }
-    requires stored { IsStoredBy (keeping K.failed K.is_trusted K.kept K.may_leave K.is_of)
+    requires stored { IsStoredBy K.Keeper
         keeper.old book.old.history }
     ensures office { book.new.office ≡ book.old.office }
     ensures entered { OnOk result (book.new.history ≡ book.old.history ++ planned ∷ []) }
     ensures unchanged { OnErr result (book.new ≡ book.old) }
-    ensures appends { Appends (keeping K.failed K.is_trusted K.kept K.may_leave K.is_of)
+    ensures appends { Appends K.Keeper
         keeper.old keeper.new book.old.history book.new.history planned result }
     ensures own_row { OnOk result (LeavesOwnRow planned book.old book.new) }
     ensures has_rights { OnOk result (HasOwnRights book.new) }

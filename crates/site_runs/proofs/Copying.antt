@@ -61,13 +61,13 @@ says_done h ms number request cell says none delta rising marks = record {
   marks = marks;
 }
 
-abbrev announced : List Entry
+abbrev pub announced : List Entry
 announced = with_done 0 [] 1 (Announce gala)
 
-abbrev released : List Entry
+abbrev pub released : List Entry
 released = with_done 0 announced 2 (Release gala 5)
 
-abbrev ceded : List Entry
+abbrev pub ceded : List Entry
 ceded = with_done 0 released 3 (Cede gala 1 5)
 
 says_announced : Says announced []
@@ -76,16 +76,16 @@ says_announced = record { state = join-bottom _ ∙ (λ i. record { cells = sym 
 says_released : Says released (five (Gave 0 0) ∷ [])
 says_released = says_done announced [] 2 (Release gala 5) (Gave 0 0) says_announced refl refl refl (lit≤ tt, tt)
 
-says_ceded : Says ceded five_given
+pub says_ceded : Says ceded five_given
 says_ceded = says_done released (five (Gave 0 0) ∷ []) 3 (Cede gala 1 5) (Gave 0 1) says_released refl refl refl (lit≤ tt, (lit≤ tt, tt))
 
-announces : decision (office 0) [] 1 (Announce gala) ≡ Fresh Done
+pub announces : decision (office 0) [] 1 (Announce gala) ≡ Fresh Done
 announces = ap (λ known. Fresh (cond known Known Done)) (knows-no_names gala)
 
 abbrev if_released : Bool → Bool → Reply
 if_released is_known full = cond (not is_known) Unknown (cond full CellFull Done)
 
-releases : decision (office 0) announced 2 (Release gala 5) ≡ Fresh Done
+pub releases : decision (office 0) announced 2 (Release gala 5) ≡ Fresh Done
 releases =
     let room = has_room announced [] (Gave 0 0) says_announced refl in
     λ i. Fresh (if_released (known announced [] says_announced i) (room i))
@@ -94,7 +94,7 @@ five_left : left_by 0 (λ c. greatest (five (Gave 0 0) ∷ []) gala c) ≡ 5
 unfolding max_sites
 five_left = refl
 
-cedes : decision (office 0) released 3 (Cede gala 1 5) ≡ Fresh Done
+pub cedes : decision (office 0) released 3 (Cede gala 1 5) ≡ Fresh Done
 cedes = ap Fresh (may_spend 0 released (five (Gave 0 0) ∷ []) (Gave 0 1) says_released five_left refl)
 
 gives : Some message ≡ next 0 (site_of (site_with 0 ceded)) 1
@@ -108,10 +108,10 @@ starts = record { history = refl; office = refl; acked = refl; opened = refl; re
 abbrev newer : List Entry
 newer = Asked 3 (Cede gala 1 5) Done (delta_for (office 0) released (Cede gala 1 5) Done) ∷ []
 
-abbrev resold : List Entry
+abbrev pub resold : List Entry
 resold = with_done 0 released 3 sale
 
-sells_again : decision (office 0) released 3 sale ≡ Fresh Done
+pub sells_again : decision (office 0) released 3 sale ≡ Fresh Done
 sells_again = ap Fresh (may_spend 0 released (five (Gave 0 0) ∷ []) (Used 0) says_released five_left refl)
 
 -- site 0 releases five seats and cedes them to site 1

@@ -137,8 +137,11 @@ is_new =
     && list_all (λ m. nat_le m.value (value_at bottom.cells m.event m.cell)) (marks_of (said five_given).cells))
     ∙ (λ i. (knows-no_names gala i && true) && list_all (λ m. nat_le m.value (value_at bottom.cells m.event m.cell)) (marks_of (said five_given).cells))
 
+pub may_join : join_decision (office 1) [] 0 (said five_given) ≡ join.Joins
+may_join = λ i. decided (marks_of-cells_of five_given refl (lit≤ tt, (lit≤ tt, tt)) i) (is_new i)
+
 joins : verdict (office 1) [] message ≡ exchange.Joins
-joins = λ i. verdict_of (decided (marks_of-cells_of five_given refl (lit≤ tt, (lit≤ tt, tt)) i) (is_new i))
+joins = ap verdict_of may_join
 
 -- the history of site 1 with the message, and then with the sale
 abbrev pub first : List Entry
@@ -168,7 +171,7 @@ five_left : left_by 1 (λ c. greatest five_given gala c) ≡ 5
 unfolding max_sites
 five_left = refl
 
-sells_five : decision (office 1) first 1 sale ≡ Fresh Done
+pub sells_five : decision (office 1) first 1 sale ≡ Fresh Done
 sells_five = ap Fresh (may_spend 1 first five_given (Used 1) says_first five_left refl)
 
 pub sells : AskCall no_store (site_with 1 first) (site_with 1 last) 1 sale (Ok (answer 1))

@@ -6,6 +6,7 @@ pub mod Beginning
 pub mod Listing
 pub mod Sums
 pub mod Growing
+pub mod Histories
 pub mod Adding
 mod Copying
 mod Examples

@@ -11,7 +11,7 @@ use Rattle.book_core.specs.Growing.{entry_of_grow}
 use Rattle.site_exchange.specs.declared.message.Message.{Message}
 use Rattle.site_exchange.specs.Exchange.{SitePart, entry_of_take, zeros}
 use Rattle.site_exchange.specs.Taking.{extended, restarted, with_entry, with_given}
-use Rattle.sql_records.specs.Keeping.{LeavesEither, LeavesOnly}
+use Rattle.history_keeper.specs.Keeping.{LeavesEither, LeavesOnly}
 use Rattle.site_desk.specs.SiteView.{SiteView, site_of}
 use Rattle.world_steps.specs.declared.step.Input.{Input}
 use Rattle.world_steps.specs.declared.step.Input.TheVariants as input

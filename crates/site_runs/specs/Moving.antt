@@ -9,8 +9,8 @@ use Rattle.site_desk.specs.declared.fault.NextFault.TheVariants as next
 use Rattle.site_desk.specs.Calls.{Keeping}
 use Rattle.site_desk.specs.SiteView.{SiteView}
 use Rattle.book_core.specs.declared.entry.Entry.{Entry}
-use Rattle.sql_records.specs.declared.meta.Meta.{Meta}
-use Rattle.sql_records.specs.Layout.{office_of}
+use Rattle.history_keeper.specs.declared.meta.Meta.{Meta}
+use Rattle.history_keeper.specs.Meta.{office_of}
 use Rattle.site_desk.specs.Storing.{IsStarted}
 use Rattle.book_core.specs.declared.plan.ReplayFault.{ReplayFault}
 use Rattle.site_runs.specs.Runs.{Call, Gives, Happens, Moves, Restarts, Sites, Takes}

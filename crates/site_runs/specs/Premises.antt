@@ -1,9 +1,17 @@
 -- That premises of never oversold are needed: without one of them sums can fail. (Our own.)
-use Rattle.std.specs.Prelude.{◌≡◌, List, [], ◌++◌}
+use Rattle.std.specs.Prelude.{◌≡◌, ℕ, List, [], ◌++◌, slice_get, Some}
+use Rattle.rights_lattice.specs.State.{AtOrBelow}
 use Rattle.book_core.specs.declared.entry.Entry.{Entry}
+use Rattle.book_core.specs.declared.entry.Entry.TheVariants.{Joined}
+use Rattle.book_core.specs.BookView.{BookView}
+use Rattle.book_core.specs.Books.{AreNotOversold}
+use Rattle.book_core.specs.History.{state_of}
+use Rattle.book_core.specs.Legal.{IsLegal}
 use Rattle.site_exchange.specs.declared.message.Message.{Message}
 use Rattle.site_desk.specs.Calls.{Keeping, TakeCall}
 use Rattle.site_desk.specs.SiteView.{SiteView}
+use Rattle.world_steps.specs.Sites.{AreSites}
+use Rattle.world_steps.specs.Entered.{AreAdded, AreEmpty}
 use Rattle.site_runs.specs.Runs.{AreNew, Call, CallAt, Happens, NotOversold, Restarts, RunsBy, Sites, Starts, Takes}
 
 -- a keeper of which nothing is known
@@ -29,3 +37,21 @@ HappensOfCopies k given old call new = Happens k given old call new
 abbrev pub TwoCopiesOversell : Type 0
 TwoCopiesOversell =
     ((calls : List (CallAt (Unit {0}))) (begin end : Sites (Unit {0})) → AreNew no_store begin → RunsBy (HappensOfCopies no_store) calls begin end → NotOversold end) → ⊥
+
+-- Legal histories whose deltas may be added as `May` says are never oversold.
+abbrev pub NeverOversellIf : (List BookView → Entry → Type 0) → Type 0
+NeverOversellIf May = (entries : List (ℕ × Entry)) (begin end : List BookView) → AreEmpty begin → AreAdded May entries begin end → AreSites end → AreNotOversold end
+
+-- Some legal histories oversell if a delta need be nothing that its sender had.
+abbrev pub ForgedDeltasOversell : Type 0
+ForgedDeltasOversell = NeverOversellIf (λ books entry. Unit {0}) → ⊥
+
+-- a peer's delta is at or below what some legal history of that peer has, be it the one that it ends with or another
+abbrev pub WasHeldOnce : List BookView → Entry → Type 0
+WasHeldOnce books (Joined peer delta) =
+    (sender copy : BookView) × (slice_get books peer ≡ Some sender) × (copy.office ≡ sender.office) × IsLegal copy.office copy.history × AtOrBelow delta (state_of copy.history)
+WasHeldOnce books _ = Unit {0}
+
+-- Some legal histories oversell if a delta may be of another history of its sender, as after a copy of its file went on beside it.
+abbrev pub SecondHistoriesOversell : Type 0
+SecondHistoriesOversell = NeverOversellIf WasHeldOnce → ⊥

@@ -11,7 +11,7 @@ use Rattle.site_exchange.specs.declared.message.TakeFault.{TakeFault}
 use Rattle.site_exchange.specs.declared.message.TakeFault.TheVariants as take
 use Rattle.site_exchange.specs.Exchange.{entry_of_take, next, zeros}
 use Rattle.site_exchange.specs.Taking.{extended, with_given}
-use Rattle.sql_records.specs.Keeping.{LeavesOnly}
+use Rattle.history_keeper.specs.Keeping.{LeavesOnly}
 use Rattle.site_desk.specs.declared.answer.Answer.{Answer}
 use Rattle.site_desk.specs.declared.answer.Taken.{Taken}
 use Rattle.site_desk.specs.declared.fault.AskFault.{AskFault}

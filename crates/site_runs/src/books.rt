@@ -1,17 +1,17 @@
 //! Books of several sites in one process, for tests and for who embeds them in a program of his own.
 ghost use Rattle.std.specs.Prelude.{◌≡◌, ◌<◌, [], Some, option_copied, slice_get};
-ghost use Rattle.site_desk.specs.Calls.{keeping, listed};
+ghost use Rattle.site_desk.specs.Calls.{listed};
 ghost use Rattle.site_desk.specs.SiteView.{SiteView};
 ghost use Rattle.site_runs.specs.Moving.{Added, Called, Gave, MayLeave, StartedAgain, Took};
 ghost use Rattle.site_runs.specs.Runs.{Asks, AsksAll, Grows, NotOversold};
 
 use crate::calls::{acknowledgement, begin, copied, give, restart};
 use book_core::{Entry, GrowFault, Limit, ReplayFault};
+use history_keeper::{Keeper, Meta};
 use request_ledger::{Request, RequestNumber};
 use rights_lattice::{SiteId, Sites};
 use site_desk::{Answer, AskFault, NextFault, SiteBook};
 use site_exchange::{Message, TakeFault};
-use sql_records::{Keeper, Meta};
 use std::alloc::Global;
 use std::marker::Model;
 use std::sync::Wait;
@@ -25,7 +25,6 @@ pub struct Books<K: Keeper> {
 }
 
 impl<K: Keeper> Model for Books<K> {
-    ghost use Rattle.site_desk.specs.Calls.{keeping};
     ghost use Rattle.site_runs.specs.Runs.{IsRun, Sites};
     ghost use Rattle.site_runs.specs.SitesCode.{coded_sites};
 
@@ -36,7 +35,7 @@ impl<K: Keeper> Model for Books<K> {
     ghost view = { λ g. record { books = g.books.items; given = g.given.items } };
 
     ghost invariant = { λ g. let s : Sites K = record { books = g.books.items; given = g.given.items } in
-        IsRun (keeping K.failed K.is_trusted K.kept K.may_leave K.is_of) s };
+        IsRun K.Keeper s };
 }
 
 impl<K: Keeper> Books<K> {
@@ -82,7 +81,7 @@ impl<K: Keeper> Books<K> {
         number: RequestNumber,
         request: &Request,
     ) -> Option<Result<Answer, AskFault>>
-        ensures moves { Called (keeping K.failed K.is_trusted K.kept K.may_leave K.is_of)
+        ensures moves { Called K.Keeper
             self.old site (Asks number request.now) result self.new }
         ensures never { NotOversold self.new }
     {
@@ -101,7 +100,7 @@ impl<K: Keeper> Books<K> {
         site: usize,
         requests: &[(RequestNumber, Request)],
     ) -> Option<Result<Vec<Result<Answer, AskFault>>, AskFault>>
-        ensures moves { Called (keeping K.failed K.is_trusted K.kept K.may_leave K.is_of)
+        ensures moves { Called K.Keeper
             self.old site (λ came. AsksAll requests.now (listed came)) result self.new }
         ensures never { NotOversold self.new }
     {
@@ -119,7 +118,7 @@ impl<K: Keeper> Books<K> {
         site: usize,
         sites: Sites,
     ) -> Option<Result<(), GrowFault>>
-        ensures moves { Called (keeping K.failed K.is_trusted K.kept K.may_leave K.is_of)
+        ensures moves { Called K.Keeper
             self.old site (Grows sites) result self.new }
         ensures never { NotOversold self.new }
     {
@@ -138,7 +137,7 @@ impl<K: Keeper> Books<K> {
         site: usize,
         to: SiteId,
     ) -> Option<Result<bool, NextFault>>
-        ensures moves { Gave (keeping K.failed K.is_trusted K.kept K.may_leave K.is_of)
+        ensures moves { Gave K.Keeper
             self.old site to result self.new }
         ensures never { NotOversold self.new }
     {
@@ -155,7 +154,7 @@ impl<K: Keeper> Books<K> {
         site: usize,
         index: usize,
     ) -> Option<Result<(), TakeFault>>
-        ensures moves { Took (keeping K.failed K.is_trusted K.kept K.may_leave K.is_of)
+        ensures moves { Took K.Keeper
             self.old site index result self.new }
         ensures never { NotOversold self.new }
     {
@@ -177,7 +176,7 @@ impl<K: Keeper> Books<K> {
         site: usize,
         to: SiteId,
     ) -> Option<Result<bool, NextFault>>
-        ensures moves { Gave (keeping K.failed K.is_trusted K.kept K.may_leave K.is_of)
+        ensures moves { Gave K.Keeper
             self.old site to result self.new }
     {
         if site >= self.books.len() {
@@ -203,7 +202,7 @@ impl<K: Keeper> Books<K> {
         site: usize,
         index: usize,
     ) -> Option<Result<(), TakeFault>>
-        ensures moves { Took (keeping K.failed K.is_trusted K.kept K.may_leave K.is_of)
+        ensures moves { Took K.Keeper
             self.old site index result self.new }
     {
         if site >= self.books.len() || index >= self.given.len() {
@@ -241,7 +240,7 @@ impl<K: Keeper + Drop> Books<K> {
     ) -> Option<Result<(), ReplayFault>>
         requires sound { K.failed keeper ≡ 0 }
         requires kept { K.is_trusted keeper → K.kept keeper ≡ [] }
-        ensures added { Added (keeping K.failed K.is_trusted K.kept K.may_leave K.is_of)
+        ensures added { Added K.Keeper
             self.old keeper sites limit result self.new }
         ensures never { NotOversold self.new }
     {
@@ -259,7 +258,7 @@ impl<K: Keeper + Drop> Books<K> {
     ) -> Option<Result<(), ReplayFault>>
         requires sound { K.failed keeper ≡ 0 }
         requires kept { K.is_trusted keeper → K.kept keeper ≡ [] }
-        ensures added { Added (keeping K.failed K.is_trusted K.kept K.may_leave K.is_of)
+        ensures added { Added K.Keeper
             self.old keeper sites limit result self.new }
     {
         let number = self.books.len() as u64;
@@ -295,9 +294,9 @@ impl<K: Keeper + Drop> Books<K> {
         requires sound { K.failed keeper ≡ 0 }
         requires kept { K.is_trusted keeper → entries.items ≡ K.kept keeper }
         requires left { (old : SiteView K) → slice_get self.old.books site ≡ Some old
-            → MayLeave (keeping K.failed K.is_trusted K.kept K.may_leave K.is_of)
+            → MayLeave K.Keeper
             old entries.items meta }
-        ensures moves { StartedAgain (keeping K.failed K.is_trusted K.kept K.may_leave K.is_of)
+        ensures moves { StartedAgain K.Keeper
             self.old site result self.new }
         ensures never { NotOversold self.new }
     {
@@ -318,9 +317,9 @@ impl<K: Keeper + Drop> Books<K> {
         requires sound { K.failed keeper ≡ 0 }
         requires kept { K.is_trusted keeper → entries.items ≡ K.kept keeper }
         requires left { (old : SiteView K) → slice_get self.old.books site ≡ Some old
-            → MayLeave (keeping K.failed K.is_trusted K.kept K.may_leave K.is_of)
+            → MayLeave K.Keeper
             old entries.items meta }
-        ensures moves { StartedAgain (keeping K.failed K.is_trusted K.kept K.may_leave K.is_of)
+        ensures moves { StartedAgain K.Keeper
             self.old site result self.new }
     {
         if site >= self.books.len() {

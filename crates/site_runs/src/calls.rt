@@ -2,18 +2,17 @@
 ghost use Rattle.std.specs.Prelude.{◌≡◌, ◌<◌, List, [], IfOk, IfErr};
 ghost use Rattle.book_core.specs.Replay.{IsReplayFault};
 ghost use Rattle.site_exchange.specs.declared.message.Message.{Message as Sent};
-ghost use Rattle.sql_records.specs.Layout.{office_of};
+ghost use Rattle.history_keeper.specs.Meta.{office_of};
 ghost use Rattle.site_desk.specs.Answers.{ack_of};
-ghost use Rattle.site_desk.specs.Calls.{keeping};
 ghost use Rattle.site_desk.specs.Storing.{IsStarted};
 ghost use Rattle.site_runs.specs.Moving.{IsRestart};
 ghost use Rattle.site_runs.specs.Runs.{Gives, Happens, IsNew};
 
 use book_core::{Entry, ReplayFault};
+use history_keeper::{Keeper, Meta};
 use rights_lattice::SiteId;
 use site_desk::{NextFault, SiteBook, Taken};
 use site_exchange::Message;
-use sql_records::{Keeper, Meta};
 use std::alloc::{AllocError, Global};
 
 /// Another message that says the same.
@@ -47,7 +46,7 @@ pub fn give<K: Keeper>(
     to: SiteId,
 ) -> Result<Option<Message>, NextFault>
     ensures { (given : List Sent)
-        → Happens (keeping K.failed K.is_trusted K.kept K.may_leave K.is_of)
+        → Happens K.Keeper
         given book.old (Gives to result) book.new }
 {
     book.next(alloc, to)
@@ -73,8 +72,7 @@ pub fn restart<K: Keeper>(
     requires site { meta.me < meta.sites }
     requires sound { K.failed keeper ≡ 0 }
     requires kept { K.is_trusted keeper → entries.items ≡ K.kept keeper }
-    ensures restarts { IfOk result (IsRestart (keeping K.failed K.is_trusted K.kept K.may_leave
-        K.is_of) entries.items meta) }
+    ensures restarts { IfOk result (IsRestart K.Keeper entries.items meta) }
     ensures fault { IfErr result
         (λ e. (e.0 ≡ keeper) × IsReplayFault (office_of meta) entries.items e.1) }
 {
@@ -90,9 +88,9 @@ pub fn begin<K: Keeper>(
     requires site { meta.me < meta.sites }
     requires sound { K.failed keeper ≡ 0 }
     requires kept { K.is_trusted keeper → K.kept keeper ≡ [] }
-    ensures started { IfOk result (IsStarted (keeping K.failed K.is_trusted K.kept K.may_leave K.is_of)
+    ensures started { IfOk result (IsStarted K.Keeper
         keeper [] meta) }
-    ensures new { IfOk result (IsNew (keeping K.failed K.is_trusted K.kept K.may_leave K.is_of)
+    ensures new { IfOk result (IsNew K.Keeper
         meta.me) }
     ensures fault { IfErr result (λ e. (e.0 ≡ keeper) × IsReplayFault (office_of meta) [] e.1) }
 {

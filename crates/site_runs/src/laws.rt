@@ -1,31 +1,29 @@
 //! What holds over every run of sites' books.
-ghost use Rattle.site_desk.specs.Calls.{keeping};
-ghost use Rattle.site_runs.specs.Premises.{ForgedMessagesOversell, TwoCopiesOversell};
+ghost use Rattle.site_runs.specs.Premises.{ForgedDeltasOversell, ForgedMessagesOversell, SecondHistoriesOversell, TwoCopiesOversell};
 ghost use Rattle.site_runs.specs.Runs.{BooksNeverOversold};
 ghost use Rattle.site_runs.specs.Steps.{BooksAgreeOnceAcknowledged, RunsAreSteps, RunsKeepPromises};
 
-use sql_records::Keeper;
+use history_keeper::Keeper;
 
 /// Each run of sites' books is a list of steps of a world that shows the same.
 pub fn runs_are_steps<K: Keeper>()
-    ensures { RunsAreSteps (keeping K.failed K.is_trusted K.kept K.may_leave K.is_of) }
+    ensures { RunsAreSteps K.Keeper }
 {}
 
 /// So each promise of a world of 64 sites holds of one that shows the sites; those that are not there have no history.
 pub fn runs_keep_promises<K: Keeper>()
-    ensures { RunsKeepPromises (keeping K.failed K.is_trusted K.kept K.may_leave K.is_of) }
+    ensures { RunsKeepPromises K.Keeper }
 {}
 
 /// The tickets outstanding by all books never exceed the seats that they released, and no more is given back than was sold:
 /// at no moment of any run of up to 64 sites, with messages lost, repeated and reordered, crashes, restarts and growth.
 pub fn books_never_oversold<K: Keeper>()
-    ensures { BooksNeverOversold (keeping K.failed K.is_trusted K.kept K.may_leave K.is_of) }
+    ensures { BooksNeverOversold K.Keeper }
 {}
 
 /// Two sites of a run that each count all of the other's history as acknowledged know the same.
 pub fn books_agree_once_acknowledged<K: Keeper>()
-    ensures { BooksAgreeOnceAcknowledged (keeping K.failed K.is_trusted K.kept K.may_leave
-        K.is_of) }
+    ensures { BooksAgreeOnceAcknowledged K.Keeper }
 {}
 
 /// That messages are genuine is needed: a run with one forged message oversells.
@@ -36,4 +34,14 @@ pub fn forged_messages_oversell()
 /// That a site has one copy is needed: in a run that goes on from an older copy of a site the same seats are sold twice.
 pub fn two_copies_oversell()
     ensures { TwoCopiesOversell }
+{}
+
+/// That a delta was its sender's is needed of histories too: legal ones oversell without it.
+pub fn forged_deltas_oversell()
+    ensures { ForgedDeltasOversell }
+{}
+
+/// That a site has one history is needed: if a delta may be of another legal one, the same seats are sold twice.
+pub fn second_histories_oversell()
+    ensures { SecondHistoriesOversell }
 {}

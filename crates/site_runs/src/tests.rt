@@ -3,11 +3,11 @@ ghost use Rattle.std.specs.Prelude.{◌≡◌, IfSome};
 
 use crate::books::Books;
 use book_core::{Book, Entry, GrowFault, Limit};
+use history_keeper::{ListKeeper, Meta};
 use request_ledger::{Reply, Request, RequestNumber};
 use rights_lattice::{Amount, Event, SiteId, Sites};
 use site_desk::NextFault;
 use site_exchange::{Message, TakeFault};
-use sql_records::{ListKeeper, Meta};
 use std::alloc::Global;
 use std::process::Abort;
 use std::sync::Wait;

@@ -37,5 +37,5 @@ returns-clause-left g c =
 
 pub returns-clause-peers : goal.returns-clause-peers
 returns-clause-peers g c =
-    let in_step = SiteInStep g.K.Keeper.failed g.K.Keeper.is_trusted g.K.Keeper.kept g.K.Keeper.may_leave in
+    let in_step = SiteInStep g.K.Keeper in
     any_held (held_at_desk g.L.Opens.office g.L.Opens.began in_step) (refused_at_desk g.L.Opens.office g.L.Opens.began in_step g.K.Keeper.failed) (given_at_desk g.L.Opens.office g.L.Opens.began in_step) c.args.rounds _ _ (search rules)

@@ -1,14 +1,13 @@
 use Rattle.std.proofs.Common.{◌≡◌, Ok, Err, refl, subst, sym, ◌∙◌}
 use Rattle.std.proofs.lemmas.Bool.{false≢true}
 use Rattle.site_desk.specs.declared.fault.AskFault.TheVariants as ask_fault
-use Rattle.site_desk.specs.Calls.{keeping}
 use Rattle.site_desk.specs.Storing.{IsStoredBy}
 use Rattle.site_desk.proofs.Batch.{leaves_asked, no_longer, taken_back}
 use Rattle.site_desk.proofs.asking_all.answer_all.Goals as goal
 
 pub store_from-requires : goal.store_from-requires
 store_from-requires g c = record {
-  begun = subst (IsStoredBy (keeping g.K.Keeper.failed g.K.Keeper.is_trusted g.K.Keeper.kept g.K.Keeper.may_leave g.K.Keeper.is_of) c.args.keeper.now)
+  begun = subst (IsStoredBy g.K.Keeper c.args.keeper.now)
       (sym (taken_back c.args.book.now.office c.args.book.now.history c.answer_each.new.book.history c.args.requests.now c.answer_each.new.answers.items c.len-place.result c.len-place.ensures.len c.answer_each.ensures.answered)) c.requires.stored;
 }
 

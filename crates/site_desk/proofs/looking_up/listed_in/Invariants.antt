@@ -1,5 +1,5 @@
 use Rattle.std.proofs.Common.{◌≡◌, take}
-use Rattle.sql_records.specs.Lookups.{listed_in}
+use Rattle.history_keeper.specs.Lookups.{listed_in}
 use Rattle.site_desk.proofs.looking_up.listed_in.Given as goal
 
 abbrev pub invariant-places : goal.invariant-places

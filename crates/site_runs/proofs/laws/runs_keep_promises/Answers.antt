@@ -1,6 +1,6 @@
-use Rattle.site_desk.specs.Calls.{keeping}
+use Rattle.site_desk.specs.Calls.{}
 use Rattle.site_runs.proofs.Sums as sums
 use Rattle.site_runs.proofs.laws.runs_keep_promises.Goals as goal
 
 pub returns : goal.returns
-returns g c = sums.runs_keep_promises (keeping g.K.Keeper.failed g.K.Keeper.is_trusted g.K.Keeper.kept g.K.Keeper.may_leave g.K.Keeper.is_of)
+returns g c = sums.runs_keep_promises g.K.Keeper

@@ -9,8 +9,8 @@ use Rattle.session_server.proofs.at_desk.AtDesk.ask.Goals as goal
 
 pub returns : goal.returns
 returns g c =
-    let desk = told_at g.L.Opens.office g.L.Opens.began g.K.Keeper.failed (SiteInStep g.K.Keeper.failed g.K.Keeper.is_trusted g.K.Keeper.kept g.K.Keeper.may_leave) in
-    let in_step = SiteInStep g.K.Keeper.failed g.K.Keeper.is_trusted g.K.Keeper.kept g.K.Keeper.may_leave in
+    let desk = told_at g.L.Opens.office g.L.Opens.began g.K.Keeper.failed (SiteInStep g.K.Keeper) in
+    let in_step = SiteInStep g.K.Keeper in
     let old = seated c.self.inside.seat c.reserve.new.self.items c.self.inside.looks.items in
     let new = seated c.ask-came.new.seat c.kept.new.receipts.items c.self.inside.looks.items in
     subst (λ (s : Seated). DeskStep desk (length g.L.Opens.began) s (Ask c.args.number c.args.request.now) c.kept.result new) (search rules)

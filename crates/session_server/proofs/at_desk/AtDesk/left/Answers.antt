@@ -6,5 +6,5 @@ use Rattle.session_server.proofs.at_desk.AtDesk.left.Goals as goal
 
 pub returns-in-Err : goal.returns-in-Err
 returns-in-Err g c =
-    left_nothing (told_at g.L.Opens.office g.L.Opens.began g.K.Keeper.failed (SiteInStep g.K.Keeper.failed g.K.Keeper.is_trusted g.K.Keeper.kept g.K.Keeper.may_leave))
+    left_nothing (told_at g.L.Opens.office g.L.Opens.began g.K.Keeper.failed (SiteInStep g.K.Keeper))
     (length g.L.Opens.began) c.args.self.now c.look.new.self c.args.event c.in-Err.answered c.in-Err.ensures.shown.0 c.in-Err.ensures.shown.1 c.in-Err.ensures.why c.in-Err.ensures.told

@@ -7,6 +7,6 @@ use Rattle.session_server.proofs.at_desk.AtDesk.look.Goals as goal
 
 pub returns-clause-told : goal.returns-clause-told
 returns-clause-told g c =
-    let in_step = SiteInStep g.K.Keeper.failed g.K.Keeper.is_trusted g.K.Keeper.kept g.K.Keeper.may_leave in
+    let in_step = SiteInStep g.K.Keeper in
     look_told (told_at g.L.Opens.office g.L.Opens.began g.K.Keeper.failed in_step) c.args.self.now _ c.in-Ok.seen (search rules) (search rules)
     (subst (λ event. AtOneMoment g.L.Opens.office g.L.Opens.began in_step (Looks event (Ok c.in-Ok.seen))) (sym c.in-Ok.ensures.event) c.in-Ok.ensures.seen)

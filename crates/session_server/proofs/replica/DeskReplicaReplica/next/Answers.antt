@@ -6,5 +6,5 @@ use Rattle.session_server.proofs.replica.DeskReplicaReplica.next.Goals as goal
 
 pub returns-in-Ok-clause-given : goal.returns-in-Ok-clause-given
 returns-in-Ok-clause-given g c =
-    let in_step = SiteInStep g.K.Keeper.failed g.K.Keeper.is_trusted g.K.Keeper.kept g.K.Keeper.may_leave in
+    let in_step = SiteInStep g.K.Keeper in
     if_some (λ message. AtOneMoment g.L.Opens.office g.L.Opens.began in_step (Sends c.args.to (Ok message))) c.in-Ok.message c.in-Ok.ensures.due

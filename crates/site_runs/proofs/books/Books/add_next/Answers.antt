@@ -1,5 +1,4 @@
 use Rattle.std.proofs.Common.{◌≡◌, List, [], ◌∷◌, ◌++◌, length, refl, sym, ap, ◌∙◌, subst, arith, Some, Ok}
-use Rattle.site_desk.specs.Calls.{keeping}
 use Rattle.site_desk.specs.Storing.{IsStarted}
 use Rattle.site_runs.specs.Moving.{Added}
 use Rattle.site_runs.specs.Runs.{IsNew, IsRun, Sites}
@@ -8,7 +7,7 @@ use Rattle.site_runs.proofs.books.Books.add_next.Goals as goal
 
 pub invariant_of-self-in-Ok : goal.invariant_of-self-in-Ok
 invariant_of-self-in-Ok g c =
-    let k = keeping g.K.Keeper.failed g.K.Keeper.is_trusted g.K.Keeper.kept g.K.Keeper.may_leave g.K.Keeper.is_of in
+    let k = g.K.Keeper in
     let books = c.self.inside.books.items in
     let listed = ap (λ bs. bs ++ c.in-Ok.book ∷ []) (sym c.reserve.ensures.items) ∙ sym c.push_reserved.ensures.items in
     let me : c.in-Some.me ≡ length books = omega (arith, c.in-Some.ensures.same, c.len-number.ensures) in
@@ -17,7 +16,7 @@ invariant_of-self-in-Ok g c =
 
 pub returns-in-Ok : goal.returns-in-Ok
 returns-in-Ok g c =
-    let k = keeping g.K.Keeper.failed g.K.Keeper.is_trusted g.K.Keeper.kept g.K.Keeper.may_leave g.K.Keeper.is_of in
+    let k = g.K.Keeper in
     let books = c.self.inside.books.items in
     let listed = ap (λ bs. bs ++ c.in-Ok.book ∷ []) (sym c.reserve.ensures.items) ∙ sym c.push_reserved.ensures.items in
     let me : c.in-Some.me ≡ length books = omega (arith, c.in-Some.ensures.same, c.len-number.ensures) in

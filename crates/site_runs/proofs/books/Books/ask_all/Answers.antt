@@ -1,24 +1,24 @@
 use Rattle.std.proofs.Common.{length, refl, subst, arith, slice_set}
 use Rattle.std.proofs.lemmas.Option.{slice_get_read}
-use Rattle.site_desk.specs.Calls.{keeping, listed}
+use Rattle.site_desk.specs.Calls.{listed}
 use Rattle.site_runs.specs.Runs.{IsRun, Moves, AsksAll}
 use Rattle.site_runs.proofs.Growing.{goes_on, run_not_oversold}
 use Rattle.site_runs.proofs.books.Books.ask_all.Goals as goal
 
 pub returns-then-site-len-clause-never : goal.returns-then-site-len-clause-never
 returns-then-site-len-clause-never g c =
-    let k = keeping g.K.Keeper.failed g.K.Keeper.is_trusted g.K.Keeper.kept g.K.Keeper.may_leave g.K.Keeper.is_of in
+    let k = g.K.Keeper in
     run_not_oversold k c.args.self.now (subst (λ s. IsRun k s) c.self.view_is c.self.invariant)
 
 pub invariant_of-self : goal.invariant_of-self
 invariant_of-self g c =
-    goes_on (keeping g.K.Keeper.failed g.K.Keeper.is_trusted g.K.Keeper.kept g.K.Keeper.may_leave g.K.Keeper.is_of) (record { books = c.self.inside.books.items; given = c.self.inside.given.items }) c.args.site c.index_mut-book.result.now (AsksAll c.args.requests.now (listed c.ask_all.result)) c.ask_all.new.self
+    goes_on g.K.Keeper (record { books = c.self.inside.books.items; given = c.self.inside.given.items }) c.args.site c.index_mut-book.result.now (AsksAll c.args.requests.now (listed c.ask_all.result)) c.ask_all.new.self
     c.self.invariant (slice_get_read c.self.inside.books.items (length c.self.inside.books.items) c.args.site c.index_mut-book.result.now refl (omega (arith, c.if-site-len.false, c.len.ensures)) c.index_mut-book.ensures.value) c.ask_all.ensures.asked
 
 pub returns-clause-moves : goal.returns-clause-moves
 returns-clause-moves g c =
-    subst (λ s. Moves (keeping g.K.Keeper.failed g.K.Keeper.is_trusted g.K.Keeper.kept g.K.Keeper.may_leave g.K.Keeper.is_of) s c.args.site (AsksAll c.args.requests.now (listed c.ask_all.result)) (record { books = slice_set c.self.inside.books.items c.args.site c.ask_all.new.self; given = c.self.inside.given.items })) c.self.view_is
+    subst (λ s. Moves g.K.Keeper s c.args.site (AsksAll c.args.requests.now (listed c.ask_all.result)) (record { books = slice_set c.self.inside.books.items c.args.site c.ask_all.new.self; given = c.self.inside.given.items })) c.self.view_is
     (c.index_mut-book.result.now, c.ask_all.new.self, (slice_get_read c.self.inside.books.items (length c.self.inside.books.items) c.args.site c.index_mut-book.result.now refl (omega (arith, c.if-site-len.false, c.len.ensures)) c.index_mut-book.ensures.value), c.ask_all.ensures.asked, refl)
 
 pub returns-clause-never : goal.returns-clause-never
-returns-clause-never g c = run_not_oversold (keeping g.K.Keeper.failed g.K.Keeper.is_trusted g.K.Keeper.kept g.K.Keeper.may_leave g.K.Keeper.is_of) (record { books = slice_set c.self.inside.books.items c.args.site c.ask_all.new.self; given = c.self.inside.given.items }) (invariant_of-self g c)
+returns-clause-never g c = run_not_oversold g.K.Keeper (record { books = slice_set c.self.inside.books.items c.args.site c.ask_all.new.self; given = c.self.inside.given.items }) (invariant_of-self g c)

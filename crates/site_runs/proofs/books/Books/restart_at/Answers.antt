@@ -1,7 +1,6 @@
 use Rattle.std.proofs.Common.{◌≡◌, Some, Ok, length, refl, slice_set, subst, arith}
 use Rattle.std.specs.Prelude.{slice_get}
 use Rattle.std.proofs.lemmas.Option.{slice_get_read}
-use Rattle.site_desk.specs.Calls.{keeping}
 use Rattle.site_runs.specs.Moving.{StartedAgain}
 use Rattle.site_runs.specs.Runs.{Restarts}
 use Rattle.site_runs.proofs.Growing.{goes_on}
@@ -13,7 +12,7 @@ invariant_of-self g c =
     let old = c.index_mut.result.now in
     let found : slice_get c.self.inside.books.items c.args.site ≡ Some old = slice_get_read c.self.inside.books.items (length c.self.inside.books.items) c.args.site old refl (omega (arith, c.if-site-len.false, c.len.ensures)) c.index_mut.ensures.value in
     let left = c.requires.left old (subst (λ s. slice_get s.books c.args.site ≡ Some old) c.self.view_is found) in
-    goes_on (keeping g.K.Keeper.failed g.K.Keeper.is_trusted g.K.Keeper.kept g.K.Keeper.may_leave g.K.Keeper.is_of) (record { books = c.self.inside.books.items; given = given }) c.args.site old Restarts c.in-Ok.book c.self.invariant found
+    goes_on g.K.Keeper (record { books = c.self.inside.books.items; given = given }) c.args.site old Restarts c.in-Ok.book c.self.invariant found
     (c.in-Ok.ensures.restarts given old left)
 
 pub returns-in-Ok : goal.returns-in-Ok
@@ -23,6 +22,6 @@ returns-in-Ok g c =
     let found : slice_get c.self.inside.books.items c.args.site ≡ Some old = slice_get_read c.self.inside.books.items (length c.self.inside.books.items) c.args.site old refl (omega (arith, c.if-site-len.false, c.len.ensures)) c.index_mut.ensures.value in
     let left = c.requires.left old (subst (λ s. slice_get s.books c.args.site ≡ Some old) c.self.view_is found) in
     record {
-      moves = subst (λ s. StartedAgain (keeping g.K.Keeper.failed g.K.Keeper.is_trusted g.K.Keeper.kept g.K.Keeper.may_leave g.K.Keeper.is_of) s c.args.site (Some (Ok tt)) (record { books = slice_set c.self.inside.books.items c.args.site c.in-Ok.book; given = given })) c.self.view_is
+      moves = subst (λ s. StartedAgain g.K.Keeper s c.args.site (Some (Ok tt)) (record { books = slice_set c.self.inside.books.items c.args.site c.in-Ok.book; given = given })) c.self.view_is
           (old, c.in-Ok.book, found, c.in-Ok.ensures.restarts given old left, refl);
     }
