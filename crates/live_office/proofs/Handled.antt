@@ -10,7 +10,8 @@ use Rattle.live_office.specs.declared.importing.ImportFault.TheVariants.{Unread}
 use Rattle.live_office.specs.declared.office_line.OfficeLine.{OfficeLine}
 use Rattle.live_office.specs.declared.office_line.OfficeLine.TheVariants as office_line
 use Rattle.live_office.specs.Admissible.{Admissible}
-use Rattle.live_office.specs.Handling.{Gathering, Handles, HandlesBy, HandlesLine, HandlesLost, HandlesPart, LastHandled, Lost, Nothing, SeatState, Text, ends_message, seat_state}
+use Rattle.live_office.specs.CallerLines.{CallerState, HandlesCaller, HandlesIf, LastOfCaller, is_permitted}
+use Rattle.live_office.specs.Handling.{Gathering, HandlesBy, HandlesLine, HandlesLost, HandlesPart, Lost, Nothing, SeatState, Text, ends_message, seat_state}
 use Rattle.live_office.specs.Lines.{office_line_of}
 use Rattle.live_office.specs.Served.{IsServed}
 use Rattle.live_office.specs.Talks.{OfficeTalked}
@@ -34,7 +35,10 @@ line_parts d old (Some (office_line.Export to)) text new h = parts_of_same old n
 line_parts d old (Some office_line.Import) text new h = ap (λ (s : SeatState). s.seat.parts) h.1
 line_parts d old (Some (office_line.Find number)) text new h = parts_of_same old new h.3
 line_parts d old (Some (office_line.List event)) text new h = parts_of_same old new h.3
+line_parts d old (Some office_line.Events) text new h = parts_of_same old new h.3
+line_parts d old (Some (office_line.Shares event)) text new h = parts_of_same old new h.3
 line_parts d old (Some office_line.Status) text new h = parts_of_same old new h.4
+line_parts d old (Some office_line.Site) text new h = parts_of_same old new h.3
 line_parts d old (Some office_line.Close) text new h = absurd h
 line_parts d old None text new h = parts_of_same old new h.1
 
@@ -55,10 +59,14 @@ by_parts d old Nothing line text new h = line_parts d old (office_line_of line) 
 by_parts d old (Text so_far) line text new h = part_parts d old.seat _ (ends_message line) text new h
 by_parts d old Lost line text new h = lost_parts old.seat (ends_message line) text new h
 
+if_parts : {K : Type 0} (d : Admissible K) (permitted : Bool) (old : CallerState) (line text : List ℕ) (new : CallerState) → HandlesIf d permitted old line text new → new.seat.seat.parts ≡ old.seat.seat.parts
+if_parts d true old line text new h = ap (λ (s : CallerState). s.seat.seat.parts) h.2 ∙ by_parts d old.seat old.seat.gathering line text h.0 h.1
+if_parts d false old line text new h = ap (λ (s : CallerState). s.seat.seat.parts) h.1
+
 -- a seat that served a session has the parts that it had
-pub handled_parts : {K : Type 0} (d : Admissible K) (input old new : Option (List ℕ)) (before after : SeatState) (result : Result (Option Last) TalkFault) → OfficeTalked (Handles d) LastHandled input old new before after result → after.seat.parts ≡ before.seat.parts
+pub handled_parts : {K : Type 0} (d : Admissible K) (input old new : Option (List ℕ)) (before after : CallerState) (result : Result (Option Last) TalkFault) → OfficeTalked (HandlesCaller d) LastOfCaller input old new before after result → after.seat.seat.parts ≡ before.seat.seat.parts
 handled_parts d input old new before after result talked =
-    chain_keeps (Handles d) (λ s. s.seat.parts ≡ before.seat.parts) (λ a line text b h is. by_parts d a a.gathering line text b h ∙ is) before talked.lines talked.texts after talked.chain refl
+    chain_keeps (HandlesCaller d) (λ s. s.seat.seat.parts ≡ before.seat.seat.parts) (λ a line text b h is. if_parts d (is_permitted a.access (office_line_of line)) a line text b h ∙ is) before talked.lines talked.texts after talked.chain refl
 
 -- a caller who was served, by what its reader and writer were as it began
 pub served_by : {K : Type 0} (d : Admissible K) (access : Access) (a b c a_now b_now : Option (List ℕ)) (result : Result (Option Last) TalkFault)

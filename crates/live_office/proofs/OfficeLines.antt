@@ -24,7 +24,7 @@ use Rattle.desk_lines.proofs.SessionLaws.{session_reads, session_takes}
 use Rattle.live_office.specs.declared.office_line.OfficeLine.{OfficeLine}
 use Rattle.live_office.specs.declared.office_line.OfficeLine.TheVariants as office_line
 use Rattle.live_office.specs.Grammar.{IsOfficeLine, office_line_text, office_words}
-use Rattle.live_office.specs.Lines.{close_in, export_in, find_in, import_in, list_in, office_line_of, own_after, own_in, session_or_own, status_in}
+use Rattle.live_office.specs.Lines.{close_in, events_in, export_in, find_in, import_in, list_in, office_line_of, own_after, own_in, session_or_own, shares_in, site_in, status_in}
 
 -- the words are those of the line
 abbrev Spells : List (List ℕ) → OfficeLine → Type 0
@@ -60,11 +60,31 @@ list_found words l e =
     let z = ended_found (office_line.List a.0.0) l a.0.1 a.2 in
     subst (Spells (codes "list" ∷ words)) z.1 (ap (λ (t : List (List ℕ)). codes "list" ∷ t) (p.0 ∙ ap (λ (t : List (List ℕ)). a.0.0 ∷ t) z.0), p.1)
 
+events_found : (words : List (List ℕ)) (l : OfficeLine) → events_in words ≡ Some l → Spells (codes "events" ∷ words) l
+unfolding events_in
+events_found words l e =
+    let z = ended_found office_line.Events l words e in
+    subst (Spells (codes "events" ∷ words)) z.1 (ap (λ (t : List (List ℕ)). codes "events" ∷ t) z.0, tt)
+
+shares_found : (words : List (List ℕ)) (l : OfficeLine) → shares_in words ≡ Some l → Spells (codes "shares" ∷ words) l
+unfolding shares_in
+shares_found words l e =
+    let a = bind_some (event_at words) (λ v. ended (office_line.Shares v.0) v.1) l e in
+    let p = event_at_found words a.0 a.1 in
+    let z = ended_found (office_line.Shares a.0.0) l a.0.1 a.2 in
+    subst (Spells (codes "shares" ∷ words)) z.1 (ap (λ (t : List (List ℕ)). codes "shares" ∷ t) (p.0 ∙ ap (λ (t : List (List ℕ)). a.0.0 ∷ t) z.0), p.1)
+
 status_found : (words : List (List ℕ)) (l : OfficeLine) → status_in words ≡ Some l → Spells (codes "status" ∷ words) l
 unfolding status_in
 status_found words l e =
     let z = ended_found office_line.Status l words e in
     subst (Spells (codes "status" ∷ words)) z.1 (ap (λ (t : List (List ℕ)). codes "status" ∷ t) z.0, tt)
+
+site_found : (words : List (List ℕ)) (l : OfficeLine) → site_in words ≡ Some l → Spells (codes "site" ∷ words) l
+unfolding site_in
+site_found words l e =
+    let z = ended_found office_line.Site l words e in
+    subst (Spells (codes "site" ∷ words)) z.1 (ap (λ (t : List (List ℕ)). codes "site" ∷ t) z.0, tt)
 
 close_found : (words : List (List ℕ)) (l : OfficeLine) → close_in words ≡ Some l → Spells (codes "close" ∷ words) l
 unfolding close_in
@@ -86,8 +106,11 @@ after_found word words l e =
     (this_or (codes "import") word words (import_in words) _ l (import_found words l)
     (this_or (codes "find") word words (find_in words) _ l (find_found words l)
     (this_or (codes "list") word words (list_in words) _ l (list_found words l)
+    (this_or (codes "events") word words (events_in words) _ l (events_found words l)
+    (this_or (codes "shares") word words (shares_in words) _ l (shares_found words l)
     (this_or (codes "status") word words (status_in words) _ l (status_found words l)
-    (this_or (codes "close") word words (close_in words) None l (close_found words l) (λ n. absurd cc)))))) e
+    (this_or (codes "site") word words (site_in words) _ l (site_found words l)
+    (this_or (codes "close") word words (close_in words) None l (close_found words l) (λ n. absurd cc))))))))) e
 
 own_found : (words : List (List ℕ)) (l : OfficeLine) → own_in words ≡ Some l → Spells words l
 unfolding own_in
@@ -122,6 +145,10 @@ no_list : (event : List ℕ) → asked_in (codes "list" ∷ event ∷ []) ≡ No
 unfolding asked_in ask_line_in request_from verb_of
 no_list event = refl
 
+no_shares : (event : List ℕ) → asked_in (codes "shares" ∷ event ∷ []) ≡ None
+unfolding asked_in ask_line_in request_from verb_of
+no_shares event = refl
+
 export_splits : (to : ℕ) → IsSite to → slice_split is_space (join_with_byte 32 (codes "export" ∷ decimal to ∷ [])) ≡ codes "export" ∷ decimal to ∷ []
 export_splits to h = split_join (codes "export") (decimal to ∷ []) refl (site_lacks_space to h, tt)
 
@@ -130,6 +157,9 @@ find_splits number h = split_join (codes "find") (decimal number ∷ []) refl (v
 
 list_splits : (event : List ℕ) → IsEventName event → slice_split is_space (join_with_byte 32 (codes "list" ∷ event ∷ [])) ≡ codes "list" ∷ event ∷ []
 list_splits event h = split_join (codes "list") (event ∷ []) refl (name_lacks_space event h, tt)
+
+shares_splits : (event : List ℕ) → IsEventName event → slice_split is_space (join_with_byte 32 (codes "shares" ∷ event ∷ [])) ≡ codes "shares" ∷ event ∷ []
+shares_splits event h = split_join (codes "shares") (event ∷ []) refl (name_lacks_space event h, tt)
 
 export_again : (to : ℕ) → IsSite to → own_in (codes "export" ∷ decimal to ∷ []) ≡ Some (office_line.Export to)
 unfolding own_in export_in
@@ -143,6 +173,10 @@ list_again : (event : List ℕ) → IsEventName event → own_in (codes "list" �
 unfolding own_in list_in
 list_again event h = rw (event_again event [] h) refl
 
+shares_again : (event : List ℕ) → IsEventName event → own_in (codes "shares" ∷ event ∷ []) ≡ Some (office_line.Shares event)
+unfolding own_in shares_in
+shares_again event h = rw (event_again event [] h) refl
+
 -- a line of the office alone that has these words
 own_reads : (words : List (List ℕ)) (l : OfficeLine) → slice_split is_space (join_with_byte 32 words) ≡ words → asked_in words ≡ None → own_in words ≡ Some l
     → session_or_own (asked_in (slice_split is_space (join_with_byte 32 words))) (slice_split is_space (join_with_byte 32 words)) ≡ Some l
@@ -151,11 +185,15 @@ own_reads words l splits none again =
 
 -- what is spelled so is read
 pub office_reads : (l : OfficeLine) → IsOfficeLine l → office_line_of (office_line_text l) ≡ Some l
-unfolding office_line_text session_text own_in import_in status_in close_in asked_in ask_line_in request_from verb_of
+unfolding office_line_text session_text own_in import_in events_in site_in status_in close_in asked_in ask_line_in request_from verb_of
 office_reads (office_line.Session line) h = ap (λ (o : Option Line). session_or_own o (slice_split is_space (session_text line))) (session_reads line h)
 office_reads (office_line.Export to) h = own_reads (codes "export" ∷ decimal to ∷ []) (office_line.Export to) (export_splits to h) (no_export to) (export_again to h)
 office_reads office_line.Import h = refl
 office_reads (office_line.Find number) h = own_reads (codes "find" ∷ decimal number ∷ []) (office_line.Find number) (find_splits number h) (no_find number) (find_again number h)
 office_reads (office_line.List event) h = own_reads (codes "list" ∷ event ∷ []) (office_line.List event) (list_splits event h) (no_list event) (list_again event h)
+office_reads office_line.Events h = refl
+office_reads (office_line.Shares event) h = own_reads (codes "shares" ∷ event ∷ []) (office_line.Shares event) (shares_splits event h) (no_shares event)
+    (shares_again event h)
 office_reads office_line.Status h = refl
+office_reads office_line.Site h = refl
 office_reads office_line.Close h = refl

@@ -1,5 +1,5 @@
 -- What a session leaves of a seat that serves one after another.
-use Rattle.std.proofs.Common.{◌≡◌, ℕ, ◌+◌, ◌<◌, List, [], ◌∷◌, ◌++◌, Option, Some, None, Result, refl, sym, ap, subst, ◌∙◌}
+use Rattle.std.proofs.Common.{◌≡◌, ℕ, ◌+◌, ◌<◌, List, [], ◌∷◌, ◌++◌, refl, sym, ap, subst}
 use Rattle.std.specs.Prelude.{IfSome}
 use Rattle.std.proofs.lemmas.List.Sums.{sum_by_push}
 use Rattle.local_rights.specs.declared.seat_totals.ViewTotals.{ViewTotals}
@@ -11,11 +11,7 @@ use Rattle.desk_lines.specs.declared.line.Line.{Line}
 use Rattle.desk_lines.specs.declared.line.Line.TheVariants.{Ask, Left, Totals, Quit}
 use Rattle.desk_lines.specs.declared.answered.Answered.{Answered}
 use Rattle.desk_lines.specs.declared.answered.Answered.TheVariants.{Kept, LeftIs, TotalsAre, NotKnown, Refused, Unread}
-use Rattle.session_server.specs.declared.fault.Ended.{Ended}
-use Rattle.session_server.specs.declared.fault.TalkFault.{TalkFault}
 use Rattle.session_server.specs.BookStep.{not_shown}
-use Rattle.session_server.specs.Session.{Answers, Talked}
-use Rattle.session_server.proofs.Sessions.{chain_keeps}
 use Rattle.live_office.specs.Admissible.{Admissible, telling}
 use Rattle.live_office.specs.SeatAnswers.{SeatAnswers}
 use Rattle.live_office.specs.Sitting.{Sitting}
@@ -45,18 +41,6 @@ given_parts d old Quit (TotalsAre totals) new h = absurd h
 given_parts d old Quit NotKnown new h = ap (λ (s : Sitting). s.parts) h
 given_parts d old Quit (Refused fault) new h = absurd h
 given_parts d old Quit Unread new h = absurd h
-
-answered_parts : {K : Type 0} (d : Admissible K) (first old : Sitting) (o : Option Line) (given : Answered) (new : Sitting) → Answers (SeatAnswers d) old o given new → old.parts ≡ first.parts → new.parts ≡ first.parts
-answered_parts d first old (Some (Ask number request)) given new h is = given_parts d old (Ask number request) given new h ∙ is
-answered_parts d first old (Some (Left event)) given new h is = given_parts d old (Left event) given new h ∙ is
-answered_parts d first old (Some (Totals event)) given new h is = given_parts d old (Totals event) given new h ∙ is
-answered_parts d first old (Some Quit) given new h is = absurd h
-answered_parts d first old None given new h is = ap (λ (s : Sitting). s.parts) h.1 ∙ is
-
--- a seat that answered a session has the parts that it had
-pub talked_parts : {K : Type 0} (d : Admissible K) (input old new : Option (List ℕ)) (before after : Sitting) (result : Result Ended TalkFault) → Talked (SeatAnswers d) input old new before after result → after.parts ≡ before.parts
-talked_parts d input old new before after result talked =
-    chain_keeps (SeatAnswers d) (λ s. s.parts ≡ before.parts) (answered_parts d before) before talked.lines talked.answers after talked.chain refl
 
 -- a look showed nothing
 pub left_hidden : {K : Type 0} (d : Admissible K) (old : Sitting) (event : List ℕ) (fault : LookFault) (answered : Answered) → answered ≡ not_shown fault → (telling d).hides event fault → SeatAnswers d old (Left event) answered old

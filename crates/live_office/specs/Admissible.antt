@@ -2,6 +2,7 @@
 use Rattle.std.specs.Prelude.{◌≡◌, ℕ, true, List, Option}
 use Rattle.book_core.specs.declared.entry.Entry.{Entry}
 use Rattle.book_core.specs.Decision.{Office}
+use Rattle.history_keeper.specs.declared.keeper.Keeper.{Ghosts}
 use Rattle.site_desk.specs.Moments.{AtOneMoment}
 use Rattle.site_desk.specs.SiteView.{SiteInStep, SiteView}
 use Rattle.session_server.specs.SeatStep.{Telling, told_at}
@@ -13,9 +14,8 @@ pub record Admissible (K : Type 0) : Type 1 where
   pub in_step : SiteView K → Type 0
   pub failed : K → ℕ
 
-abbrev pub admissible : {K : Type 0} → Office → List Entry → (K → ℕ) → (K → Type 0) → (K → List Entry) → (K → Option (List Entry) → Type 0) → Admissible K
-admissible office began failed is_trusted kept may_leave =
-    record { office = office; began = began; in_step = SiteInStep failed is_trusted kept may_leave; failed = failed }
+abbrev pub admissible : {K : Type 0} → Office → List Entry → Ghosts K → Admissible K
+admissible office began k = record { office = office; began = began; in_step = SiteInStep k; failed = k.failed }
 
 -- it holds of some book that may stand at the desk
 abbrev pub SomeAdmissible : {K : Type 0} → Admissible K → (SiteView K → Type 0) → Type 0

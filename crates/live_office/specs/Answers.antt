@@ -2,10 +2,11 @@
 use Rattle.std.specs.Prelude.{ℕ, ◌==◌, List, [], ◌∷◌, ◌++◌, length, if◌then◌else◌, Option, Some, None, Result, Ok, Err, Vec, codes}
 use Rattle.std.specs.Fmt.{decimal}
 use Rattle.std.specs.List.{flat_map}
-use Rattle.sql_records.specs.declared.lookup.Found.{Found}
-use Rattle.sql_records.specs.declared.lookup.Listed.{Listed}
+use Rattle.history_keeper.specs.declared.lookup.Found.{Found}
+use Rattle.history_keeper.specs.declared.lookup.Listed.{Listed}
 use Rattle.site_exchange.specs.declared.message.Message.{Message}
 use Rattle.delta_wire.specs.Grammar.{message_text}
+use Rattle.site_desk.specs.declared.answer.SiteShare.{SiteShare}
 use Rattle.site_desk.specs.declared.answer.Standing.{Standing}
 use Rattle.site_desk.specs.declared.answer.Taken.{Taken}
 use Rattle.site_desk.specs.declared.answer.Taken.TheVariants.{Joined, NothingNew, Acked}
@@ -18,7 +19,7 @@ use Rattle.live_office.specs.declared.importing.ImportFault.{ImportFault}
 use Rattle.live_office.specs.declared.importing.ImportFault.TheVariants.{Unread, Refused}
 use Rattle.live_office.specs.declared.office_answer.OfficeAnswer.{OfficeAnswer}
 use Rattle.live_office.specs.declared.office_answer.OfficeAnswer.TheVariants as answer
-use Rattle.live_office.specs.RecordLines.{found_line, row_line, standing_text}
+use Rattle.live_office.specs.RecordLines.{event_line, found_line, row_line, share_line, standing_text}
 
 -- why no message is given
 abbrev pub next_fault_text : NextFault → List ℕ
@@ -67,9 +68,33 @@ abbrev pub listed_text : {Z : Type 0} → Result (Vec Listed Z) LookUpFault → 
 listed_text (Ok listed) = rows_text listed.items
 listed_text (Err fault) = look_up_fault_text fault ++ 10 ∷ []
 
+-- a line for each event, and the line `end`; or that there are none
+abbrev pub ended_events : List (List ℕ) → List ℕ
+ended_events events = flat_map event_line events ++ (codes "end" ++ 10 ∷ [])
+
+abbrev pub known_text : List (List ℕ) → List ℕ
+known_text events = if length events == 0 then codes "none" ++ 10 ∷ [] else ended_events events
+
+abbrev pub events_text : {Z : Type 0} → Result (Vec (List ℕ) Z) LookUpFault → List ℕ
+events_text (Ok events) = known_text events.items
+events_text (Err fault) = look_up_fault_text fault ++ 10 ∷ []
+
+-- a line for each site, and the line `end`; or that the event is not known
+abbrev pub ended_shares : List SiteShare → List ℕ
+ended_shares rows = flat_map share_line rows ++ (codes "end" ++ 10 ∷ [])
+
+abbrev pub shares_text : {Z : Type 0} → Result (Option (Vec SiteShare Z)) LookUpFault → List ℕ
+shares_text (Ok None) = codes "unknown" ++ 10 ∷ []
+shares_text (Ok (Some rows)) = ended_shares rows.items
+shares_text (Err fault) = look_up_fault_text fault ++ 10 ∷ []
+
 -- which site it is, how many it counts, how long its history is and may become, and how many callers are served
 abbrev pub status_text : Standing → ℕ → List ℕ
 status_text s callers = standing_text s ++ codes " callers " ++ decimal callers ++ 10 ∷ []
+
+-- which site it is, and how many it counts
+abbrev pub site_text : Standing → List ℕ
+site_text s = codes "site " ++ decimal s.me ++ codes " of " ++ decimal s.sites ++ 10 ∷ []
 
 -- the whole answer to a line, with its line breaks; nothing while a message comes
 abbrev pub answer_text : OfficeAnswer → List ℕ
@@ -78,5 +103,8 @@ answer_text (answer.Exported result) = exported_text result
 answer_text (answer.Imported result) = imported_text result
 answer_text (answer.Found result) = found_text result
 answer_text (answer.Listed result) = listed_text result
+answer_text (answer.Events result) = events_text result
+answer_text (answer.Shares result) = shares_text result
 answer_text (answer.Status standing callers) = status_text standing callers
+answer_text (answer.Site standing) = site_text standing
 answer_text answer.Quiet = []

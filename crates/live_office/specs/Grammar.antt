@@ -16,7 +16,10 @@ office_words (office_line.Export to) = codes "export" ∷ decimal to ∷ []
 office_words office_line.Import = codes "import" ∷ []
 office_words (office_line.Find number) = codes "find" ∷ decimal number ∷ []
 office_words (office_line.List event) = codes "list" ∷ event ∷ []
+office_words office_line.Events = codes "events" ∷ []
+office_words (office_line.Shares event) = codes "shares" ∷ event ∷ []
 office_words office_line.Status = codes "status" ∷ []
+office_words office_line.Site = codes "site" ∷ []
 office_words office_line.Close = codes "close" ∷ []
 
 -- the words with one space between two
@@ -30,5 +33,8 @@ IsOfficeLine (office_line.Export to) = IsSite to
 IsOfficeLine office_line.Import = ⊤
 IsOfficeLine (office_line.Find number) = IsValue number
 IsOfficeLine (office_line.List event) = IsEventName event
+IsOfficeLine office_line.Events = ⊤
+IsOfficeLine (office_line.Shares event) = IsEventName event
 IsOfficeLine office_line.Status = ⊤
+IsOfficeLine office_line.Site = ⊤
 IsOfficeLine office_line.Close = ⊤

@@ -2,28 +2,29 @@
 use Rattle.std.specs.Prelude.{◌≡◌, ◌⊎◌, ℕ, Bool, true, false, List, [], ◌∷◌, ◌++◌, Option, Some, None, Result, Err, Vec, codes}
 use Rattle.std.specs.Str.{bytes_eq}
 use Rattle.std.specs.declared.alloc.Global.{Global}
-use Rattle.sql_records.specs.declared.lookup.Found.{Found}
-use Rattle.sql_records.specs.declared.lookup.Listed.{Listed}
+use Rattle.history_keeper.specs.declared.lookup.Found.{Found}
+use Rattle.history_keeper.specs.declared.lookup.Listed.{Listed}
 use Rattle.site_exchange.specs.declared.message.Message.{Message}
 use Rattle.delta_wire.specs.declared.fault.WireFault.TheVariants.{Memory}
+use Rattle.site_desk.specs.declared.answer.SiteShare.{SiteShare}
 use Rattle.site_desk.specs.declared.answer.Standing.{Standing}
 use Rattle.site_desk.specs.declared.answer.Taken.{Taken}
 use Rattle.site_desk.specs.declared.fault.LookUpFault.{LookUpFault}
 use Rattle.site_desk.specs.declared.fault.NextFault.{NextFault}
-use Rattle.site_desk.specs.Moments.{Finds, IsStanding, Lists, Sends}
+use Rattle.site_desk.specs.Moments.{Events, Finds, IsStanding, Lists, Sends, Shares}
 use Rattle.desk_lines.specs.declared.line.Line.{Line}
 use Rattle.desk_lines.specs.declared.line.Line.TheVariants.{Ask, Left, Totals, Quit as QuitLine}
 use Rattle.desk_lines.specs.declared.answered.Answered.{Answered}
 use Rattle.desk_lines.specs.declared.answered.Answered.TheVariants as answered
 use Rattle.desk_lines.specs.Replies.{reply_line}
 use Rattle.live_office.specs.declared.handler.Last.{Last}
-use Rattle.live_office.specs.declared.handler.Last.TheVariants.{Quit, Close}
+use Rattle.live_office.specs.declared.handler.Last.TheVariants as last
 use Rattle.live_office.specs.declared.importing.ImportFault.{ImportFault}
 use Rattle.live_office.specs.declared.importing.ImportFault.TheVariants.{Unread}
 use Rattle.live_office.specs.declared.office_line.OfficeLine.{OfficeLine}
 use Rattle.live_office.specs.declared.office_line.OfficeLine.TheVariants as office_line
 use Rattle.live_office.specs.Admissible.{Admissible, SomeAdmissible}
-use Rattle.live_office.specs.Answers.{exported_text, found_text, imported_text, listed_text, status_text}
+use Rattle.live_office.specs.Answers.{events_text, exported_text, found_text, imported_text, listed_text, shares_text, site_text, status_text}
 use Rattle.live_office.specs.Importing.{IsImported}
 use Rattle.live_office.specs.Lines.{office_line_of}
 use Rattle.live_office.specs.SeatAnswers.{SeatAnswers}
@@ -61,8 +62,14 @@ HandlesLine d old (Some (office_line.Find number)) text new =
     (result : Result (Option Found) LookUpFault) × SomeAdmissible d (Finds number result) × (text ≡ found_text result) × (new ≡ old)
 HandlesLine d old (Some (office_line.List event)) text new =
     (result : Result (Vec Listed Global) LookUpFault) × SomeAdmissible d (Lists event result) × (text ≡ listed_text result) × (new ≡ old)
+HandlesLine d old (Some office_line.Events) text new =
+    (result : Result (Vec (List ℕ) Global) LookUpFault) × SomeAdmissible d (Events result) × (text ≡ events_text result) × (new ≡ old)
+HandlesLine d old (Some (office_line.Shares event)) text new =
+    (result : Result (Option (Vec SiteShare Global)) LookUpFault) × SomeAdmissible d (Shares event result) × (text ≡ shares_text result) × (new ≡ old)
 HandlesLine d old (Some office_line.Status) text new =
     (standing : Standing) × (callers : ℕ) × SomeAdmissible d (IsStanding standing) × (text ≡ status_text standing callers) × (new ≡ old)
+HandlesLine d old (Some office_line.Site) text new =
+    (standing : Standing) × SomeAdmissible d (IsStanding standing) × (text ≡ site_text standing) × (new ≡ old)
 HandlesLine d old (Some office_line.Close) text new = ⊥
 HandlesLine d old None text new = (text ≡ reply_line answered.Unread) × (new ≡ old)
 
@@ -93,8 +100,10 @@ Handles d old line text new = HandlesBy d old old.gathering line text new
 
 -- which lines end a session, and how
 abbrev pub IsLast : Last → Option OfficeLine → Type 0
-IsLast Quit line = line ≡ Some (office_line.Session QuitLine)
-IsLast Close line = line ≡ Some office_line.Close
+IsLast last.Quit line = line ≡ Some (office_line.Session QuitLine)
+IsLast last.Close line = line ≡ Some office_line.Close
+IsLast last.Unread line = ⊥
+IsLast last.Full line = ⊥
 
 -- such a line, where no message comes
 abbrev pub LastHandled : SeatState → List ℕ → Last → Type 0

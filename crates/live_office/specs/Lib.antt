@@ -1,6 +1,8 @@
 pub mod Admissible
 pub mod Answers
 pub mod Caller
+pub mod CallerLines
+pub mod Parting
 pub mod Gathered
 pub mod Grammar
 pub mod Handed

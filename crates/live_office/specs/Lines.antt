@@ -28,8 +28,19 @@ list_in words = do
   e ← event_at words
   ended (office_line.List e.0) e.1
 
+unfoldable pub events_in : List (List ℕ) → Option OfficeLine
+events_in words = ended office_line.Events words
+
+unfoldable pub shares_in : List (List ℕ) → Option OfficeLine
+shares_in words = do
+  e ← event_at words
+  ended (office_line.Shares e.0) e.1
+
 unfoldable pub status_in : List (List ℕ) → Option OfficeLine
 status_in words = ended office_line.Status words
+
+unfoldable pub site_in : List (List ℕ) → Option OfficeLine
+site_in words = ended office_line.Site words
 
 unfoldable pub close_in : List (List ℕ) → Option OfficeLine
 close_in words = ended office_line.Close words
@@ -41,8 +52,11 @@ own_after word words =
     if bytes_eq word (codes "import") then import_in words else (
     if bytes_eq word (codes "find") then find_in words else (
     if bytes_eq word (codes "list") then list_in words else (
+    if bytes_eq word (codes "events") then events_in words else (
+    if bytes_eq word (codes "shares") then shares_in words else (
     if bytes_eq word (codes "status") then status_in words else (
-    if bytes_eq word (codes "close") then close_in words else None)))))
+    if bytes_eq word (codes "site") then site_in words else (
+    if bytes_eq word (codes "close") then close_in words else None))))))))
 
 -- a line of the office alone
 unfoldable pub own_in : List (List ℕ) → Option OfficeLine

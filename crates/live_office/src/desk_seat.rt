@@ -12,11 +12,11 @@ ghost use Rattle.site_desk.specs.declared.fault.AskFault.TheVariants.{Closed, St
 use crate::closing::Closing;
 use crate::together::Together;
 use desk_lines::{Answered, Line};
+use history_keeper::Keeper;
 use request_ledger::{Request, RequestNumber};
 use rights_lattice::Event;
 use session_server::Answerer;
 use site_desk::{AskFault, Desk, LookFault, Opens, Seat};
-use sql_records::Keeper;
 use std::alloc::Global;
 use std::marker::Model;
 use std::sync::Wait;
@@ -72,8 +72,7 @@ impl<'a, K: Keeper, L: Opens> DeskSeat<'a, K, L> {
 
     // Why a request is not answered. Where the store failed, for this request or another, the office closes.
     fn refused(&self, fault: AskFault) -> Answered
-        requires { (fault ≡ Store) ⊎ (fault ≡ Closed) → ∥ IsShut (admissible L.office L.began
-            K.failed K.is_trusted K.kept K.may_leave) ∥₁ }
+        requires { (fault ≡ Store) ⊎ (fault ≡ Closed) → ∥ IsShut (admissible L.office L.began K.Keeper) ∥₁ }
         ensures { result ≡ Refused fault }
     {
         match fault {
@@ -85,7 +84,7 @@ impl<'a, K: Keeper, L: Opens> DeskSeat<'a, K, L> {
     }
 
     fn ask<T: Wait>(&mut self, rt: &T, number: RequestNumber, request: &Request) -> Answered
-        ensures { SeatAnswers (admissible L.office L.began K.failed K.is_trusted K.kept K.may_leave)
+        ensures { SeatAnswers (admissible L.office L.began K.Keeper)
             self.old (Ask number request.now) result self.new }
     {
         match self
@@ -101,7 +100,7 @@ impl<'a, K: Keeper, L: Opens> DeskSeat<'a, K, L> {
     }
 
     fn left<T: Wait>(&mut self, rt: &T, event: Event) -> Answered
-        ensures { SeatAnswers (admissible L.office L.began K.failed K.is_trusted K.kept K.may_leave)
+        ensures { SeatAnswers (admissible L.office L.began K.Keeper)
             self.old (Left event) result self.new }
     {
         let seen = match self.desk.look_past(rt, self.latest, event) {
@@ -112,7 +111,7 @@ impl<'a, K: Keeper, L: Opens> DeskSeat<'a, K, L> {
     }
 
     fn totals<T: Wait>(&mut self, rt: &T, event: Event) -> Answered
-        ensures { SeatAnswers (admissible L.office L.began K.failed K.is_trusted K.kept K.may_leave)
+        ensures { SeatAnswers (admissible L.office L.began K.Keeper)
             self.old (TotalsOf event) result self.new }
     {
         let seen = match self.desk.look_past(rt, self.latest, event) {
@@ -147,7 +146,7 @@ impl<'a, K: Keeper, L: Opens> Answerer for DeskSeat<'a, K, L> {
     ghost use Rattle.live_office.specs.SeatAnswers.{SeatAnswers};
 
     ghost step = { SeatAnswers
-        (admissible L.office L.began K.failed K.is_trusted K.kept K.may_leave) };
+        (admissible L.office L.began K.Keeper) };
 
     fn answer<T: Wait>(&mut self, rt: &T, line: &Line) -> Answered {
         match line {

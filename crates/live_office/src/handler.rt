@@ -7,13 +7,17 @@ ghost use Rattle.live_office.specs.Answers.{answer_text};
 use crate::office_answer::OfficeAnswer;
 use std::sync::Wait;
 
-/// What the last line of a session asks.
+/// Why a line is the last of a session.
 #[derive(Clone, Copy, PartialEq, Eq, Debug)]
 pub enum Last {
-    /// The session ends.
+    /// It asks that the session ends.
     Quit,
-    /// The office closes.
+    /// It asks that the office closes.
     Close,
+    /// It cannot be read, and no line before it could: who sends it is no clerk, but a browser, say.
+    Unread,
+    /// It asks what a place that is kept does not answer.
+    Full,
 }
 
 /// What handles the lines of a session, one by one.

@@ -7,9 +7,9 @@ ghost use Rattle.live_office.specs.Admissible.{IsShut, admissible};
 ghost use Rattle.live_office.specs.Importing.{IsImported};
 
 use delta_wire::{WireFault, read_message};
+use history_keeper::Keeper;
 use site_desk::{Desk, Opens, Taken};
 use site_exchange::TakeFault;
-use sql_records::Keeper;
 use std::alloc::Global;
 use std::sync::Wait;
 use thiserror::Error;
@@ -34,10 +34,8 @@ pub fn import_at<T: Wait, K: Keeper, L: Opens>(
     desk: &Desk<K, L>,
     bytes: &[u8],
 ) -> Result<Taken, ImportFault>
-    ensures imported { IsImported (admissible L.office L.began K.failed K.is_trusted K.kept
-        K.may_leave) bytes.now result }
-    ensures shut { result ≡ Err (Refused Store) → IsShut (admissible L.office L.began K.failed
-        K.is_trusted K.kept K.may_leave) }
+    ensures imported { IsImported (admissible L.office L.began K.Keeper) bytes.now result }
+    ensures shut { result ≡ Err (Refused Store) → IsShut (admissible L.office L.began K.Keeper) }
 {
     let message = match read_message(alloc, bytes) {
         Ok(message) => message,

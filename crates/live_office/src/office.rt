@@ -11,9 +11,9 @@ use crate::callers::Callers;
 use crate::closing::Closing;
 use crate::door::Door;
 use crate::together::Together;
-use crate::workers::{CLERKS, OPERATORS, Office, work_all};
+use crate::workers::{CLERK_THREADS, OPERATOR_THREADS, Office, work_all};
+use history_keeper::Keeper;
 use site_desk::{Desk, Opens, Seat, SiteBook};
-use sql_records::Keeper;
 use std::alloc::Global;
 use std::io::{Read, Write};
 use std::marker::Brand;
@@ -35,7 +35,7 @@ pub enum OfficeFault {
     NotStarted,
 }
 
-const WORKERS: u32 = CLERKS + OPERATORS;
+const WORKERS: u32 = CLERK_THREADS + OPERATOR_THREADS;
 
 // Runs the threads of an office, and gathers their seats. False where not all were started.
 fn staffed<

@@ -1,22 +1,23 @@
 //! What an open office answers, and its text.
 
-ghost use Rattle.std.specs.Prelude.{◌≡◌, ◌≤◌, ◌++◌, ◌∷◌, []};
+ghost use Rattle.std.specs.Prelude.{◌≡◌, ◌≤◌, ◌++◌, ◌∷◌, [], codes};
 ghost use Rattle.std.specs.List.{flat_map};
 ghost use Rattle.arrayvec.specs.ArrayVec.{array_vec_len};
 ghost use Rattle.plain_words.specs.Input.{longest_line};
 ghost use Rattle.plain_words.specs.Writing.{Writes};
 ghost use Rattle.delta_wire.specs.Grammar.{message_text};
-ghost use Rattle.live_office.specs.RecordLines.{row_line};
-ghost use Rattle.live_office.specs.Answers.{answer_text, ended_rows, exported_text, found_text, import_fault_text, imported_text, listed_text, look_up_fault_text, next_fault_text, rows_text, status_text};
+ghost use Rattle.live_office.specs.RecordLines.{event_line, row_line, share_line};
+ghost use Rattle.live_office.specs.Answers.{answer_text, ended_events, ended_rows, ended_shares, events_text, exported_text, found_text, import_fault_text, imported_text, known_text, listed_text, look_up_fault_text, next_fault_text, rows_text, shares_text, site_text, status_text};
 
 use crate::importing::ImportFault;
-use crate::record_lines::{found_line, listed_line, standing_text};
+use crate::record_lines::{event_line, found_line, listed_line, share_line, standing_text};
 use delta_wire::write_message;
 use desk_lines::{Answered, reply_line, take_fault_text, wire_fault_text};
-use plain_words::{Text, WriteFault, put, put_number, word, write_bytes};
-use site_desk::{LookUpFault, NextFault, Standing, Taken};
+use history_keeper::{Found, Listed};
+use plain_words::{Text, WriteFault, numbered, put, put_number, word, write_bytes};
+use rights_lattice::Event;
+use site_desk::{LookUpFault, NextFault, SiteShare, Standing, Taken};
 use site_exchange::Message;
-use sql_records::{Found, Listed};
 use std::io::Write;
 
 /// What a line is answered.
@@ -42,10 +43,22 @@ pub enum OfficeAnswer {
     Listed {
         result: Result<Vec<Listed>, LookUpFault>,
     },
+    /// The events that the site knows.
+    Events {
+        result: Result<Vec<Event>, LookUpFault>,
+    },
+    /// What each site may sell of an event, if it is known.
+    Shares {
+        result: Result<Option<Vec<SiteShare>>, LookUpFault>,
+    },
     /// Where the book stands, and how many callers are served.
     Status {
         standing: Standing,
         callers: u64,
+    },
+    /// Which site it is, and how many it counts.
+    Site {
+        standing: Standing,
     },
     /// Nothing yet: a message comes.
     Quiet,
@@ -183,12 +196,105 @@ fn write_listed<W: Write>(
     }
 }
 
+// Writes the line `end`.
+fn write_end<W: Write>(out: &mut W) -> Result<(), WriteFault>
+    ensures { Writes (W.contents out.old) (W.contents out.new) result (codes "end" ++ 10 ∷ []) }
+{
+    write_bytes(b"end\n".as_slice(), out)
+}
+
+// Writes a line for each event.
+fn write_names<W: Write>(events: &[Event], out: &mut W) -> Result<(), WriteFault>
+    ensures { Writes (W.contents out.old) (W.contents out.new) result
+        (flat_map event_line events.now) }
+{
+    'events: for event in events {
+        let line = event_line(*event);
+        write_bytes(line.as_slice(), out)?;
+    }
+    Ok(())
+}
+
+// Writes a line for each event, and the line `end`.
+fn write_ended_names<W: Write>(events: &[Event], out: &mut W) -> Result<(), WriteFault>
+    ensures { Writes (W.contents out.old) (W.contents out.new) result (ended_events events.now) }
+{
+    write_names(events, out)?;
+    write_end(out)
+}
+
+// The same, or `none` if there is none.
+fn write_known<W: Write>(events: &[Event], out: &mut W) -> Result<(), WriteFault>
+    ensures { Writes (W.contents out.old) (W.contents out.new) result (known_text events.now) }
+{
+    if events.is_empty() {
+        write_bytes(b"none\n", out)
+    } else {
+        write_ended_names(events, out)
+    }
+}
+
+fn write_events<W: Write>(
+    events: &Result<Vec<Event>, LookUpFault>,
+    out: &mut W,
+) -> Result<(), WriteFault>
+    ensures { Writes (W.contents out.old) (W.contents out.new) result (events_text events.now) }
+{
+    match events {
+        Ok(events) => write_known(events.as_slice(), out),
+        Err(fault) => write_text(look_up_fault_text(*fault), out),
+    }
+}
+
+// Writes a line for each site.
+fn write_site_shares<W: Write>(rows: &[SiteShare], out: &mut W) -> Result<(), WriteFault>
+    ensures { Writes (W.contents out.old) (W.contents out.new) result
+        (flat_map share_line rows.now) }
+{
+    'rows: for row in rows {
+        let line = share_line(*row);
+        write_bytes(line.as_slice(), out)?;
+    }
+    Ok(())
+}
+
+// Writes a line for each site, and the line `end`.
+fn write_ended_shares<W: Write>(rows: &[SiteShare], out: &mut W) -> Result<(), WriteFault>
+    ensures { Writes (W.contents out.old) (W.contents out.new) result (ended_shares rows.now) }
+{
+    write_site_shares(rows, out)?;
+    write_end(out)
+}
+
+fn write_shares<W: Write>(
+    shares: &Result<Option<Vec<SiteShare>>, LookUpFault>,
+    out: &mut W,
+) -> Result<(), WriteFault>
+    ensures { Writes (W.contents out.old) (W.contents out.new) result (shares_text shares.now) }
+{
+    match shares {
+        Ok(Some(rows)) => write_ended_shares(rows.as_slice(), out),
+        Ok(None) => write_bytes(b"unknown\n", out),
+        Err(fault) => write_text(look_up_fault_text(*fault), out),
+    }
+}
+
 fn status_line(standing: Standing, callers: u64) -> Text
     ensures { result.items ≡ status_text standing callers }
 {
     let mut text = standing_text(standing);
     put(&mut text, b" callers ");
     put_number(&mut text, callers);
+    put(&mut text, b"\n");
+    text
+}
+
+fn site_line(standing: Standing) -> Text
+    ensures { result.items ≡ site_text standing }
+{
+    let mut text = numbered(b"site ", standing.me.number());
+    put(&mut text, b" of ");
+    put_number(&mut text, standing.sites.count());
     put(&mut text, b"\n");
     text
 }
@@ -203,9 +309,12 @@ pub fn write_answer<W: Write>(answer: &OfficeAnswer, out: &mut W) -> Result<(), 
         OfficeAnswer::Imported { result } => write_imported(result, out),
         OfficeAnswer::Found { result } => write_found(result, out),
         OfficeAnswer::Listed { result } => write_listed(result, out),
+        OfficeAnswer::Events { result } => write_events(result, out),
+        OfficeAnswer::Shares { result } => write_shares(result, out),
         OfficeAnswer::Status { standing, callers } => {
             write_bytes(status_line(*standing, *callers).as_slice(), out)
         }
+        OfficeAnswer::Site { standing } => write_bytes(site_line(*standing).as_slice(), out),
         OfficeAnswer::Quiet => write_bytes(b"", out),
     }
 }

@@ -6,7 +6,7 @@ ghost use Rattle.std.specs.Result.{result_ok};
 ghost use Rattle.delta_wire.specs.Fields.{natural_at};
 ghost use Rattle.live_office.specs.declared.office_line.OfficeLine.{OfficeLine};
 ghost use Rattle.live_office.specs.Grammar.{IsOfficeLine, office_line_text};
-ghost use Rattle.live_office.specs.Lines.{close_in, export_in, find_in, import_in, list_in, office_line_of, own_in, status_in};
+ghost use Rattle.live_office.specs.Lines.{close_in, events_in, export_in, find_in, import_in, list_in, office_line_of, own_in, shares_in, site_in, status_in};
 
 use delta_wire::{event_at, natural_at, site_at};
 use desk_lines::{BadLine, Line, read_line};
@@ -27,8 +27,14 @@ pub enum OfficeLine {
     Find { number: RequestNumber },
     /// The requests that name an event.
     List { event: Event },
+    /// The events that the site knows.
+    Events,
+    /// What each site may sell of an event, and what it sold and took back.
+    Shares { event: Event },
     /// Which site it is, and how much it has to do.
     Status,
+    /// Which site it is.
+    Site,
     /// That the office closes.
     Close,
 }
@@ -88,12 +94,46 @@ fn list_in(words: &mut Words<'_>) -> Option<OfficeLine>
     }
 }
 
+#[tactic(auto, unfolding(crate::specs::Lines::events_in))]
+fn events_in(words: &mut Words<'_>) -> Option<OfficeLine>
+    ensures { result ≡ events_in words.old }
+{
+    if words.is_empty() {
+        Some(OfficeLine::Events)
+    } else {
+        None
+    }
+}
+
+#[tactic(auto, unfolding(crate::specs::Lines::shares_in))]
+fn shares_in(words: &mut Words<'_>) -> Option<OfficeLine>
+    ensures { result ≡ shares_in words.old }
+{
+    let named = event_at(words)?;
+    if words.is_empty() {
+        Some(OfficeLine::Shares { event: named })
+    } else {
+        None
+    }
+}
+
 #[tactic(auto, unfolding(crate::specs::Lines::status_in))]
 fn status_in(words: &mut Words<'_>) -> Option<OfficeLine>
     ensures { result ≡ status_in words.old }
 {
     if words.is_empty() {
         Some(OfficeLine::Status)
+    } else {
+        None
+    }
+}
+
+#[tactic(auto, unfolding(crate::specs::Lines::site_in))]
+fn site_in(words: &mut Words<'_>) -> Option<OfficeLine>
+    ensures { result ≡ site_in words.old }
+{
+    if words.is_empty() {
+        Some(OfficeLine::Site)
     } else {
         None
     }
@@ -123,8 +163,14 @@ fn own_in(words: &mut Words<'_>) -> Option<OfficeLine>
         find_in(words)
     } else if word == b"list".as_slice() {
         list_in(words)
+    } else if word == b"events".as_slice() {
+        events_in(words)
+    } else if word == b"shares".as_slice() {
+        shares_in(words)
     } else if word == b"status".as_slice() {
         status_in(words)
+    } else if word == b"site".as_slice() {
+        site_in(words)
     } else if word == b"close".as_slice() {
         close_in(words)
     } else {

@@ -5,7 +5,7 @@ ghost use Rattle.site_exchange.specs.declared.message.TakeFault.TheVariants.{Sto
 ghost use Rattle.live_office.specs.declared.importing.ImportFault.TheVariants.{Refused};
 ghost use Rattle.desk_lines.specs.declared.answered.Answered.TheVariants.{Unread};
 ghost use Rattle.desk_lines.specs.Replies.{reply_line};
-ghost use Rattle.live_office.specs.declared.office_line.OfficeLine.TheVariants.{Export, Find, List as ListLine, Session, Status};
+ghost use Rattle.live_office.specs.declared.office_line.OfficeLine.TheVariants.{Events as EventsLine, Export, Find, List as ListLine, Session, Shares as SharesLine, Site, Status};
 ghost use Rattle.live_office.specs.Admissible.{admissible};
 ghost use Rattle.live_office.specs.Answers.{answer_text};
 ghost use Rattle.live_office.specs.Handling.{HandlesLine, HandlesLost, HandlesPart, HandlesSession, IsLast, Nothing, ends_message, seat_state};
@@ -22,12 +22,12 @@ use crate::office_line::{OfficeLine, read_office_line};
 use crate::together::Together;
 use delta_wire::WireFault;
 use desk_lines::{Answered, BadLine, Line};
+use history_keeper::Keeper;
 use request_ledger::RequestNumber;
 use rights_lattice::{Event, SiteId};
 use session_server::Answerer;
 use site_desk::{Desk, Opens, Seat, Taken};
 use site_exchange::TakeFault;
-use sql_records::Keeper;
 use std::alloc::Global;
 use std::marker::Model;
 use std::mem;
@@ -129,8 +129,7 @@ impl<'a, K: Keeper, L: Opens> OfficeSeat<'a, K, L> {
     }
 
     fn reply<T: Wait>(&mut self, rt: &T, line: &Line) -> OfficeAnswer
-        ensures { HandlesSession (admissible L.office L.began K.failed K.is_trusted K.kept
-            K.may_leave) self.old line.now (answer_text result) self.new }
+        ensures { HandlesSession (admissible L.office L.began K.Keeper) self.old line.now (answer_text result) self.new }
     {
         let answered = self.seat.answer(rt, line);
         OfficeAnswer::Reply { answered }
@@ -138,8 +137,7 @@ impl<'a, K: Keeper, L: Opens> OfficeSeat<'a, K, L> {
 
     // A line of a session.
     fn handle_session<T: Wait>(&mut self, rt: &T, line: &Line) -> Result<OfficeAnswer, Last>
-        ensures { MatchResult result (λ answer. HandlesLine (admissible L.office L.began K.failed
-            K.is_trusted K.kept K.may_leave) self.old (Some (Session line.now)) (answer_text answer)
+        ensures { MatchResult result (λ answer. HandlesLine (admissible L.office L.began K.Keeper) self.old (Some (Session line.now)) (answer_text answer)
             self.new) (λ last. IsLast last (Some (Session line.now)) × (self.new ≡ self.old)) }
     {
         match line {
@@ -151,7 +149,7 @@ impl<'a, K: Keeper, L: Opens> OfficeSeat<'a, K, L> {
     }
 
     fn export<T: Wait>(&mut self, rt: &T, to: SiteId) -> OfficeAnswer
-        ensures { HandlesLine (admissible L.office L.began K.failed K.is_trusted K.kept K.may_leave)
+        ensures { HandlesLine (admissible L.office L.began K.Keeper)
             self.old (Some (Export to)) (answer_text result) self.new }
     {
         let result = self.desk.next(rt, self.alloc, to);
@@ -159,7 +157,7 @@ impl<'a, K: Keeper, L: Opens> OfficeSeat<'a, K, L> {
     }
 
     fn find<T: Wait>(&mut self, rt: &T, number: RequestNumber) -> OfficeAnswer
-        ensures { HandlesLine (admissible L.office L.began K.failed K.is_trusted K.kept K.may_leave)
+        ensures { HandlesLine (admissible L.office L.began K.Keeper)
             self.old (Some (Find number)) (answer_text result) self.new }
     {
         let result = self.desk.find(rt, number);
@@ -167,15 +165,31 @@ impl<'a, K: Keeper, L: Opens> OfficeSeat<'a, K, L> {
     }
 
     fn list<T: Wait>(&mut self, rt: &T, event: Event) -> OfficeAnswer
-        ensures { HandlesLine (admissible L.office L.began K.failed K.is_trusted K.kept K.may_leave)
+        ensures { HandlesLine (admissible L.office L.began K.Keeper)
             self.old (Some (ListLine event)) (answer_text result) self.new }
     {
         let result = self.desk.list(rt, self.alloc, event);
         OfficeAnswer::Listed { result }
     }
 
+    fn events<T: Wait>(&mut self, rt: &T) -> OfficeAnswer
+        ensures { HandlesLine (admissible L.office L.began K.Keeper)
+            self.old (Some EventsLine) (answer_text result) self.new }
+    {
+        let result = self.desk.events(rt, self.alloc);
+        OfficeAnswer::Events { result }
+    }
+
+    fn shares<T: Wait>(&mut self, rt: &T, event: Event) -> OfficeAnswer
+        ensures { HandlesLine (admissible L.office L.began K.Keeper)
+            self.old (Some (SharesLine event)) (answer_text result) self.new }
+    {
+        let result = self.desk.shares(rt, self.alloc, event);
+        OfficeAnswer::Shares { result }
+    }
+
     fn status<T: Wait>(&mut self, rt: &T) -> OfficeAnswer
-        ensures { HandlesLine (admissible L.office L.began K.failed K.is_trusted K.kept K.may_leave)
+        ensures { HandlesLine (admissible L.office L.began K.Keeper)
             self.old (Some Status) (answer_text result) self.new }
     {
         let standing = self.desk.standing(rt);
@@ -183,11 +197,18 @@ impl<'a, K: Keeper, L: Opens> OfficeSeat<'a, K, L> {
         OfficeAnswer::Status { standing, callers }
     }
 
+    fn site<T: Wait>(&mut self, rt: &T) -> OfficeAnswer
+        ensures { HandlesLine (admissible L.office L.began K.Keeper)
+            self.old (Some Site) (answer_text result) self.new }
+    {
+        let standing = self.desk.standing(rt);
+        OfficeAnswer::Site { standing }
+    }
+
     // What a line asks where no message comes.
     fn handle_asked<T: Wait>(&mut self, rt: &T, line: &OfficeLine) -> Result<OfficeAnswer, Last>
         requires { self.old.gathering ≡ Nothing }
-        ensures { MatchResult result (λ answer. HandlesLine (admissible L.office L.began K.failed
-            K.is_trusted K.kept K.may_leave) self.old (Some line.now) (answer_text answer)
+        ensures { MatchResult result (λ answer. HandlesLine (admissible L.office L.began K.Keeper) self.old (Some line.now) (answer_text answer)
             self.new) (λ last. IsLast last (Some line.now) × (self.new ≡ self.old)) }
     {
         match line {
@@ -201,7 +222,10 @@ impl<'a, K: Keeper, L: Opens> OfficeSeat<'a, K, L> {
             }
             OfficeLine::Find { number } => Ok(self.find(rt, *number)),
             OfficeLine::List { event } => Ok(self.list(rt, *event)),
+            OfficeLine::Events => Ok(self.events(rt)),
+            OfficeLine::Shares { event } => Ok(self.shares(rt, *event)),
             OfficeLine::Status => Ok(self.status(rt)),
+            OfficeLine::Site => Ok(self.site(rt)),
             OfficeLine::Close => Err(Last::Close),
         }
     }
@@ -209,8 +233,7 @@ impl<'a, K: Keeper, L: Opens> OfficeSeat<'a, K, L> {
     // A line where no message comes.
     fn handle_line<T: Wait>(&mut self, rt: &T, line: &[u8]) -> Result<OfficeAnswer, Last>
         requires { self.old.gathering ≡ Nothing }
-        ensures { MatchResult result (λ answer. HandlesLine (admissible L.office L.began K.failed
-            K.is_trusted K.kept K.may_leave) self.old (office_line_of line.now) (answer_text answer)
+        ensures { MatchResult result (λ answer. HandlesLine (admissible L.office L.began K.Keeper) self.old (office_line_of line.now) (answer_text answer)
             self.new) (λ last. IsLast last (office_line_of line.now) × (self.new ≡ self.old)) }
     {
         match read_office_line(line) {
@@ -221,7 +244,7 @@ impl<'a, K: Keeper, L: Opens> OfficeSeat<'a, K, L> {
 
     // Takes the message of this text. After a failed store the office closes.
     fn import<T: Wait>(&self, rt: &T, bytes: &[u8]) -> OfficeAnswer
-        ensures { HandlesPart (admissible L.office L.began K.failed K.is_trusted K.kept K.may_leave)
+        ensures { HandlesPart (admissible L.office L.began K.Keeper)
             self.now.seat bytes.now true (answer_text result) (seat_state self.now.seat Nothing) }
     {
         let result = import_at(rt, self.alloc, self.desk, bytes);
@@ -234,7 +257,7 @@ impl<'a, K: Keeper, L: Opens> OfficeSeat<'a, K, L> {
     // A line of a message.
     fn handle_part<T: Wait>(&mut self, rt: &T, bytes: Vec<u8>, line: &[u8]) -> OfficeAnswer
         requires { self.old.gathering ≡ Nothing }
-        ensures { HandlesPart (admissible L.office L.began K.failed K.is_trusted K.kept K.may_leave)
+        ensures { HandlesPart (admissible L.office L.began K.Keeper)
             self.old.seat (bytes.items ++ line.now ++ 10 ∷ []) (ends_message line.now)
             (answer_text result) self.new }
     {
@@ -271,7 +294,7 @@ impl<'a, K: Keeper, L: Opens> Handler for OfficeSeat<'a, K, L> {
     ghost use Rattle.live_office.specs.Handling.{Handles, LastHandled};
 
     ghost handles = { Handles
-        (admissible L.office L.began K.failed K.is_trusted K.kept K.may_leave) };
+        (admissible L.office L.began K.Keeper) };
 
     ghost ends = { LastHandled };
 

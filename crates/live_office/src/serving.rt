@@ -1,21 +1,22 @@
 //! One caller, from the first line to the last.
 
 ghost use Rattle.std.specs.Prelude.{◌≡◌};
-ghost use Rattle.live_office.specs.declared.door.Access.TheVariants.{Session, Office};
 ghost use Rattle.live_office.specs.Admissible.{admissible};
-ghost use Rattle.live_office.specs.Served.{IsServed, ended_as};
+ghost use Rattle.live_office.specs.Parting.{last_text, parting_text};
+ghost use Rattle.live_office.specs.Served.{IsServed};
+ghost use Rattle.plain_words.specs.Writing.{Writes};
 
+use crate::caller_seat::CallerSeat;
 use crate::callers::Callers;
 use crate::closing::Closing;
-use crate::desk_seat::DeskSeat;
 use crate::door::Access;
 use crate::handler::Last;
-use crate::office_seat::OfficeSeat;
 use crate::talking::office_talk;
 use crate::together::Together;
-use session_server::{Ended, TalkFault, talk};
+use history_keeper::Keeper;
+use plain_words::{WriteFault, write_bytes};
+use session_server::TalkFault;
 use site_desk::{Desk, Opens, Seat};
-use sql_records::Keeper;
 use std::alloc::Global;
 use std::io::{Read, Write};
 use std::snapshot::Snapshot;
@@ -43,10 +44,10 @@ impl<R: Read + Drop, W: Write + Drop> Call<R, W> {
     }
 }
 
-/// A caller that was served. What it was sent is what its lines were answered, one by one.
+/// A caller that was served. What it was sent is what its lines were answered, one by one. It has no `Drop`: who was
+/// served is told why the session ends (`part`).
 ///
 /// Its reader and writer as they began are there for contracts alone.
-#[derive(Drop)]
 pub struct Served<'a, R: Read + Drop, W: Write + Drop, K: Keeper, L: Opens> {
     _desk: &'a Desk<K, L>,
     access: Access,
@@ -54,63 +55,61 @@ pub struct Served<'a, R: Read + Drop, W: Write + Drop, K: Keeper, L: Opens> {
     writer_began: Snapshot<W>,
     writer: W,
     pub ended: Result<Option<Last>, TalkFault>,
-    ghost served: { ∥ IsServed (admissible L.office L.began K.failed K.is_trusted K.kept
-        K.may_leave) access (R.remaining reader_began.value) (W.contents writer_began.value)
+    ghost served: { ∥ IsServed (admissible L.office L.began K.Keeper) access (R.remaining reader_began.value) (W.contents writer_began.value)
         (W.contents writer) ended ∥₁ },
 }
 
-fn ended_as(ended: Result<Ended, TalkFault>) -> Result<Option<Last>, TalkFault>
-    ensures { result ≡ ended_as ended }
+// What a last line is answered.
+fn last_text(is_lost: bool, last: Last) -> &'static [u8]
+    ensures { result.now ≡ last_text is_lost last }
 {
-    match ended {
-        Ok(Ended::Quit) => Ok(Some(Last::Quit)),
-        Ok(Ended::EndOfInput) => Ok(None),
-        Err(fault) => Err(fault),
+    match last {
+        Last::Quit => b"",
+        Last::Close => {
+            if is_lost {
+                b"lost-file\n"
+            } else {
+                b"closing\n"
+            }
+        }
+        Last::Unread => b"bad-line\n",
+        Last::Full => b"full\n",
     }
 }
 
-// Answers a caller who has the lines of a session.
-fn answer_session<T: Wait, R: Read + Drop, W: Write, K: Keeper, L: Opens>(
-    rt: &T,
-    alloc: Global,
-    desk: &Desk<K, L>,
-    together: &Together<K, L>,
-    closing: &Closing,
-    seat: Seat<L>,
-    reader: R,
+// Tells a caller the word with which a session ends so, if there is one.
+fn tell_end<W: Write>(
+    is_lost: bool,
+    ended: &Result<Option<Last>, TalkFault>,
     out: &mut W,
-) -> (Result<Option<Last>, TalkFault>, Seat<L>)
-    ensures served { IsServed (admissible L.office L.began K.failed K.is_trusted K.kept K.may_leave)
-        Session (R.remaining reader) (W.contents out.old) (W.contents out.new) result.0 }
-    ensures parts { result.1.parts ≡ seat.parts }
+) -> Result<(), WriteFault>
+    ensures { Writes (W.contents out.old) (W.contents out.new) result (parting_text is_lost
+        ended.now) }
 {
-    let mut at = DeskSeat::new(alloc, desk, together, closing, seat);
-    let ended = talk(rt, alloc, reader, out, &mut at);
-    (ended_as(ended), at.into_seat())
+    match ended {
+        Ok(Some(last)) => write_bytes(last_text(is_lost, *last), out),
+        Ok(None) => write_bytes(b"", out),
+        Err(_) => write_bytes(b"", out),
+    }
 }
 
-// Answers a caller who has all lines of an office.
-fn answer_office<T: Wait, R: Read + Drop, W: Write, K: Keeper, L: Opens>(
-    rt: &T,
-    alloc: Global,
-    desk: &Desk<K, L>,
-    together: &Together<K, L>,
-    closing: &Closing,
-    callers: &Callers,
-    seat: Seat<L>,
-    reader: R,
-    out: &mut W,
-) -> (Result<Option<Last>, TalkFault>, Seat<L>)
-    ensures served { IsServed (admissible L.office L.began K.failed K.is_trusted K.kept K.may_leave)
-        Office (R.remaining reader) (W.contents out.old) (W.contents out.new) result.0 }
-    ensures parts { result.1.parts ≡ seat.parts }
-{
-    let mut at = OfficeSeat::new(alloc, desk, together, closing, callers, seat);
-    let ended = office_talk(rt, alloc, reader, out, &mut at);
-    (ended, at.into_seat())
+impl<R: Read + Drop, W: Write + Drop, K: Keeper, L: Opens> Served<'_, R, W, K, L> {
+    /// Tells the caller the word with which the session ends, if there is one, and ends the connection.
+    pub(crate) fn part(self, is_lost: bool) {
+        let Served {
+            _desk,
+            access: _access,
+            reader_began: _reader_began,
+            writer_began: _writer_began,
+            mut writer,
+            ended,
+        } = self;
+        let _ = tell_end(is_lost, &ended, &mut writer);
+        let _ = writer.flush();
+    }
 }
 
-// Answers a caller by its access.
+// Answers a caller.
 fn answer<T: Wait, R: Read + Drop, W: Write, K: Keeper, L: Opens>(
     rt: &T,
     alloc: Global,
@@ -123,16 +122,13 @@ fn answer<T: Wait, R: Read + Drop, W: Write, K: Keeper, L: Opens>(
     reader: R,
     out: &mut W,
 ) -> (Result<Option<Last>, TalkFault>, Seat<L>)
-    ensures served { IsServed (admissible L.office L.began K.failed K.is_trusted K.kept K.may_leave)
+    ensures served { IsServed (admissible L.office L.began K.Keeper)
         access (R.remaining reader) (W.contents out.old) (W.contents out.new) result.0 }
     ensures parts { result.1.parts ≡ seat.parts }
 {
-    match access {
-        Access::Session => answer_session(rt, alloc, desk, together, closing, seat, reader, out),
-        Access::Office => answer_office(
-            rt, alloc, desk, together, closing, callers, seat, reader, out,
-        ),
-    }
+    let mut at = CallerSeat::new(alloc, desk, together, closing, callers, seat, access);
+    let ended = office_talk(rt, alloc, reader, out, &mut at);
+    (ended, at.into_seat())
 }
 
 // Serves a caller, from the first line to the last, and counts it meanwhile.

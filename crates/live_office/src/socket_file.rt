@@ -2,10 +2,11 @@
 
 ghost use Rattle.std.specs.Prelude.{◌≡◌};
 
+use std::alloc::Global;
 use std::fs;
 use std::io::{self, ErrorKind};
 use std::net::Net;
-use std::os::unix::fs::{FileTypeExt, PermissionsExt};
+use std::os::unix::fs::{DirBuilderExt, FileTypeExt, PermissionsExt};
 use std::os::unix::net::{SocketAddr, UnixListener};
 use std::rt::Files;
 use thiserror::Error;
@@ -27,6 +28,9 @@ pub enum SocketFault {
 // The mode of a file that its owner alone reads and writes.
 const OWNER_ONLY: u32 = 0o600;
 
+// The mode of a folder that its owner alone enters.
+const OWNER_ENTERS: u32 = 0o700;
+
 /// Whether a socket can be at this path: nothing is there yet, or a socket, which can be replaced. Nothing is changed.
 ///
 /// `Path` and `NotASocket` say why not, and `Bind` that the system does not say what is there.
@@ -42,43 +46,51 @@ pub fn check_socket<F: Files>(files: &F, path: &str) -> Result<(), SocketFault> 
     }
 }
 
-// Turns away who waits at a listener that does not block.
-fn turn_away(listener: &UnixListener) -> io::Result<()> {
-    for _ in 0..u64::MAX {
-        match listener.accept() {
-            Ok(_) => {}
-            Err(error) => match error.kind() {
-                ErrorKind::WouldBlock => return Ok(()),
-                ErrorKind::Interrupted | ErrorKind::ConnectionAborted => {}
-                _ => return Err(error),
-            },
-        }
-    }
-    Err(io::Error::from(ErrorKind::TimedOut))
-}
-
-// Callers who came while others than the owner could connect are turned away.
-fn owner_only<H: Files>(host: &H, path: &str, listener: &UnixListener) -> io::Result<()> {
-    fs::set_permissions(host, path, fs::Permissions::from_mode(OWNER_ONLY))?;
-    listener.set_nonblocking(true)?;
-    turn_away(listener)?;
-    listener.set_nonblocking(false)
-}
-
+// A listener at this path, to which its owner alone may connect.
 fn bound<H: Files + Net>(host: &H, path: &str) -> io::Result<UnixListener> {
     let listener = UnixListener::bind(host, path)?;
-    owner_only(host, path, &listener)?;
+    fs::set_permissions(host, path, fs::Permissions::from_mode(OWNER_ONLY))?;
     Ok(listener)
 }
 
-// Listens at a socket at this path, in place of one that was there.
+// Removes a folder that a stop left, with the socket in it. What is no folder stays, and so does one with anything else.
+fn remove_left<F: Files>(files: &F, folder: &str, within: &str) {
+    if let Ok(about) = fs::symlink_metadata(files, folder) {
+        if about.is_dir() && check_socket(files, within).is_ok() {
+            let _ = fs::remove_file(files, within);
+            let _ = fs::remove_dir(files, folder);
+        }
+    }
+}
+
+// The same by way of a path in a new folder, which its owner alone may enter: so nobody else can connect before the mode of
+// the socket is set. A folder that a stop left is made anew.
+fn bound_within<H: Files + Net>(
+    host: &H,
+    alloc: Global,
+    folder: &str,
+    path: &str,
+) -> io::Result<UnixListener> {
+    let within = format!(in alloc; "{folder}/s")?;
+    remove_left(host, folder, within.as_str());
+    fs::DirBuilder::new()
+        .mode(OWNER_ENTERS)
+        .create(host, folder)?;
+    let listener = bound(host, within.as_str())?;
+    fs::rename(host, within.as_str(), path)?;
+    let _ = fs::remove_dir(host, folder);
+    Ok(listener)
+}
+
+// Listens at a socket at this path, in place of one that was there. It is made in this folder.
 pub(crate) fn bind_socket<H: Files + Net>(
     host: &H,
+    alloc: Global,
+    folder: &str,
     path: &str,
 ) -> Result<UnixListener, SocketFault> {
     check_socket(host, path)?;
-    let _ = fs::remove_file(host, path);
-    match bound(host, path) {
+    match bound_within(host, alloc, folder, path) {
         Ok(listener) => Ok(listener),
         Err(_) => Err(SocketFault::Bind),
     }

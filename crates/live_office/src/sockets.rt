@@ -1,14 +1,17 @@
 //! The doors of an office: a port of this machine, and a Unix socket.
 
-ghost use Rattle.std.specs.Prelude.{◌≡◌};
-ghost use Rattle.live_office.specs.declared.door.Access.TheVariants.{Session, Office};
+ghost use Rattle.std.specs.Prelude.{◌≡◌, ◌≢◌};
+ghost use Rattle.live_office.specs.declared.door.Access.TheVariants.{Session};
 
-use crate::caller::{Caller, Connection, TURN};
+use crate::caller::{Answers, Caller, Connection, TURN};
 use crate::closing::Closing;
 use crate::door::{Access, Door};
+use crate::places::{Place, Places};
 use crate::serving::Call;
 use crate::socket_file::{SocketFault, bind_socket};
 use session_server::ListenFault;
+use std::alloc::Global;
+use std::io::{BufWriter, Write};
 use std::net::{Ipv4Addr, Net, SocketAddr, TcpListener, TcpStream};
 use std::os::fd::OwnedFd;
 use std::os::unix::net::{UnixListener, UnixStream};
@@ -17,18 +20,23 @@ use std::sync::Wait;
 use std::time::{Clock, Duration};
 use std::{io, thread};
 
-/// The clerks' door: a port, at which callers have the lines of a session.
+/// The clerks' door: a port, at which callers have the lines of a session, and `site`. Who finds no place is told `full`.
 #[derive(Drop)]
 pub struct TcpDoor<'a> {
+    alloc: Global,
     listener: TcpListener,
     closing: &'a Closing,
+    places: &'a Places,
 }
 
-/// The operators' door: a Unix socket, at which callers have all lines of an office.
+/// The operators' door: a Unix socket, at which callers have all lines of an office. Where its places are taken, who comes
+/// has one that is kept.
 #[derive(Drop)]
 pub struct UnixDoor<'a> {
+    alloc: Global,
     listener: UnixListener,
     closing: &'a Closing,
+    places: &'a Places,
 }
 
 // The system lets an `accept` give up after a time, as a read. The library has that setting for connections alone, so the
@@ -49,15 +57,22 @@ impl<'a> TcpDoor<'a> {
     /// A door at this port of 127.0.0.1, until the office closes; `Bind` where there can be none.
     pub fn bind<N: Net<Listener = TcpListener, Stream = TcpStream>>(
         net: &N,
+        alloc: Global,
         port: u16,
         closing: &'a Closing,
+        places: &'a Places,
     ) -> Result<TcpDoor<'a>, ListenFault> {
         let here = SocketAddr::from((Ipv4Addr::LOCALHOST, port));
         let Ok(listener) = TcpListener::bind(net, here) else {
             return Err(ListenFault::Bind);
         };
         match timed_port(listener) {
-            Ok(listener) => Ok(TcpDoor { listener, closing }),
+            Ok(listener) => Ok(TcpDoor {
+                alloc,
+                listener,
+                closing,
+                places,
+            }),
             Err(_) => Err(ListenFault::Bind),
         }
     }
@@ -69,18 +84,26 @@ impl<'a> TcpDoor<'a> {
 }
 
 impl<'a> UnixDoor<'a> {
-    /// A door at a Unix socket at this path, for its owner alone, until the office closes. A socket that was there is
-    /// replaced, so the caller knows that no other office listens at it: whoever has the site's file locked.
+    /// A door at a Unix socket at this path, for its owner alone, until the office closes; it is made in this folder, which is
+    /// made for that and removed. A socket that was there is replaced, so the caller knows that no other office listens at it: whoever has the site's file locked.
     ///
     /// Errors are those of `check_socket`, and `Bind`, after which a socket may be there.
     pub fn bind<H: Files + Net>(
         host: &H,
+        alloc: Global,
+        folder: &str,
         path: &str,
         closing: &'a Closing,
+        places: &'a Places,
     ) -> Result<UnixDoor<'a>, SocketFault> {
-        let listener = bind_socket(host, path)?;
+        let listener = bind_socket(host, alloc, folder, path)?;
         match timed_socket(listener) {
-            Ok(listener) => Ok(UnixDoor { listener, closing }),
+            Ok(listener) => Ok(UnixDoor {
+                alloc,
+                listener,
+                closing,
+                places,
+            }),
             Err(_) => Err(SocketFault::Bind),
         }
     }
@@ -91,19 +114,10 @@ impl<'a> UnixDoor<'a> {
     }
 }
 
-// The caller at a connection, if there is one. After a fault the next can come only after a while.
-fn caller<'a, C: Clock>(
-    clock: &C,
-    came: io::Result<Connection>,
-    closing: &'a Closing,
-) -> Option<(Caller<'a>, Connection)> {
+// A connection that came in, if there is one. After a fault the next can come only after a while.
+fn connection<C: Clock>(clock: &C, came: io::Result<Connection>) -> Option<Connection> {
     match came {
-        Ok(connection) => {
-            let Ok(writer) = connection.timed() else {
-                return None;
-            };
-            Some((Caller::new(connection, closing), writer))
-        }
+        Ok(connection) => Some(connection),
         Err(error) => {
             if error.kind() != io::ErrorKind::WouldBlock {
                 thread::sleep(clock, Duration::from_millis(TURN));
@@ -113,15 +127,62 @@ fn caller<'a, C: Clock>(
     }
 }
 
-impl<'a> Door<Caller<'a>, Connection> for TcpDoor<'a> {
-    ghost access = { Session };
+// What comes from a caller at this place, and what is sent to it.
+fn caller<'a>(
+    alloc: Global,
+    connection: Connection,
+    closing: &'a Closing,
+    place: Place<'a>,
+) -> Option<(Caller<'a>, BufWriter<Answers<'a>>)> {
+    let Ok(writer) = connection.timed(place.is_kept()) else {
+        return None;
+    };
+    let Ok(writer) = BufWriter::new(alloc, Answers::new(writer, closing)) else {
+        return None;
+    };
+    Some((Caller::new(connection, closing, place), writer))
+}
 
-    fn next<T: Wait + Clock>(&self, rt: &T) -> Option<Call<Caller<'a>, Connection>> {
+// The access of a caller at the operators' door.
+fn access_at(is_kept: bool) -> Access
+    ensures { result ≢ Session }
+{
+    if is_kept {
+        Access::Kept
+    } else {
+        Access::Office
+    }
+}
+
+impl<'a> TcpDoor<'a> {
+    // The caller at a connection, once there is a place. Who finds none is told that all are taken.
+    fn placed<C: Clock>(
+        &self,
+        clock: &C,
+        mut connection: Connection,
+    ) -> Option<(Caller<'a>, BufWriter<Answers<'a>>)> {
+        match self.places.find(clock) {
+            Some(place) => caller(self.alloc, connection, self.closing, place),
+            None => {
+                let _ = connection.write(b"full\n");
+                None
+            }
+        }
+    }
+}
+
+impl<'a> Door<Caller<'a>, BufWriter<Answers<'a>>> for TcpDoor<'a> {
+    ghost gives = { λ access. access ≡ Session };
+
+    fn next<T: Wait + Clock>(&self, rt: &T) -> Option<Call<Caller<'a>, BufWriter<Answers<'a>>>> {
         for _ in rt.forever() {
             if self.closing.is_closing() {
                 break;
             }
-            if let Some((reader, writer)) = caller(rt, self.accept(), self.closing) {
+            let Some(connection) = connection(rt, self.accept()) else {
+                continue;
+            };
+            if let Some((reader, writer)) = self.placed(rt, connection) {
                 return Some(Call::new(Access::Session, reader, writer));
             }
         }
@@ -129,16 +190,21 @@ impl<'a> Door<Caller<'a>, Connection> for TcpDoor<'a> {
     }
 }
 
-impl<'a> Door<Caller<'a>, Connection> for UnixDoor<'a> {
-    ghost access = { Office };
+impl<'a> Door<Caller<'a>, BufWriter<Answers<'a>>> for UnixDoor<'a> {
+    ghost gives = { λ access. access ≢ Session };
 
-    fn next<T: Wait + Clock>(&self, rt: &T) -> Option<Call<Caller<'a>, Connection>> {
+    fn next<T: Wait + Clock>(&self, rt: &T) -> Option<Call<Caller<'a>, BufWriter<Answers<'a>>>> {
         for _ in rt.forever() {
             if self.closing.is_closing() {
                 break;
             }
-            if let Some((reader, writer)) = caller(rt, self.accept(), self.closing) {
-                return Some(Call::new(Access::Office, reader, writer));
+            let Some(connection) = connection(rt, self.accept()) else {
+                continue;
+            };
+            let place = self.places.take();
+            let access = access_at(place.is_kept());
+            if let Some((reader, writer)) = caller(self.alloc, connection, self.closing, place) {
+                return Some(Call::new(access, reader, writer));
             }
         }
         None

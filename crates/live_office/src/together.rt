@@ -6,9 +6,9 @@ ghost use Rattle.site_desk.specs.SiteView.{SiteInStep};
 ghost use Rattle.live_office.specs.Admissible.{IsShut, admissible};
 ghost use Rattle.live_office.specs.Together.{IsAskedAs, IsGiven};
 
+use history_keeper::Keeper;
 use request_ledger::{Request, RequestNumber};
 use site_desk::{Answer, AskFault, Desk, NoGate, Opens, Receipt, Seat};
-use sql_records::Keeper;
 use std::alloc::Global;
 use std::marker::PhantomData;
 use std::mem;
@@ -23,7 +23,7 @@ struct Told<K: Keeper, L: Opens> {
     ticket: u64,
     receipt: Option<Receipt>,
     of: PhantomData<(K, L)>,
-    ghost given: { ∥ IsGiven (admissible L.office L.began K.failed K.is_trusted K.kept K.may_leave)
+    ghost given: { ∥ IsGiven (admissible L.office L.began K.Keeper)
         receipt ∥₁ },
 }
 
@@ -49,7 +49,7 @@ enum Turn {
 
 // What was given for a request, for its caller; None for a refusal, since the caller asks again.
 fn tell<K: Keeper, L: Opens>(ticket: u64, given: &Given) -> Option<Told<K, L>>
-    requires { StandsGiven L.office L.began (SiteInStep K.failed K.is_trusted K.kept K.may_leave)
+    requires { StandsGiven L.office L.began (SiteInStep K.Keeper)
         given.now }
 {
     match given {
@@ -64,8 +64,7 @@ fn tell<K: Keeper, L: Opens>(ticket: u64, given: &Given) -> Option<Told<K, L>>
 
 // What was given for requests, for their callers. Where memory is refused, these ask again too.
 fn tell_all<K: Keeper, L: Opens>(alloc: Global, tickets: &[u64], given: &[Given]) -> Vec<Told<K, L>>
-    requires { All (StandsGiven L.office L.began (SiteInStep K.failed K.is_trusted K.kept
-        K.may_leave)) given.now }
+    requires { All (StandsGiven L.office L.began (SiteInStep K.Keeper)) given.now }
 {
     let mut all = Vec::new(alloc);
     'requests: for (at, given) in given.iter().enumerate() {
@@ -80,7 +79,7 @@ fn tell_all<K: Keeper, L: Opens>(alloc: Global, tickets: &[u64], given: &[Given]
 
 // The same of requests that a failed store did not store.
 fn tell_failed<K: Keeper, L: Opens>(alloc: Global, tickets: &[u64]) -> Vec<Told<K, L>>
-    requires { IsShut (admissible L.office L.began K.failed K.is_trusted K.kept K.may_leave) }
+    requires { IsShut (admissible L.office L.began K.Keeper) }
 {
     let mut all = Vec::new(alloc);
     'requests: for ticket in tickets {
@@ -156,8 +155,7 @@ fn its_own<K: Keeper, L: Opens>(
     number: RequestNumber,
     request: &Request,
 ) -> Option<Result<Receipt, AskFault>>
-    ensures { IfSome result (IsAskedAs (admissible L.office L.began K.failed K.is_trusted K.kept
-        K.may_leave) number request.now) }
+    ensures { IfSome result (IsAskedAs (admissible L.office L.began K.Keeper) number request.now) }
 {
     match told.receipt {
         Some(receipt) if receipt.number == number && receipt.request == *request => {
@@ -272,8 +270,7 @@ impl<K: Keeper, L: Opens> Together<K, L> {
         request: &Request,
     ) -> Result<Receipt, AskFault>
         ensures parts { seat.new.parts ≡ seat.old.parts }
-        ensures asked { IsAskedAs (admissible L.office L.began K.failed K.is_trusted K.kept
-            K.may_leave) number request.now result }
+        ensures asked { IsAskedAs (admissible L.office L.began K.Keeper) number request.now result }
     {
         let turn = self.pile.lock(rt).come(number, request);
         match turn {
@@ -304,8 +301,7 @@ fn ask_alone<T: Wait, K: Keeper, L: Opens>(
     request: &Request,
 ) -> Result<Receipt, AskFault>
     ensures parts { seat.new.parts ≡ seat.old.parts }
-    ensures asked { IsAskedAs (admissible L.office L.began K.failed K.is_trusted K.kept
-        K.may_leave) number request.now result }
+    ensures asked { IsAskedAs (admissible L.office L.began K.Keeper) number request.now result }
 {
     match desk.ask(rt, alloc, &NoGate, seat, number, request) {
         Ok((_, receipt)) => Ok(receipt),

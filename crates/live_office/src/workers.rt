@@ -9,8 +9,8 @@ use crate::door::Door;
 use crate::handler::Last;
 use crate::serving::serve;
 use crate::together::Together;
+use history_keeper::Keeper;
 use site_desk::{Desk, Opens, Seat};
-use sql_records::Keeper;
 use std::alloc::Global;
 use std::io::{Read, Write};
 use std::snapshot::Snapshot;
@@ -21,8 +21,14 @@ use std::time::Clock;
 /// How many callers are served at once at the clerks' door.
 pub const CLERKS: u32 = 64;
 
-/// How many are served at once at the operators' door.
+/// How many are served at once at the operators' door, with all lines of an office.
 pub const OPERATORS: u32 = 8;
+
+// The threads at the clerks' door: one more, which finds a place for who comes.
+pub(crate) const CLERK_THREADS: u32 = CLERKS + 1;
+
+// The threads at the operators' door: two more, for places that are kept for `status` and `close`.
+pub(crate) const OPERATOR_THREADS: u32 = OPERATORS + 2;
 
 // What the threads of an office share.
 #[derive(Drop)]
@@ -58,7 +64,9 @@ fn work_at<T: Wait + Clock, R: Read + Drop, W: Write + Drop, D: Door<R, W>, K: K
         seat = own;
         if let Ok(Some(Last::Close)) = served.ended {
             closing.asked(&served);
+            closing.await_look(rt);
         }
+        served.part(closing.is_lost());
     }
     seat
 }
@@ -84,7 +92,7 @@ fn work<
         closing,
         callers,
     } = office;
-    if number <= OPERATORS {
+    if number <= OPERATOR_THREADS {
         work_at(
             rt, *alloc, desk, together, closing, callers, seat, *operators,
         )

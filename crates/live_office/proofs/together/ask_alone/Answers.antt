@@ -5,5 +5,5 @@ use Rattle.live_office.proofs.together.ask_alone.Goals as goal
 
 pub returns-in-Err-clause-asked : goal.returns-in-Err-clause-asked
 returns-in-Err-clause-asked g c =
-    refused (admissible g.L.Opens.office g.L.Opens.began g.K.Keeper.failed g.K.Keeper.is_trusted g.K.Keeper.kept g.K.Keeper.may_leave) _ _ c.in-Err.fault
+    refused (admissible g.L.Opens.office g.L.Opens.began g.K.Keeper) _ _ c.in-Err.fault
     (c.in-Err.ensures.answered, λ e. c.in-Err.ensures.shut (ap Err e))

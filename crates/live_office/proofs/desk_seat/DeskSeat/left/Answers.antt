@@ -6,10 +6,10 @@ use Rattle.live_office.proofs.desk_seat.DeskSeat.left.Goals as goal
 
 pub returns-in-Err : goal.returns-in-Err
 returns-in-Err g c =
-    left_hidden (admissible g.L.Opens.office g.L.Opens.began g.K.Keeper.failed g.K.Keeper.is_trusted g.K.Keeper.kept g.K.Keeper.may_leave) c.args.self.now c.args.event c.in-Err.fault c.not_shown.result c.not_shown.ensures c.in-Err.ensures.seen
+    left_hidden (admissible g.L.Opens.office g.L.Opens.began g.K.Keeper) c.args.self.now c.args.event c.in-Err.fault c.not_shown.result c.not_shown.ensures c.in-Err.ensures.seen
 
 pub returns : goal.returns
 returns g c =
-    let d = admissible g.L.Opens.office g.L.Opens.began g.K.Keeper.failed g.K.Keeper.is_trusted g.K.Keeper.kept g.K.Keeper.may_leave in
+    let d = admissible g.L.Opens.office g.L.Opens.began g.K.Keeper in
     left_shown d c.args.self.now c.args.event c.in-Ok.seen _ (search rules) c.in-Ok.ensures.event (search rules)
     (subst (λ event. SomeAdmissible d (Looks event (Ok c.in-Ok.seen))) (sym c.in-Ok.ensures.event) c.in-Ok.ensures.seen)

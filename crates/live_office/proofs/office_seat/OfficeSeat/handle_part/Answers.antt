@@ -7,7 +7,7 @@ use Rattle.live_office.proofs.office_seat.OfficeSeat.handle_part.Goals as goal
 
 pub returns-in_default : goal.returns-in_default
 returns-in_default g c =
-    let d = admissible g.L.Opens.office g.L.Opens.began g.K.Keeper.failed g.K.Keeper.is_trusted g.K.Keeper.kept g.K.Keeper.may_leave in
+    let d = admissible g.L.Opens.office g.L.Opens.began g.K.Keeper in
     let message = c.args.bytes.items ++ c.args.line.now ++ 10 ∷ [] in
     subst (λ (is_last : Bool). HandlesPart d c.args.self.now.seat message is_last (answer_text c.lose.result) c.lose.new.self) c.ends_message-is_last.ensures
     (lost_part d c.args.self.now.seat message c.ends_message-is_last.result (answer_text c.lose.result) c.lose.new.self c.lose.ensures)
