@@ -13,18 +13,21 @@ mod connections;
 mod doors;
 mod files;
 mod offices;
+mod watch;
 
 use crate::connections::visits;
 use crate::doors::Socket;
 use crate::files::{FileFault, Files, close, failed, open_or_make, open_there};
 use crate::offices::visited;
+use crate::watch::{FileId, Held, id_at, watch};
 use book_core::Limit;
-use live_office::{Closing, TcpDoor, UnixDoor};
+use live_office::{Closing, Places, TcpDoor, UnixDoor};
 use operator_cli::{
-    CloseFault, FileNames, Order, Status, WordsFault, ask_store, audit_stores, export_store,
-    find_store, grow_store, import_store, init_store, list_store, migrate_store, office_store,
-    open_store, read_words, refuse_parts, refuse_site, serve_stores, status_store,
-    tell_close_fault, tell_listen_fault, tell_socket_fault, world_script,
+    CloseFault, FileNames, Order, Status, WordsFault, ask_store, audit_stores, events_store,
+    export_store, find_store, grow_store, import_store, init_store, list_store, migrate_store,
+    office_store, open_store, read_words, refuse_parts, refuse_site, serve_stores, shares_store,
+    status_store, tell_close_fault, tell_listen_fault, tell_socket_fault, tell_version,
+    world_script,
 };
 use request_ledger::RequestNumber;
 use rights_lattice::{SiteId, Sites};
@@ -37,12 +40,12 @@ use sqlite_std_file::{Start, Unknown};
 use sqlite_store::FileStore;
 use std::alloc::{AllocError, Global};
 use std::env;
-use std::io::{BufWriter, ErrorKind, Read, Stdout, Write};
+use std::io::{self, BufWriter, ErrorKind, Read, Stdout, Write};
 use std::net::{Net, TcpListener, TcpStream};
 use std::process::ExitCode;
 use std::rt::Files as Paths;
 use std::sync::Wait;
-use std::thread::Threads;
+use std::thread::{Threads, join};
 use std::time::Clock;
 
 /// Where databases are opened and closed, each by a connection. The commands run over any, whatever store it stands in, so
@@ -197,6 +200,29 @@ fn run_list<S: Alter + Drop, H: Shelf<Connection<S>>>(
     let mut out = buffered(rt)?;
     let conn = shelf.open_there(rt, file)?;
     let came = list_store(rt.alloc(), conn, event, &mut out, &mut rt.stderr());
+    Ok(shelf.close(rt, came))
+}
+
+fn run_events<S: Alter + Drop, H: Shelf<Connection<S>>>(
+    rt: &HostRuntime,
+    file: &str,
+    shelf: &H,
+) -> Result<Status, Status> {
+    let mut out = buffered(rt)?;
+    let conn = shelf.open_there(rt, file)?;
+    let came = events_store(rt.alloc(), conn, &mut out, &mut rt.stderr());
+    Ok(shelf.close(rt, came))
+}
+
+fn run_shares<S: Alter + Drop, H: Shelf<Connection<S>>>(
+    rt: &HostRuntime,
+    file: &str,
+    event: &str,
+    shelf: &H,
+) -> Result<Status, Status> {
+    let mut out = buffered(rt)?;
+    let conn = shelf.open_there(rt, file)?;
+    let came = shares_store(rt.alloc(), conn, event, &mut out, &mut rt.stderr());
     Ok(shelf.close(rt, came))
 }
 
@@ -431,6 +457,8 @@ fn office<S: Alter + Drop + Send>(
     rt: &HostRuntime,
     host: &(impl Threads + Wait + Clock + Sync),
     site: SiteBook<Records<S>>,
+    port: u16,
+    file: &str,
     clerks: &TcpDoor<'_>,
     operators: &UnixDoor<'_>,
     closing: &Closing,
@@ -439,6 +467,8 @@ fn office<S: Alter + Drop + Send>(
         host,
         rt.alloc(),
         site,
+        port,
+        file,
         clerks,
         operators,
         closing,
@@ -447,8 +477,81 @@ fn office<S: Alter + Drop + Send>(
     )
 }
 
-// Keeps the office of a site open until it closes. Its socket is put aside while the file is locked, so that none of
-// another office is; and it goes once the file is closed, so that whoever waits for that finds a file to open.
+// The same, while the file is watched. Where that is lost the office fails, and its connection comes back only where the
+// file is there to take what stands in the log.
+fn office_watched<S: Alter + Drop + Send>(
+    rt: &HostRuntime,
+    host: &(impl Threads + Wait + Clock + Sync),
+    site: SiteBook<Records<S>>,
+    port: u16,
+    held: &Held<'_>,
+    clerks: &TcpDoor<'_>,
+    operators: &UnixDoor<'_>,
+    closing: &Closing,
+) -> (Status, Option<Connection<S>>) {
+    // The watch is first: a first closure that gets no thread runs when the second has ended.
+    let ((), came) = join(
+        host,
+        move || watch(rt, held, closing),
+        move || {
+            let came = office(
+                rt,
+                host,
+                site,
+                port,
+                held.path(),
+                clerks,
+                operators,
+                closing,
+            );
+            closing.ended();
+            came
+        },
+    );
+    came
+}
+
+// What an office comes to whose file was lost or not, once what can be is stored in it.
+fn close_office<S: Alter + Drop, H: Shelf<Connection<S>>>(
+    rt: &HostRuntime,
+    shelf: &H,
+    held: &Held<'_>,
+    closing: &Closing,
+    came: (Status, Option<Connection<S>>),
+) -> Status {
+    if !closing.is_lost() {
+        return shelf.close(rt, came);
+    }
+    // What only the log holds is left in it where the file is lost.
+    if !held.is_lost(rt) {
+        let _ = shelf.close(rt, came);
+    }
+    tell_close_fault(CloseFault::LostFile, &mut rt.stderr())
+}
+
+// The file of an office, which was this one before it was opened. Where there was none, it is lost.
+fn file_held<'a>(
+    rt: &HostRuntime,
+    file: &'a str,
+    before: io::Result<Option<FileId>>,
+) -> io::Result<Held<'a>> {
+    match before? {
+        Some(id) => Held::of(rt, file, id),
+        None => Err(io::Error::from(ErrorKind::NotFound)),
+    }
+}
+
+// Tells why it is not known which file an office holds.
+fn tell_not_held(rt: &HostRuntime, error: &io::Error) -> Status {
+    match error.kind() {
+        ErrorKind::OutOfMemory => out_of_memory(rt),
+        ErrorKind::NotFound => tell_close_fault(CloseFault::LostFile, &mut rt.stderr()),
+        _ => failed(rt, FileFault::Disk),
+    }
+}
+
+// Keeps the office of a site open until it closes. Its socket is put aside while the file is locked, so
+// that none of another office is; and it goes once the file is closed, so that whoever waits for that finds a file to open.
 fn run_open<S: Alter + Drop + Send, H: Shelf<Connection<S>>>(
     rt: &HostRuntime,
     host: &(impl Threads
@@ -467,50 +570,55 @@ fn run_open<S: Alter + Drop + Send, H: Shelf<Connection<S>>>(
     if let Err(fault) = socket.check(host) {
         return Ok(tell_socket_fault(fault, &mut rt.stderr()));
     }
+    let before = id_at(rt, file);
     let site = open_site(rt, file, shelf)?;
-    let closing = Closing::new();
-    let clerks = match TcpDoor::bind(host, port, &closing) {
+    let held = match file_held(rt, file, before) {
+        Ok(held) => held,
+        Err(error) => return Ok(close_site(rt, shelf, tell_not_held(rt, &error), site)),
+    };
+    let closing = Closing::watched();
+    let (at_port, at_socket) = (Places::of_clerks(), Places::of_operators());
+    let clerks = match TcpDoor::bind(host, rt.alloc(), port, &closing, &at_port) {
         Ok(clerks) => clerks,
         Err(fault) => {
             let status = tell_listen_fault(fault, &mut rt.stderr());
             return Ok(close_site(rt, shelf, status, site));
         }
     };
-    let operators = match UnixDoor::bind(host, socket.path(), &closing) {
+    let operators = match UnixDoor::bind(
+        host,
+        rt.alloc(),
+        socket.folder(),
+        socket.path(),
+        &closing,
+        &at_socket,
+    ) {
         Ok(operators) => operators,
         Err(fault) => {
             let status = tell_socket_fault(fault, &mut rt.stderr());
             return Ok(close_site(rt, shelf, status, site));
         }
     };
-    let came = office(rt, host, site, &clerks, &operators, &closing);
+    let came = office_watched(rt, host, site, port, &held, &clerks, &operators, &closing);
     socket.put_aside(host);
-    let status = shelf.close(rt, came);
+    let status = close_office(rt, shelf, &held, &closing, came);
     socket.remove(host);
     Ok(status)
 }
 
 fn run_close(
     rt: &HostRuntime,
-    host: &(impl Wait + Clock + Paths + Net),
+    host: &(impl Clock + Paths + Net),
     file: &str,
 ) -> Result<Status, Status> {
     let Ok(socket) = Socket::of(rt.alloc(), file) else {
         return Ok(out_of_memory(rt));
     };
-    let _caller = match socket.says_close(host) {
-        Ok(caller) => caller,
-        Err(error) => match error.kind() {
-            ErrorKind::NotFound | ErrorKind::ConnectionRefused => {
-                return Ok(tell_close_fault(CloseFault::NotOpen, &mut rt.stderr()));
-            }
-            _ => return Ok(failed(rt, FileFault::Disk)),
-        },
-    };
-    if socket.is_gone(host) {
-        Ok(Status::Done)
-    } else {
-        Ok(tell_close_fault(CloseFault::StillOpen, &mut rt.stderr()))
+    match socket.close(host, rt.alloc()) {
+        Ok(None) => Ok(Status::Done),
+        Ok(Some(fault)) => Ok(tell_close_fault(fault, &mut rt.stderr())),
+        Err(error) if error.kind() == ErrorKind::OutOfMemory => Ok(out_of_memory(rt)),
+        Err(_) => Ok(failed(rt, FileFault::Disk)),
     }
 }
 
@@ -539,6 +647,8 @@ fn run_order<S: Alter + Drop + Send, H: Shelf<Connection<S>>>(
         Order::Ask { file } => run_ask(rt, host, file, shelf),
         Order::Find { file, number } => run_find(rt, file, number, shelf),
         Order::List { file, event } => run_list(rt, file, event, shelf),
+        Order::Events { file } => run_events(rt, file, shelf),
+        Order::Shares { file, event } => run_shares(rt, file, event, shelf),
         Order::Export { file, to } => run_export(rt, file, to, shelf),
         Order::Import { file } => run_import(rt, file, shelf),
         Order::Audit { files } => run_audit(rt, &files, shelf),
@@ -551,6 +661,7 @@ fn run_order<S: Alter + Drop + Send, H: Shelf<Connection<S>>>(
         Order::Open { port, file } => run_open(rt, host, port, file, shelf),
         Order::Close { file } => run_close(rt, host, file),
         Order::Status { file } => run_status(rt, file, shelf),
+        Order::Version => Ok(tell_version(&mut rt.stdout(), &mut rt.stderr())),
     }
 }
 
@@ -595,8 +706,16 @@ fn run<S: Alter + Drop + Send, H: Shelf<Connection<S>>>(
     }
 }
 
+// A word as it is read: `--version` is the command of that name.
+fn plain_word(word: &String) -> &str {
+    match word.as_str() {
+        "--version" => "version",
+        word => word,
+    }
+}
+
 fn texts(alloc: Global, words: &[String]) -> Result<Vec<&str>, AllocError> {
-    words.iter().map(|word| word.as_str()).collect(alloc)
+    words.iter().map(plain_word).collect(alloc)
 }
 
 fn started<S: Alter + Drop + Send, H: Shelf<Connection<S>>>(
@@ -608,7 +727,7 @@ fn started<S: Alter + Drop + Send, H: Shelf<Connection<S>>>(
         + Paths
         + Net<Listener = TcpListener, Stream = TcpStream>),
     shelf: &H,
-) -> std::io::Result<Status> {
+) -> io::Result<Status> {
     let words: Vec<String> = env::args(rt)?.collect(rt.alloc())?;
     let texts = texts(rt.alloc(), &words)?;
     Ok(run(rt, host, texts.as_slice(), shelf))
@@ -624,7 +743,7 @@ fn started_over<D: Disk + Drop + Send, H: Shelf<Connection<FileStore<D>>>>(
         + Paths
         + Net<Listener = TcpListener, Stream = TcpStream>),
     shelf: &H,
-) -> std::io::Result<Status> {
+) -> io::Result<Status> {
     started(rt, host, shelf)
 }
 
@@ -638,7 +757,7 @@ fn started_by_path<F: Start + Send, B: Begins<First = F>>(
         + Paths
         + Net<Listener = TcpListener, Stream = TcpStream>),
     files: &ByPath<B>,
-) -> std::io::Result<Status> {
+) -> io::Result<Status> {
     started_over(rt, host, files)
 }
 

@@ -4,8 +4,8 @@ use crate::doors::Socket;
 use crate::{buffered, not_read, out_of_memory};
 use delta_wire::MOST_BYTES;
 use operator_cli::{
-    CloseFault, Order, Status, ask_office, export_office, find_office, import_office, list_office,
-    status_office, tell_close_fault, tell_open,
+    CloseFault, Order, Status, ask_office, events_office, export_office, find_office,
+    import_office, list_office, shares_office, status_office, tell_close_fault, tell_open,
 };
 use request_ledger::RequestNumber;
 use rights_lattice::SiteId;
@@ -93,6 +93,8 @@ enum Question<'a> {
     Session,
     Find { number: RequestNumber },
     List { event: &'a str },
+    Events,
+    Shares { event: &'a str },
     Export { to: SiteId },
     Import { bytes: Vec<u8> },
     Status,
@@ -112,6 +114,8 @@ fn at_office(rt: &HostRuntime, question: Question<'_>, office: Office) -> Result
         Question::Session => ask_office(alloc, rt.stdin(), answers, asked, &mut out, err),
         Question::Find { number } => find_office(alloc, number, answers, asked, &mut out, err),
         Question::List { event } => list_office(alloc, event, answers, asked, &mut out, err),
+        Question::Events => events_office(alloc, answers, asked, &mut out, err),
+        Question::Shares { event } => shares_office(alloc, event, answers, asked, &mut out, err),
         Question::Export { to } => export_office(alloc, to, answers, asked, &mut out, err),
         Question::Import { bytes } => {
             import_office(alloc, bytes.as_slice(), answers, asked, &mut out, err)
@@ -167,7 +171,7 @@ pub(crate) fn visited<H: Files + Net>(
     order: &Order<'_>,
 ) -> Result<Option<Status>, Status> {
     match order {
-        Order::World | Order::Init { .. } | Order::Close { .. } => Ok(None),
+        Order::World | Order::Version | Order::Init { .. } | Order::Close { .. } => Ok(None),
         Order::Migrate { file } | Order::Grow { file, .. } | Order::Open { file, .. } => {
             turned_away(rt, host, &[*file])
         }
@@ -179,6 +183,8 @@ pub(crate) fn visited<H: Files + Net>(
             visit(rt, host, file, Question::Find { number: *number })
         }
         Order::List { file, event } => visit(rt, host, file, Question::List { event }),
+        Order::Events { file } => visit(rt, host, file, Question::Events),
+        Order::Shares { file, event } => visit(rt, host, file, Question::Shares { event }),
         Order::Export { file, to } => visit(rt, host, file, Question::Export { to: *to }),
         Order::Import { file } => bring(rt, host, file),
         Order::Status { file } => visit(rt, host, file, Question::Status),

@@ -99,4 +99,6 @@ pub end_done : (came : Result (Option Last) TalkFault) (s : Status) → visit_en
 end_done (Ok None) s e = cc
 end_done (Ok (Some last.Quit)) s e = cc
 end_done (Ok (Some last.Close)) s e = absurd cc
+end_done (Ok (Some last.Full)) s e = absurd cc
+end_done (Ok (Some last.Unread)) s e = absurd cc
 end_done (Err f) s e = absurd cc

@@ -43,6 +43,9 @@ stays_unprinted P a b c fault.LongPath h k = absurd h
 stays_unprinted P a b c fault.NoSocket h k = absurd h
 stays_unprinted P a b c fault.NotOpen h k = absurd h
 stays_unprinted P a b c fault.StillOpen h k = absurd h
+stays_unprinted P a b c fault.AlreadyOpen h k = absurd h
+stays_unprinted P a b c fault.Full h k = absurd h
+stays_unprinted P a b c fault.LostFile h k = absurd h
 
 -- the end of a command, with what of its text went out
 pub fails_unprinted : (P : Status → List ℕ → Type 0) (a b c x y : Option (List ℕ)) (came : Result Status StoreFault) (status : Status)

@@ -14,8 +14,8 @@ use Rattle.operator_cli.specs.declared.status.Status.TheVariants.{Done, Refused,
 use Rattle.operator_cli.specs.declared.store_fault.StoreFault.{StoreFault}
 use Rattle.operator_cli.specs.declared.store_fault.StoreFault.TheVariants as fault
 use Rattle.operator_cli.specs.declared.told.Told.{Told}
-use Rattle.operator_cli.specs.declared.told.Told.TheVariants.{Made, Migrated, Joined, NothingNew, Acked, AlreadyThere, NoSite, Nothing, NotFound, TooLong, Unread, NotTaken, NotWhole, Ahead, Grown, NotGrown}
-use Rattle.operator_cli.specs.Exchanged.{HoldsOnly}
+use Rattle.operator_cli.specs.declared.told.Told.TheVariants.{Made, Migrated, Joined, NothingNew, Acked, AlreadyThere, NoSite, Nothing, NotFound, Unknown, TooLong, Unread, NotTaken, NotWhole, Ahead, Grown, NotGrown}
+use Rattle.operator_cli.specs.Opened.{HoldsOnly}
 use Rattle.operator_cli.specs.Opened.{FailsFor}
 use Rattle.operator_cli.specs.Told.{store_fault_line, told_status, FaultTold}
 
@@ -33,7 +33,7 @@ nothing_told old Failed = (fault.Write, AppendsFront-nothing old old (store_faul
 
 -- ---- why a command failed
 
-never_failed : (told : Told) → told_status told ≢ Failed
+pub never_failed : (told : Told) → told_status told ≢ Failed
 never_failed Made e = cc
 never_failed Migrated e = cc
 never_failed Joined e = cc
@@ -43,6 +43,7 @@ never_failed AlreadyThere e = cc
 never_failed NoSite e = cc
 never_failed Nothing e = cc
 never_failed NotFound e = cc
+never_failed Unknown e = cc
 never_failed TooLong e = cc
 never_failed (Unread f) e = cc
 never_failed (NotTaken f) e = cc
@@ -64,22 +65,6 @@ pub fails_for : (P : StoreFault → Type 0) (a b : Option (List ℕ)) (came : Re
     → IfErr came (λ f. AppendsFront a b (store_fault_line f)) → IfOk came (λ s. status ≢ s → AppendsFront a b (store_fault_line fault.Write)) → FailsFor P a b status
 fails_for P a b (Ok s) status cause write lives line flush = λ failed. (fault.Write, write, flush (λ same. lives (sym same ∙ failed)))
 fails_for P a b (Err f) status cause write lives line flush = λ failed. (f, cause, line)
-
-pub fails_as : (P Q : StoreFault → Type 0) (a b : Option (List ℕ)) (status : Status) → ((f : StoreFault) → P f → Q f) → FailsFor P a b status → FailsFor Q a b status
-fails_as P Q a b status to h failed = let e = h failed in (e.0, to e.0 e.1, e.2)
-
-pub both_err : (r : Result Status StoreFault) (P Q R : StoreFault → Type 0) → ((f : StoreFault) → P f → Q f → R f) → IfErr r P → IfErr r Q → IfErr r R
-both_err (Ok s) P Q R to p q = tt
-both_err (Err f) P Q R to p q = to f p q
-
-pub both_ok : (r : Result Status StoreFault) (P Q : Type 0) → OnOk r P → OnOk r Q → OnOk r (P × Q)
-both_ok (Ok s) P Q p q = (p, q)
-both_ok (Err f) P Q p q = tt
-
-pub on_ok_some : {A : Type 0} (r : Result Status StoreFault) (o : Option A) (P : A → Type 0) → IfSome o (λ a. OnOk r (P a)) → OnOk r (IfSome o P)
-on_ok_some (Ok s) None P h = tt
-on_ok_some (Ok s) (Some a) P h = h
-on_ok_some (Err f) o P h = tt
 
 -- a connection that came back
 pub if_back : {A : Type 0} (o : Option A) (P : Type 0) (Q R : A → Type 0) → MatchOption o P Q → ((a : A) → Q a → R a) → IfSome o R

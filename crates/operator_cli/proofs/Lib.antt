@@ -1,11 +1,9 @@
+pub mod CommandLaws
 pub mod BreakLaws
 pub mod BrokenOff
 pub mod Dealing
 pub mod EndLaws
-pub mod ExchangeLaws
 pub mod Inputs
-pub mod MakeLaws
-pub mod MigrateLaws
 pub mod OpenedLaws
 pub mod PrintLaws
 pub mod Promised

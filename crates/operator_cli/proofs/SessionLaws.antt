@@ -7,10 +7,10 @@ use Rattle.sqlite.specs.Store.{Ghosts}
 use Rattle.sqlite.specs.State.{HasCleanDisk}
 use Rattle.sqlite.specs.Held.{Held, state}
 use Rattle.plain_words.specs.Writing.{AppendsFront}
-use Rattle.sql_records.specs.declared.meta.Meta.{Meta}
+use Rattle.history_keeper.specs.declared.meta.Meta.{Meta}
 use Rattle.sql_records.specs.Held.{RecordsView, IsOf, IsTrusted, LeavesSite, MayLeaveIn}
 use Rattle.sql_records.specs.Layout.{HasMeta}
-use Rattle.sql_records.specs.Keeping.{LeavesEither}
+use Rattle.history_keeper.specs.Keeping.{LeavesEither}
 use Rattle.site_desk.specs.SiteView.{SiteView, entry_in}
 use Rattle.desk_lines.specs.declared.answered.Answered.{Answered}
 use Rattle.session_server.specs.BookStep.{BookStep}
@@ -23,7 +23,7 @@ use Rattle.operator_cli.specs.declared.status.Status.{Status}
 use Rattle.operator_cli.specs.declared.status.Status.TheVariants.{Done, Failed}
 use Rattle.operator_cli.specs.declared.store_fault.StoreFault.{StoreFault}
 use Rattle.operator_cli.specs.declared.store_fault.StoreFault.TheVariants as fault
-use Rattle.operator_cli.specs.Exchanged.{HoldsOnly, IsBookOf}
+use Rattle.operator_cli.specs.Opened.{HoldsOnly, IsBookOf}
 use Rattle.operator_cli.specs.Session.{IsStatusTold, SessionRan, records, status_of}
 use Rattle.operator_cli.specs.Told.{FaultTold, store_fault_line}
 

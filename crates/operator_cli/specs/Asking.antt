@@ -16,7 +16,7 @@ use Rattle.operator_cli.specs.declared.store_fault.StoreFault.{StoreFault}
 use Rattle.operator_cli.specs.declared.store_fault.StoreFault.TheVariants as fault
 use Rattle.operator_cli.specs.Session.{of_talk_fault}
 use Rattle.operator_cli.specs.Told.{store_fault_line}
-use Rattle.operator_cli.specs.Visits.{line_text}
+use Rattle.operator_cli.specs.Visits.{line_text, trouble}
 
 -- what was asked of an office, and what it has yet to send
 pub record Channel : Type 0 where
@@ -42,14 +42,22 @@ IsAnsweredAs (Some (Totals event)) before line text after = IsPutTo before line 
 abbrev pub IsAnsweredBy : Channel → List ℕ → List ℕ → Channel → Type 0
 IsAnsweredBy before line text after = IsAnsweredAs (session_line_of line) before line text after
 
--- `quit` is the last line, and so is one that asks, over which the office is lost: `Close` stands for that
+-- `quit` is the last line, and so is one that asks, over which the office is lost or full: `Close` and `Full` stand for that
 abbrev pub IsLastAsked : Channel → List ℕ → Last → Type 0
 IsLastAsked before line last.Quit = session_line_of line ≡ Some Quit
-IsLastAsked before line last.Close = (asks : Line) × (asks ≢ Quit) × (session_line_of line ≡ Some asks)
+IsLastAsked before line last.Unread = ⊥
+IsLastAsked before line _ = (asks : Line) × (asks ≢ Quit) × (session_line_of line ≡ Some asks)
 
--- The line over which the office is lost was asked, or a prefix of it.
+-- The next line of the office says that all places are taken.
+abbrev pub IsToldFull : Option (List ℕ) → Option (List ℕ) → Type 0
+IsToldFull coming left = (word : List ℕ) × (trouble word ≡ Some fault.Full) × Consumes coming left (line_text word)
+
+-- The line over which the office is lost, or says that it is full, was asked, or a prefix of it.
 abbrev pub IsLeft : Option Last → Channel → Channel → Type 0
 IsLeft (Some last.Close) before now = (line : List ℕ) × IsLastAsked before line last.Close × AppendsFront before.asked now.asked (line_text line)
+IsLeft (Some last.Full) before now =
+    (line : List ℕ) × IsLastAsked before line last.Full × AppendsFront before.asked now.asked (line_text line) × IsToldFull before.coming now.coming
+IsLeft (Some last.Unread) before now = ⊥
 IsLeft (Some last.Quit) before now = now ≡ before
 IsLeft None before now = now ≡ before
 
@@ -76,7 +84,8 @@ AllAsked input old new before now result =
 abbrev pub visit_end : Result (Option Last) TalkFault → Result Status StoreFault
 visit_end (Ok None) = Ok Done
 visit_end (Ok (Some last.Quit)) = Ok Done
-visit_end (Ok (Some last.Close)) = Err fault.NotOpen
+visit_end (Ok (Some last.Full)) = Err fault.Full
+visit_end (Ok (Some _)) = Err fault.NotOpen
 visit_end (Err cause) = Err (of_talk_fault cause)
 
 -- the status tells, and what ended it early is told

@@ -10,9 +10,11 @@ pub mod Laws
 pub mod Told
 pub mod Printed
 pub mod Dealt
-pub mod Exchanged
 pub mod Opened
 pub mod Serving
 pub mod Offices
+pub mod Version
 pub mod Visits
 pub mod Asking
+pub mod Outcomes
+pub mod Commands

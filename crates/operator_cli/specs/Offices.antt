@@ -1,5 +1,6 @@
 -- What an office that stays open comes to. (Our own.)
-use Rattle.std.specs.Prelude.{◌≡◌, List}
+use Rattle.std.specs.Prelude.{◌≡◌, ℕ, List, ◌++◌, codes}
+use Rattle.std.specs.Fmt.{decimal}
 use Rattle.sqlite.specs.Store.{Ghosts}
 use Rattle.sqlite.specs.Held.{Held, state}
 use Rattle.sqlite.specs.State.{HasCleanDisk}
@@ -17,7 +18,7 @@ use Rattle.operator_cli.specs.declared.office.CloseFault.{CloseFault}
 use Rattle.operator_cli.specs.declared.office.CloseFault.TheVariants as closing
 use Rattle.operator_cli.specs.declared.status.Status.{Status}
 use Rattle.operator_cli.specs.declared.status.Status.TheVariants.{Done}
-use Rattle.operator_cli.specs.Exchanged.{HoldsOnly}
+use Rattle.operator_cli.specs.Opened.{HoldsOnly}
 
 abbrev pub of_socket_fault : SocketFault → StoreFault
 of_socket_fault socket.Path = fault.LongPath
@@ -31,6 +32,11 @@ of_office_fault office.NotStarted = fault.NotStarted
 abbrev pub of_close_fault : CloseFault → StoreFault
 of_close_fault closing.NotOpen = fault.NotOpen
 of_close_fault closing.StillOpen = fault.StillOpen
+of_close_fault closing.LostFile = fault.LostFile
+
+-- what is printed once callers can come: the port, and the file as it was given
+abbrev pub open_line : ℕ → List ℕ → List ℕ
+open_line port file = (codes "open " ++ decimal port ++ codes " ") ++ (file ++ codes "\n")
 
 -- Some book goes on from this history. Where all is done, it is that of the end: the connection holds its history, and a crash leaves that.
 -- Of a fault this says nothing about the records.

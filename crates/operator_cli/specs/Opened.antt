@@ -1,5 +1,5 @@
 -- Why the records of a database are not opened, and what is told of it. (Our own.)
-use Rattle.std.specs.Prelude.{◌≡◌, ◌⊎◌, ◌<◌, ℕ, List, length, Option, true, false, IsTrue}
+use Rattle.std.specs.Prelude.{◌≡◌, ◌⊎◌, ℕ, List, Option, true, false, MatchOption}
 use Rattle.std.specs.Io.KnownBytes.{Keeps}
 use Rattle.plain_words.specs.Writing.{AppendsFront}
 use Rattle.operator_cli.specs.declared.status.Status.{Status}
@@ -12,87 +12,31 @@ use Rattle.book_core.specs.Legal.{IsLegal}
 use Rattle.book_core.specs.Replay.{IsReplayFault}
 use Rattle.sql_records.specs.declared.fault.OpenFault.{OpenFault}
 use Rattle.sql_records.specs.declared.fault.OpenFault.TheVariants as opening
-use Rattle.sql_records.specs.declared.fault.InitFault.{InitFault}
-use Rattle.sql_records.specs.declared.fault.InitFault.TheVariants as making
-use Rattle.sql_records.specs.declared.fault.MigrateFault.TheVariants as migrating
-use Rattle.sql_records.specs.declared.meta.Meta.{Meta}
-use Rattle.sql_records.specs.Migrating.{IsAsBefore, IsMigrated, IsLegalFirst, IsMigrateFault}
-use Rattle.sql_records.specs.Faults.{HasDiskCause, IsUndoneForMemory}
-use Rattle.sql_records.specs.Making.{IsInitFault}
-use Rattle.sql_records.specs.Held.{IsNew, LeavesSite, MayLeaveIn, history_in}
-use Rattle.sql_records.specs.Keeping.{LeavesOnly}
-use Rattle.sql_records.specs.Layout.{has_our_table, HasMeta, IsOurs, office_of}
-use Rattle.sql_records.specs.Lookups.{listed_in}
+use Rattle.history_keeper.specs.declared.meta.Meta.{Meta}
+use Rattle.sql_records.specs.Held.{IsOf, IsTrusted, LeavesSite, MayLeave, MayLeaveIn, RecordsView, history_in, kept_in}
+use Rattle.sqlite.specs.Tree.{Trees}
+use Rattle.book_core.specs.declared.entry.Entry.{Entry}
+use Rattle.site_exchange.specs.Exchange.{zeros}
+use Rattle.history_keeper.specs.Keeping.{Keeps as KeepsList, LeavesOnly}
+use Rattle.history_keeper.specs.Meta.{office_of}
+use Rattle.sql_records.specs.Layout.{HasMeta, IsOurs}
 use Rattle.sql_records.specs.Opening.{IsForeignCause, IsOpenFault}
-use Rattle.operator_cli.specs.Exchanged.{HoldsOnly, IsGrowingEnd, IsInputEnd, IsNextEnd, LeavesAsItWas, stored_site}
+use Rattle.site_desk.specs.SiteView.{SiteView}
 use Rattle.operator_cli.specs.declared.store_fault.StoreFault.{StoreFault}
-use Rattle.operator_cli.specs.declared.store_fault.StoreFault.TheVariants as fault
-use Rattle.operator_cli.specs.declared.told.Told.{Told}
-use Rattle.operator_cli.specs.declared.told.Told.TheVariants.{Migrated, Nothing}
-use Rattle.operator_cli.specs.Printed.{Unsaid}
 use Rattle.operator_cli.specs.Told.{of_open_fault, of_replay_fault, store_fault_line}
 
--- a site with a number below its count, and no table of ours
-abbrev pub MayBeMade : {S : Type 0} → Held S → Meta → Type 0
-MayBeMade conn meta = (meta.me < meta.sites) × (has_our_table conn.schema ≡ false)
+-- the book is that of the records in this database, which are a site's, as they are opened: with their history, which is legal, and nothing acknowledged
+pub record IsBookOf {K : Type 0} (db : Trees) (book : SiteView K) : Type 0 where
+  pub ours : (meta : Meta) × HasMeta meta db
+  pub office : (meta : Meta) → HasMeta meta db → book.book.office ≡ office_of meta
+  pub history : book.book.history ≡ history_in db
+  pub legal : (meta : Meta) → HasMeta meta db → IsLegal (office_of meta) (history_in db)
+  pub fresh : book.acked ≡ zeros
+  pub unclosed : book.closed ≡ false
 
-module _ {S : Type 0} (g : Ghosts S) (conn after : Held S) (meta : Meta) where
-  -- records that may be made are not, for this cause, and what an open connection has committed is what it had
-  pub record IsUnmade (cause : InitFault) : Type 0 where
-    pub free : MayBeMade conn meta
-    pub found : IsInitFault g conn meta cause
-    pub kept : IsTrue (state g after).is_open → (state g after).committed ≡ (state g conn).committed
-
--- What ends making early: no records are made, or what is told is not written: then they were made, or may not be made and
--- nothing was changed.
-abbrev pub IsMakeEnd : {S : Type 0} → Ghosts S → Held S → Held S → Meta → StoreFault → Type 0
-IsMakeEnd g conn after meta fault.Memory = IsUnmade g conn after meta making.Memory
-IsMakeEnd g conn after meta fault.Disk = IsUnmade g conn after meta making.Disk
-IsMakeEnd g conn after meta fault.Write = (MayBeMade conn meta × IsNew meta (state g after).now) ⊎ ((MayBeMade conn meta → ⊥) × (after ≡ conn))
-IsMakeEnd g conn after meta _ = ⊥
-
--- what raising the version tells, by what it leaves: they were migrated, or had the version already and are as they were
-abbrev pub IsMigrationTold : {S : Type 0} → Ghosts S → Held S → Held S → Told → Type 0
-IsMigrationTold g conn after Migrated = IsLegalFirst (state g conn).now.trees × IsMigrated (state g conn).now.trees (state g after).now.trees
-IsMigrationTold g conn after Nothing = IsAsBefore (state g conn) (state g after) × IsMigrateFault g conn after migrating.Nothing
-IsMigrationTold g conn after _ = ⊥
-
--- What ends raising the version early. A connection that is still open shows the records as they were, save where what is
--- told is not written.
-abbrev pub IsMigrateEnd : {S : Type 0} → Ghosts S → Held S → Held S → StoreFault → Type 0
-IsMigrateEnd g conn after fault.NotOurs = IsAsBefore (state g conn) (state g after) × IsMigrateFault g conn after migrating.NotOurs
-IsMigrateEnd g conn after (fault.OtherSchema version) = IsAsBefore (state g conn) (state g after) × IsMigrateFault g conn after (migrating.OtherSchema version)
-IsMigrateEnd g conn after (fault.Damaged place) = IsAsBefore (state g conn) (state g after) × IsMigrateFault g conn after (migrating.Damaged place)
-IsMigrateEnd g conn after fault.Memory = IsAsBefore (state g conn) (state g after) × IsMigrateFault g conn after migrating.Memory
-IsMigrateEnd g conn after fault.Disk = IsAsBefore (state g conn) (state g after) × IsMigrateFault g conn after migrating.Disk
-IsMigrateEnd g conn after fault.Write = (told : Told) × IsMigrationTold g conn after told
-IsMigrateEnd g conn after _ = ⊥
-
--- what ends looking a number up early: the store wants memory, the disk is at fault, or what is found is not written and the records are as they were
-abbrev pub IsFindEnd : State → State → StoreFault → Type 0
-IsFindEnd old new fault.Memory = IsUndoneForMemory old new
-IsFindEnd old new fault.Disk = HasDiskCause old new
-IsFindEnd old new fault.Write = new.now ≡ old.now
-IsFindEnd old new _ = ⊥
-
--- the same of the requests that name an event, for which memory is wanted too where there are any
-abbrev pub IsListEnd : List ℕ → State → State → StoreFault → Type 0
-IsListEnd event old new fault.Memory = IsUndoneForMemory old new ⊎ (IsUnchanged old new × (0 < length (listed_in (history_in old.now.trees) event)))
-IsListEnd event old new cause = IsFindEnd old new cause
-
--- what ends an export early: memory is wanted for the message that is due, or what is told is not written
-abbrev pub IsExportEnd : ℕ → State → State → StoreFault → Type 0
-IsExportEnd to old new cause = (meta : Meta) → HasMeta meta old.now.trees → IsNextEnd false (office_of meta) (stored_site old.now.trees) to cause
-
--- what ends an import early; behind want of memory and a failed read the records are as they were
-abbrev pub IsImportEnd : Option (List ℕ) → State → State → StoreFault → Type 0
-IsImportEnd input old new cause =
-    LeavesAsItWas cause old.now new.now × ((meta : Meta) → HasMeta meta old.now.trees → IsInputEnd (office_of meta) (history_in old.now.trees) input (HoldsOnly new) cause)
-
--- what ends the command `grow` early; behind want of memory the records are as they were
-abbrev pub IsGrowEnd : ℕ → State → State → StoreFault → Type 0
-IsGrowEnd sites old new cause =
-    LeavesAsItWas cause old.now new.now × ((meta : Meta) → HasMeta meta old.now.trees → IsGrowingEnd (office_of meta) (history_in old.now.trees) sites (HoldsOnly new) cause)
+-- the database holds this history, and a stop leaves it and nothing else
+abbrev pub HoldsOnly : State → List Entry → Type 0
+HoldsOnly s h = KeepsList h (history_in s.now.trees) (MayLeaveIn s)
 
 -- a command failed for one of these causes, and told which
 abbrev pub FailsFor : (StoreFault → Type 0) → Option (List ℕ) → Option (List ℕ) → Status → Type 0
@@ -122,6 +66,26 @@ module _ {S : Type 0} (g : Ghosts S) (conn : Held S) where
     pub site : HasCleanDisk (state g after) → (meta : Meta) → HasMeta meta (state g conn).now.trees → LeavesSite (state g after) meta
     pub found : HasCleanDisk (state g after) → (meta : Meta) → HasMeta meta (state g conn).now.trees → IsReplayFault (office_of meta) (history_in (state g conn).now.trees) cause
 
+  -- the records of this connection were opened, which changed nothing, and this is their book
+  pub record IsOpened (first : SiteView (RecordsView S)) : Type 0 where
+    pub unclosed : first.closed ≡ false
+    pub sound : first.keeper.failures ≡ 0
+    pub settled : conn.in_transaction ≡ false
+    pub limit : first.keeper.conn.step_limit ≡ conn.step_limit
+    pub book : IsTrusted g first.keeper → IsBookOf (state g conn).now.trees first
+    pub kept : IsTrusted g first.keeper → kept_in g first.keeper ≡ history_in (state g conn).now.trees
+    pub rests : IsTrusted g first.keeper → LeavesOnly (kept_in g first.keeper) (MayLeave g first.keeper)
+    pub site : IsTrusted g first.keeper → (meta : Meta) → HasMeta meta (state g conn).now.trees → IsOf g first.keeper meta
+    pub same : IsTrusted g first.keeper → (state g first.keeper.conn).now ≡ (state g conn).now
+    pub unchanged : IsTrusted g first.keeper → IsUnchanged (state g conn) (state g first.keeper.conn)
+    pub autocommit : IsTrusted g first.keeper → (state g first.keeper.conn).in_transaction ≡ false
+    pub clean : IsTrusted g first.keeper → HasCleanDisk (state g conn)
+
+  -- they were not opened, and the connection is gone; or they were, and came back as they were, since their history is not legal or memory
+  -- was wanted for it
+  abbrev pub CannotOpen : StoreFault → Option (Held S) → Type 0
+  CannotOpen cause back = MatchOption back (IsRefused cause) (λ after. IsIllegal after cause)
+
   -- a connection that comes back showed the records of a site
   abbrev pub ShowedRecords : Held S → Type 0
   ShowedRecords after = HasCleanDisk (state g after) → (meta : Meta) × HasMeta meta (state g conn).now.trees
@@ -136,22 +100,6 @@ module _ {S : Type 0} (g : Ghosts S) (conn : Held S) where
   FailsIfIllegal after old_out new_out old_err new_err status =
       HasCleanDisk (state g after) → (meta : Meta) → HasMeta meta (state g conn).now.trees → (IsLegal (office_of meta) (history_in (state g conn).now.trees) → ⊥)
       → FailsAsIllegal after old_out new_out old_err new_err status
-
-  -- the records were opened, which changed nothing, their history being legal, and what was done over them ended so; faults of
-  -- the disk before that are not counted
-  pub record EndsOpened (Ends : State → State → StoreFault → Type 0) (after : Held S) (fault : StoreFault) : Type 0 where
-    pub opened : Held S
-    pub unchanged : IsUnchanged (state g conn) (state g opened)
-    pub limit : opened.step_limit ≡ conn.step_limit
-    pub ours : (meta : Meta) × HasMeta meta (state g conn).now.trees
-    pub legal : (meta : Meta) → HasMeta meta (state g conn).now.trees → IsLegal (office_of meta) (history_in (state g conn).now.trees)
-    pub ended : Ends (state g opened) (state g after) fault
-
-  -- Where a command failed over a disk that is not at fault, it told for which of these causes, and wrote nothing, or a front of
-  -- such a text where that could not be written.
-  abbrev pub FailsOpened : (State → State → StoreFault → Type 0) → (Status → List ℕ → Type 0) → Held S → Option (List ℕ) → Option (List ℕ) → Option (List ℕ) → Option (List ℕ) → Status → Type 0
-  FailsOpened Ends Says after old_out new_out old_err new_err status =
-      HasCleanDisk (state g after) → FailsFor (λ fault. (IsIllegal after fault ⊎ EndsOpened Ends after fault) × Unsaid Says old_out new_out fault) old_err new_err status
 
   -- a command has no connection to give back: its records were refused, it wrote nothing, and that is what it told
   pub record IsLost (old_out new_out old_err new_err : Option (List ℕ)) (status : Status) : Type 0 where

@@ -63,6 +63,12 @@ find_app = taking (taking (new_app (codes "find")) (codes "FILE")) (codes "NUMBE
 abbrev pub list_app : App
 list_app = taking (taking (new_app (codes "list")) (codes "FILE")) (codes "EVENT")
 
+abbrev pub events_app : App
+events_app = taking (new_app (codes "events")) (codes "FILE")
+
+abbrev pub shares_app : App
+shares_app = taking (taking (new_app (codes "shares")) (codes "FILE")) (codes "EVENT")
+
 abbrev pub export_app : App
 export_app = taking (taking (new_app (codes "export")) (codes "FILE")) (codes "TO")
 
@@ -84,6 +90,9 @@ close_app = taking (new_app (codes "close")) (codes "FILE")
 abbrev pub status_app : App
 status_app = taking (new_app (codes "status")) (codes "FILE")
 
+abbrev pub version_app : App
+version_app = new_app (codes "version")
+
 -- a command that is not used alone
 abbrev pub needing : App → App
 needing a = record a { top = record a.top { subcommand_required = true } }
@@ -93,7 +102,10 @@ abbrev pub above : App → App → App
 above a b = with_subcommand a b.top
 
 abbrev pub boxoffice : App
-boxoffice = above (above (above (above (above (above (above (above (above (above (above (above (above (above (needing (new_app (codes "boxoffice"))) world_app) init_app) migrate_app) grow_app) ask_app) find_app) list_app) export_app) import_app) audit_app) serve_app) open_app) close_app) status_app
+boxoffice =
+    above (above (above (above (above (above (above (above (above (above (above (above (above (above (above (above (above
+    (needing (new_app (codes "boxoffice"))) world_app) init_app) migrate_app) grow_app) ask_app) find_app) list_app) events_app) shares_app)
+    export_app) import_app) audit_app) serve_app) open_app) close_app) status_app) version_app
 
 -- What is ordered: a command with its values, words as bytes and numbers as themselves.
 pub data Said : Type 0 where
@@ -104,6 +116,8 @@ pub data Said : Type 0 where
   SaysAsk : (file : Text) → Said
   SaysFind : (file : Text) (number : ℕ) → Said
   SaysList : (file event : Text) → Said
+  SaysEvents : (file : Text) → Said
+  SaysShares : (file event : Text) → Said
   SaysExport : (file : Text) (to : ℕ) → Said
   SaysImport : (file : Text) → Said
   SaysAudit : (files : List Text) → Said
@@ -111,6 +125,7 @@ pub data Said : Type 0 where
   SaysOpen : (port : ℕ) (file : Text) → Said
   SaysClose : (file : Text) → Said
   SaysStatus : (file : Text) → Said
+  SaysVersion : Said
 
 abbrev pub said_by : Order → Said
 said_by order.World = SaysWorld
@@ -120,6 +135,8 @@ said_by (order.Grow file sites) = SaysGrow file.now sites
 said_by (order.Ask file) = SaysAsk file.now
 said_by (order.Find file number) = SaysFind file.now number
 said_by (order.List file event) = SaysList file.now event.now
+said_by (order.Events file) = SaysEvents file.now
+said_by (order.Shares file event) = SaysShares file.now event.now
 said_by (order.Export file to) = SaysExport file.now to
 said_by (order.Import file) = SaysImport file.now
 said_by (order.Audit files) = SaysAudit (map (λ file. file.now) files.items)
@@ -127,6 +144,7 @@ said_by (order.Serve port sessions rounds files) = SaysServe port sessions round
 said_by (order.Open port file) = SaysOpen port file.now
 said_by (order.Close file) = SaysClose file.now
 said_by (order.Status file) = SaysStatus file.now
+said_by order.Version = SaysVersion
 
 -- the number from low to high that the value of this name spells
 unfoldable pub number_in : Text → ℕ → ℕ → List Row → Option ℕ
@@ -169,6 +187,17 @@ list_in rows = do
   file ← first_of (codes "FILE") rows
   event ← first_of (codes "EVENT") rows
   Some (SaysList file event)
+
+unfoldable pub events_in : List Row → Option Said
+events_in rows = do
+  file ← first_of (codes "FILE") rows
+  Some (SaysEvents file)
+
+unfoldable pub shares_in : List Row → Option Said
+shares_in rows = do
+  file ← first_of (codes "FILE") rows
+  event ← first_of (codes "EVENT") rows
+  Some (SaysShares file event)
 
 unfoldable pub export_in : List Row → Option Said
 export_in rows = do
@@ -230,13 +259,16 @@ named_order name rows =
     if bytes_eq name (codes "ask") then ask_in rows else (
     if bytes_eq name (codes "find") then find_in rows else (
     if bytes_eq name (codes "list") then list_in rows else (
+    if bytes_eq name (codes "events") then events_in rows else (
+    if bytes_eq name (codes "shares") then shares_in rows else (
     if bytes_eq name (codes "export") then export_in rows else (
     if bytes_eq name (codes "import") then import_in rows else (
     if bytes_eq name (codes "audit") then audit_in rows else (
     if bytes_eq name (codes "serve") then serve_in rows else (
     if bytes_eq name (codes "open") then open_in rows else (
     if bytes_eq name (codes "close") then close_in rows else (
-    if bytes_eq name (codes "status") then status_in rows else None)))))))))))))
+    if bytes_eq name (codes "status") then status_in rows else (
+    if bytes_eq name (codes "version") then Some SaysVersion else None))))))))))))))))
 
 -- the order of the subcommand that was met
 abbrev pub order_in : Option (Text × List Row) → Option Said
@@ -265,13 +297,16 @@ values_of name =
     if bytes_eq name (codes "ask") then File ∷ [] else (
     if bytes_eq name (codes "find") then File ∷ Number ∷ [] else (
     if bytes_eq name (codes "list") then File ∷ Event ∷ [] else (
+    if bytes_eq name (codes "events") then File ∷ [] else (
+    if bytes_eq name (codes "shares") then File ∷ Event ∷ [] else (
     if bytes_eq name (codes "export") then File ∷ To ∷ [] else (
     if bytes_eq name (codes "import") then File ∷ [] else (
     if bytes_eq name (codes "audit") then Files ∷ [] else (
     if bytes_eq name (codes "serve") then Port ∷ Sessions ∷ Rounds ∷ Desks ∷ [] else (
     if bytes_eq name (codes "open") then Port ∷ File ∷ [] else (
     if bytes_eq name (codes "close") then File ∷ [] else (
-    if bytes_eq name (codes "status") then File ∷ [] else Command ∷ [])))))))))))))
+    if bytes_eq name (codes "status") then File ∷ [] else (
+    if bytes_eq name (codes "version") then [] else Command ∷ []))))))))))))))))
 
 -- whether a value is given and in its range
 abbrev pub fits : List Row → Misfit → Bool

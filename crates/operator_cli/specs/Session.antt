@@ -5,11 +5,11 @@ use Rattle.plain_words.specs.Writing.{AppendsFront}
 use Rattle.sqlite.specs.Store.{Ghosts}
 use Rattle.sqlite.specs.Held.{Held, state}
 use Rattle.request_ledger.specs.declared.request.Request.{Request}
-use Rattle.sql_records.specs.declared.meta.Meta.{Meta}
+use Rattle.history_keeper.specs.declared.meta.Meta.{Meta}
 use Rattle.sql_records.specs.Held.{RecordsView, IsOf, IsTrusted, LeavesSite, MayLeave, MayLeaveIn, kept_in}
 use Rattle.sql_records.specs.Layout.{HasMeta}
 use Rattle.site_desk.specs.declared.fault.AskFault.TheVariants as ask
-use Rattle.sql_records.specs.Keeping.{LeavesEither}
+use Rattle.history_keeper.specs.Keeping.{LeavesEither}
 use Rattle.site_desk.specs.Calls.{Keeping}
 use Rattle.site_desk.specs.SiteView.{SiteView, entry_in}
 use Rattle.desk_lines.specs.declared.line.Line.TheVariants.{Ask}
@@ -23,7 +23,7 @@ use Rattle.operator_cli.specs.declared.status.Status.{Status}
 use Rattle.operator_cli.specs.declared.status.Status.TheVariants.{Done, Failed}
 use Rattle.operator_cli.specs.declared.store_fault.StoreFault.{StoreFault}
 use Rattle.operator_cli.specs.declared.store_fault.StoreFault.TheVariants as fault
-use Rattle.operator_cli.specs.Exchanged.{HoldsOnly, IsBookOf}
+use Rattle.operator_cli.specs.Opened.{HoldsOnly, IsBookOf}
 use Rattle.operator_cli.specs.Told.{store_fault_line}
 
 abbrev pub of_talk_fault : TalkFault → StoreFault

@@ -4,26 +4,20 @@ use Rattle.std.specs.Io.KnownBytes.{Keeps}
 use Rattle.std.specs.Fmt.{decimal, signed_decimal}
 use Rattle.plain_words.specs.Writing.{AppendsFront}
 use Rattle.request_ledger.specs.declared.reply.Reply.TheVariants as reply
-use Rattle.site_exchange.specs.declared.message.TakeFault.{TakeFault}
-use Rattle.site_exchange.specs.declared.message.TakeFault.TheVariants as take
 use Rattle.delta_wire.specs.declared.fault.WireFault.{WireFault}
 use Rattle.delta_wire.specs.declared.fault.WireFault.TheVariants as wire
 use Rattle.world_steps.specs.declared.auditing.AuditFault.{AuditFault}
 use Rattle.world_steps.specs.declared.auditing.AuditFault.TheVariants as audit
-use Rattle.book_core.specs.declared.plan.GrowFault.{GrowFault}
-use Rattle.book_core.specs.declared.plan.GrowFault.TheVariants as grow
 use Rattle.book_core.specs.declared.plan.ReplayFault.{ReplayFault}
 use Rattle.book_core.specs.declared.plan.ReplayFault.TheVariants as replay
 use Rattle.sql_records.specs.declared.fault.OpenFault.{OpenFault}
 use Rattle.sql_records.specs.declared.fault.OpenFault.TheVariants as opening
-use Rattle.sql_records.specs.declared.fault.MigrateFault.{MigrateFault}
-use Rattle.sql_records.specs.declared.fault.MigrateFault.TheVariants as migrating
 use Rattle.sql_records.specs.declared.lookup.FindFault.{FindFault}
 use Rattle.sql_records.specs.declared.lookup.FindFault.TheVariants as find
 use Rattle.operator_cli.specs.declared.store_fault.StoreFault.{StoreFault}
 use Rattle.operator_cli.specs.declared.store_fault.StoreFault.TheVariants as fault
 use Rattle.operator_cli.specs.declared.told.Told.{Told}
-use Rattle.operator_cli.specs.declared.told.Told.TheVariants.{Made, Migrated, Joined, NothingNew, Acked, AlreadyThere, NoSite, Nothing, NotFound, TooLong, Unread, NotTaken, NotWhole, Ahead, Grown, NotGrown}
+use Rattle.operator_cli.specs.declared.told.Told.TheVariants.{Made, Migrated, Joined, NothingNew, Acked, AlreadyThere, NoSite, Nothing, NotFound, Unknown, TooLong, Unread, NotTaken, NotWhole, Ahead, Grown, NotGrown}
 use Rattle.operator_cli.specs.declared.status.Status.{Status}
 use Rattle.operator_cli.specs.declared.status.Status.TheVariants.{Done, Refused, NotUnderstood, Failed}
 use Rattle.desk_lines.specs.Replies.{reply_text, take_fault_text, grow_fault_text, wire_fault_text}
@@ -50,7 +44,10 @@ store_fault_text (fault.Closed site) = codes "closed " ++ decimal site
 store_fault_text fault.LongPath = codes "long-path"
 store_fault_text fault.NoSocket = codes "no-socket"
 store_fault_text fault.NotOpen = codes "not-open"
-store_fault_text fault.StillOpen = codes "open"
+store_fault_text fault.StillOpen = codes "still-open"
+store_fault_text fault.AlreadyOpen = codes "already-open"
+store_fault_text fault.Full = codes "full"
+store_fault_text fault.LostFile = codes "lost-file"
 
 abbrev pub store_fault_line : StoreFault → List ℕ
 store_fault_line f = store_fault_text f ++ 10 ∷ []
@@ -65,6 +62,7 @@ told_text AlreadyThere = codes "already-there"
 told_text NoSite = reply_text reply.NoSite
 told_text Nothing = codes "nothing"
 told_text NotFound = codes "none"
+told_text Unknown = codes "unknown"
 told_text TooLong = codes "too-long"
 told_text (Unread f) = wire_fault_text f
 told_text (NotTaken f) = take_fault_text f
@@ -86,6 +84,7 @@ told_status AlreadyThere = Refused
 told_status NoSite = Refused
 told_status Nothing = Refused
 told_status NotFound = Refused
+told_status Unknown = Refused
 told_status TooLong = Refused
 told_status (Unread f) = Refused
 told_status (NotTaken f) = Refused
@@ -101,34 +100,6 @@ ended_by_wire (wire.BadLine line) = Ok (Unread (wire.BadLine line))
 ended_by_wire (wire.OutOfOrder line) = Ok (Unread (wire.OutOfOrder line))
 ended_by_wire wire.Trailing = Ok (Unread wire.Trailing)
 ended_by_wire wire.Memory = Err fault.Memory
-
--- a refusal of a message is told, but want of memory and failed records end the command
-abbrev pub ended_by_take : TakeFault → Result Told StoreFault
-ended_by_take take.NotForMe = Ok (NotTaken take.NotForMe)
-ended_by_take take.UnknownSite = Ok (NotTaken take.UnknownSite)
-ended_by_take (take.StrayAck len) = Ok (NotTaken (take.StrayAck len))
-ended_by_take (take.ForeignRow mark) = Ok (NotTaken (take.ForeignRow mark))
-ended_by_take take.Full = Ok (NotTaken take.Full)
-ended_by_take take.Memory = Err fault.Memory
-ended_by_take take.Closed = Err fault.Store
-ended_by_take take.Store = Err fault.Store
-
--- that a site counts no more sites than before is told, but want of memory and failed records end the command
-abbrev pub ended_by_grow : GrowFault → Result Told StoreFault
-ended_by_grow grow.NotMore = Ok (NotGrown grow.NotMore)
-ended_by_grow grow.Full = Ok (NotGrown grow.Full)
-ended_by_grow grow.Memory = Err fault.Memory
-ended_by_grow grow.Closed = Err fault.Store
-ended_by_grow grow.Store = Err fault.Store
-
--- that there is nothing to migrate is told, but each other fault ends the command
-abbrev pub ended_by_migrate : MigrateFault → Result Told StoreFault
-ended_by_migrate migrating.Nothing = Ok Nothing
-ended_by_migrate migrating.NotOurs = Err fault.NotOurs
-ended_by_migrate (migrating.OtherSchema version) = Err (fault.OtherSchema version)
-ended_by_migrate (migrating.Damaged place) = Err (fault.Damaged place)
-ended_by_migrate migrating.Memory = Err fault.Memory
-ended_by_migrate migrating.Disk = Err fault.Disk
 
 -- what stands in the way of the sums is told, but want of memory ends the command
 abbrev pub ended_by_audit : AuditFault → Result Told StoreFault

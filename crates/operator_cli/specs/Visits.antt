@@ -16,7 +16,7 @@ use Rattle.delta_wire.specs.declared.fault.WireFault.{WireFault}
 use Rattle.delta_wire.specs.Grammar.{message_text, most_bytes}
 use Rattle.delta_wire.specs.Wire.{message_of}
 use Rattle.operator_cli.specs.Told.{FaultTold, ended_by_wire}
-use Rattle.operator_cli.specs.declared.told.Told.TheVariants.{TooLong, Unread}
+use Rattle.operator_cli.specs.declared.told.Told.TheVariants.{TooLong, Unknown, Unread}
 use Rattle.operator_cli.specs.declared.visits.Expected.{Expected}
 use Rattle.operator_cli.specs.declared.visits.Expected.TheVariants as expected
 use Rattle.operator_cli.specs.Opened.{FailsFor}
@@ -36,6 +36,9 @@ find_question number = codes "find " ++ decimal number
 abbrev pub list_question : List ℕ → List ℕ
 list_question event = codes "list " ++ event
 
+abbrev pub shares_question : List ℕ → List ℕ
+shares_question event = codes "shares " ++ event
+
 abbrev pub export_question : ℕ → List ℕ
 export_question to = codes "export " ++ decimal to
 
@@ -45,11 +48,14 @@ trouble line =
     if bytes_eq line (codes "memory") then Some fault.Memory else (
     if bytes_eq line (codes "closed") then Some fault.Store else (
     if bytes_eq line (codes "store") then Some fault.Store else (
-    if bytes_eq line (codes "bad-line") then Some fault.NotOpen else None)))
+    if bytes_eq line (codes "full") then Some fault.Full else (
+    if bytes_eq line (codes "idle") then Some fault.Full else (
+    if bytes_eq line (codes "bad-line") then Some fault.NotOpen else None)))))
 
 -- there is nothing that was asked for
 abbrev pub is_nothing : List ℕ → Bool
-is_nothing line = bytes_eq line (codes "none") || bytes_eq line (codes "nothing") || bytes_eq line (codes "no-site")
+is_nothing line =
+    bytes_eq line (codes "none") || bytes_eq line (codes "nothing") || bytes_eq line (codes "no-site") || bytes_eq line (codes "unknown")
 
 abbrev pub ending : Option StoreFault → Bool → Result Status StoreFault
 ending (Some cause) refused = Err cause
@@ -173,6 +179,18 @@ abbrev pub IsRowsVisit : List ℕ → Option (List ℕ) → Streams → Streams 
 IsRowsVisit event sent old new status =
     (IsEventName event × IsVisit expected.Rows (list_question event) sent old new status)
     ⊎ ((IsEventName event → ⊥) × IsUnasked old new status)
+
+-- an office is asked for the shares of an event, and of a word that is no event name it is told that it is not known
+pub record IsUnknownUnasked (old new : Streams) (status : Status) : Type 0 where
+  pub same : new.asked ≡ old.asked
+  pub printed : Printed (IsTellingOf (λ told. told ≡ Unknown)) old.out new.out status
+  pub told : FaultTold old.err new.err status
+  pub cause : FailsFor (λ cause. cause ≡ fault.Write) old.err new.err status
+
+abbrev pub IsSharesVisit : List ℕ → Option (List ℕ) → Streams → Streams → Status → Type 0
+IsSharesVisit event sent old new status =
+    (IsEventName event × IsVisit expected.Rows (shares_question event) sent old new status)
+    ⊎ ((IsEventName event → ⊥) × IsUnknownUnasked old new status)
 
 -- ---- a message that is brought
 

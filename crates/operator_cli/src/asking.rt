@@ -4,15 +4,16 @@ ghost use Rattle.std.specs.Prelude.{◌≡◌, ◌≤◌, ◌⊎◌, IfOk, IfErr
 ghost use Rattle.plain_words.specs.Input.{longest_line};
 ghost use Rattle.plain_words.specs.Writing.{AppendsFront, Writes};
 ghost use Rattle.session_server.specs.declared.fault.TalkFault.TheVariants.{Write as WriteFailed};
-ghost use Rattle.operator_cli.specs.Asking.{AllAsked, IsAnsweredBy, IsLastAsked, IsLeft, IsPutTo, NextAsked, WasAsked, channel, visit_end};
+ghost use Rattle.operator_cli.specs.Asking.{AllAsked, IsAnsweredBy, IsLastAsked, IsLeft, IsPutTo, IsToldFull, NextAsked, WasAsked, channel, visit_end};
 ghost use Rattle.operator_cli.specs.Told.{FaultTold};
 ghost use Rattle.operator_cli.specs.Visits.{line_text};
 ghost use Rattle.operator_cli.specs.declared.status.Status.TheVariants.{Done, Failed};
+ghost use Rattle.operator_cli.specs.declared.store_fault.StoreFault.TheVariants.{Full};
 
 use crate::ending::tell_fault;
 use crate::status::Status;
 use crate::store_fault::StoreFault;
-use crate::visiting::{hear, say};
+use crate::visiting::{hear, say, trouble};
 use desk_lines::{BadLine, Line, MOST_LINES, read_line};
 use live_office::Last;
 use plain_words::{LineBytes, Text, has_more, next_line, put, word, write_bytes};
@@ -20,7 +21,8 @@ use session_server::TalkFault;
 use std::alloc::Global;
 use std::io::{BufRead, BufReader, Read, Write};
 
-// Asks a line, and reads the line that answers it; `NotOpen` where none comes.
+// Asks a line, and reads the line that answers it; `Full` where the office says that all places are taken, and else
+// `NotOpen` where the line is not asked or no answer comes.
 fn put_to<A: BufRead, Q: Write>(
     line: &[u8],
     answers: &mut A,
@@ -32,10 +34,16 @@ fn put_to<A: BufRead, Q: Write>(
         (channel (Q.contents questions.new) (A.remaining answers.new))) }
     ensures asked { AppendsFront (Q.contents questions.old) (Q.contents questions.new)
         (line_text line.now) }
+    ensures full { IfErr result (λ fault. fault ≡ Full
+        → IsToldFull (A.remaining answers.old) (A.remaining answers.new)) }
 {
     let mut reply = LineBytes::new();
-    say(line, questions)?;
+    let said = say(line, questions);
     hear(answers, &mut reply)?;
+    if let Some(StoreFault::Full) = trouble(reply.as_slice()) {
+        return Err(StoreFault::Full);
+    }
+    said?;
     let mut text = word(reply.as_slice());
     put(&mut text, b"\n");
     Ok(text)
@@ -63,6 +71,7 @@ fn answer<A: BufRead, Q: Write>(
         Ok(Line::Ask { .. } | Line::Left { .. } | Line::Totals { .. }) => {
             match put_to(line, answers, questions) {
                 Ok(text) => Ok(text),
+                Err(StoreFault::Full) => Err(Last::Full),
                 Err(_) => Err(Last::Close),
             }
         }
@@ -137,7 +146,9 @@ fn visit_end(came: Result<Option<Last>, TalkFault>) -> Result<Status, StoreFault
     match came {
         Ok(None) => Ok(Status::Done),
         Ok(Some(Last::Quit)) => Ok(Status::Done),
+        Ok(Some(Last::Full)) => Err(StoreFault::Full),
         Ok(Some(Last::Close)) => Err(StoreFault::NotOpen),
+        Ok(Some(Last::Unread)) => Err(StoreFault::NotOpen),
         Err(fault) => Err(StoreFault::from(fault)),
     }
 }
@@ -165,8 +176,8 @@ fn ask_told<R: BufRead, A: BufRead, Q: Write, W: Write, E: Write>(
 /// Puts the session lines of the input to an open office, each before the next is read, up to `quit` or the end, and prints
 /// the line that answers each; `bad-line` for what is no line of a session, which is not asked.
 ///
-/// What ends the session early is told on `err`, with status 3: the faults of `ask_store`, and `not-open` where no whole
-/// answer comes. What was answered stays entered.
+/// What ends the session early is told on `err`, with status 3: the faults of `ask_store`, `full` where all places are
+/// taken, so that the line is not asked, and `not-open` where no whole answer comes. What was answered stays entered.
 pub fn ask_office<R: Read + Drop, A: Read + Drop, Q: Write, W: Write, E: Write>(
     alloc: Global,
     input: R,

@@ -16,7 +16,7 @@ use crate::import::read_input;
 use crate::status::Status;
 use crate::store_fault::StoreFault;
 use crate::told::{Told, ended_by_wire, tell};
-use crate::visiting::{ending, hear, print_line, reach, say};
+use crate::visiting::{ending, hear, print_line, reach, say, told_before};
 use delta_wire::{WireFault, read_message, write_message};
 use plain_words::LineBytes;
 use site_exchange::Message;
@@ -115,8 +115,10 @@ fn bring<A: BufRead, Q: Write, W: Write>(
     ensures cause { IfErr result (IsVisitEnd (A.remaining answers.old)) }
     ensures ends { IfOk result (λ status. status ≢ Failed) }
 {
-    send_message(message, questions)?;
-    print_taking(answers, out)
+    match send_message(message, questions) {
+        Ok(()) => print_taking(answers, out),
+        Err(_) => Err(told_before(answers)),
+    }
 }
 
 // Tells why the bytes are no message.

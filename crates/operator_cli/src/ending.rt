@@ -5,7 +5,7 @@ ghost use Rattle.std.specs.Io.KnownBytes.{Keeps};
 ghost use Rattle.plain_words.specs.Writing.{Writes, AppendsFront};
 ghost use Rattle.sqlite.specs.Held.{state};
 ghost use Rattle.sqlite.specs.State.{HasCleanDisk};
-ghost use Rattle.operator_cli.specs.Exchanged.{HoldsOnly};
+ghost use Rattle.operator_cli.specs.Opened.{HoldsOnly};
 ghost use Rattle.operator_cli.specs.Told.{store_fault_line, FaultTold};
 ghost use Rattle.operator_cli.specs.declared.status.Status.TheVariants.{Failed};
 ghost use Rattle.operator_cli.specs.declared.store_fault.StoreFault.TheVariants.{Write as WriteFailed};

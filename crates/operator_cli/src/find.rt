@@ -1,23 +1,18 @@
 //! The command `find`: the reply that is kept under a number.
 
-ghost use Rattle.std.specs.Prelude.{◌≡◌, ◌≢◌, IfOk, IfErr, OnOk, IfSome, List, Option, Some, None};
-ghost use Rattle.operator_cli.specs.declared.status.Status.TheVariants.{Failed};
-ghost use Rattle.sqlite.specs.State.{HasCleanDisk};
-ghost use Rattle.sqlite.specs.Held.{state};
-ghost use Rattle.sql_records.specs.Held.{IsTrusted, IsUndisturbed, LeavesNoMore, MayLeaveIn, kept_in, history_in};
-ghost use Rattle.book_core.specs.declared.entry.Entry.{Entry};
-ghost use Rattle.operator_cli.specs.Told.{of_find_fault, FaultTold};
-ghost use Rattle.operator_cli.specs.Printed.{Printed, Unsaid, IsFoundText, IsFoundIn};
-ghost use Rattle.operator_cli.specs.Opened.{FailsFor, FailsIfIllegal, FailsOpened, IsFindEnd, IsLost, ShowedRecords};
+ghost use Rattle.std.specs.Prelude.{◌≡◌};
+ghost use Rattle.operator_cli.specs.Commands.{CameTo, Finds, outcome_of_find};
+ghost use Rattle.operator_cli.specs.Outcomes.{Ends};
+ghost use Rattle.operator_cli.specs.Told.{of_find_fault};
 
-use crate::ending::{ended, write_line};
 use crate::opening::open_book;
+use crate::outcome::{Outcome, print_outcome};
 use crate::status::Status;
 use crate::store_fault::StoreFault;
-use crate::told::{Told, tell};
-use live_office::found_line;
+use crate::told::Told;
+use history_keeper::Found;
 use request_ledger::RequestNumber;
-use sql_records::{FindFault, Records};
+use sql_records::FindFault;
 use sqlite::{Alter, Connection};
 use std::alloc::Global;
 use std::io::Write;
@@ -34,35 +29,30 @@ pub(crate) fn of_find_fault(fault: FindFault) -> StoreFault
     }
 }
 
-fn write_found<S: Alter, W: Write>(
-    records: &mut Records<S>,
-    number: RequestNumber,
-    out: &mut W,
-) -> Result<Status, StoreFault>
-    ensures out { IfOk result (Printed IsFoundText (W.contents out.old) (W.contents out.new)) }
-    ensures found { IsTrusted S.Store records.new
-        → IfOk result (Printed (IsFoundIn (kept_in S.Store records.old) number) (W.contents out.old) (W.contents out.new)) }
-    ensures silent { IfErr result (Unsaid IsFoundText (W.contents out.old) (W.contents out.new)) }
-    ensures unsaid { IsTrusted S.Store records.new
-        → IfErr result (Unsaid (IsFoundIn (kept_in S.Store records.old) number) (W.contents out.old) (W.contents out.new)) }
-    ensures same { IsTrusted S.Store records.new → OnOk result
-        ((state S.Store records.new.conn).now ≡ (state S.Store records.old.conn).now) }
-    ensures fault { records.old.failures ≡ 0 → IsTrusted S.Store records.new
-        → IfErr result (IsFindEnd (state S.Store records.old.conn) (state S.Store records.new.conn)) }
-    ensures still { IsTrusted S.Store records.new
-        → IsUndisturbed (state S.Store records.old.conn) (state S.Store records.new.conn) }
-    ensures left { IsTrusted S.Store records.new
-        → LeavesNoMore (state S.Store records.old.conn) (state S.Store records.new.conn) }
-    ensures ends { IfOk result (λ status. status ≢ Failed) }
-    ensures trusted { IsTrusted S.Store records.new → IsTrusted S.Store records.old }
+fn outcome_of_find(called: Result<Option<Found>, FindFault>) -> Outcome
+    ensures { result ≡ outcome_of_find called }
 {
-    match records.find(number) {
-        Ok(Some(found)) => {
-            write_line(&found_line(found.place, found.reply), out)?;
-            Ok(Status::Done)
+    match called {
+        Ok(Some(found)) => Outcome::Shows(found),
+        Ok(None) => Outcome::Tells(Told::NotFound),
+        Err(fault) => Outcome::Fails(of_find_fault(fault)),
+    }
+}
+
+fn find<S: Alter + Drop>(
+    alloc: Global,
+    conn: Connection<S>,
+    number: RequestNumber,
+) -> (Outcome, Option<Connection<S>>)
+    ensures { CameTo S.Store conn (Finds S.Store number) result.1 result.0 }
+{
+    match open_book(alloc, conn) {
+        Ok(book) => {
+            let mut records = book.into_keeper();
+            let called = records.find(number);
+            (outcome_of_find(called), Some(records.close()))
         }
-        Ok(None) => tell(&Told::NotFound, out),
-        Err(fault) => Err(of_find_fault(fault)),
+        Err((fault, conn)) => (Outcome::Fails(fault), conn),
     }
 }
 
@@ -78,34 +68,9 @@ pub fn find_store<S: Alter + Drop, W: Write, E: Write>(
     out: &mut W,
     err: &mut E,
 ) -> (Status, Option<Connection<S>>)
-    ensures out { Printed IsFoundText (W.contents out.old) (W.contents out.new) result.0 }
-    ensures found { IfSome result.1 (λ after. HasCleanDisk (state S.Store after)
-        → Printed (IsFoundIn (history_in (state S.Store conn).now.trees) number) (W.contents out.old) (W.contents out.new) result.0) }
-    ensures same { IfSome result.1 (λ after. HasCleanDisk (state S.Store after) → result.0 ≢ Failed
-        → (state S.Store after).now ≡ (state S.Store conn).now) }
-    ensures still { IfSome result.1 (λ after. HasCleanDisk (state S.Store after)
-        → IsUndisturbed (state S.Store conn) (state S.Store after)) }
-    ensures err { FaultTold (E.contents err.old) (E.contents err.new) result.0 }
-    ensures stopped { IfSome result.1 (λ after. HasCleanDisk (state S.Store after)
-        → (left : Option (List Entry)) → MayLeaveIn (state S.Store after) left
-        → left ≡ Some (history_in (state S.Store conn).now.trees)) }
-    ensures cause { IfSome result.1 (λ after. FailsOpened S.Store conn IsFindEnd (IsFoundIn (history_in (state S.Store conn).now.trees) number) after
-        (W.contents out.old) (W.contents out.new) (E.contents err.old) (E.contents err.new) result.0) }
-    ensures silent { FailsFor (Unsaid IsFoundText (W.contents out.old) (W.contents out.new))
-        (E.contents err.old) (E.contents err.new) result.0 }
-    ensures ours { IfSome result.1 (ShowedRecords S.Store conn) }
-    ensures illegal { IfSome result.1
-        (λ after. FailsIfIllegal S.Store conn after (W.contents out.old)
-        (W.contents out.new) (E.contents err.old) (E.contents err.new) result.0) }
-    ensures lost { result.1 ≡ None → IsLost S.Store conn (W.contents out.old)
+    ensures { Ends (CameTo S.Store conn (Finds S.Store number) result.1) (W.contents out.old)
         (W.contents out.new) (E.contents err.old) (E.contents err.new) result.0 }
 {
-    match open_book(alloc, conn) {
-        Ok(book) => {
-            let mut records = book.into_keeper();
-            let came = write_found(&mut records, number, out);
-            (ended(came, out, err), Some(records.close()))
-        }
-        Err((fault, conn)) => (ended(Err(fault), out, err), conn),
-    }
+    let (outcome, conn) = find(alloc, conn, number);
+    (print_outcome(&outcome, out, err), conn)
 }

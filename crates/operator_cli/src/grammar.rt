@@ -3,7 +3,7 @@
 ghost use Rattle.std.specs.Prelude.{◌≡◌, IfOk, false, codes};
 ghost use Rattle.clap.specs.Words.{app_of, new_app, rule_of};
 ghost use Rattle.clap.specs.declared.builder.command.Command.TheViews.{out-Command as fields_of};
-ghost use Rattle.operator_cli.specs.Orders.{operand, boxoffice, init_app, migrate_app, grow_app, ask_app, find_app, list_app, export_app, import_app, audit_app, serve_app, open_app, close_app, status_app, most_desks, repeated_operand};
+ghost use Rattle.operator_cli.specs.Orders.{operand, boxoffice, init_app, migrate_app, grow_app, ask_app, find_app, list_app, events_app, shares_app, export_app, import_app, audit_app, serve_app, open_app, close_app, status_app, most_desks, repeated_operand};
 ghost use Rattle.rights_lattice.specs.Limits.{most_sites};
 
 use crate::orders::{MOST_DESKS, MOST_FILES};
@@ -28,7 +28,7 @@ fn file<'a>(alloc: Global) -> Arg<'a>
     ensures rule { rule_of result ≡ operand (codes "FILE") }
     ensures local { result.global ≡ false }
 {
-    operand(alloc, "FILE", "The file of a site's records")
+    operand(alloc, "FILE", "The file of a site")
 }
 
 fn files<'a>(alloc: Global) -> Arg<'a>
@@ -59,9 +59,9 @@ fn init<'a>(alloc: Global) -> Result<Command<'a>, AllocError>
     let limit = operand(
         alloc,
         "LIMIT",
-        "How long the history may become, 1 to 1000000",
+        "How many entries its history may have, 1 to 1000000",
     );
-    named(alloc, "init", "Makes the records of a site")
+    named(alloc, "init", "Makes the file of a site")
         .arg(file(alloc))?
         .arg(me)?
         .arg(sites)?
@@ -75,7 +75,7 @@ fn migrate<'a>(alloc: Global) -> Result<Command<'a>, AllocError>
     named(
         alloc,
         "migrate",
-        "Raises the records of a site to the schema of this program",
+        "Gives a file of an older version the schema of this program",
     )
     .arg(file(alloc))
 }
@@ -84,8 +84,12 @@ fn grow<'a>(alloc: Global) -> Result<Command<'a>, AllocError>
     ensures app { IfOk result (λ command. app_of command ≡ grow_app) }
     ensures local { IfOk result (λ command. (fields_of command).has_globals ≡ false) }
 {
-    let sites = operand(alloc, "SITES", "How many sites there are now, 1 to 64");
-    named(alloc, "grow", "Has a site count more sites")
+    let sites = operand(
+        alloc,
+        "SITES",
+        "How many sites it recognises from here on, 1 to 64",
+    );
+    named(alloc, "grow", "Has a site recognise more sites")
         .arg(file(alloc))?
         .arg(sites)
 }
@@ -121,6 +125,27 @@ fn list<'a>(alloc: Global) -> Result<Command<'a>, AllocError>
         .arg(event)
 }
 
+fn events<'a>(alloc: Global) -> Result<Command<'a>, AllocError>
+    ensures app { IfOk result (λ command. app_of command ≡ events_app) }
+    ensures local { IfOk result (λ command. (fields_of command).has_globals ≡ false) }
+{
+    named(alloc, "events", "Prints the events that the site knows").arg(file(alloc))
+}
+
+fn shares<'a>(alloc: Global) -> Result<Command<'a>, AllocError>
+    ensures app { IfOk result (λ command. app_of command ≡ shares_app) }
+    ensures local { IfOk result (λ command. (fields_of command).has_globals ≡ false) }
+{
+    let event = operand(alloc, "EVENT", "The name of an event");
+    named(
+        alloc,
+        "shares",
+        "Prints what each site may sell of an event, and what it sold and took back",
+    )
+    .arg(file(alloc))?
+    .arg(event)
+}
+
 fn export<'a>(alloc: Global) -> Result<Command<'a>, AllocError>
     ensures app { IfOk result (λ command. app_of command ≡ export_app) }
     ensures local { IfOk result (λ command. (fields_of command).has_globals ≡ false) }
@@ -129,7 +154,7 @@ fn export<'a>(alloc: Global) -> Result<Command<'a>, AllocError>
     named(
         alloc,
         "export",
-        "Prints a message with all that the site knows",
+        "Prints the message for another site, with all that this site knows",
     )
     .arg(file(alloc))?
     .arg(to)
@@ -149,7 +174,7 @@ fn audit<'a>(alloc: Global) -> Result<Command<'a>, AllocError>
     named(
         alloc,
         "audit",
-        "Sums up the records of all sites, the k-th file those of site k",
+        "Sums up the files of all sites, the k-th that of site k",
     )
     .arg(files(alloc))
 }
@@ -208,7 +233,7 @@ fn status<'a>(alloc: Global) -> Result<Command<'a>, AllocError>
     named(
         alloc,
         "status",
-        "Prints how many entries the records of a site have",
+        "Prints which site it is, how many sites it recognises, and how many entries its history has",
     )
     .arg(file(alloc))
 }
@@ -218,6 +243,7 @@ pub(crate) fn boxoffice<'a>(alloc: Global) -> Result<Command<'a>, AllocError>
     ensures { IfOk result (λ command. app_of command ≡ boxoffice) }
 {
     let world = named(alloc, "world", "Runs the script on standard input");
+    let version = named(alloc, "version", "Prints which program it is");
     let whole = named(
         alloc,
         "boxoffice",
@@ -231,12 +257,15 @@ pub(crate) fn boxoffice<'a>(alloc: Global) -> Result<Command<'a>, AllocError>
     .subcommand(ask(alloc)?)?
     .subcommand(find(alloc)?)?
     .subcommand(list(alloc)?)?
+    .subcommand(events(alloc)?)?
+    .subcommand(shares(alloc)?)?
     .subcommand(export(alloc)?)?
     .subcommand(import(alloc)?)?
     .subcommand(audit(alloc)?)?
     .subcommand(serve(alloc)?)?
     .subcommand(open(alloc)?)?
     .subcommand(close(alloc)?)?
-    .subcommand(status(alloc)?)?;
+    .subcommand(status(alloc)?)?
+    .subcommand(version)?;
     Ok(whole)
 }

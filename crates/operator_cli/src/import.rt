@@ -1,29 +1,23 @@
 //! The command `import`: a message from a peer.
 
-ghost use Rattle.std.specs.Prelude.{◌≡◌, ◌≢◌, ◌≤◌, ◌⊎◌, false, None, Some, Err, IfOk, IfErr, IfSome, OnOk, OnErr, vec_len};
-ghost use Rattle.sqlite.specs.State.{HasCleanDisk};
-ghost use Rattle.sqlite.specs.Held.{state};
-ghost use Rattle.sql_records.specs.Layout.{HasMeta, office_of};
-ghost use Rattle.sql_records.specs.declared.meta.Meta.{Meta as Numbers};
-ghost use Rattle.operator_cli.specs.Exchanged.{HoldsOnly, LeavesOneOf, IsTakeEnd, IsInputRead, IsInputEnd, IsInputTold, IsTakenOf, LeavesAsItWas, behind_bytes, behind_read, told_of_bytes, told_of_read};
-ghost use Rattle.delta_wire.specs.Grammar.{most_bytes};
-ghost use Rattle.delta_wire.specs.Wire.{message_of};
-ghost use Rattle.sql_records.specs.Held.{LeavesSite, MayLeaveIn, history_in};
-ghost use Rattle.operator_cli.specs.Told.{FaultTold, told_status};
-ghost use Rattle.operator_cli.specs.declared.status.Status.TheVariants.{Refused, Failed};
-ghost use Rattle.operator_cli.specs.declared.store_fault.StoreFault.TheVariants.{Memory as WantsMemory, Read as ReadFailed, Store as NotStored, Write as WriteFailed};
+ghost use Rattle.std.specs.Prelude.{◌≡◌, ◌≤◌, ◌⊎◌, IfOk, IfErr, IfSome, vec_len};
 ghost use Rattle.std.specs.Option.{option_map};
-ghost use Rattle.operator_cli.specs.Printed.{Printed, Unsaid, IsTakenText, IsOfTaking, IsTellingOf};
-ghost use Rattle.operator_cli.specs.Opened.{FailsFor, FailsIfIllegal, FailsOpened, IsImportEnd, IsLost, ShowedRecords};
+ghost use Rattle.delta_wire.specs.Grammar.{most_bytes};
+ghost use Rattle.operator_cli.specs.Commands.{CameTo, Imports, IsRead, outcome_of_take};
+ghost use Rattle.operator_cli.specs.Commands.{IsInputRead};
+ghost use Rattle.operator_cli.specs.Outcomes.{Ends};
+ghost use Rattle.operator_cli.specs.Session.{records};
+ghost use Rattle.operator_cli.specs.declared.store_fault.StoreFault.TheVariants.{Memory as WantsMemory, Read as ReadFailed};
 
-use crate::ending::{close_book, ended};
 use crate::opening::open_book;
+use crate::outcome::{Outcome, print_outcome};
 use crate::status::Status;
 use crate::store_fault::StoreFault;
-use crate::told::{Told, ended_by_take, ended_by_wire, tell};
-use delta_wire::{MOST_BYTES, read_message};
+use crate::told::Told;
+use delta_wire::{MOST_BYTES, WireFault, read_message};
+use history_keeper::Keeper;
 use site_desk::{SiteBook, Taken};
-use sql_records::Keeper;
+use site_exchange::{Message, TakeFault};
 use sqlite::{Alter, Connection};
 use std::alloc::Global;
 use std::io::{ErrorKind, Read, Write};
@@ -52,122 +46,59 @@ pub(crate) fn read_input<R: Read + Drop>(
     Ok(Some(bytes))
 }
 
-fn take_bytes<K: Keeper>(
-    alloc: Global,
-    book: &mut SiteBook<K>,
-    bytes: &[u8],
-) -> Result<Told, StoreFault>
-    ensures kind { IfOk result IsOfTaking }
-    ensures told { IfOk result (λ told. told
-        ≡ told_of_read book.old.book.office book.old.book.history (message_of bytes.now)) }
-    ensures entered { OnOk result (book.new.book.history
-        ≡ behind_read book.old.book.office book.old.book.history (message_of bytes.now)) }
-    ensures unclosed { OnOk result (book.old.closed ≡ false → book.new.closed ≡ false) }
-    ensures kept { IfOk result
-        (λ told. told_status told ≡ Refused → book.new.keeper ≡ book.old.keeper) }
-    ensures stopped { K.is_trusted book.new.keeper
-        → LeavesOneOf book.old.book.history (behind_read book.old.book.office book.old.book.history (message_of bytes.now)) (K.may_leave book.old.keeper)
-        → LeavesOneOf book.old.book.history (behind_read book.old.book.office book.old.book.history (message_of bytes.now)) (K.may_leave book.new.keeper) }
-    ensures fault { IfErr result (IsTakeEnd book.old.closed
-        (told_of_read book.old.book.office book.old.book.history (message_of bytes.now))) }
-    ensures untouched { IfErr result
-        (λ fault. LeavesAsItWas fault book.old.keeper book.new.keeper) }
-    ensures failed { result ≡ Err NotStored → book.old.closed ≡ false
-        → (K.failed book.old.keeper ≡ 0) × (K.failed book.new.keeper ≡ 1) }
-    ensures written { IfErr result (λ fault. fault ≢ WriteFailed) }
-    ensures unchanged { OnErr result (book.new.book.history ≡ book.old.book.history) }
-    ensures open { IfErr result
-        (λ fault. fault ≢ NotStored → book.old.closed ≡ false → book.new.closed ≡ false) }
-    ensures trusted { K.is_trusted book.new.keeper → K.is_trusted book.old.keeper }
-    ensures site { K.is_trusted book.new.keeper
-        → (meta : Numbers) → K.is_of book.old.keeper meta → K.is_of book.new.keeper meta }
-{
-    let message = match read_message(alloc, bytes) {
-        Ok(message) => message,
-        Err(fault) => return ended_by_wire(fault),
-    };
-    match book.take(message) {
-        Ok(Taken::Joined { .. }) => Ok(Told::Joined),
-        Ok(Taken::NothingNew { .. }) => Ok(Told::NothingNew),
-        Ok(Taken::Acked) => Ok(Told::Acked),
-        Err(fault) => ended_by_take(fault),
-    }
-}
-
-fn take_input<K: Keeper, R: Read + Drop>(
-    alloc: Global,
-    book: &mut SiteBook<K>,
-    input: R,
-) -> Result<Told, StoreFault>
-    ensures kind { IfOk result IsOfTaking }
-    ensures told { IfSome (R.remaining input) (λ bytes. IfOk result (λ told. told
-        ≡ told_of_bytes book.old.book.office book.old.book.history bytes)) }
-    ensures entered { IfSome (R.remaining input) (λ bytes. OnOk result (book.new.book.history
-        ≡ behind_bytes book.old.book.office book.old.book.history bytes)) }
-    ensures unclosed { OnOk result (book.old.closed ≡ false → book.new.closed ≡ false) }
-    ensures kept { IfOk result
-        (λ told. told_status told ≡ Refused → book.new.keeper ≡ book.old.keeper) }
-    ensures stopped { IfSome (R.remaining input) (λ bytes. K.is_trusted book.new.keeper
-        → LeavesOneOf book.old.book.history (behind_bytes book.old.book.office book.old.book.history bytes) (K.may_leave book.old.keeper)
-        → LeavesOneOf book.old.book.history (behind_bytes book.old.book.office book.old.book.history bytes) (K.may_leave book.new.keeper)) }
-    ensures fault { IfErr result (λ fault. book.old.closed ≡ false → IsInputEnd book.old.book.office
-        book.old.book.history (R.remaining input) (λ h. book.new.book.history ≡ h) fault) }
-    ensures untouched { IfErr result
-        (λ fault. LeavesAsItWas fault book.old.keeper book.new.keeper) }
-    ensures failed { result ≡ Err NotStored → book.old.closed ≡ false
-        → (K.failed book.old.keeper ≡ 0) × (K.failed book.new.keeper ≡ 1) }
-    ensures written { IfErr result (λ fault. fault ≢ WriteFailed) }
-    ensures unchanged { OnErr result (book.new.book.history ≡ book.old.book.history) }
-    ensures open { IfErr result
-        (λ fault. fault ≢ NotStored → book.old.closed ≡ false → book.new.closed ≡ false) }
-    ensures trusted { K.is_trusted book.new.keeper → K.is_trusted book.old.keeper }
-    ensures site { K.is_trusted book.new.keeper
-        → (meta : Numbers) → K.is_of book.old.keeper meta → K.is_of book.new.keeper meta }
+// The message that the input is, or what comes of one that is none.
+fn message_in<R: Read + Drop>(alloc: Global, input: R) -> Result<Message, Outcome>
+    ensures { IsRead (R.remaining input) result }
 {
     match read_input(alloc, input) {
-        Ok(Some(bytes)) => take_bytes(alloc, book, bytes.as_slice()),
-        Ok(None) => Ok(Told::TooLong),
-        Err(fault) => Err(fault),
+        Ok(Some(bytes)) => match read_message(alloc, bytes.as_slice()) {
+            Ok(message) => Ok(message),
+            Err(WireFault::Memory) => Err(Outcome::Fails(StoreFault::Memory)),
+            Err(fault) => Err(Outcome::Tells(Told::Unread(fault))),
+        },
+        Ok(None) => Err(Outcome::Tells(Told::TooLong)),
+        Err(fault) => Err(Outcome::Fails(fault)),
     }
 }
 
-fn write_taken<K: Keeper, R: Read + Drop, W: Write>(
-    alloc: Global,
-    book: &mut SiteBook<K>,
-    input: R,
-    out: &mut W,
-) -> Result<Status, StoreFault>
-    ensures out { IfOk result (Printed IsTakenText (W.contents out.old) (W.contents out.new)) }
-    ensures taken { IfSome (R.remaining input) (λ bytes. IfOk result (Printed
-        (IsTellingOf (λ told. told ≡ told_of_bytes book.old.book.office book.old.book.history bytes))
-        (W.contents out.old) (W.contents out.new))) }
-    ensures entered { IfSome (R.remaining input) (λ bytes. OnOk result (book.new.book.history
-        ≡ behind_bytes book.old.book.office book.old.book.history bytes)) }
-    ensures unclosed { OnOk result (book.old.closed ≡ false → book.new.closed ≡ false) }
-    ensures kept { IfOk result (λ status. status ≡ Refused → book.new.keeper ≡ book.old.keeper) }
-    ensures stopped { IfSome (R.remaining input) (λ bytes. K.is_trusted book.new.keeper
-        → LeavesOneOf book.old.book.history (behind_bytes book.old.book.office book.old.book.history bytes) (K.may_leave book.old.keeper)
-        → LeavesOneOf book.old.book.history (behind_bytes book.old.book.office book.old.book.history bytes) (K.may_leave book.new.keeper)) }
-    ensures fault { IfErr result (λ fault. book.old.closed ≡ false → IsInputEnd book.old.book.office
-        book.old.book.history (R.remaining input) (λ h. book.new.book.history ≡ h) fault) }
-    ensures untouched { IfErr result
-        (λ fault. LeavesAsItWas fault book.old.keeper book.new.keeper) }
-    ensures failed { result ≡ Err NotStored → book.old.closed ≡ false
-        → (K.failed book.old.keeper ≡ 0) × (K.failed book.new.keeper ≡ 1) }
-    ensures ends { IfOk result (λ status. status ≢ Failed) }
-    ensures told { IfOk result (Printed (IsTellingOf (IsTakenOf book.old.book.office book.old.book.history (R.remaining input)))
-        (W.contents out.old) (W.contents out.new)) }
-    ensures unsaid { IfErr result (Unsaid (IsTellingOf (IsTakenOf book.old.book.office book.old.book.history (R.remaining input)))
-        (W.contents out.old) (W.contents out.new)) }
-    ensures open { IfErr result
-        (λ fault. fault ≢ NotStored → book.old.closed ≡ false → book.new.closed ≡ false) }
-    ensures trusted { K.is_trusted book.new.keeper → K.is_trusted book.old.keeper }
-    ensures site { K.is_trusted book.new.keeper
-        → (meta : Numbers) → K.is_of book.old.keeper meta → K.is_of book.new.keeper meta }
+fn outcome_of_take(called: Result<Taken, TakeFault>) -> Outcome
+    ensures { result ≡ outcome_of_take called }
 {
-    match take_input(alloc, book, input) {
-        Ok(told) => tell(&told, out),
-        Err(fault) => Err(fault),
+    match called {
+        Ok(Taken::Joined { .. }) => Outcome::Tells(Told::Joined),
+        Ok(Taken::NothingNew { .. }) => Outcome::Tells(Told::NothingNew),
+        Ok(Taken::Acked) => Outcome::Tells(Told::Acked),
+        Err(TakeFault::Memory) => Outcome::Fails(StoreFault::Memory),
+        Err(TakeFault::Store | TakeFault::Closed) => Outcome::Fails(StoreFault::Store),
+        Err(fault) => Outcome::Tells(Told::NotTaken(fault)),
+    }
+}
+
+// Has the book take the message that the input is.
+fn take_input<K: Keeper, R: Read + Drop>(alloc: Global, book: &mut SiteBook<K>, input: R) -> Outcome
+    ensures { Imports K.Keeper
+        (R.remaining input) book.old book.new result }
+{
+    match message_in(alloc, input) {
+        Ok(message) => outcome_of_take(book.take(message)),
+        Err(outcome) => outcome,
+    }
+}
+
+fn import<S: Alter + Drop, R: Read + Drop>(
+    alloc: Global,
+    conn: Connection<S>,
+    input: R,
+) -> (Outcome, Option<Connection<S>>)
+    ensures { CameTo S.Store conn (Imports (records S.Store) (R.remaining input))
+        result.1 result.0 }
+{
+    match open_book(alloc, conn) {
+        Ok(mut book) => {
+            let outcome = take_input(alloc, &mut book, input);
+            (outcome, Some(book.into_keeper().close()))
+        }
+        Err((fault, conn)) => (Outcome::Fails(fault), conn),
     }
 }
 
@@ -184,41 +115,9 @@ pub fn import_store<S: Alter + Drop, R: Read + Drop, W: Write, E: Write>(
     out: &mut W,
     err: &mut E,
 ) -> (Status, Option<Connection<S>>)
-    ensures out { Printed IsTakenText (W.contents out.old) (W.contents out.new) result.0 }
-    ensures taken { IfSome result.1 (λ after. HasCleanDisk (state S.Store after)
-        → (meta : Numbers) → HasMeta meta (state S.Store conn).now.trees
-        → IfSome (R.remaining input) (λ bytes. Printed
-        (IsTellingOf (λ told. told ≡ told_of_bytes (office_of meta) (history_in (state S.Store conn).now.trees) bytes))
-        (W.contents out.old) (W.contents out.new) result.0)) }
-    ensures kept { IfSome result.1 (λ after. HasCleanDisk (state S.Store after) → result.0 ≡ Refused
-        → (state S.Store after).now ≡ (state S.Store conn).now) }
-    ensures holds { IfSome result.1 (λ after. HasCleanDisk (state S.Store after) → result.0 ≢ Failed
-        → (meta : Numbers) → HasMeta meta (state S.Store conn).now.trees
-        → IfSome (R.remaining input) (λ bytes. HoldsOnly (state S.Store after)
-        (behind_bytes (office_of meta) (history_in (state S.Store conn).now.trees) bytes))) }
-    ensures stopped { IfSome result.1 (λ after. HasCleanDisk (state S.Store after)
-        → (meta : Numbers) → HasMeta meta (state S.Store conn).now.trees
-        → IfSome (R.remaining input) (λ bytes. LeavesOneOf (history_in (state S.Store conn).now.trees)
-        (behind_bytes (office_of meta) (history_in (state S.Store conn).now.trees) bytes) (MayLeaveIn (state S.Store after)))) }
-    ensures site { IfSome result.1 (λ after. HasCleanDisk (state S.Store after)
-        → (meta : Numbers) → HasMeta meta (state S.Store conn).now.trees → LeavesSite (state S.Store after) meta) }
-    ensures err { FaultTold (E.contents err.old) (E.contents err.new) result.0 }
-    ensures cause { IfSome result.1 (λ after. FailsOpened S.Store conn (IsImportEnd (R.remaining input)) (IsInputTold (state S.Store conn).now.trees (R.remaining input)) after
-        (W.contents out.old) (W.contents out.new) (E.contents err.old) (E.contents err.new) result.0) }
-    ensures silent { FailsFor (Unsaid IsTakenText (W.contents out.old) (W.contents out.new))
-        (E.contents err.old) (E.contents err.new) result.0 }
-    ensures ours { IfSome result.1 (ShowedRecords S.Store conn) }
-    ensures illegal { IfSome result.1
-        (λ after. FailsIfIllegal S.Store conn after (W.contents out.old)
-        (W.contents out.new) (E.contents err.old) (E.contents err.new) result.0) }
-    ensures lost { result.1 ≡ None → IsLost S.Store conn (W.contents out.old)
-        (W.contents out.new) (E.contents err.old) (E.contents err.new) result.0 }
+    ensures { Ends (CameTo S.Store conn (Imports (records S.Store) (R.remaining input)) result.1)
+        (W.contents out.old) (W.contents out.new) (E.contents err.old) (E.contents err.new) result.0 }
 {
-    match open_book(alloc, conn) {
-        Ok(mut book) => {
-            let came = write_taken(alloc, &mut book, input, out);
-            close_book(came, book, out, err)
-        }
-        Err((fault, conn)) => (ended(Err(fault), out, err), conn),
-    }
+    let (outcome, conn) = import(alloc, conn, input);
+    (print_outcome(&outcome, out, err), conn)
 }

@@ -2,7 +2,7 @@
 
 ghost use Rattle.std.specs.Prelude.{◌∷◌, [], codes};
 ghost use Rattle.operator_cli.specs.Laws.{ScriptsMakeSteps, TotalsAreThose, TotalsAreNotOversold};
-ghost use Rattle.operator_cli.specs.Orders.{boxoffice, AreUnderstood, Give, SaysWorld, SaysInit, SaysMigrate, SaysGrow, SaysAsk, SaysFind, SaysList, SaysExport, SaysImport, SaysAudit, SaysServe, SaysOpen, SaysClose, SaysStatus};
+ghost use Rattle.operator_cli.specs.Orders.{boxoffice, AreUnderstood, Give, SaysWorld, SaysInit, SaysMigrate, SaysGrow, SaysAsk, SaysFind, SaysList, SaysEvents, SaysShares, SaysExport, SaysImport, SaysAudit, SaysServe, SaysOpen, SaysClose, SaysStatus, SaysVersion};
 
 /// The totals of a script are those of a world that its steps lead to, and none is oversold.
 pub fn totals_are_not_oversold()
@@ -24,6 +24,9 @@ pub fn each_command_has_words()
     ensures find { Give (codes "find" ∷ codes "a.db" ∷ codes "7" ∷ []) (SaysFind (codes "a.db") 7) }
     ensures list { Give
         (codes "list" ∷ codes "a.db" ∷ codes "gala" ∷ []) (SaysList (codes "a.db") (codes "gala")) }
+    ensures events { Give (codes "events" ∷ codes "a.db" ∷ []) (SaysEvents (codes "a.db")) }
+    ensures shares { Give (codes "shares" ∷ codes "a.db" ∷ codes "gala" ∷ [])
+        (SaysShares (codes "a.db") (codes "gala")) }
     ensures export { Give
         (codes "export" ∷ codes "a.db" ∷ codes "1" ∷ []) (SaysExport (codes "a.db") 1) }
     ensures import { Give (codes "import" ∷ codes "a.db" ∷ []) (SaysImport (codes "a.db")) }
@@ -35,6 +38,7 @@ pub fn each_command_has_words()
         (codes "open" ∷ codes "7000" ∷ codes "a.db" ∷ []) (SaysOpen 7000 (codes "a.db")) }
     ensures close { Give (codes "close" ∷ codes "a.db" ∷ []) (SaysClose (codes "a.db")) }
     ensures status { Give (codes "status" ∷ codes "a.db" ∷ []) (SaysStatus (codes "a.db")) }
+    ensures version { Give (codes "version" ∷ []) SaysVersion }
     ensures no_file { AreUnderstood (codes "boxoffice" ∷ codes "audit" ∷ []) → ⊥ }
     ensures word_too_many { AreUnderstood (codes "boxoffice" ∷ codes "world" ∷ codes "extra" ∷ [])
         → ⊥ }

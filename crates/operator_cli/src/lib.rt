@@ -2,9 +2,14 @@
 //!
 //! `read_words` reads the arguments as an `Order`. Each command is one function over a connection to any store, a
 //! reader and writers, and returns its `Status`: `init_store`, `migrate_store`, `grow_store`, `ask_store`,
-//! `export_store`, `import_store`, `find_store`, `list_store`, `status_store`, `audit_stores`, `serve_stores`;
-//! `world_script` runs a script. Where an office has the file open, `ask_office`, `export_office`, `import_office`,
-//! `find_office`, `list_office` and `status_office` go to it, over a reader and a writer.
+//! `export_store`, `import_store`, `find_store`, `list_store`, `events_store`, `shares_store`, `status_store`,
+//! `audit_stores`, `serve_stores`; `world_script` runs a script. Where an office has the file open, `ask_office`,
+//! `export_office`, `import_office`, `find_office`, `list_office`, `events_office`, `shares_office` and `status_office`
+//! go to it, over a reader and a writer.
+//!
+//! A command over records opens them, makes one call and returns an `Outcome`, which `print_outcome` prints. A new one is
+//! such a function, a relation of its call in `specs/Commands.antt` and, where it prints another text, a variant of
+//! `Outcome` with its text in `specs/Outcomes.antt`; its arguments are an `Order`.
 //!
 //! Guaranteed: what is printed is defined by the input and by the entries that the store held (`specs/Script.antt`,
 //! `specs/Audited.antt` and others), and after a fault at most a prefix of it; a command with status 1 changes no
@@ -21,6 +26,7 @@ mod asking;
 mod audit;
 mod bringing;
 mod ending;
+mod events;
 mod export;
 mod fault;
 mod find;
@@ -34,12 +40,15 @@ mod migrate;
 mod office;
 mod opening;
 mod orders;
+mod outcome;
 mod serve;
+mod shares;
 mod standing;
 mod status;
 mod store_fault;
 mod told;
 mod totals;
+mod version;
 mod visiting;
 mod visits;
 mod world;
@@ -48,6 +57,7 @@ pub use ask::ask_store;
 pub use asking::ask_office;
 pub use audit::{audit_stores, refuse_parts};
 pub use bringing::import_office;
+pub use events::events_store;
 pub use export::export_store;
 pub use fault::ScriptFault;
 pub use find::find_store;
@@ -60,7 +70,11 @@ pub use office::{CloseFault, office_store, tell_close_fault, tell_socket_fault};
 pub use opening::open_store;
 pub use orders::{FileNames, Order, WordsFault, read_words};
 pub use serve::{serve_stores, tell_listen_fault};
+pub use shares::shares_store;
 pub use standing::status_store;
 pub use status::Status;
-pub use visits::{export_office, find_office, list_office, status_office, tell_open};
+pub use version::tell_version;
+pub use visits::{
+    events_office, export_office, find_office, list_office, shares_office, status_office, tell_open,
+};
 pub use world::{run_script, world_script};

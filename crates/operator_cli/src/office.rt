@@ -1,20 +1,21 @@
 //! The commands `open` and `close`: an office that stays open, and its end.
 
-ghost use Rattle.std.specs.Prelude.{◌≡◌, ◌⊎◌, IfOk, IfErr, IfSome, IsSome, OnOk, codes, false};
+ghost use Rattle.std.specs.Prelude.{◌≡◌, ◌⊎◌, IfOk, IfErr, IfSome, IsSome, OnOk, ◌++◌, codes, false};
 ghost use Rattle.std.specs.Io.KnownBytes.{Appends};
 ghost use Rattle.plain_words.specs.Writing.{AppendsFront, Writes};
 ghost use Rattle.operator_cli.specs.declared.status.Status.TheVariants.{Done, Failed};
 ghost use Rattle.operator_cli.specs.declared.store_fault.StoreFault.TheVariants.{Write as WriteFailed};
-ghost use Rattle.operator_cli.specs.Offices.{WasOpen, of_close_fault, of_socket_fault};
+ghost use Rattle.operator_cli.specs.Offices.{WasOpen, of_close_fault, of_socket_fault, open_line};
 ghost use Rattle.operator_cli.specs.Told.{FaultTold, store_fault_line};
 
-use crate::ending::{close_book, flushed, tell_fault, write_line};
+use crate::ending::{close_book, flushed, tell_fault};
 use crate::status::Status;
 use crate::store_fault::StoreFault;
+use history_keeper::Keeper;
 use live_office::{Closing, Door, SocketFault, open_office};
-use plain_words::word;
+use plain_words::{WriteFault, numbered, put, write_bytes};
 use site_desk::SiteBook;
-use sql_records::{Keeper, Records};
+use sql_records::Records;
 use sqlite::{Alter, Connection};
 use std::alloc::Global;
 use std::io::{Read, Write};
@@ -29,6 +30,8 @@ pub enum CloseFault {
     NotOpen,
     /// It was told to close, and is still open.
     StillOpen,
+    /// It closed, and its file is not the one that it held.
+    LostFile,
 }
 
 impl From<CloseFault> for StoreFault {
@@ -41,18 +44,41 @@ impl From<CloseFault> for StoreFault {
         match fault {
             CloseFault::NotOpen => StoreFault::NotOpen,
             CloseFault::StillOpen => StoreFault::StillOpen,
+            CloseFault::LostFile => StoreFault::LostFile,
         }
     }
 }
 
+// Writes the name of a file, and a line break.
+fn write_name<W: Write>(file: &str, out: &mut W) -> Result<(), WriteFault>
+    ensures { Writes (W.contents out.old) (W.contents out.new) result (file.now ++ codes "\n") }
+{
+    write_bytes(file.as_bytes(), out)?;
+    write_bytes(b"\n", out)
+}
+
+fn write_open<W: Write>(port: u16, file: &str, out: &mut W) -> Result<(), WriteFault>
+    ensures { Writes (W.contents out.old) (W.contents out.new) result (open_line port file.now) }
+{
+    let mut text = numbered(b"open ", u64::from(port));
+    put(&mut text, b" ");
+    write_bytes(text.as_slice(), out)?;
+    write_name(file, out)
+}
+
 // Tells that callers can come.
-fn say_open<W: Write>(out: &mut W) -> Result<(), StoreFault>
-    ensures written { Writes (W.contents out.old) (W.contents out.new) result (codes "open\n") }
+fn say_open<W: Write>(port: u16, file: &str, out: &mut W) -> Result<(), StoreFault>
+    ensures written { Writes (W.contents out.old) (W.contents out.new) result
+        (open_line port file.now) }
     ensures fault { IfErr result (λ fault. fault ≡ WriteFailed) }
 {
-    write_line(&word(b"open\n"), out)?;
-    flushed(Status::Done, out)?;
-    Ok(())
+    match write_open(port, file, out) {
+        Ok(()) => {
+            flushed(Status::Done, out)?;
+            Ok(())
+        }
+        Err(_) => Err(StoreFault::Write),
+    }
 }
 
 // What the end of an office with this book comes to.
@@ -68,8 +94,8 @@ fn office_end<K: Keeper>(book: &SiteBook<K>) -> Result<Status, StoreFault>
     Ok(Status::Done)
 }
 
-/// Keeps the office of a site open at two doors, until a caller says `close` or the store fails: prints `open`, serves,
-/// and comes back once all threads are joined.
+/// Keeps the office of a site open at two doors, until a caller says `close` or the store fails: prints `open` with the
+/// port and the file, serves, and comes back once all threads are joined.
 ///
 /// `memory`, `not-started`, `closed S` or `write` is told on `err`, with status 3. The connection comes back. Where all is
 /// done, its records hold the history of the book as it was at the end; of a fault nothing is said of them.
@@ -86,22 +112,25 @@ pub fn office_store<
     rt: &T,
     alloc: Global,
     book: SiteBook<Records<S>>,
+    port: u16,
+    file: &str,
     clerks: &C,
     operators: &O,
     closing: &Closing,
     out: &mut W,
     err: &mut E,
 ) -> (Status, Option<Connection<S>>)
-    ensures line { AppendsFront (W.contents out.old) (W.contents out.new) (codes "open\n") }
-    ensures all { result.0 ≡ Done
-        → Appends (W.contents out.old) (W.contents out.new) (codes "open\n") }
+    ensures line { AppendsFront (W.contents out.old) (W.contents out.new)
+        (open_line port file.now) }
+    ensures all { result.0 ≡ Done → Appends (W.contents out.old) (W.contents out.new)
+        (open_line port file.now) }
     ensures back { IsSome result.1 }
     ensures left { IfSome result.1 (λ after.
         WasOpen S.Store book.book.office book.book.history after result.0) }
     ensures told { FaultTold (E.contents err.old) (E.contents err.new) result.0 }
     ensures status { (result.0 ≡ Done) ⊎ (result.0 ≡ Failed) }
 {
-    if let Err(fault) = say_open(out) {
+    if let Err(fault) = say_open(port, file, out) {
         return close_book(Err(fault), book, out, err);
     }
     match open_office(rt, alloc, book, clerks, operators, closing) {
@@ -119,7 +148,7 @@ pub fn tell_socket_fault<E: Write>(fault: SocketFault, err: &mut E) -> Status
     tell_fault(StoreFault::from(fault), err)
 }
 
-/// Tells why an office was not closed: `not-open` or `open`, with status 3.
+/// Tells why an office was not closed well: `not-open`, `still-open` or `lost-file`, with status 3.
 pub fn tell_close_fault<E: Write>(fault: CloseFault, err: &mut E) -> Status
     ensures line { AppendsFront
         (E.contents err.old) (E.contents err.new) (store_fault_line (of_close_fault fault)) }

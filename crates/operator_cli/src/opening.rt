@@ -1,14 +1,7 @@
 //! Opening the records of a site.
 
-ghost use Rattle.std.specs.Prelude.{◌≡◌, false, IfOk, IfErr, OnOk, MatchOption};
-ghost use Rattle.sqlite.specs.Held.{state};
-ghost use Rattle.sqlite.specs.State.{HasCleanDisk, IsUnchanged};
-ghost use Rattle.sql_records.specs.declared.meta.Meta.{Meta as Numbers};
-ghost use Rattle.sql_records.specs.Keeping.{LeavesOnly};
-ghost use Rattle.sql_records.specs.Layout.{HasMeta};
-ghost use Rattle.sql_records.specs.Held.{IsOf, IsTrusted, MayLeave, kept_in, history_in};
-ghost use Rattle.operator_cli.specs.Exchanged.{IsBookOf};
-ghost use Rattle.operator_cli.specs.Opened.{IsRefused, IsIllegal};
+ghost use Rattle.std.specs.Prelude.{◌≡◌, IfOk, IfErr, OnOk};
+ghost use Rattle.operator_cli.specs.Opened.{CannotOpen, IsOpened};
 ghost use Rattle.operator_cli.specs.Told.{of_open_fault, of_replay_fault, store_fault_line};
 ghost use Rattle.plain_words.specs.Writing.{AppendsFront};
 ghost use Rattle.operator_cli.specs.declared.status.Status.TheVariants.{Failed};
@@ -54,28 +47,8 @@ pub(crate) fn open_book<S: Alter + Drop>(
     alloc: Global,
     conn: Connection<S>,
 ) -> Result<SiteBook<Records<S>>, (StoreFault, Option<Connection<S>>)>
-    ensures kept { IfOk result (λ book. IsTrusted S.Store book.keeper
-        → kept_in S.Store book.keeper ≡ history_in (state S.Store conn).now.trees) }
-    ensures rests { IfOk result (λ book. IsTrusted S.Store book.keeper
-        → LeavesOnly (kept_in S.Store book.keeper) (MayLeave S.Store book.keeper)) }
-    ensures site { IfOk result (λ book. IsTrusted S.Store book.keeper → (meta : Numbers)
-        → HasMeta meta (state S.Store conn).now.trees → IsOf S.Store book.keeper meta) }
-    ensures open { IfOk result (λ book. book.keeper.failures ≡ 0) }
-    ensures unclosed { IfOk result (λ book. book.closed ≡ false) }
-    ensures book { IfOk result
-        (λ book. IsTrusted S.Store book.keeper → IsBookOf (state S.Store conn).now.trees book) }
-    ensures same { IfOk result (λ book. IsTrusted S.Store book.keeper
-        → (state S.Store book.keeper.conn).now ≡ (state S.Store conn).now) }
-    ensures unchanged { IfOk result (λ book. IsTrusted S.Store book.keeper
-        → IsUnchanged (state S.Store conn) (state S.Store book.keeper.conn)) }
-    ensures limit { IfOk result (λ book. book.keeper.conn.step_limit ≡ conn.step_limit) }
-    ensures settled { OnOk result (conn.in_transaction ≡ false) }
-    ensures autocommit { IfOk result (λ book. IsTrusted S.Store book.keeper
-        → (state S.Store book.keeper.conn).in_transaction ≡ false) }
-    ensures clean { IfOk result
-        (λ book. IsTrusted S.Store book.keeper → HasCleanDisk (state S.Store conn)) }
-    ensures fault { IfErr result (λ e. MatchOption e.1
-        (IsRefused S.Store conn e.0) (λ after. IsIllegal S.Store conn after e.0)) }
+    ensures opened { IfOk result (IsOpened S.Store conn) }
+    ensures fault { IfErr result (λ e. CannotOpen S.Store conn e.0 e.1) }
 {
     let (records, entries, meta) = match Records::open(alloc, conn) {
         Ok(opened) => opened,
@@ -95,18 +68,11 @@ pub fn open_store<S: Alter + Drop, E: Write>(
     conn: Connection<S>,
     err: &mut E,
 ) -> Result<SiteBook<Records<S>>, (Status, Option<Connection<S>>)>
-    ensures kept { IfOk result (λ book. IsTrusted S.Store book.keeper
-        → kept_in S.Store book.keeper ≡ history_in (state S.Store conn).now.trees) }
-    ensures book { IfOk result
-        (λ book. IsTrusted S.Store book.keeper → IsBookOf (state S.Store conn).now.trees book) }
-    ensures rests { IfOk result (λ book. IsTrusted S.Store book.keeper
-        → LeavesOnly (kept_in S.Store book.keeper) (MayLeave S.Store book.keeper)) }
-    ensures site { IfOk result (λ book. IsTrusted S.Store book.keeper → (meta : Numbers)
-        → HasMeta meta (state S.Store conn).now.trees → IsOf S.Store book.keeper meta) }
-    ensures unclosed { IfOk result (λ book. book.closed ≡ false) }
+    ensures opened { IfOk result (IsOpened S.Store conn) }
     ensures silent { OnOk result (E.contents err.new ≡ E.contents err.old) }
-    ensures fault { IfErr result (λ e. (e.0 ≡ Failed) × (fault : StoreFault) × AppendsFront (E.contents err.old) (E.contents err.new) (store_fault_line fault)
-        × MatchOption e.1 (IsRefused S.Store conn fault) (λ after. IsIllegal S.Store conn after fault)) }
+    ensures fault { IfErr result (λ e. (e.0 ≡ Failed) × (fault : StoreFault)
+        × AppendsFront (E.contents err.old) (E.contents err.new) (store_fault_line fault)
+        × CannotOpen S.Store conn fault e.1) }
 {
     match open_book(alloc, conn) {
         Ok(book) => Ok(book),

@@ -6,7 +6,7 @@ ghost use Rattle.clap.specs.Words.{subcommand_of, subcommand_rows_of, kind_of, a
 ghost use Rattle.rights_lattice.specs.Cells.{greatest_value};
 ghost use Rattle.rights_lattice.specs.Limits.{greatest_site, most_sites};
 ghost use Rattle.book_core.specs.Limits.{greatest_limit};
-ghost use Rattle.operator_cli.specs.Orders.{boxoffice, greatest_port, most_sessions, AreUnderstood, order_in, said_by, number_in, init_in, migrate_in, grow_in, ask_in, find_in, list_in, export_in, import_in, files_in, audit_in, serve_in, open_in, close_in, status_in, named_order, values_of, first_misfit, misfit_in, misfit_line, TellsMisfit, IsWordsRefusal};
+ghost use Rattle.operator_cli.specs.Orders.{boxoffice, greatest_port, most_sessions, AreUnderstood, order_in, said_by, number_in, init_in, migrate_in, grow_in, ask_in, find_in, list_in, events_in, shares_in, export_in, import_in, files_in, audit_in, serve_in, open_in, close_in, status_in, named_order, values_of, first_misfit, misfit_in, misfit_line, TellsMisfit, IsWordsRefusal};
 
 use crate::grammar::boxoffice;
 use arrayvec::ArrayVec;
@@ -68,6 +68,15 @@ pub enum Order<'a> {
         file: &'a str,
         event: &'a str,
     },
+    /// Prints the events that a site knows.
+    Events {
+        file: &'a str,
+    },
+    /// Prints what each site may sell of an event, and what it sold and took back. The event is any word.
+    Shares {
+        file: &'a str,
+        event: &'a str,
+    },
     /// Prints a message with all that the site knows.
     Export {
         file: &'a str,
@@ -102,6 +111,8 @@ pub enum Order<'a> {
     Status {
         file: &'a str,
     },
+    /// Prints which program it is.
+    Version,
 }
 
 /// Why the words give no command.
@@ -276,6 +287,29 @@ fn list_of<'a>(values: &ArgMatches<'a>) -> Result<Order<'a>, Misfit>
     Ok(Order::List { file, event })
 }
 
+#[tactic(auto, unfolding(crate::specs::Orders::events_in))]
+fn events_of<'a>(values: &ArgMatches<'a>) -> Result<Order<'a>, Misfit>
+    ensures order { MatchResult result (λ order. events_in (rows_of (found_of values.now))
+        ≡ Some (said_by order)) (λ _. events_in (rows_of (found_of values.now)) ≡ None) }
+    ensures misfit { IfErr result
+        (λ misfit. first_misfit (Misfit.File ∷ []) (rows_of (found_of values.now)) ≡ Some misfit) }
+{
+    let file = value_of(values, "FILE").ok_or(Misfit::File)?;
+    Ok(Order::Events { file })
+}
+
+#[tactic(auto, unfolding(crate::specs::Orders::shares_in))]
+fn shares_of<'a>(values: &ArgMatches<'a>) -> Result<Order<'a>, Misfit>
+    ensures order { MatchResult result (λ order. shares_in (rows_of (found_of values.now))
+        ≡ Some (said_by order)) (λ _. shares_in (rows_of (found_of values.now)) ≡ None) }
+    ensures misfit { IfErr result (λ misfit. first_misfit
+        (Misfit.File ∷ Misfit.Event ∷ []) (rows_of (found_of values.now)) ≡ Some misfit) }
+{
+    let file = value_of(values, "FILE").ok_or(Misfit::File)?;
+    let event = value_of(values, "EVENT").ok_or(Misfit::Event)?;
+    Ok(Order::Shares { file, event })
+}
+
 #[tactic(auto, unfolding(crate::specs::Orders::export_in))]
 fn export_of<'a>(values: &ArgMatches<'a>) -> Result<Order<'a>, Misfit>
     ensures order { MatchResult result (λ order. export_in (rows_of (found_of values.now))
@@ -423,6 +457,10 @@ fn named_order<'a>(name: &str, values: &ArgMatches<'a>) -> Result<Order<'a>, Mis
         find_of(values)
     } else if name == "list" {
         list_of(values)
+    } else if name == "events" {
+        events_of(values)
+    } else if name == "shares" {
+        shares_of(values)
     } else if name == "export" {
         export_of(values)
     } else if name == "import" {
@@ -437,6 +475,8 @@ fn named_order<'a>(name: &str, values: &ArgMatches<'a>) -> Result<Order<'a>, Mis
         close_of(values)
     } else if name == "status" {
         status_of(values)
+    } else if name == "version" {
+        Ok(Order::Version)
     } else {
         Err(Misfit::Command)
     }

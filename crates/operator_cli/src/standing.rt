@@ -1,45 +1,40 @@
 //! The command `status` where no office is open.
 
-ghost use Rattle.std.specs.Prelude.{◌≡◌, ◌≢◌, None, Some, List, Option, IfOk, IfErr, IfSome};
-ghost use Rattle.sqlite.specs.State.{HasCleanDisk};
-ghost use Rattle.sqlite.specs.Held.{state};
-ghost use Rattle.book_core.specs.declared.entry.Entry.{Entry};
-ghost use Rattle.sql_records.specs.Held.{MayLeaveIn, history_in};
-ghost use Rattle.sql_records.specs.Layout.{HasMeta, office_of};
-ghost use Rattle.sql_records.specs.declared.meta.Meta.{Meta as Numbers};
-ghost use Rattle.operator_cli.specs.declared.status.Status.TheVariants.{Failed};
-ghost use Rattle.operator_cli.specs.declared.store_fault.StoreFault.TheVariants.{Write as WriteFailed};
-ghost use Rattle.operator_cli.specs.Opened.{IsLost};
-ghost use Rattle.operator_cli.specs.Printed.{IsStandingText, Printed};
-ghost use Rattle.operator_cli.specs.Told.{FaultTold};
+ghost use Rattle.std.specs.Prelude.{◌≡◌};
+ghost use Rattle.operator_cli.specs.Commands.{CameTo, StandsAt};
+ghost use Rattle.operator_cli.specs.Outcomes.{Ends};
+ghost use Rattle.operator_cli.specs.Printed.{standing_in};
 
-use crate::ending::{close_book, ended, write_line};
 use crate::opening::open_book;
+use crate::outcome::{Outcome, print_outcome};
 use crate::status::Status;
-use crate::store_fault::StoreFault;
 use book_core::Book;
-use live_office::standing_text;
-use plain_words::put;
 use site_desk::Standing;
 use sqlite::{Alter, Connection};
 use std::alloc::Global;
 use std::io::Write;
 
-fn write_standing<W: Write>(book: &Book, out: &mut W) -> Result<Status, StoreFault>
-    ensures out { IfOk result (Printed (IsStandingText book.now.office book.now.history)
-        (W.contents out.old) (W.contents out.new)) }
-    ensures fault { IfErr result (λ fault. fault ≡ WriteFailed) }
-    ensures ends { IfOk result (λ status. status ≢ Failed) }
+fn standing_of(book: &Book) -> Standing
+    ensures { result ≡ standing_in book.now.office book.now.history }
 {
-    let mut line = standing_text(Standing {
+    Standing {
         me: book.me(),
         sites: book.sites(),
         entries: book.len(),
         limit: book.limit(),
-    });
-    put(&mut line, b"\n");
-    write_line(&line, out)?;
-    Ok(Status::Done)
+    }
+}
+
+fn standing<S: Alter + Drop>(alloc: Global, conn: Connection<S>) -> (Outcome, Option<Connection<S>>)
+    ensures { CameTo S.Store conn StandsAt result.1 result.0 }
+{
+    match open_book(alloc, conn) {
+        Ok(book) => {
+            let standing = standing_of(book.book());
+            (Outcome::Stands(standing), Some(book.into_keeper().close()))
+        }
+        Err((fault, conn)) => (Outcome::Fails(fault), conn),
+    }
 }
 
 /// Prints which site the records are of, how many sites it counts, and how many entries they have and may have.
@@ -52,24 +47,9 @@ pub fn status_store<S: Alter + Drop, W: Write, E: Write>(
     out: &mut W,
     err: &mut E,
 ) -> (Status, Option<Connection<S>>)
-    ensures standing { IfSome result.1 (λ after. HasCleanDisk (state S.Store after)
-        → (meta : Numbers) → HasMeta meta (state S.Store conn).now.trees
-        → Printed (IsStandingText (office_of meta) (history_in (state S.Store conn).now.trees))
-        (W.contents out.old) (W.contents out.new) result.0) }
-    ensures same { IfSome result.1 (λ after. HasCleanDisk (state S.Store after)
-        → (state S.Store after).now ≡ (state S.Store conn).now) }
-    ensures stopped { IfSome result.1 (λ after. HasCleanDisk (state S.Store after)
-        → (left : Option (List Entry)) → MayLeaveIn (state S.Store after) left
-        → left ≡ Some (history_in (state S.Store conn).now.trees)) }
-    ensures err { FaultTold (E.contents err.old) (E.contents err.new) result.0 }
-    ensures lost { result.1 ≡ None → IsLost S.Store conn (W.contents out.old)
+    ensures { Ends (CameTo S.Store conn StandsAt result.1) (W.contents out.old)
         (W.contents out.new) (E.contents err.old) (E.contents err.new) result.0 }
 {
-    match open_book(alloc, conn) {
-        Ok(book) => {
-            let came = write_standing(book.book(), out);
-            close_book(came, book, out, err)
-        }
-        Err((fault, conn)) => (ended(Err(fault), out, err), conn),
-    }
+    let (outcome, conn) = standing(alloc, conn);
+    (print_outcome(&outcome, out, err), conn)
 }

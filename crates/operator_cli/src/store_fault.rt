@@ -57,8 +57,14 @@ pub(crate) enum StoreFault {
     NoSocket,
     /// No office is open.
     NotOpen,
-    /// The office is still open.
+    /// The office is still open, though it was told to close.
     StillOpen,
+    /// An office has the file open.
+    AlreadyOpen,
+    /// All places of the office are taken.
+    Full,
+    /// The file of the office is not the one that it holds.
+    LostFile,
 }
 
 impl From<AllocError> for StoreFault {
@@ -219,7 +225,10 @@ fn store_fault_text(fault: StoreFault) -> Text
         StoreFault::LongPath => word(b"long-path"),
         StoreFault::NoSocket => word(b"no-socket"),
         StoreFault::NotOpen => word(b"not-open"),
-        StoreFault::StillOpen => word(b"open"),
+        StoreFault::StillOpen => word(b"still-open"),
+        StoreFault::AlreadyOpen => word(b"already-open"),
+        StoreFault::Full => word(b"full"),
+        StoreFault::LostFile => word(b"lost-file"),
     }
 }
 

@@ -5,7 +5,7 @@ ghost use Rattle.std.specs.Fmt.{decimal};
 ghost use Rattle.arrayvec.specs.ArrayVec.{array_vec_len};
 ghost use Rattle.plain_words.specs.Input.{longest_line};
 ghost use Rattle.plain_words.specs.Writing.{Writes};
-ghost use Rattle.operator_cli.specs.Told.{told_text, told_line, told_status, ended_by_wire, ended_by_take, ended_by_grow, ended_by_audit};
+ghost use Rattle.operator_cli.specs.Told.{told_text, told_line, told_status, ended_by_wire, ended_by_audit};
 ghost use Rattle.operator_cli.specs.declared.store_fault.StoreFault.TheVariants.{Write as WriteFailed};
 
 use crate::status::Status;
@@ -41,6 +41,8 @@ pub(crate) enum Told {
     Nothing,
     /// Nothing was found.
     NotFound,
+    /// The event is not known.
+    Unknown,
     /// The input is longer than a message may be.
     TooLong,
     /// The input is no message.
@@ -81,6 +83,7 @@ fn told_text(told: &Told) -> Text
         Told::NoSite => reply_text(Reply::NoSite),
         Told::Nothing => word(b"nothing"),
         Told::NotFound => word(b"none"),
+        Told::Unknown => word(b"unknown"),
         Told::TooLong => word(b"too-long"),
         Told::Unread(fault) => wire_fault_text(*fault),
         Told::NotTaken(fault) => take_fault_text(*fault),
@@ -123,28 +126,6 @@ pub(crate) fn ended_by_wire(fault: WireFault) -> Result<Told, StoreFault>
     match fault {
         WireFault::Memory => Err(StoreFault::Memory),
         _ => Ok(Told::Unread(fault)),
-    }
-}
-
-/// What a message that is not taken comes to.
-pub(crate) fn ended_by_take(fault: TakeFault) -> Result<Told, StoreFault>
-    ensures { result ≡ ended_by_take fault }
-{
-    match fault {
-        TakeFault::Memory => Err(StoreFault::Memory),
-        TakeFault::Store | TakeFault::Closed => Err(StoreFault::Store),
-        _ => Ok(Told::NotTaken(fault)),
-    }
-}
-
-/// What a count of sites that is not taken comes to.
-pub(crate) fn ended_by_grow(fault: GrowFault) -> Result<Told, StoreFault>
-    ensures { result ≡ ended_by_grow fault }
-{
-    match fault {
-        GrowFault::Memory => Err(StoreFault::Memory),
-        GrowFault::Store | GrowFault::Closed => Err(StoreFault::Store),
-        GrowFault::NotMore | GrowFault::Full => Ok(Told::NotGrown(fault)),
     }
 }
 

@@ -5,7 +5,7 @@ ghost use Rattle.std.specs.Io.KnownBytes.{Consumes, Keeps};
 ghost use Rattle.plain_words.specs.Input.{IsPartOfLine, longest_line};
 ghost use Rattle.plain_words.specs.Writing.{Writes};
 ghost use Rattle.operator_cli.specs.declared.store_fault.StoreFault.TheVariants.{NotOpen, Write as WriteFailed};
-ghost use Rattle.operator_cli.specs.Visits.{PassedAll, PassedNext, PassesOn, ending, heard, is_nothing, line_text, trouble};
+ghost use Rattle.operator_cli.specs.Visits.{IsVisitEnd, PassedAll, PassedNext, PassesOn, ending, heard, is_nothing, line_text, trouble};
 
 use crate::ending::write_line;
 use crate::status::Status;
@@ -80,7 +80,8 @@ pub(crate) fn hear<A: BufRead>(answers: &mut A, line: &mut LineBytes) -> Result<
     }
 }
 
-fn trouble(line: &[u8]) -> Option<StoreFault>
+/// Why an office does not answer, if this line says so.
+pub(crate) fn trouble(line: &[u8]) -> Option<StoreFault>
     ensures { result ≡ trouble line.now }
 {
     if line == b"memory".as_slice() {
@@ -89,10 +90,26 @@ fn trouble(line: &[u8]) -> Option<StoreFault>
         Some(StoreFault::Store)
     } else if line == b"store".as_slice() {
         Some(StoreFault::Store)
+    } else if line == b"full".as_slice() {
+        Some(StoreFault::Full)
+    } else if line == b"idle".as_slice() {
+        Some(StoreFault::Full)
     } else if line == b"bad-line".as_slice() {
         Some(StoreFault::NotOpen)
     } else {
         None
+    }
+}
+
+/// What ends a visit whose question did not reach the office: the trouble that the office told before it ended the
+/// connection, or `NotOpen`.
+pub(crate) fn told_before<A: BufRead>(answers: &mut A) -> StoreFault
+    ensures { IsVisitEnd (A.remaining answers.old) result }
+{
+    let mut line = LineBytes::new();
+    match hear(answers, &mut line) {
+        Ok(()) => trouble(line.as_slice()).unwrap_or(StoreFault::NotOpen),
+        Err(_) => StoreFault::NotOpen,
     }
 }
 
@@ -110,7 +127,10 @@ pub(crate) fn ending(line: &[u8], refused: bool) -> Result<Status, StoreFault>
 fn is_nothing(line: &[u8]) -> bool
     ensures { result ≡ is_nothing line.now }
 {
-    line == b"none".as_slice() || line == b"nothing".as_slice() || line == b"no-site".as_slice()
+    line == b"none".as_slice()
+        || line == b"nothing".as_slice()
+        || line == b"no-site".as_slice()
+        || line == b"unknown".as_slice()
 }
 
 /// How a command ends by the first line of an answer.

@@ -1,20 +1,20 @@
-//! The commands `find`, `list`, `export` and `status` where an office is open.
+//! The commands `find`, `list`, `events`, `shares`, `export` and `status` where an office is open.
 
 ghost use Rattle.std.specs.Prelude.{◌≡◌, ◌≢◌, ◌≤◌, ◌⊎◌, IfOk, IfErr, OnOk, codes, length};
 ghost use Rattle.std.specs.Io.KnownBytes.{Appends, Consumes};
 ghost use Rattle.plain_words.specs.Input.{IsPartOfLine, longest_line};
 ghost use Rattle.plain_words.specs.Writing.{AppendsFront};
 ghost use Rattle.operator_cli.specs.declared.status.Status.TheVariants.{Done, Failed};
-ghost use Rattle.operator_cli.specs.declared.store_fault.StoreFault.TheVariants.{NotOpen, StillOpen, Write as WriteFailed};
+ghost use Rattle.operator_cli.specs.declared.store_fault.StoreFault.TheVariants.{AlreadyOpen, NotOpen, Write as WriteFailed};
 ghost use Rattle.operator_cli.specs.Printed.{Printed};
 ghost use Rattle.operator_cli.specs.Told.{store_fault_line};
-ghost use Rattle.operator_cli.specs.Visits.{FirstPrinted, IsAnswer, IsRowsVisit, IsVisit, IsVisitEnd, PassesOn, RestPrinted, export_question, find_question, line_text, list_question, streams};
+ghost use Rattle.operator_cli.specs.Visits.{FirstPrinted, IsAnswer, IsRowsVisit, IsSharesVisit, IsVisit, IsVisitEnd, PassesOn, RestPrinted, export_question, find_question, line_text, list_question, shares_question, streams};
 
 use crate::ending::{ended, tell_fault};
 use crate::status::Status;
 use crate::store_fault::StoreFault;
 use crate::told::{Told, tell};
-use crate::visiting::{hear, heard, pass_on, print_line, say};
+use crate::visiting::{hear, heard, pass_on, print_line, say, told_before};
 use plain_words::{LineBytes, Text, numbered, put, word};
 use request_ledger::RequestNumber;
 use rights_lattice::{Event, SiteId};
@@ -46,9 +46,11 @@ fn ask_first<A: BufRead, Q: Write>(
         (line_text question.now)) }
     ensures heard { OnOk result (IsPartOfLine line.new.items × Consumes
         (A.remaining answers.old) (A.remaining answers.new) (line_text line.new.items)) }
-    ensures fault { IfErr result (λ fault. fault ≡ NotOpen) }
+    ensures cause { IfErr result (IsVisitEnd (A.remaining answers.old)) }
 {
-    say(question, questions)?;
+    if say(question, questions).is_err() {
+        return Err(told_before(answers));
+    }
     hear(answers, line)
 }
 
@@ -170,13 +172,13 @@ fn visit<A: Read + Drop, Q: Write, W: Write, E: Write>(
     visit_over(expected, question, &mut buffered, questions, out, err)
 }
 
-/// Tells that an office has the file open: `open`, with status 3.
+/// Tells that an office has the file open: `already-open`, with status 3.
 pub fn tell_open<E: Write>(err: &mut E) -> Status
     ensures line { AppendsFront (E.contents err.old) (E.contents err.new)
-        (store_fault_line StillOpen) }
+        (store_fault_line AlreadyOpen) }
     ensures status { result ≡ Failed }
 {
-    tell_fault(StoreFault::StillOpen, err)
+    tell_fault(StoreFault::AlreadyOpen, err)
 }
 
 /// Asks an open office for the place and the reply that are kept under a number, and prints what `find_store` prints of a
@@ -292,6 +294,73 @@ pub fn list_office<A: Read + Drop, Q: Write, W: Write, E: Write>(
         return ended(came, out, err);
     };
     let question = list_question(event);
+    visit(
+        alloc,
+        Expected::Rows,
+        question.as_slice(),
+        answers,
+        questions,
+        out,
+        err,
+    )
+}
+
+/// Asks an open office for the events that its site knows, and prints what `events_store` prints of a file.
+///
+/// Faults are those of `find_office`.
+pub fn events_office<A: Read + Drop, Q: Write, W: Write, E: Write>(
+    alloc: Global,
+    answers: A,
+    questions: &mut Q,
+    out: &mut W,
+    err: &mut E,
+) -> Status
+    ensures { IsVisit Expected.Rows (codes "events") (A.remaining answers)
+        (streams (Q.contents questions.old) (W.contents out.old) (E.contents err.old))
+        (streams (Q.contents questions.new) (W.contents out.new) (E.contents err.new)) result }
+{
+    visit(
+        alloc,
+        Expected::Rows,
+        b"events",
+        answers,
+        questions,
+        out,
+        err,
+    )
+}
+
+// The line that asks for the shares of an event.
+fn shares_question(event: Event) -> Text
+    ensures value { result.items ≡ shares_question event }
+    ensures few { length result.items ≤ longest_line }
+{
+    let mut question = word(b"shares ");
+    put(&mut question, event.bytes());
+    question
+}
+
+/// Asks an open office for the shares of an event, and prints what `shares_store` prints of a file; `unknown` for a word
+/// that is no event name, of which nothing is asked.
+///
+/// Faults are those of `find_office`.
+pub fn shares_office<A: Read + Drop, Q: Write, W: Write, E: Write>(
+    alloc: Global,
+    event: &str,
+    answers: A,
+    questions: &mut Q,
+    out: &mut W,
+    err: &mut E,
+) -> Status
+    ensures { IsSharesVisit event.now (A.remaining answers)
+        (streams (Q.contents questions.old) (W.contents out.old) (E.contents err.old))
+        (streams (Q.contents questions.new) (W.contents out.new) (E.contents err.new)) result }
+{
+    let Some(event) = Event::read(event.as_bytes()) else {
+        let came = tell(&Told::Unknown, out);
+        return ended(came, out, err);
+    };
+    let question = shares_question(event);
     visit(
         alloc,
         Expected::Rows,

@@ -7,9 +7,9 @@ use crate::said::{
 use book_core::Book;
 use delta_buffer::Pending;
 use delta_wire::delta_text;
+use history_keeper::ListKeeper;
 use session_server::{AtBook, Ended, talk};
 use site_desk::SiteBook;
-use sql_records::ListKeeper;
 use std::alloc::Global;
 use std::process::Abort;
 use std::sync::Wait;

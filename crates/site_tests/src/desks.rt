@@ -3,11 +3,11 @@ ghost use Rattle.std.specs.Prelude.{◌≡◌, ◌<◌};
 
 use crate::ends::{End, finish};
 use crate::said::{Office, Say, book_of, failing_book, message, put, put_due, put_taken, site};
+use history_keeper::ListKeeper;
 use plain_words::numbered;
 use request_ledger::Reply;
 use session_server::{AtDesk, Ended, talk};
 use site_desk::{Desk, FinishFault, Gate, Opens, Place, Receipt, Seat, Seen, SiteBook};
-use sql_records::ListKeeper;
 use std::alloc::Global;
 use std::marker::Brand;
 use std::process::Abort;

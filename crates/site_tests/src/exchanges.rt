@@ -3,11 +3,11 @@ ghost use Rattle.std.specs.Prelude.{◌≡◌, ◌<◌};
 
 use crate::books::talked;
 use crate::said::{Office, book_of, failing_book, message, put, put_due, site};
+use history_keeper::ListKeeper;
 use link_queue::{Rx, Tx, link};
 use plain_words::numbered;
 use session_server::{Peer, PeerEnd, exchange_all};
 use site_desk::{Desk, Opens, SiteBook};
-use sql_records::ListKeeper;
 use std::alloc::Global;
 use std::marker::Brand;
 use std::process::Abort;

@@ -5,10 +5,10 @@ ghost use Rattle.std.specs.Prelude.{◌≡◌, ◌<◌};
 
 use crate::books::{due, talked};
 use crate::said::{Office, book_of, put};
+use history_keeper::ListKeeper;
 use plain_words::numbered;
 use session_server::{LinkEnd, Site, SiteEnd, Visit, run_all};
 use site_desk::{Gate, NoGate, Place, SiteBook};
-use sql_records::ListKeeper;
 use std::alloc::Global;
 use std::process::Abort;
 use std::sync::Wait;

@@ -1,7 +1,7 @@
 use Rattle.std.proofs.Common.{refl}
 use Rattle.clap.proofs.OnLiterals.{clap_on_literals}
 use Rattle.plain_words.specs.Number.{number_of}
-use Rattle.operator_cli.specs.Orders.{named_order, number_in, init_in, migrate_in, grow_in, ask_in, find_in, list_in, export_in, import_in, files_in, audit_in, serve_in, open_in, close_in, status_in}
+use Rattle.operator_cli.specs.Orders.{named_order, number_in, init_in, migrate_in, grow_in, ask_in, find_in, list_in, events_in, shares_in, export_in, import_in, files_in, audit_in, serve_in, open_in, close_in, status_in}
 use Rattle.operator_cli.proofs.laws.each_command_has_words.Goals as goal
 
 pub returns-clause-world : goal.returns-clause-world
@@ -32,6 +32,14 @@ pub returns-clause-list : goal.returns-clause-list
 unfolding clap_on_literals named_order list_in
 returns-clause-list c = (refl, refl)
 
+pub returns-clause-events : goal.returns-clause-events
+unfolding clap_on_literals named_order events_in
+returns-clause-events c = (refl, refl)
+
+pub returns-clause-shares : goal.returns-clause-shares
+unfolding clap_on_literals named_order shares_in
+returns-clause-shares c = (refl, refl)
+
 pub returns-clause-export : goal.returns-clause-export
 unfolding clap_on_literals named_order export_in number_in number_of
 returns-clause-export c = (refl, refl)
@@ -59,6 +67,10 @@ returns-clause-close c = (refl, refl)
 pub returns-clause-status : goal.returns-clause-status
 unfolding clap_on_literals named_order status_in
 returns-clause-status c = (refl, refl)
+
+pub returns-clause-version : goal.returns-clause-version
+unfolding clap_on_literals named_order
+returns-clause-version c = (refl, refl)
 
 pub returns-clause-no_file : goal.returns-clause-no_file
 unfolding clap_on_literals

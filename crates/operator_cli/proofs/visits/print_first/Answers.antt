@@ -5,7 +5,7 @@ use Rattle.plain_words.specs.Input.{IsPartOfLine}
 use Rattle.operator_cli.specs.declared.status.Status.{Status}
 use Rattle.operator_cli.specs.declared.store_fault.StoreFault.{StoreFault}
 use Rattle.operator_cli.specs.Visits.{IsVisitEnd, PassesOn, is_nothing, line_text}
-use Rattle.operator_cli.proofs.VisitLaws.{errs_as, lost_end, passes_nothing, passes_text, said_end, write_end}
+use Rattle.operator_cli.proofs.VisitLaws.{errs_as, passes_nothing, passes_text, said_end, write_end}
 use Rattle.operator_cli.proofs.visits.print_first.Goals as goal
 
 pub returns-in_err-ask_first-clause-passes : goal.returns-in_err-ask_first-clause-passes
@@ -15,7 +15,7 @@ returns-in_err-ask_first-clause-passes g c =
 
 pub returns-in_err-ask_first-clause-cause : goal.returns-in_err-ask_first-clause-cause
 returns-in_err-ask_first-clause-cause g c =
-    errs_as c.from_residual.result (λ (r : Result Status StoreFault). IfErr r (IsVisitEnd (g.A.Read.remaining c.args.answers.now))) _ c.from_residual.ensures.1 (λ f e. lost_end _ f (e ∙ c.in_err-ask_first.ensures.fault))
+    errs_as c.from_residual.result (λ (r : Result Status StoreFault). IfErr r (IsVisitEnd (g.A.Read.remaining c.args.answers.now))) _ c.from_residual.ensures.1 (λ f e. subst (IsVisitEnd (g.A.Read.remaining c.args.answers.now)) (sym e) c.in_err-ask_first.ensures.cause)
 
 pub returns-in_err-status-clause-passes : goal.returns-in_err-status-clause-passes
 returns-in_err-status-clause-passes g c =

@@ -1,0 +1,16 @@
+use Rattle.std.proofs.Common.{◌∙◌, ap, inl, refl}
+use Rattle.book_core.specs.BookView.{BookView}
+use Rattle.operator_cli.specs.declared.outcome.Outcome.TheVariants.{Stands}
+use Rattle.operator_cli.specs.Commands.{StandsAt}
+use Rattle.operator_cli.specs.Printed.{standing_in}
+use Rattle.operator_cli.proofs.CommandLaws.{came_over}
+use Rattle.operator_cli.proofs.standing.standing.Goals as goal
+
+pub returns-in-Ok : goal.returns-in-Ok
+returns-in-Ok g c =
+    let shown = c.standing_of-standing.ensures ∙ ap (λ (b : BookView). standing_in b.office b.history) c.book.ensures.book in
+    came_over g.S.Store c.args.conn c.close.result StandsAt (Stands c.standing_of-standing.result) c.in-Ok.book c.in-Ok.book c.into_keeper.result c.into_keeper.ensures c.close.ensures c.in-Ok.ensures.opened
+    (refl, ap Stands shown)
+
+pub returns-in-Err : goal.returns-in-Err
+returns-in-Err g c = inl (c.in-Err.fault, refl, c.in-Err.ensures.fault)
