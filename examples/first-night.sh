@@ -4,6 +4,7 @@ set -eu
 here=$(cd "$(dirname "$0")" && pwd)
 work=$(mktemp -d "${TMPDIR:-/tmp}/first-night.XXXXXX")
 trap 'rm -rf "$work"' EXIT
-"$here/unproved.sh" "$here/first-night.script" "$work/replies"
+"$here/../scripts/build" --unproved
+"$here/../crates/boxoffice/out/boxoffice-unproved" world < "$here/first-night.script" > "$work/replies"
 # Each line of the script with its reply. The first has none, and the totals answer the end.
 { echo; cat "$work/replies"; } | paste -d '\t' "$here/first-night.script" - | expand -t 26 | sed 's/ *$//'

@@ -1,10 +1,10 @@
 #!/usr/bin/env bash
 # Three box offices in network namespaces of their own, each with a broker. All sell; east is cut off, and all sell on; then the
-# line is back, and the files of all are summed up. Each line shows a request, its reply, and what each city has left to sell then.
-# The files stay in the folder that is named at the end.
+# line is back. Last `balance` cedes by itself what north can spare, and the files of all are summed up. Each line shows a request,
+# its reply, and what each city has left to sell then. The files stay in the folder that is named at the end.
 #
 # usage: three-cities.sh                 builds the program, which proves it first
-#        three-cities.sh --unproved      compiles it in some minutes, and proves nothing
+#        three-cities.sh --unproved      compiles it in some minutes, unless that was done, and proves nothing
 #        three-cities.sh PROGRAM         takes a boxoffice that is there
 #
 # East is cut off for CUT seconds (10). The script needs root, for the namespaces, and the packages iproute2, mosquitto,
@@ -30,10 +30,8 @@ case ${1:-} in
     boxoffice="$here/../crates/boxoffice/out/boxoffice"
     ;;
 --unproved)
-    # A script that takes long enough for the program to be kept.
-    (echo 'sites 1' && yes '0 left gala' | head -n 100000) > "$folder/script"
-    "$here/unproved.sh" "$folder/script" "$folder/replies" "$folder/boxoffice"
-    boxoffice="$folder/boxoffice"
+    "$here/../scripts/build" --unproved
+    boxoffice="$here/../crates/boxoffice/out/boxoffice-unproved"
     ;;
 *)
     boxoffice=$(realpath "$1")
@@ -150,6 +148,13 @@ echo "East is back after $cut s and more, and gets what was ceded meanwhile:"
 await 'left gala' 'left 20' east
 sell east 'sell 4 gala 20'
 await 'totals gala' 'totals released 300 sold 270 refunded 0 open 30' "${cities[@]}"
+
+echo 'North alone has seats. At each city balance is started, and north cedes some by itself:'
+for city in "${cities[@]}"; do start "$city" "$here/../exchange/balance" "$city.db" 7000; done
+await 'left gala' 'left 6' south east
+sed -n 's/^\(gala: .* done\): .*/    north: \1/p' north.said
+sell south 'sell 3 gala 6'
+await 'totals gala' 'totals released 300 sold 276 refunded 0 open 24' "${cities[@]}"
 
 for city in "${cities[@]}"; do "$boxoffice" close "$city.db"; done
 echo '$ boxoffice audit north.db south.db east.db'

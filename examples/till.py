@@ -1,10 +1,11 @@
 #!/usr/bin/env python3
-"""A till on the terminal: sells, gives back, and shows what is left, and goes on while the office is closed and opened again.
+"""A till on the terminal: sells, gives back, and shows what is left, and goes on while the office is closed and opened
+again.
 
 usage: till.py PORT JOURNAL FIRST LAST
 
-PORT is the office's port on this machine, FIRST to LAST the request numbers of this till alone, and JOURNAL the file in which it
-keeps them. From standard input, one line each:
+PORT is the office's port on this machine, FIRST to LAST the request numbers of this till alone, and JOURNAL the file in
+which it keeps them. From standard input, one line each:
 
     sell EVENT [SEATS]      sells 1 seat or SEATS
     refund SALE [SEATS]     gives back the sale with this number, or SEATS of it
@@ -12,28 +13,30 @@ keeps them. From standard input, one line each:
     totals EVENT            what all offices sold, as far as this one knows
     quit
 
-Each is answered by one line on standard output; `done` and what is refused stand after the number of the request. All else goes
-to standard error. Status 1: the till could not go on, and standard error says why.
+Each is answered by one line on standard output; `done` and what is refused stand after the number of the request. All
+else goes to standard error. Status 1: the till could not go on, and standard error says why.
 """
 
 import contextlib
 import os
 import sys
+from typing import Any
+
 
 sys.path.insert(0, os.path.join(os.path.dirname(os.path.abspath(__file__)), "..", "clients", "python"))
 
-import boxoffice
+import boxoffice  # noqa: E402
 
 # How long the office may be silent before the clerk hears of it.
 SECONDS = 5.0
 HELP = "sell EVENT [SEATS], refund SALE [SEATS], left EVENT, totals EVENT, quit"
 
 
-def hear(text):
+def hear(text: Any) -> None:
     print(text, file=sys.stderr, flush=True)
 
 
-def opened(port, journal, first, last):
+def opened(port: int, journal: Any, first: Any, last: Any) -> Any:
     """The till, once the office answers the request that was open, if there was one."""
     while True:
         try:
@@ -42,7 +45,7 @@ def opened(port, journal, first, last):
             hear(f"the office does not answer, asking again: {silence}")
 
 
-def until_answered(till, ask, *words):
+def until_answered(till: Any, ask: Any, *words: Any) -> Any:
     """The result of a request or a look, however long the office is away."""
     while True:
         try:
@@ -53,7 +56,7 @@ def until_answered(till, ask, *words):
             hear(f"the office does not answer, asking again: {silence}")
 
 
-def shown(result):
+def shown(result: Any) -> str:
     match result:
         case boxoffice.Done(number):
             return f"{number} done"
@@ -66,7 +69,7 @@ def shown(result):
     return f"left {result}"
 
 
-def answered(till, line):
+def answered(till: Any, line: str) -> Any:
     """The line that answers one of the clerk; None where it cannot be read."""
     with contextlib.suppress(ValueError):
         match line.split():
@@ -85,7 +88,7 @@ def answered(till, line):
     return None
 
 
-def serve(till):
+def serve(till: Any) -> None:
     if till.journal.last:
         line, result = till.journal.last
         hear(f"last before: {line}: {shown(result)}{', asked again just now' if till.resumed else ''}")
@@ -98,7 +101,7 @@ def serve(till):
         print(answered(till, line) or f"not understood: {HELP}", flush=True)
 
 
-def main():
+def main() -> None:
     try:
         port, journal, first, last = sys.argv[1:]
         numbers = int(port), journal, int(first), int(last)

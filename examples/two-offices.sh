@@ -3,7 +3,7 @@
 # of PORT). Their files stay in the folder that is named at the end.
 #
 # usage: two-offices.sh                 builds the program, which proves it first
-#        two-offices.sh --unproved      compiles it in some minutes, and proves nothing
+#        two-offices.sh --unproved      compiles it in some minutes, unless that was done, and proves nothing
 #        two-offices.sh PROGRAM         takes a boxoffice that is there
 set -eu
 port=${PORT:-7000}
@@ -15,10 +15,8 @@ case ${1:-} in
     boxoffice="$here/../crates/boxoffice/out/boxoffice"
     ;;
 --unproved)
-    # A script that takes long enough for the program to be kept.
-    (echo 'sites 1' && yes '0 left gala' | head -n 100000) > "$folder/script"
-    "$here/unproved.sh" "$folder/script" "$folder/replies" "$folder/boxoffice"
-    boxoffice="$folder/boxoffice"
+    "$here/../scripts/build" --unproved
+    boxoffice="$here/../crates/boxoffice/out/boxoffice-unproved"
     ;;
 *)
     boxoffice=$(realpath "$1")

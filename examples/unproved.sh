@@ -4,14 +4,17 @@
 # usage: unproved.sh SCRIPT REPLIES [PROGRAM]
 #
 # The replies to SCRIPT go to the file REPLIES. `rt try` makes the program in a folder of its own, runs it, and removes it: where
-# PROGRAM is given, it is linked to that name while SCRIPT runs. Such a program checks itself as it runs, and is slow.
+# PROGRAM is given, it is linked to that name while SCRIPT runs. Such a program checks itself as it runs, and is slow. It is compiled
+# from a copy of the crates in which `boxoffice version` says `unproved`.
 set -eu
 here=$(cd "$(dirname "$0")" && pwd)
 script=$(realpath "$1") replies=$(realpath "$2")
 room=$(mktemp -d "$replies.XXXXXX")
 trap 'rm -rf "$room"' EXIT
+tar -C "$here/.." --exclude=out -cf - HANDLES crates.txt crates | tar -C "$room" -xf -
+sed -i 's/\\nproved\\n/\\nunproved\\n/' "$room/crates/operator_cli/src/version.rt"
 echo 'Compiling boxoffice and the crates below it, unproved: two to four minutes.' >&2
-(cd "$here/../crates/boxoffice" && TMPDIR=$room exec rt try -- world < "$script" > "$replies" 2> "$room/log") &
+(cd "$room/crates/boxoffice" && TMPDIR=$room exec rt try -- world < "$script" > "$replies" 2> "$room/log") &
 compiling=$!
 while kill -0 $compiling 2> /dev/null; do
     [ ! -t 2 ] || printf '\rcompiling: %3d s ' $SECONDS >&2
