@@ -121,6 +121,18 @@ reply_to office h (Cede event to n) =
     else if is_full (state_of h).cells event (Gave office.me to) n then CellFull
     else Done
 
+-- what is left where a request under a new number asks for more than that, and would be refused
+abbrev pub left_if_short : Reply → Option ℕ
+left_if_short (Short left) = Some left
+left_if_short _ = None
+
+abbrev pub shortage_if : Option Kept → Office → List Entry → Request → Option ℕ
+shortage_if (Some k) office h request = None
+shortage_if None office h request = left_if_short (reply_to office h request)
+
+abbrev pub shortage : Office → List Entry → ℕ → Request → Option ℕ
+shortage office h number request = shortage_if (kept h number) office h request
+
 -- the answer to a request under its number
 pub data Decision : Type 0 where
   Again : (place : ℕ) → (reply : Reply) → Decision

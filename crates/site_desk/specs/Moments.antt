@@ -1,10 +1,10 @@
 -- What the book under a desk's lock is at one moment, and what is answered by it then. (Our own.)
-use Rattle.std.specs.Prelude.{◌≡◌, ℕ, true, false, List, Vec, take, length, Option, Some, None, Result, Ok, Err, IfOk}
+use Rattle.std.specs.Prelude.{◌≡◌, ℕ, true, false, List, Vec, take, length, Option, Some, None, Result, Ok, Err, IfOk, if◌then◌else◌}
 use Rattle.rights_lattice.specs.State.{AtOrBelow, knows}
 use Rattle.request_ledger.specs.declared.request.Request.{Request}
 use Rattle.book_core.specs.declared.entry.Entry.{Entry}
 use Rattle.book_core.specs.BookView.{BookView}
-use Rattle.book_core.specs.Decision.{Office, sites_of}
+use Rattle.book_core.specs.Decision.{Office, shortage, sites_of}
 use Rattle.book_core.specs.History.{names_known, state_of}
 use Rattle.book_core.specs.Legal.{IsLegal}
 use Rattle.history_keeper.specs.declared.lookup.Found.{Found}
@@ -113,6 +113,10 @@ Shares event (Ok None) site = (site.closed ≡ false) × (knows (state_of site.b
 Shares event (Ok (Some rows)) site = (site.closed ≡ false) × (knows (state_of site.book.history).names event ≡ true) × (rows.items ≡ shares_in site.book event)
 Shares event (Err look_up.Closed) site = site.closed ≡ true
 Shares event (Err look_up.Memory) site = site.closed ≡ false
+
+-- what is left where an open site would refuse the request, under a new number, for want of seats
+abbrev pub IsShortage : {K : Type 0} → ℕ → Request → Option ℕ → SiteView K → Type 0
+IsShortage number request left site = left ≡ (if site.closed then None else shortage site.book.office site.book.history number request)
 
 abbrev pub Takes : {K : Type 0} → (K → ℕ) → Message → Result Taken TakeFault → SiteView K → Type 0
 Takes failed message (Ok taken) site = (site.closed ≡ false) × IsTaken (verdict_in site.book message) (ack_for message) taken

@@ -6,7 +6,7 @@ ghost use Rattle.site_desk.specs.Answers.{ack_of};
 ghost use Rattle.site_desk.specs.Calls.{fresh_given};
 ghost use Rattle.site_desk.specs.Count.{asked_since};
 ghost use Rattle.site_desk.specs.Finish.{FindsFirst, HasItsReceipt, StandsIn, WasSeen, handed_back, receipt_of};
-ghost use Rattle.site_desk.specs.Moments.{AsksAtDesk, AtOneMoment, Events, Finds, HoldsDelta, HoldsReceipt, IsAtDesk, IsStanding, Lists, Looks, Replies, Sends, Shares, StandsGiven, Takes};
+ghost use Rattle.site_desk.specs.Moments.{AsksAtDesk, AtOneMoment, Events, Finds, HoldsDelta, HoldsReceipt, IsAtDesk, IsShortage, IsStanding, Lists, Looks, Replies, Sends, Shares, StandsGiven, Takes};
 ghost use Rattle.site_desk.specs.Seats.{held, parts_of, shares_of};
 ghost use Rattle.site_desk.specs.SiteView.{SiteInStep, SiteView};
 
@@ -200,6 +200,14 @@ impl<K: Keeper, L: Opens> Desk<K, L> {
         ensures shares { AtOneMoment L.office L.began (SiteInStep K.Keeper) (Shares event result) }
     {
         self.lock.lock(rt).shares(alloc, event)
+    }
+
+    /// What is left of the event, if the request is under a new number and asks for more than that: `ask` would keep `Short`.
+    /// Nothing is asked, entered or stored, and a closed book tells none.
+    pub fn shortage<R: Wait>(&self, rt: &R, number: RequestNumber, request: &Request) -> Option<u64>
+        ensures shortage { AtOneMoment L.office L.began (SiteInStep K.Keeper) (IsShortage number request.now result) }
+    {
+        self.lock.lock(rt).shortage(number, request)
     }
 
     /// Which site it is, and how long its history is, also where the book is closed.

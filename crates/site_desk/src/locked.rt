@@ -9,7 +9,7 @@ ghost use Rattle.site_desk.specs.Looks.{IsSeenAt};
 ghost use Rattle.site_desk.specs.Calls.{AskAllCall, AskCall, TakeCall, answer_in, answers_in, fresh_given};
 ghost use Rattle.site_desk.specs.SiteView.{SiteInStep, site_of};
 ghost use Rattle.site_desk.specs.Count.{asked_since};
-ghost use Rattle.site_desk.specs.Moments.{Events, Finds, IsAtDesk, IsStanding, Lists, Shares};
+ghost use Rattle.site_desk.specs.Moments.{Events, Finds, IsAtDesk, IsShortage, IsStanding, Lists, Shares};
 ghost use Rattle.site_desk.specs.Finish.{FindsFirst, HasItsReceipt, StandsIn, WasSeen, handed_back, receipt_of};
 ghost use Rattle.site_desk.specs.Seats.{held, parts_of, shares_of};
 
@@ -253,6 +253,19 @@ impl<K: Keeper, L: Opens> Locked<K, L> {
         // What the book says of its history.
         let _book = self.book.book();
         self.book.shares(alloc, event)
+    }
+
+    /// What is left, if the request is under a new number and asks for more than that.
+    pub fn shortage(&self, number: RequestNumber, request: &Request) -> Option<u64>
+        ensures at_desk { IsAtDesk L.office L.began (SiteInStep K.Keeper) self.now }
+        ensures shortage { IsShortage number request.now result self.now }
+    {
+        // What the book says of its history.
+        let _book = self.book.book();
+        if self.book.is_closed() {
+            return None;
+        }
+        self.book.book().shortage(number, request)
     }
 
     /// Which site it is, and how long its history is.

@@ -2,7 +2,7 @@
 ghost use Rattle.std.specs.Prelude.{IfOk, IfErr, IsOk, ◌≡◌, ◌≤◌, false, None};
 ghost use Rattle.request_ledger.specs.Requests.{is_done};
 ghost use Rattle.request_ledger.specs.Requests.{same_request};
-ghost use Rattle.book_core.specs.Decision.{decision, reply_to, delta_for, state_of_item};
+ghost use Rattle.book_core.specs.Decision.{decision, reply_to, delta_for, shortage, state_of_item};
 ghost use Rattle.book_core.specs.OwnRow.{HasOwnRights};
 ghost use Rattle.book_core.specs.Plans.{IsPlan, IsFault, IsFreshRefusal, LeavesRoom};
 ghost use Rattle.request_ledger.specs.declared.request.Request.TheVariants.{Announce, Release, Sell, Refund, Cede};
@@ -66,6 +66,20 @@ impl Book {
             return Err(PlanFault::Memory);
         }
         Ok(Plan::New(Planned { entry }))
+    }
+
+    /// What is left of the event, if a request under a new number asks for more than that: `plan` would refuse it as `Short`.
+    /// It wants no memory, and nothing is planned.
+    pub fn shortage(&self, number: RequestNumber, request: &Request) -> Option<u64>
+        ensures { result ≡ shortage self.now.office self.now.history number request.now }
+    {
+        if self.kept(number).is_some() {
+            return None;
+        }
+        match self.decide(request).0 {
+            Reply::Short { left } => Some(left),
+            _ => None,
+        }
     }
 
     pub(super) fn decide(&self, request: &Request) -> (Reply, Option<Item>)
