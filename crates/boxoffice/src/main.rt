@@ -21,7 +21,7 @@ use crate::files::{FileFault, Files, close, failed, open_or_make, open_there};
 use crate::offices::visited;
 use crate::watch::{FileId, Held, id_at, watch};
 use book_core::Limit;
-use live_office::{Closing, Places, TcpDoor, UnixDoor};
+use live_office::{Closing, Places, Sparing, TcpDoor, UnixDoor};
 use operator_cli::{
     CloseFault, FileNames, Order, Status, WordsFault, ask_store, audit_stores, events_store,
     export_store, find_store, grow_store, import_store, init_store, list_store, migrate_store,
@@ -462,6 +462,7 @@ fn office<S: Alter + Drop + Send>(
     clerks: &TcpDoor<'_>,
     operators: &UnixDoor<'_>,
     closing: &Closing,
+    sparing: Sparing,
 ) -> (Status, Option<Connection<S>>) {
     office_store(
         host,
@@ -472,6 +473,7 @@ fn office<S: Alter + Drop + Send>(
         clerks,
         operators,
         closing,
+        sparing,
         &mut rt.stdout(),
         &mut rt.stderr(),
     )
@@ -488,6 +490,7 @@ fn office_watched<S: Alter + Drop + Send>(
     clerks: &TcpDoor<'_>,
     operators: &UnixDoor<'_>,
     closing: &Closing,
+    sparing: Sparing,
 ) -> (Status, Option<Connection<S>>) {
     // The watch is first: a first closure that gets no thread runs when the second has ended.
     let ((), came) = join(
@@ -503,6 +506,7 @@ fn office_watched<S: Alter + Drop + Send>(
                 clerks,
                 operators,
                 closing,
+                sparing,
             );
             closing.ended();
             came
@@ -562,6 +566,7 @@ fn run_open<S: Alter + Drop + Send, H: Shelf<Connection<S>>>(
         + Net<Listener = TcpListener, Stream = TcpStream>),
     port: u16,
     file: &str,
+    sparing: Sparing,
     shelf: &H,
 ) -> Result<Status, Status> {
     let Ok(socket) = Socket::of(rt.alloc(), file) else {
@@ -599,7 +604,9 @@ fn run_open<S: Alter + Drop + Send, H: Shelf<Connection<S>>>(
             return Ok(close_site(rt, shelf, status, site));
         }
     };
-    let came = office_watched(rt, host, site, port, &held, &clerks, &operators, &closing);
+    let came = office_watched(
+        rt, host, site, port, &held, &clerks, &operators, &closing, sparing,
+    );
     socket.put_aside(host);
     let status = close_office(rt, shelf, &held, &closing, came);
     socket.remove(host);
@@ -658,7 +665,11 @@ fn run_order<S: Alter + Drop + Send, H: Shelf<Connection<S>>>(
             rounds,
             files,
         } => run_serve(rt, host, &files, port, sessions, rounds, shelf),
-        Order::Open { port, file } => run_open(rt, host, port, file, shelf),
+        Order::Open {
+            port,
+            file,
+            sparing,
+        } => run_open(rt, host, port, file, sparing, shelf),
         Order::Close { file } => run_close(rt, host, file),
         Order::Status { file } => run_status(rt, file, shelf),
         Order::Version => Ok(tell_version(&mut rt.stdout(), &mut rt.stderr())),

@@ -20,6 +20,7 @@ use Rattle.live_office.specs.declared.importing.ImportFault.TheVariants.{Unread,
 use Rattle.live_office.specs.declared.office_answer.OfficeAnswer.{OfficeAnswer}
 use Rattle.live_office.specs.declared.office_answer.OfficeAnswer.TheVariants as answer
 use Rattle.live_office.specs.RecordLines.{event_line, found_line, row_line, share_line, standing_text}
+use Rattle.live_office.specs.Sparing.{reserve_text, spared_text}
 
 -- why no message is given
 abbrev pub next_fault_text : NextFault → List ℕ
@@ -88,9 +89,10 @@ shares_text (Ok None) = codes "unknown" ++ 10 ∷ []
 shares_text (Ok (Some rows)) = ended_shares rows.items
 shares_text (Err fault) = look_up_fault_text fault ++ 10 ∷ []
 
--- which site it is, how many it counts, how long its history is and may become, and how many callers are served
-abbrev pub status_text : Standing → ℕ → List ℕ
-status_text s callers = standing_text s ++ codes " callers " ++ decimal callers ++ 10 ∷ []
+-- which site it is, how many it counts, how long its history is and may become, how many callers are served, and of which
+-- entries the last are kept
+abbrev pub status_text : Standing → ℕ → ℕ → List ℕ
+status_text s callers reserve = standing_text s ++ codes " callers " ++ decimal callers ++ reserve_text reserve ++ 10 ∷ []
 
 -- which site it is, and how many it counts
 abbrev pub site_text : Standing → List ℕ
@@ -99,12 +101,13 @@ site_text s = codes "site " ++ decimal s.me ++ codes " of " ++ decimal s.sites +
 -- the whole answer to a line, with its line breaks; nothing while a message comes
 abbrev pub answer_text : OfficeAnswer → List ℕ
 answer_text (answer.Reply answered) = reply_line answered
+answer_text (answer.Spared spared) = spared_text spared
 answer_text (answer.Exported result) = exported_text result
 answer_text (answer.Imported result) = imported_text result
 answer_text (answer.Found result) = found_text result
 answer_text (answer.Listed result) = listed_text result
 answer_text (answer.Events result) = events_text result
 answer_text (answer.Shares result) = shares_text result
-answer_text (answer.Status standing callers) = status_text standing callers
+answer_text (answer.Status standing callers reserve) = status_text standing callers reserve
 answer_text (answer.Site standing) = site_text standing
 answer_text answer.Quiet = []

@@ -2,6 +2,7 @@
 use Rattle.std.specs.Prelude.{◌≡◌, ◌⊎◌, ℕ, Bool, true, false, List, [], ◌∷◌, ◌++◌, Option, Some, None, Result, Err, Vec, codes}
 use Rattle.std.specs.Str.{bytes_eq}
 use Rattle.std.specs.declared.alloc.Global.{Global}
+use Rattle.request_ledger.specs.declared.request.Request.{Request}
 use Rattle.history_keeper.specs.declared.lookup.Found.{Found}
 use Rattle.history_keeper.specs.declared.lookup.Listed.{Listed}
 use Rattle.site_exchange.specs.declared.message.Message.{Message}
@@ -28,7 +29,10 @@ use Rattle.live_office.specs.Answers.{events_text, exported_text, found_text, im
 use Rattle.live_office.specs.Importing.{IsImported}
 use Rattle.live_office.specs.Lines.{office_line_of}
 use Rattle.live_office.specs.SeatAnswers.{SeatAnswers}
+use Rattle.live_office.specs.declared.sparing.Sparing.{Sparing}
+use Rattle.live_office.specs.declared.sparing.Spared.{Spared}
 use Rattle.live_office.specs.Sitting.{Sitting}
+use Rattle.live_office.specs.Sparing.{IsSpared, spared_text}
 
 -- what has come of a message after `import`: no message comes, its text so far, or memory was refused for it
 pub data Gathering : Type 0 where
@@ -36,28 +40,39 @@ pub data Gathering : Type 0 where
   Text : List ℕ → Gathering
   Lost : Gathering
 
--- a seat, and what has come of a message
+-- how the office spares its history, a seat, and what has come of a message
 pub record SeatState : Type 0 where
+  pub sparing : Sparing
   pub seat : Sitting
   pub gathering : Gathering
 
-abbrev pub seat_state : Sitting → Gathering → SeatState
-seat_state seat gathering = record { seat = seat; gathering = gathering }
+abbrev pub seat_state : Sparing → Sitting → Gathering → SeatState
+seat_state sparing seat gathering = record { sparing = sparing; seat = seat; gathering = gathering }
+
+-- the same seat, with that of a message
+abbrev pub with_gathering : SeatState → Gathering → SeatState
+with_gathering s gathering = seat_state s.sparing s.seat gathering
 
 -- a line of a session is answered as the seat answers it
 abbrev pub HandlesSession : {K : Type 0} → Admissible K → SeatState → Line → List ℕ → SeatState → Type 0
 HandlesSession d old line text new =
-    (given : Answered) × SeatAnswers d old.seat line given new.seat × (text ≡ reply_line given) × (new.gathering ≡ old.gathering)
+    (given : Answered) × SeatAnswers d old.seat line given new.seat × (text ≡ reply_line given) × (new ≡ seat_state old.sparing new.seat old.gathering)
+
+-- a request is answered so, or spared: then nothing changes
+abbrev pub HandlesAsk : {K : Type 0} → Admissible K → SeatState → ℕ → Request → List ℕ → SeatState → Type 0
+HandlesAsk d old number request text new =
+    HandlesSession d old (Ask number request) text new
+    ⊎ ((spared : Spared) × IsSpared d old.sparing number request spared × (text ≡ spared_text spared) × (new ≡ old))
 
 -- A line where no message comes. `quit` and `close` have no answer. The count of callers is not pinned.
 abbrev pub HandlesLine : {K : Type 0} → Admissible K → SeatState → Option OfficeLine → List ℕ → SeatState → Type 0
-HandlesLine d old (Some (office_line.Session (Ask number request))) text new = HandlesSession d old (Ask number request) text new
+HandlesLine d old (Some (office_line.Session (Ask number request))) text new = HandlesAsk d old number request text new
 HandlesLine d old (Some (office_line.Session (Left event))) text new = HandlesSession d old (Left event) text new
 HandlesLine d old (Some (office_line.Session (Totals event))) text new = HandlesSession d old (Totals event) text new
 HandlesLine d old (Some (office_line.Session QuitLine)) text new = ⊥
 HandlesLine d old (Some (office_line.Export to)) text new =
     (result : Result (Option Message) NextFault) × SomeAdmissible d (Sends to result) × (text ≡ exported_text result) × (new ≡ old)
-HandlesLine d old (Some office_line.Import) text new = (text ≡ []) × (new ≡ seat_state old.seat (Text []))
+HandlesLine d old (Some office_line.Import) text new = (text ≡ []) × (new ≡ with_gathering old (Text []))
 HandlesLine d old (Some (office_line.Find number)) text new =
     (result : Result (Option Found) LookUpFault) × SomeAdmissible d (Finds number result) × (text ≡ found_text result) × (new ≡ old)
 HandlesLine d old (Some (office_line.List event)) text new =
@@ -67,22 +82,22 @@ HandlesLine d old (Some office_line.Events) text new =
 HandlesLine d old (Some (office_line.Shares event)) text new =
     (result : Result (Option (Vec SiteShare Global)) LookUpFault) × SomeAdmissible d (Shares event result) × (text ≡ shares_text result) × (new ≡ old)
 HandlesLine d old (Some office_line.Status) text new =
-    (standing : Standing) × (callers : ℕ) × SomeAdmissible d (IsStanding standing) × (text ≡ status_text standing callers) × (new ≡ old)
+    (standing : Standing) × (callers : ℕ) × SomeAdmissible d (IsStanding standing) × (text ≡ status_text standing callers old.sparing.reserve) × (new ≡ old)
 HandlesLine d old (Some office_line.Site) text new =
     (standing : Standing) × SomeAdmissible d (IsStanding standing) × (text ≡ site_text standing) × (new ≡ old)
 HandlesLine d old (Some office_line.Close) text new = ⊥
 HandlesLine d old None text new = (text ≡ reply_line answered.Unread) × (new ≡ old)
 
 -- A line of a message, which is this text with it. With its last line the message is taken; before, nothing is answered.
-abbrev pub HandlesPart : {K : Type 0} → Admissible K → Sitting → List ℕ → Bool → List ℕ → SeatState → Type 0
-HandlesPart d seat message true text new =
-    (result : Result Taken ImportFault) × IsImported d message result × (text ≡ imported_text result) × (new ≡ seat_state seat Nothing)
-HandlesPart d seat message false text new = (text ≡ []) × ((new ≡ seat_state seat (Text message)) ⊎ (new ≡ seat_state seat Lost))
+abbrev pub HandlesPart : {K : Type 0} → Admissible K → SeatState → List ℕ → Bool → List ℕ → SeatState → Type 0
+HandlesPart d old message true text new =
+    (result : Result Taken ImportFault) × IsImported d message result × (text ≡ imported_text result) × (new ≡ with_gathering old Nothing)
+HandlesPart d old message false text new = (text ≡ []) × ((new ≡ with_gathering old (Text message)) ⊎ (new ≡ with_gathering old Lost))
 
 -- a line of a message for which memory was refused: `memory` is answered with its last line
-abbrev pub HandlesLost : Sitting → Bool → List ℕ → SeatState → Type 0
-HandlesLost seat true text new = (text ≡ imported_text (Err (Unread Memory))) × (new ≡ seat_state seat Nothing)
-HandlesLost seat false text new = (text ≡ []) × (new ≡ seat_state seat Lost)
+abbrev pub HandlesLost : SeatState → Bool → List ℕ → SeatState → Type 0
+HandlesLost old true text new = (text ≡ imported_text (Err (Unread Memory))) × (new ≡ with_gathering old Nothing)
+HandlesLost old false text new = (text ≡ []) × (new ≡ with_gathering old Lost)
 
 -- the line is the last of a message
 abbrev pub ends_message : List ℕ → Bool
@@ -91,8 +106,8 @@ ends_message line = bytes_eq line (codes "end")
 -- a line, by what has come of a message before it
 abbrev pub HandlesBy : {K : Type 0} → Admissible K → SeatState → Gathering → List ℕ → List ℕ → SeatState → Type 0
 HandlesBy d old Nothing line text new = HandlesLine d old (office_line_of line) text new
-HandlesBy d old (Text so_far) line text new = HandlesPart d old.seat (so_far ++ line ++ 10 ∷ []) (ends_message line) text new
-HandlesBy d old Lost line text new = HandlesLost old.seat (ends_message line) text new
+HandlesBy d old (Text so_far) line text new = HandlesPart d old (so_far ++ line ++ 10 ∷ []) (ends_message line) text new
+HandlesBy d old Lost line text new = HandlesLost old (ends_message line) text new
 
 -- a seat handles a line by this text, and then has this state
 abbrev pub Handles : {K : Type 0} → Admissible K → SeatState → List ℕ → List ℕ → SeatState → Type 0

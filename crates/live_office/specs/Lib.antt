@@ -13,5 +13,6 @@ pub mod RecordLines
 pub mod SeatAnswers
 pub mod Served
 pub mod Sitting
+pub mod Sparing
 pub mod Talks
 pub mod Together

@@ -10,18 +10,15 @@ ghost use Rattle.live_office.specs.Handling.{Nothing, seat_state};
 ghost use Rattle.live_office.specs.Lines.{office_line_of};
 ghost use Rattle.live_office.specs.Sitting.{sitting};
 
-use crate::callers::Callers;
-use crate::closing::Closing;
 use crate::door::Access;
 use crate::handler::{Handler, Last};
 use crate::office_answer::OfficeAnswer;
 use crate::office_line::{OfficeLine, read_office_line};
 use crate::office_seat::OfficeSeat;
-use crate::together::Together;
+use crate::shared::Shared;
 use desk_lines::{Answered, BadLine, Line};
 use history_keeper::Keeper;
-use site_desk::{Desk, Opens, Seat};
-use std::alloc::Global;
+use site_desk::{Opens, Seat};
 use std::marker::Model;
 use std::sync::Wait;
 
@@ -92,22 +89,14 @@ fn refused_at_port(was_read: bool) -> Result<OfficeAnswer, Last>
 
 impl<'a, K: Keeper, L: Opens> CallerSeat<'a, K, L> {
     /// The seat answers at this desk, and tells the count of callers from here. No line was read.
-    pub fn new(
-        alloc: Global,
-        desk: &'a Desk<K, L>,
-        together: &'a Together<K, L>,
-        closing: &'a Closing,
-        callers: &'a Callers,
-        seat: Seat<L>,
-        access: Access,
-    ) -> CallerSeat<'a, K, L>
+    pub fn new(shared: &'a Shared<'a, K, L>, seat: Seat<L>, access: Access) -> CallerSeat<'a, K, L>
         ensures { result ≡ caller_state access false
-            (seat_state (sitting seat.parts None) Nothing) }
+            (seat_state shared.sparing (sitting seat.parts None) Nothing) }
     {
         CallerSeat {
             access,
             was_read: false,
-            office: OfficeSeat::new(alloc, desk, together, closing, callers, seat),
+            office: OfficeSeat::new(shared, seat),
         }
     }
 

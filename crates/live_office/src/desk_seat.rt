@@ -9,15 +9,13 @@ ghost use Rattle.live_office.specs.SeatAnswers.{SeatAnswers};
 ghost use Rattle.live_office.specs.Sitting.{later, sitting};
 ghost use Rattle.site_desk.specs.declared.fault.AskFault.TheVariants.{Closed, Store};
 
-use crate::closing::Closing;
-use crate::together::Together;
+use crate::shared::Shared;
 use desk_lines::{Answered, Line};
 use history_keeper::Keeper;
 use request_ledger::{Request, RequestNumber};
 use rights_lattice::Event;
 use session_server::Answerer;
-use site_desk::{AskFault, Desk, LookFault, Opens, Seat};
-use std::alloc::Global;
+use site_desk::{AskFault, LookFault, Opens, Seat};
 use std::marker::Model;
 use std::sync::Wait;
 
@@ -25,10 +23,7 @@ use std::sync::Wait;
 /// does not grow: of its replies it knows the last place. Where the store fails, it closes the office.
 #[derive(Drop)]
 pub struct DeskSeat<'a, K: Keeper, L: Opens> {
-    alloc: Global,
-    desk: &'a Desk<K, L>,
-    together: &'a Together<K, L>,
-    closing: &'a Closing,
+    shared: &'a Shared<'a, K, L>,
     seat: Seat<L>,
     latest: Option<usize>,
 }
@@ -43,20 +38,11 @@ impl<'a, K: Keeper, L: Opens> Model for DeskSeat<'a, K, L> {
 
 impl<'a, K: Keeper, L: Opens> DeskSeat<'a, K, L> {
     /// The seat answers at this desk, and has no reply yet. Its requests may be asked together with others.
-    pub fn new(
-        alloc: Global,
-        desk: &'a Desk<K, L>,
-        together: &'a Together<K, L>,
-        closing: &'a Closing,
-        seat: Seat<L>,
-    ) -> DeskSeat<'a, K, L>
+    pub fn new(shared: &'a Shared<'a, K, L>, seat: Seat<L>) -> DeskSeat<'a, K, L>
         ensures { result ≡ sitting seat.parts None }
     {
         DeskSeat {
-            alloc,
-            desk,
-            together,
-            closing,
+            shared,
             seat,
             latest: None,
         }
@@ -76,8 +62,8 @@ impl<'a, K: Keeper, L: Opens> DeskSeat<'a, K, L> {
         ensures { result ≡ Refused fault }
     {
         match fault {
-            AskFault::Store => self.closing.failed(self.desk),
-            AskFault::Closed => self.closing.failed(self.desk),
+            AskFault::Store => self.shared.closing.failed(self.shared.desk),
+            AskFault::Closed => self.shared.closing.failed(self.shared.desk),
             _ => {}
         }
         Answered::Refused(fault)
@@ -87,10 +73,13 @@ impl<'a, K: Keeper, L: Opens> DeskSeat<'a, K, L> {
         ensures { SeatAnswers (admissible L.office L.began K.Keeper)
             self.old (Ask number request.now) result self.new }
     {
-        match self
-            .together
-            .ask(rt, self.alloc, self.desk, &mut self.seat, number, request)
-        {
+        let Shared {
+            alloc,
+            desk,
+            together,
+            ..
+        } = self.shared;
+        match together.ask(rt, *alloc, desk, &mut self.seat, number, request) {
             Ok(receipt) => {
                 self.latest = Some(later(self.latest, receipt.place));
                 Answered::Kept(receipt.reply)
@@ -103,7 +92,7 @@ impl<'a, K: Keeper, L: Opens> DeskSeat<'a, K, L> {
         ensures { SeatAnswers (admissible L.office L.began K.Keeper)
             self.old (Left event) result self.new }
     {
-        let seen = match self.desk.look_past(rt, self.latest, event) {
+        let seen = match self.shared.desk.look_past(rt, self.latest, event) {
             Ok(seen) => seen,
             Err(fault) => return not_shown(fault),
         };
@@ -114,7 +103,7 @@ impl<'a, K: Keeper, L: Opens> DeskSeat<'a, K, L> {
         ensures { SeatAnswers (admissible L.office L.began K.Keeper)
             self.old (TotalsOf event) result self.new }
     {
-        let seen = match self.desk.look_past(rt, self.latest, event) {
+        let seen = match self.shared.desk.look_past(rt, self.latest, event) {
             Ok(seen) => seen,
             Err(fault) => return not_shown(fault),
         };

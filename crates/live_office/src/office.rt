@@ -10,6 +10,8 @@ ghost use Rattle.live_office.specs.declared.office.TheConstants.{WORKERS};
 use crate::callers::Callers;
 use crate::closing::Closing;
 use crate::door::Door;
+use crate::shared::Shared;
+use crate::sparing::Sparing;
 use crate::together::Together;
 use crate::workers::{CLERK_THREADS, OPERATOR_THREADS, Office, work_all};
 use history_keeper::Keeper;
@@ -107,6 +109,7 @@ fn at_desk<
     clerks: &C,
     operators: &O,
     closing: &Closing,
+    sparing: Sparing,
 ) -> Result<SiteBook<K>, (SiteBook<K>, OfficeFault)>
     requires blank { (blank.name ≡ L.name) × (blank.parts ≡ L.parts) × (WORKERS < blank.parts) }
     requires site { (L.began ≡ book.book.history) × (L.office ≡ book.book.office) }
@@ -119,14 +122,18 @@ fn at_desk<
     let (desk, seat) = Desk::<K, L>::new(book, blank);
     let together = Together::new(alloc);
     let callers = Callers::new();
-    let office = Office {
+    let shared = Shared {
         alloc,
         desk: &desk,
         together: &together,
-        clerks,
-        operators,
         closing,
         callers: &callers,
+        sparing,
+    };
+    let office = Office {
+        shared: &shared,
+        clerks,
+        operators,
     };
     let (all, seats) = staffed(rt, &office, seat, seats);
     if all {
@@ -135,8 +142,8 @@ fn at_desk<
     Err((book_of(desk, seats), OfficeFault::NotStarted))
 }
 
-/// Opens a site's office: callers at the two doors are served, each by a thread, until one of them says `close`, the
-/// store fails, or a thread could not be started. Then all threads are joined, and the book is returned. It is closed
+/// Opens a site's office, which spares its history so: callers at the two doors are served, each by a thread, until one
+/// of them says `close`, the store fails, or a thread could not be started. Then all threads are joined, and the book is returned. It is closed
 /// where the store failed.
 ///
 /// Errors return the book too: with `Memory` as it was; with `NotStarted` it may have new entries.
@@ -154,6 +161,7 @@ pub fn open_office<
     clerks: &C,
     operators: &O,
     closing: &Closing,
+    sparing: Sparing,
 ) -> Result<SiteBook<K>, (SiteBook<K>, OfficeFault)>
     ensures later { IsLater book.book.office book.book.history (book_in result).book }
     ensures memory { IfErr result (λ e. e.1 ≡ Memory → e.0 ≡ book) }
@@ -166,5 +174,6 @@ pub fn open_office<
         clerks,
         operators,
         closing,
+        sparing,
     )
 }

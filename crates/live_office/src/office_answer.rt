@@ -1,16 +1,18 @@
 //! What an open office answers, and its text.
 
-ghost use Rattle.std.specs.Prelude.{◌≡◌, ◌≤◌, ◌++◌, ◌∷◌, [], codes};
+ghost use Rattle.std.specs.Prelude.{◌≡◌, ◌≤◌, ◌+◌, ◌++◌, ◌∷◌, [], codes};
 ghost use Rattle.std.specs.List.{flat_map};
 ghost use Rattle.arrayvec.specs.ArrayVec.{array_vec_len};
 ghost use Rattle.plain_words.specs.Input.{longest_line};
 ghost use Rattle.plain_words.specs.Writing.{Writes};
 ghost use Rattle.delta_wire.specs.Grammar.{message_text};
+ghost use Rattle.live_office.specs.Sparing.{reserve_text};
 ghost use Rattle.live_office.specs.RecordLines.{event_line, row_line, share_line};
 ghost use Rattle.live_office.specs.Answers.{answer_text, ended_events, ended_rows, ended_shares, events_text, exported_text, found_text, import_fault_text, imported_text, known_text, listed_text, look_up_fault_text, next_fault_text, rows_text, shares_text, site_text, status_text};
 
 use crate::importing::ImportFault;
 use crate::record_lines::{event_line, found_line, listed_line, share_line, standing_text};
+use crate::sparing::{Spared, spared_line};
 use delta_wire::write_message;
 use desk_lines::{Answered, reply_line, take_fault_text, wire_fault_text};
 use history_keeper::{Found, Listed};
@@ -26,6 +28,10 @@ pub enum OfficeAnswer {
     /// The reply of a session.
     Reply {
         answered: Answered,
+    },
+    /// Why a request was not asked.
+    Spared {
+        spared: Spared,
     },
     /// The message that is due, if any.
     Exported {
@@ -51,10 +57,11 @@ pub enum OfficeAnswer {
     Shares {
         result: Result<Option<Vec<SiteShare>>, LookUpFault>,
     },
-    /// Where the book stands, and how many callers are served.
+    /// Where the book stands, how many callers are served, and how many entries are kept.
     Status {
         standing: Standing,
         callers: u64,
+        reserve: u64,
     },
     /// Which site it is, and how many it counts.
     Site {
@@ -279,12 +286,26 @@ fn write_shares<W: Write>(
     }
 }
 
-fn status_line(standing: Standing, callers: u64) -> Text
-    ensures { result.items ≡ status_text standing callers }
+// Puts at the end how many entries are kept, if any are.
+fn put_reserve(text: &mut Text, reserve: u64)
+    requires { array_vec_len text.old ≤ 200 }
+    ensures items { text.new.items ≡ text.old.items ++ reserve_text reserve }
+    ensures len { array_vec_len text.new ≤ array_vec_len text.old + 29 }
+{
+    if reserve == 0 {
+        return;
+    }
+    put(text, b" reserve ");
+    put_number(text, reserve);
+}
+
+fn status_line(standing: Standing, callers: u64, reserve: u64) -> Text
+    ensures { result.items ≡ status_text standing callers reserve }
 {
     let mut text = standing_text(standing);
     put(&mut text, b" callers ");
     put_number(&mut text, callers);
+    put_reserve(&mut text, reserve);
     put(&mut text, b"\n");
     text
 }
@@ -305,15 +326,18 @@ pub fn write_answer<W: Write>(answer: &OfficeAnswer, out: &mut W) -> Result<(), 
 {
     match answer {
         OfficeAnswer::Reply { answered } => reply_line(answered, out),
+        OfficeAnswer::Spared { spared } => write_bytes(spared_line(*spared).as_slice(), out),
         OfficeAnswer::Exported { result } => write_exported(result, out),
         OfficeAnswer::Imported { result } => write_imported(result, out),
         OfficeAnswer::Found { result } => write_found(result, out),
         OfficeAnswer::Listed { result } => write_listed(result, out),
         OfficeAnswer::Events { result } => write_events(result, out),
         OfficeAnswer::Shares { result } => write_shares(result, out),
-        OfficeAnswer::Status { standing, callers } => {
-            write_bytes(status_line(*standing, *callers).as_slice(), out)
-        }
+        OfficeAnswer::Status {
+            standing,
+            callers,
+            reserve,
+        } => write_bytes(status_line(*standing, *callers, *reserve).as_slice(), out),
         OfficeAnswer::Site { standing } => write_bytes(site_line(*standing).as_slice(), out),
         OfficeAnswer::Quiet => write_bytes(b"", out),
     }

@@ -8,27 +8,25 @@ ghost use Rattle.desk_lines.specs.Replies.{reply_line};
 ghost use Rattle.live_office.specs.declared.office_line.OfficeLine.TheVariants.{Events as EventsLine, Export, Find, List as ListLine, Session, Shares as SharesLine, Site, Status};
 ghost use Rattle.live_office.specs.Admissible.{admissible};
 ghost use Rattle.live_office.specs.Answers.{answer_text};
-ghost use Rattle.live_office.specs.Handling.{HandlesLine, HandlesLost, HandlesPart, HandlesSession, IsLast, Nothing, ends_message, seat_state};
+ghost use Rattle.live_office.specs.Handling.{HandlesAsk, HandlesLine, HandlesLost, HandlesPart, HandlesSession, IsLast, Nothing, ends_message, seat_state, with_gathering};
 ghost use Rattle.live_office.specs.Lines.{office_line_of};
 ghost use Rattle.live_office.specs.Sitting.{sitting};
 
-use crate::callers::Callers;
-use crate::closing::Closing;
 use crate::desk_seat::DeskSeat;
 use crate::handler::{Handler, Last};
 use crate::importing::{ImportFault, import_at};
 use crate::office_answer::OfficeAnswer;
 use crate::office_line::{OfficeLine, read_office_line};
-use crate::together::Together;
+use crate::shared::Shared;
+use crate::sparing::spare;
 use delta_wire::WireFault;
 use desk_lines::{Answered, BadLine, Line};
 use history_keeper::Keeper;
-use request_ledger::RequestNumber;
+use request_ledger::{Request, RequestNumber};
 use rights_lattice::{Event, SiteId};
 use session_server::Answerer;
-use site_desk::{Desk, Opens, Seat, Taken};
+use site_desk::{Opens, Seat, Taken};
 use site_exchange::TakeFault;
-use std::alloc::Global;
 use std::marker::Model;
 use std::mem;
 use std::sync::Wait;
@@ -45,10 +43,7 @@ enum Gathered {
 /// A seat at a desk, and what has come of a message.
 #[derive(Drop)]
 pub struct OfficeSeat<'a, K: Keeper, L: Opens> {
-    alloc: Global,
-    desk: &'a Desk<K, L>,
-    closing: &'a Closing,
-    callers: &'a Callers,
+    shared: &'a Shared<'a, K, L>,
     seat: DeskSeat<'a, K, L>,
     gathered: Gathered,
 }
@@ -59,7 +54,7 @@ impl<'a, K: Keeper, L: Opens> Model for OfficeSeat<'a, K, L> {
 
     ghost Value = { SeatState };
 
-    ghost view = { λ s. seat_state s.seat (gathering s.gathered) };
+    ghost view = { λ s. seat_state s.shared.sparing s.seat (gathering s.gathered) };
 }
 
 // The text with one line more, and none where memory was refused.
@@ -100,22 +95,12 @@ fn ends_message(line: &[u8]) -> bool
 
 impl<'a, K: Keeper, L: Opens> OfficeSeat<'a, K, L> {
     /// The seat answers at this desk, and tells the count of callers from here. No message comes.
-    pub fn new(
-        alloc: Global,
-        desk: &'a Desk<K, L>,
-        together: &'a Together<K, L>,
-        closing: &'a Closing,
-        callers: &'a Callers,
-        seat: Seat<L>,
-    ) -> OfficeSeat<'a, K, L>
-        ensures { result ≡ seat_state (sitting seat.parts None) Nothing }
+    pub fn new(shared: &'a Shared<'a, K, L>, seat: Seat<L>) -> OfficeSeat<'a, K, L>
+        ensures { result ≡ seat_state shared.sparing (sitting seat.parts None) Nothing }
     {
         OfficeSeat {
-            alloc,
-            desk,
-            closing,
-            callers,
-            seat: DeskSeat::new(alloc, desk, together, closing, seat),
+            shared,
+            seat: DeskSeat::new(shared, seat),
             gathered: Gathered::Nothing,
         }
     }
@@ -135,6 +120,24 @@ impl<'a, K: Keeper, L: Opens> OfficeSeat<'a, K, L> {
         OfficeAnswer::Reply { answered }
     }
 
+    // A request, which is asked unless the history is spared it.
+    fn ask<T: Wait>(&mut self, rt: &T, number: RequestNumber, request: &Request) -> OfficeAnswer
+        ensures { HandlesAsk (admissible L.office L.began K.Keeper)
+            self.old number request.now (answer_text result) self.new }
+    {
+        let Shared { desk, sparing, .. } = self.shared;
+        if let Some(spared) = spare(rt, desk, *sparing, number, request) {
+            return OfficeAnswer::Spared { spared };
+        }
+        self.reply(
+            rt,
+            &Line::Ask {
+                number,
+                request: *request,
+            },
+        )
+    }
+
     // A line of a session.
     fn handle_session<T: Wait>(&mut self, rt: &T, line: &Line) -> Result<OfficeAnswer, Last>
         ensures { MatchResult result (λ answer. HandlesLine (admissible L.office L.began K.Keeper) self.old (Some (Session line.now)) (answer_text answer)
@@ -142,7 +145,7 @@ impl<'a, K: Keeper, L: Opens> OfficeSeat<'a, K, L> {
     {
         match line {
             Line::Quit => Err(Last::Quit),
-            Line::Ask { .. } => Ok(self.reply(rt, line)),
+            Line::Ask { number, request } => Ok(self.ask(rt, *number, request)),
             Line::Left { .. } => Ok(self.reply(rt, line)),
             Line::Totals { .. } => Ok(self.reply(rt, line)),
         }
@@ -152,7 +155,7 @@ impl<'a, K: Keeper, L: Opens> OfficeSeat<'a, K, L> {
         ensures { HandlesLine (admissible L.office L.began K.Keeper)
             self.old (Some (Export to)) (answer_text result) self.new }
     {
-        let result = self.desk.next(rt, self.alloc, to);
+        let result = self.shared.desk.next(rt, self.shared.alloc, to);
         OfficeAnswer::Exported { result }
     }
 
@@ -160,7 +163,7 @@ impl<'a, K: Keeper, L: Opens> OfficeSeat<'a, K, L> {
         ensures { HandlesLine (admissible L.office L.began K.Keeper)
             self.old (Some (Find number)) (answer_text result) self.new }
     {
-        let result = self.desk.find(rt, number);
+        let result = self.shared.desk.find(rt, number);
         OfficeAnswer::Found { result }
     }
 
@@ -168,7 +171,7 @@ impl<'a, K: Keeper, L: Opens> OfficeSeat<'a, K, L> {
         ensures { HandlesLine (admissible L.office L.began K.Keeper)
             self.old (Some (ListLine event)) (answer_text result) self.new }
     {
-        let result = self.desk.list(rt, self.alloc, event);
+        let result = self.shared.desk.list(rt, self.shared.alloc, event);
         OfficeAnswer::Listed { result }
     }
 
@@ -176,7 +179,7 @@ impl<'a, K: Keeper, L: Opens> OfficeSeat<'a, K, L> {
         ensures { HandlesLine (admissible L.office L.began K.Keeper)
             self.old (Some EventsLine) (answer_text result) self.new }
     {
-        let result = self.desk.events(rt, self.alloc);
+        let result = self.shared.desk.events(rt, self.shared.alloc);
         OfficeAnswer::Events { result }
     }
 
@@ -184,7 +187,7 @@ impl<'a, K: Keeper, L: Opens> OfficeSeat<'a, K, L> {
         ensures { HandlesLine (admissible L.office L.began K.Keeper)
             self.old (Some (SharesLine event)) (answer_text result) self.new }
     {
-        let result = self.desk.shares(rt, self.alloc, event);
+        let result = self.shared.desk.shares(rt, self.shared.alloc, event);
         OfficeAnswer::Shares { result }
     }
 
@@ -192,16 +195,20 @@ impl<'a, K: Keeper, L: Opens> OfficeSeat<'a, K, L> {
         ensures { HandlesLine (admissible L.office L.began K.Keeper)
             self.old (Some Status) (answer_text result) self.new }
     {
-        let standing = self.desk.standing(rt);
-        let callers = self.callers.count();
-        OfficeAnswer::Status { standing, callers }
+        let standing = self.shared.desk.standing(rt);
+        let callers = self.shared.callers.count();
+        OfficeAnswer::Status {
+            standing,
+            callers,
+            reserve: self.shared.sparing.reserve,
+        }
     }
 
     fn site<T: Wait>(&mut self, rt: &T) -> OfficeAnswer
         ensures { HandlesLine (admissible L.office L.began K.Keeper)
             self.old (Some Site) (answer_text result) self.new }
     {
-        let standing = self.desk.standing(rt);
+        let standing = self.shared.desk.standing(rt);
         OfficeAnswer::Site { standing }
     }
 
@@ -216,7 +223,7 @@ impl<'a, K: Keeper, L: Opens> OfficeSeat<'a, K, L> {
             OfficeLine::Export { to } => Ok(self.export(rt, *to)),
             OfficeLine::Import => {
                 self.gathered = Gathered::Text {
-                    bytes: Vec::new(self.alloc),
+                    bytes: Vec::new(self.shared.alloc),
                 };
                 Ok(OfficeAnswer::Quiet)
             }
@@ -245,11 +252,11 @@ impl<'a, K: Keeper, L: Opens> OfficeSeat<'a, K, L> {
     // Takes the message of this text. After a failed store the office closes.
     fn import<T: Wait>(&self, rt: &T, bytes: &[u8]) -> OfficeAnswer
         ensures { HandlesPart (admissible L.office L.began K.Keeper)
-            self.now.seat bytes.now true (answer_text result) (seat_state self.now.seat Nothing) }
+            self.now bytes.now true (answer_text result) (with_gathering self.now Nothing) }
     {
-        let result = import_at(rt, self.alloc, self.desk, bytes);
+        let result = import_at(rt, self.shared.alloc, self.shared.desk, bytes);
         if is_failed_store(&result) {
-            self.closing.failed(self.desk);
+            self.shared.closing.failed(self.shared.desk);
         }
         OfficeAnswer::Imported { result }
     }
@@ -258,7 +265,7 @@ impl<'a, K: Keeper, L: Opens> OfficeSeat<'a, K, L> {
     fn handle_part<T: Wait>(&mut self, rt: &T, bytes: Vec<u8>, line: &[u8]) -> OfficeAnswer
         requires { self.old.gathering ≡ Nothing }
         ensures { HandlesPart (admissible L.office L.began K.Keeper)
-            self.old.seat (bytes.items ++ line.now ++ 10 ∷ []) (ends_message line.now)
+            self.old (bytes.items ++ line.now ++ 10 ∷ []) (ends_message line.now)
             (answer_text result) self.new }
     {
         let is_last = ends_message(line);
@@ -275,7 +282,7 @@ impl<'a, K: Keeper, L: Opens> OfficeSeat<'a, K, L> {
     // A line of a message for which memory was refused.
     fn lose(&mut self, is_last: bool) -> OfficeAnswer
         requires { self.old.gathering ≡ Nothing }
-        ensures { HandlesLost self.old.seat is_last (answer_text result) self.new }
+        ensures { HandlesLost self.old is_last (answer_text result) self.new }
     {
         if is_last {
             return OfficeAnswer::Imported {

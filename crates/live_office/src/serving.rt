@@ -7,17 +7,15 @@ ghost use Rattle.live_office.specs.Served.{IsServed};
 ghost use Rattle.plain_words.specs.Writing.{Writes};
 
 use crate::caller_seat::CallerSeat;
-use crate::callers::Callers;
-use crate::closing::Closing;
 use crate::door::Access;
 use crate::handler::Last;
+use crate::shared::Shared;
+use crate::sparing::Sparing;
 use crate::talking::office_talk;
-use crate::together::Together;
 use history_keeper::Keeper;
 use plain_words::{WriteFault, write_bytes};
 use session_server::TalkFault;
 use site_desk::{Desk, Opens, Seat};
-use std::alloc::Global;
 use std::io::{Read, Write};
 use std::snapshot::Snapshot;
 use std::sync::Wait;
@@ -51,12 +49,13 @@ impl<R: Read + Drop, W: Write + Drop> Call<R, W> {
 pub struct Served<'a, R: Read + Drop, W: Write + Drop, K: Keeper, L: Opens> {
     _desk: &'a Desk<K, L>,
     access: Access,
+    sparing: Sparing,
     reader_began: Snapshot<R>,
     writer_began: Snapshot<W>,
     writer: W,
     pub ended: Result<Option<Last>, TalkFault>,
-    ghost served: { ∥ IsServed (admissible L.office L.began K.Keeper) access (R.remaining reader_began.value) (W.contents writer_began.value)
-        (W.contents writer) ended ∥₁ },
+    ghost served: { ∥ IsServed (admissible L.office L.began K.Keeper) access sparing
+        (R.remaining reader_began.value) (W.contents writer_began.value) (W.contents writer) ended ∥₁ },
 }
 
 // What a last line is answered.
@@ -99,6 +98,7 @@ impl<R: Read + Drop, W: Write + Drop, K: Keeper, L: Opens> Served<'_, R, W, K, L
         let Served {
             _desk,
             access: _access,
+            sparing: _sparing,
             reader_began: _reader_began,
             writer_began: _writer_began,
             mut writer,
@@ -112,37 +112,30 @@ impl<R: Read + Drop, W: Write + Drop, K: Keeper, L: Opens> Served<'_, R, W, K, L
 // Answers a caller.
 fn answer<T: Wait, R: Read + Drop, W: Write, K: Keeper, L: Opens>(
     rt: &T,
-    alloc: Global,
-    desk: &Desk<K, L>,
-    together: &Together<K, L>,
-    closing: &Closing,
-    callers: &Callers,
+    shared: &Shared<'_, K, L>,
     seat: Seat<L>,
     access: Access,
     reader: R,
     out: &mut W,
 ) -> (Result<Option<Last>, TalkFault>, Seat<L>)
     ensures served { IsServed (admissible L.office L.began K.Keeper)
-        access (R.remaining reader) (W.contents out.old) (W.contents out.new) result.0 }
+        access shared.now.sparing (R.remaining reader) (W.contents out.old) (W.contents out.new) result.0 }
     ensures parts { result.1.parts ≡ seat.parts }
 {
-    let mut at = CallerSeat::new(alloc, desk, together, closing, callers, seat, access);
-    let ended = office_talk(rt, alloc, reader, out, &mut at);
+    let mut at = CallerSeat::new(shared, seat, access);
+    let ended = office_talk(rt, shared.alloc, reader, out, &mut at);
     (ended, at.into_seat())
 }
 
 // Serves a caller, from the first line to the last, and counts it meanwhile.
 pub(crate) fn serve<'a, T: Wait, R: Read + Drop, W: Write + Drop, K: Keeper, L: Opens>(
     rt: &T,
-    alloc: Global,
-    desk: &'a Desk<K, L>,
-    together: &Together<K, L>,
-    closing: &Closing,
-    callers: &Callers,
+    shared: &Shared<'a, K, L>,
     seat: Seat<L>,
     call: Call<R, W>,
 ) -> (Served<'a, R, W, K, L>, Seat<L>)
     ensures access { result.0.access ≡ call.access }
+    ensures sparing { result.0.sparing ≡ shared.now.sparing }
     ensures reader { result.0.reader_began.value ≡ call.reader }
     ensures writer { result.0.writer_began.value ≡ call.writer }
     ensures parts { result.1.parts ≡ seat.parts }
@@ -154,24 +147,14 @@ pub(crate) fn serve<'a, T: Wait, R: Read + Drop, W: Write + Drop, K: Keeper, L: 
     } = call;
     let reader_began = Snapshot::of(&reader);
     let writer_began = Snapshot::of(&writer);
-    callers.come();
-    let (ended, seat) = answer(
-        rt,
-        alloc,
-        desk,
-        together,
-        closing,
-        callers,
-        seat,
-        access,
-        reader,
-        &mut writer,
-    );
-    callers.go();
+    shared.callers.come();
+    let (ended, seat) = answer(rt, shared, seat, access, reader, &mut writer);
+    shared.callers.go();
     (
         Served {
-            _desk: desk,
+            _desk: shared.desk,
             access,
+            sparing: shared.sparing,
             reader_began,
             writer_began,
             writer,

@@ -3,15 +3,12 @@
 ghost use Rattle.std.specs.Prelude.{◌≡◌, ◌+◌, ◌≤◌, ◌<◌, true, vec_len, vec_capacity};
 ghost use Rattle.site_desk.specs.Seats.{parts_of};
 
-use crate::callers::Callers;
-use crate::closing::Closing;
 use crate::door::Door;
 use crate::handler::Last;
 use crate::serving::serve;
-use crate::together::Together;
+use crate::shared::Shared;
 use history_keeper::Keeper;
-use site_desk::{Desk, Opens, Seat};
-use std::alloc::Global;
+use site_desk::{Opens, Seat};
 use std::io::{Read, Write};
 use std::snapshot::Snapshot;
 use std::sync::Wait;
@@ -30,26 +27,18 @@ pub(crate) const CLERK_THREADS: u32 = CLERKS + 1;
 // The threads at the operators' door: two more, for places that are kept for `status` and `close`.
 pub(crate) const OPERATOR_THREADS: u32 = OPERATORS + 2;
 
-// What the threads of an office share.
+// An office: its doors, and what all callers share.
 #[derive(Drop)]
 pub(crate) struct Office<'a, K: Keeper, L: Opens, C, O> {
-    pub(crate) alloc: Global,
-    pub(crate) desk: &'a Desk<K, L>,
-    pub(crate) together: &'a Together<K, L>,
+    pub(crate) shared: &'a Shared<'a, K, L>,
     pub(crate) clerks: &'a C,
     pub(crate) operators: &'a O,
-    pub(crate) closing: &'a Closing,
-    pub(crate) callers: &'a Callers,
 }
 
 // Serves one caller after another at a door, until there is none.
 fn work_at<T: Wait + Clock, R: Read + Drop, W: Write + Drop, D: Door<R, W>, K: Keeper, L: Opens>(
     rt: &T,
-    alloc: Global,
-    desk: &Desk<K, L>,
-    together: &Together<K, L>,
-    closing: &Closing,
-    callers: &Callers,
+    shared: &Shared<'_, K, L>,
     seat: Seat<L>,
     door: &D,
 ) -> Seat<L>
@@ -60,13 +49,13 @@ fn work_at<T: Wait + Clock, R: Read + Drop, W: Write + Drop, D: Door<R, W>, K: K
         let Some(call) = door.next(rt) else {
             break;
         };
-        let (served, own) = serve(rt, alloc, desk, together, closing, callers, seat, call);
+        let (served, own) = serve(rt, shared, seat, call);
         seat = own;
         if let Ok(Some(Last::Close)) = served.ended {
-            closing.asked(&served);
-            closing.await_look(rt);
+            shared.closing.asked(&served);
+            shared.closing.await_look(rt);
         }
-        served.part(closing.is_lost());
+        served.part(shared.closing.is_lost());
     }
     seat
 }
@@ -83,21 +72,10 @@ fn work<
 >(rt: &T, office: &Office<'_, K, L, C, O>, seat: Seat<L>, number: u32) -> Seat<L>
     ensures parts { result.parts ≡ seat.parts }
 {
-    let Office {
-        alloc,
-        desk,
-        together,
-        clerks,
-        operators,
-        closing,
-        callers,
-    } = office;
     if number <= OPERATOR_THREADS {
-        work_at(
-            rt, *alloc, desk, together, closing, callers, seat, *operators,
-        )
+        work_at(rt, office.shared, seat, office.operators)
     } else {
-        work_at(rt, *alloc, desk, together, closing, callers, seat, *clerks)
+        work_at(rt, office.shared, seat, office.clerks)
     }
 }
 
@@ -145,7 +123,7 @@ pub(crate) fn work_all<
     let thread = match scope.spawn_with(begun, move || work(rt, office, own, count)) {
         Ok(thread) => thread,
         Err(refused) => {
-            office.closing.not_staffed(refused);
+            office.shared.closing.not_staffed(refused);
             seats.push_reserved(rest);
             return false;
         }

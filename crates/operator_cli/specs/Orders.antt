@@ -3,16 +3,18 @@ use Rattle.std.specs.Prelude.{◌≡◌, ℕ, Bool, List, [], ◌∷◌, true, f
 use Rattle.std.specs.Option.{option_map}
 use Rattle.std.specs.String.{string_bytes}
 use Rattle.std.specs.Str.{bytes_eq}
+use Rattle.clap.specs.declared.builder.action.ArgAction.TheVariants.{SetTrue}
 use Rattle.clap.specs.Words.{App, Row, Rule, Text, all_of, first_of, new_app, new_rule, with_rule, with_subcommand, subcommand_of, fault_of}
 use Rattle.plain_words.specs.Words.{◌>>=◌}
 use Rattle.plain_words.specs.Number.{number_of}
 use Rattle.rights_lattice.specs.Cells.{greatest_value}
 use Rattle.rights_lattice.specs.Limits.{greatest_site, most_sites}
 use Rattle.book_core.specs.Limits.{greatest_limit}
+use Rattle.live_office.specs.declared.sparing.Sparing.{Sparing}
 use Rattle.operator_cli.specs.declared.orders.Order.{Order}
 use Rattle.operator_cli.specs.declared.orders.Order.TheVariants as order
 use Rattle.operator_cli.specs.declared.orders.Misfit.{Misfit}
-use Rattle.operator_cli.specs.declared.orders.Misfit.TheVariants.{Command, File, Event, Me, Sites, Limit, Number, To, Files, Desks, Port, Sessions, Rounds}
+use Rattle.operator_cli.specs.declared.orders.Misfit.TheVariants.{Command, File, Event, Me, Sites, Limit, Number, To, Files, Desks, Port, Sessions, Rounds, Reserve}
 use Rattle.operator_cli.specs.declared.orders.WordsFault.{WordsFault}
 use Rattle.operator_cli.specs.declared.orders.WordsFault.TheVariants.{NotUnderstood, Memory}
 
@@ -81,8 +83,15 @@ audit_app = with_rule (new_app (codes "audit")) (repeated_operand (codes "FILE")
 abbrev pub serve_app : App
 serve_app = with_rule (taking (taking (taking (new_app (codes "serve")) (codes "PORT")) (codes "SESSIONS")) (codes "ROUNDS")) (repeated_operand (codes "FILE") most_desks)
 
+-- `--low`, and `--reserve` with a value
+abbrev pub low_rule : Rule
+low_rule = record (new_rule (codes "low")) { long = Some (codes "low"); action = Some SetTrue }
+
+abbrev pub reserve_rule : Rule
+reserve_rule = record (new_rule (codes "R")) { long = Some (codes "reserve") }
+
 abbrev pub open_app : App
-open_app = taking (taking (new_app (codes "open")) (codes "PORT")) (codes "FILE")
+open_app = with_rule (with_rule (taking (taking (new_app (codes "open")) (codes "PORT")) (codes "FILE")) low_rule) reserve_rule
 
 abbrev pub close_app : App
 close_app = taking (new_app (codes "close")) (codes "FILE")
@@ -122,7 +131,7 @@ pub data Said : Type 0 where
   SaysImport : (file : Text) → Said
   SaysAudit : (files : List Text) → Said
   SaysServe : (port sessions rounds : ℕ) (files : List Text) → Said
-  SaysOpen : (port : ℕ) (file : Text) → Said
+  SaysOpen : (port : ℕ) (file : Text) (sparing : Sparing) → Said
   SaysClose : (file : Text) → Said
   SaysStatus : (file : Text) → Said
   SaysVersion : Said
@@ -141,7 +150,7 @@ said_by (order.Export file to) = SaysExport file.now to
 said_by (order.Import file) = SaysImport file.now
 said_by (order.Audit files) = SaysAudit (map (λ file. file.now) files.items)
 said_by (order.Serve port sessions rounds files) = SaysServe port sessions rounds (map (λ file. file.now) files.items)
-said_by (order.Open port file) = SaysOpen port file.now
+said_by (order.Open port file sparing) = SaysOpen port file.now sparing
 said_by (order.Close file) = SaysClose file.now
 said_by (order.Status file) = SaysStatus file.now
 said_by order.Version = SaysVersion
@@ -233,11 +242,27 @@ serve_in rows = do
   files ← files_in most_desks rows
   Some (SaysServe port sessions rounds files)
 
+-- whether `--low` is given
+abbrev pub is_true : Option Text → Bool
+is_true None = false
+is_true (Some word) = bytes_eq word (codes "true")
+
+unfoldable pub low_in : List Row → Bool
+low_in rows = is_true (first_of (codes "low") rows)
+
+-- the value of `--reserve`, which is 0 if it is not given
+unfoldable pub reserve_in : List Row → Option ℕ
+reserve_in rows = if is_some (first_of (codes "R") rows) then number_in (codes "R") 0 greatest_limit rows else Some 0
+
+abbrev pub sparing : Bool → ℕ → Sparing
+sparing low reserve = record { tells_low = low; reserve = reserve }
+
 unfoldable pub open_in : List Row → Option Said
 open_in rows = do
   port ← number_in (codes "PORT") 1 greatest_port rows
   file ← first_of (codes "FILE") rows
-  Some (SaysOpen port file)
+  reserve ← reserve_in rows
+  Some (SaysOpen port file (sparing (low_in rows) reserve))
 
 unfoldable pub close_in : List Row → Option Said
 close_in rows = do
@@ -303,7 +328,7 @@ values_of name =
     if bytes_eq name (codes "import") then File ∷ [] else (
     if bytes_eq name (codes "audit") then Files ∷ [] else (
     if bytes_eq name (codes "serve") then Port ∷ Sessions ∷ Rounds ∷ Desks ∷ [] else (
-    if bytes_eq name (codes "open") then Port ∷ File ∷ [] else (
+    if bytes_eq name (codes "open") then Port ∷ File ∷ Reserve ∷ [] else (
     if bytes_eq name (codes "close") then File ∷ [] else (
     if bytes_eq name (codes "status") then File ∷ [] else (
     if bytes_eq name (codes "version") then [] else Command ∷ []))))))))))))))))
@@ -323,6 +348,7 @@ fits rows Desks = is_some (files_in most_desks rows)
 fits rows Port = is_some (number_in (codes "PORT") 1 greatest_port rows)
 fits rows Sessions = is_some (number_in (codes "SESSIONS") 0 most_sessions rows)
 fits rows Rounds = is_some (number_in (codes "ROUNDS") 0 most_rounds rows)
+fits rows Reserve = is_some (reserve_in rows)
 
 -- the first of the values that does not fit
 abbrev pub first_misfit : List Misfit → List Row → Option Misfit
@@ -349,6 +375,7 @@ misfit_line Desks = codes "error: FILE is given 1 to 16 times\n"
 misfit_line Port = codes "error: PORT is the number of a port, 1 to 65535\n"
 misfit_line Sessions = codes "error: SESSIONS is a count of connections, 0 to 1024\n"
 misfit_line Rounds = codes "error: ROUNDS is a count of rounds, 0 to 1000000\n"
+misfit_line Reserve = codes "error: R is a count of entries, 0 to 1000000\n"
 
 -- it is told, or memory was wanted for its line
 abbrev pub TellsMisfit : Misfit → WordsFault → Type 0

@@ -3,11 +3,11 @@
 ghost use Rattle.std.specs.Prelude.{◌≡◌, IfOk, false, codes};
 ghost use Rattle.clap.specs.Words.{app_of, new_app, rule_of};
 ghost use Rattle.clap.specs.declared.builder.command.Command.TheViews.{out-Command as fields_of};
-ghost use Rattle.operator_cli.specs.Orders.{operand, boxoffice, init_app, migrate_app, grow_app, ask_app, find_app, list_app, events_app, shares_app, export_app, import_app, audit_app, serve_app, open_app, close_app, status_app, most_desks, repeated_operand};
+ghost use Rattle.operator_cli.specs.Orders.{operand, boxoffice, init_app, migrate_app, grow_app, ask_app, find_app, list_app, events_app, shares_app, export_app, import_app, audit_app, serve_app, low_rule, reserve_rule, open_app, close_app, status_app, most_desks, repeated_operand};
 ghost use Rattle.rights_lattice.specs.Limits.{most_sites};
 
 use crate::orders::{MOST_DESKS, MOST_FILES};
-use clap::{Arg, Command};
+use clap::{Arg, ArgAction, Command};
 use std::alloc::{AllocError, Global};
 
 fn named<'a>(alloc: Global, name: &'a str, about: &'a str) -> Command<'a>
@@ -205,6 +205,27 @@ fn serve<'a>(alloc: Global) -> Result<Command<'a>, AllocError>
     .arg(desks(alloc))
 }
 
+fn low<'a>(alloc: Global) -> Arg<'a>
+    ensures rule { rule_of result ≡ low_rule }
+    ensures local { result.global ≡ false }
+{
+    Arg::new(alloc, "low")
+        .long("low")
+        .action(ArgAction::SetTrue)
+        .help(
+            "Answers a request for more seats than are left with what is left, and keeps no reply",
+        )
+}
+
+fn reserve<'a>(alloc: Global) -> Arg<'a>
+    ensures rule { rule_of result ≡ reserve_rule }
+    ensures local { result.global ≡ false }
+{
+    Arg::new(alloc, "R").long("reserve").help(
+        "Keeps the last R entries for refunds, cessions and messages, 0 to 1000000",
+    )
+}
+
 fn open<'a>(alloc: Global) -> Result<Command<'a>, AllocError>
     ensures app { IfOk result (λ command. app_of command ≡ open_app) }
     ensures local { IfOk result (λ command. (fields_of command).has_globals ≡ false) }
@@ -216,7 +237,9 @@ fn open<'a>(alloc: Global) -> Result<Command<'a>, AllocError>
         "Keeps the office of a site open, at a port and at the socket FILE-sock",
     )
     .arg(port)?
-    .arg(file(alloc))
+    .arg(file(alloc))?
+    .arg(low(alloc))?
+    .arg(reserve(alloc))
 }
 
 fn close<'a>(alloc: Global) -> Result<Command<'a>, AllocError>

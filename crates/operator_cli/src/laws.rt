@@ -1,8 +1,8 @@
 //! What holds of each script and of the program's words, over the definitions alone.
 
-ghost use Rattle.std.specs.Prelude.{◌∷◌, [], codes};
+ghost use Rattle.std.specs.Prelude.{◌∷◌, [], true, false, codes};
 ghost use Rattle.operator_cli.specs.Laws.{ScriptsMakeSteps, TotalsAreThose, TotalsAreNotOversold};
-ghost use Rattle.operator_cli.specs.Orders.{boxoffice, AreUnderstood, Give, SaysWorld, SaysInit, SaysMigrate, SaysGrow, SaysAsk, SaysFind, SaysList, SaysEvents, SaysShares, SaysExport, SaysImport, SaysAudit, SaysServe, SaysOpen, SaysClose, SaysStatus, SaysVersion};
+ghost use Rattle.operator_cli.specs.Orders.{boxoffice, AreUnderstood, Give, SaysWorld, SaysInit, SaysMigrate, SaysGrow, SaysAsk, SaysFind, SaysList, SaysEvents, SaysShares, SaysExport, SaysImport, SaysAudit, SaysServe, SaysOpen, SaysClose, SaysStatus, SaysVersion, sparing};
 
 /// The totals of a script are those of a world that its steps lead to, and none is oversold.
 pub fn totals_are_not_oversold()
@@ -11,34 +11,47 @@ pub fn totals_are_not_oversold()
     ensures bounded { TotalsAreNotOversold }
 {}
 
-/// Each command is given by words that the grammar takes; a word too many and a call for help are
-/// not understood.
-pub fn each_command_has_words()
-    ensures world { Give (codes "world" ∷ []) SaysWorld }
+/// Each command that makes or changes a file is given by words that the grammar takes.
+pub fn commands_that_change_have_words()
     ensures init { Give (codes "init" ∷ codes "a.db" ∷ codes "1" ∷ codes "2" ∷ codes "9" ∷ [])
         (SaysInit (codes "a.db") 1 2 9) }
     ensures migrate { Give (codes "migrate" ∷ codes "a.db" ∷ []) (SaysMigrate (codes "a.db")) }
     ensures grow { Give
         (codes "grow" ∷ codes "a.db" ∷ codes "21" ∷ []) (SaysGrow (codes "a.db") 21) }
     ensures ask { Give (codes "ask" ∷ codes "a.db" ∷ []) (SaysAsk (codes "a.db")) }
+    ensures export { Give
+        (codes "export" ∷ codes "a.db" ∷ codes "1" ∷ []) (SaysExport (codes "a.db") 1) }
+    ensures import { Give (codes "import" ∷ codes "a.db" ∷ []) (SaysImport (codes "a.db")) }
+{}
+
+/// So is each that reports what a file has.
+pub fn commands_that_report_have_words()
     ensures find { Give (codes "find" ∷ codes "a.db" ∷ codes "7" ∷ []) (SaysFind (codes "a.db") 7) }
     ensures list { Give
         (codes "list" ∷ codes "a.db" ∷ codes "gala" ∷ []) (SaysList (codes "a.db") (codes "gala")) }
     ensures events { Give (codes "events" ∷ codes "a.db" ∷ []) (SaysEvents (codes "a.db")) }
     ensures shares { Give (codes "shares" ∷ codes "a.db" ∷ codes "gala" ∷ [])
         (SaysShares (codes "a.db") (codes "gala")) }
-    ensures export { Give
-        (codes "export" ∷ codes "a.db" ∷ codes "1" ∷ []) (SaysExport (codes "a.db") 1) }
-    ensures import { Give (codes "import" ∷ codes "a.db" ∷ []) (SaysImport (codes "a.db")) }
     ensures audit { Give (codes "audit" ∷ codes "a.db" ∷ codes "b.db" ∷ [])
         (SaysAudit (codes "a.db" ∷ codes "b.db" ∷ [])) }
-    ensures serve { Give (codes "serve" ∷ codes "7000" ∷ codes "2" ∷ codes "9" ∷ codes
-        "a.db" ∷ codes "b.db" ∷ []) (SaysServe 7000 2 9 (codes "a.db" ∷ codes "b.db" ∷ [])) }
-    ensures open { Give
-        (codes "open" ∷ codes "7000" ∷ codes "a.db" ∷ []) (SaysOpen 7000 (codes "a.db")) }
-    ensures close { Give (codes "close" ∷ codes "a.db" ∷ []) (SaysClose (codes "a.db")) }
     ensures status { Give (codes "status" ∷ codes "a.db" ∷ []) (SaysStatus (codes "a.db")) }
     ensures version { Give (codes "version" ∷ []) SaysVersion }
+{}
+
+/// So is each that serves callers, or runs a script.
+pub fn commands_that_serve_have_words()
+    ensures world { Give (codes "world" ∷ []) SaysWorld }
+    ensures serve { Give (codes "serve" ∷ codes "7000" ∷ codes "2" ∷ codes "9" ∷ codes
+        "a.db" ∷ codes "b.db" ∷ []) (SaysServe 7000 2 9 (codes "a.db" ∷ codes "b.db" ∷ [])) }
+    ensures open { Give (codes "open" ∷ codes "7000" ∷ codes "a.db" ∷ [])
+        (SaysOpen 7000 (codes "a.db") (sparing false 0)) }
+    ensures spares { Give (codes "open" ∷ codes "7000" ∷ codes "a.db" ∷ codes "--low" ∷ codes
+        "--reserve" ∷ codes "500" ∷ []) (SaysOpen 7000 (codes "a.db") (sparing true 500)) }
+    ensures close { Give (codes "close" ∷ codes "a.db" ∷ []) (SaysClose (codes "a.db")) }
+{}
+
+/// A word that is missing, a word too many and a call for help are not understood.
+pub fn other_words_are_not_understood()
     ensures no_file { AreUnderstood (codes "boxoffice" ∷ codes "audit" ∷ []) → ⊥ }
     ensures word_too_many { AreUnderstood (codes "boxoffice" ∷ codes "world" ∷ codes "extra" ∷ [])
         → ⊥ }

@@ -12,7 +12,7 @@ use crate::ending::{close_book, flushed, tell_fault};
 use crate::status::Status;
 use crate::store_fault::StoreFault;
 use history_keeper::Keeper;
-use live_office::{Closing, Door, SocketFault, open_office};
+use live_office::{Closing, Door, SocketFault, Sparing, open_office};
 use plain_words::{WriteFault, numbered, put, write_bytes};
 use site_desk::SiteBook;
 use sql_records::Records;
@@ -94,7 +94,7 @@ fn office_end<K: Keeper>(book: &SiteBook<K>) -> Result<Status, StoreFault>
     Ok(Status::Done)
 }
 
-/// Keeps the office of a site open at two doors, until a caller says `close` or the store fails: prints `open` with the
+/// Keeps the office of a site open at two doors, sparing its history so, until a caller says `close` or the store fails: prints `open` with the
 /// port and the file, serves, and comes back once all threads are joined.
 ///
 /// `memory`, `not-started`, `closed S` or `write` is told on `err`, with status 3. The connection comes back. Where all is
@@ -117,6 +117,7 @@ pub fn office_store<
     clerks: &C,
     operators: &O,
     closing: &Closing,
+    sparing: Sparing,
     out: &mut W,
     err: &mut E,
 ) -> (Status, Option<Connection<S>>)
@@ -133,7 +134,7 @@ pub fn office_store<
     if let Err(fault) = say_open(port, file, out) {
         return close_book(Err(fault), book, out, err);
     }
-    match open_office(rt, alloc, book, clerks, operators, closing) {
+    match open_office(rt, alloc, book, clerks, operators, closing, sparing) {
         Ok(book) => close_book(office_end(&book), book, out, err),
         Err((book, fault)) => close_book(Err(StoreFault::from(fault)), book, out, err),
     }

@@ -6,13 +6,14 @@ ghost use Rattle.clap.specs.Words.{subcommand_of, subcommand_rows_of, kind_of, a
 ghost use Rattle.rights_lattice.specs.Cells.{greatest_value};
 ghost use Rattle.rights_lattice.specs.Limits.{greatest_site, most_sites};
 ghost use Rattle.book_core.specs.Limits.{greatest_limit};
-ghost use Rattle.operator_cli.specs.Orders.{boxoffice, greatest_port, most_sessions, AreUnderstood, order_in, said_by, number_in, init_in, migrate_in, grow_in, ask_in, find_in, list_in, events_in, shares_in, export_in, import_in, files_in, audit_in, serve_in, open_in, close_in, status_in, named_order, values_of, first_misfit, misfit_in, misfit_line, TellsMisfit, IsWordsRefusal};
+ghost use Rattle.operator_cli.specs.Orders.{boxoffice, greatest_port, most_sessions, AreUnderstood, order_in, said_by, number_in, init_in, migrate_in, grow_in, ask_in, find_in, list_in, events_in, shares_in, export_in, import_in, files_in, audit_in, serve_in, open_in, low_in, reserve_in, close_in, status_in, named_order, values_of, first_misfit, misfit_in, misfit_line, TellsMisfit, IsWordsRefusal};
 
 use crate::grammar::boxoffice;
 use arrayvec::ArrayVec;
 use book_core::Limit;
 use clap::error::ErrorKind;
 use clap::{ArgMatches, Error};
+use live_office::Sparing;
 use plain_words::read_number;
 use request_ledger::RequestNumber;
 use rights_lattice::{GREATEST_SITE, GREATEST_VALUE, MOST_SITES, SiteId, Sites};
@@ -98,10 +99,11 @@ pub enum Order<'a> {
         rounds: u64,
         files: FileNames<'a>,
     },
-    /// Keeps the office of a site open: callers come at a port, and at a socket beside the file.
+    /// Keeps the office of a site open: callers come at a port, and at a socket beside the file. It spares its history so.
     Open {
         port: u16,
         file: &'a str,
+        sparing: Sparing,
     },
     /// Closes the office of a site.
     Close {
@@ -143,6 +145,7 @@ enum Misfit {
     Port,
     Sessions,
     Rounds,
+    Reserve,
 }
 
 // The line that tells it.
@@ -163,6 +166,7 @@ fn misfit_line(misfit: Misfit) -> &'static str
         Misfit::Port => "error: PORT is the number of a port, 1 to 65535\n",
         Misfit::Sessions => "error: SESSIONS is a count of connections, 0 to 1024\n",
         Misfit::Rounds => "error: ROUNDS is a count of rounds, 0 to 1000000\n",
+        Misfit::Reserve => "error: R is a count of entries, 0 to 1000000\n",
     }
 }
 
@@ -401,16 +405,46 @@ fn serve_of<'a>(values: &ArgMatches<'a>) -> Result<Order<'a>, Misfit>
     })
 }
 
+#[tactic(auto, unfolding(crate::specs::Orders::low_in))]
+fn is_low(values: &ArgMatches<'_>) -> bool
+    ensures { result ≡ low_in (rows_of (found_of values.now)) }
+{
+    match value_of(values, "low") {
+        Some(word) => word == "true",
+        None => false,
+    }
+}
+
+#[tactic(auto, unfolding(crate::specs::Orders::reserve_in))]
+fn reserve_of(values: &ArgMatches<'_>) -> Option<u64>
+    ensures { result ≡ reserve_in (rows_of (found_of values.now)) }
+{
+    if value_of(values, "R").is_none() {
+        return Some(0);
+    }
+    number_of(values, "R", 0, Limit::GREATEST)
+}
+
 #[tactic(auto, unfolding(crate::specs::Orders::open_in))]
 fn open_of<'a>(values: &ArgMatches<'a>) -> Result<Order<'a>, Misfit>
     ensures order { MatchResult result (λ order. open_in (rows_of (found_of values.now))
         ≡ Some (said_by order)) (λ _. open_in (rows_of (found_of values.now)) ≡ None) }
     ensures misfit { IfErr result (λ misfit. first_misfit
-        (Misfit.Port ∷ Misfit.File ∷ []) (rows_of (found_of values.now)) ≡ Some misfit) }
+        (Misfit.Port ∷ Misfit.File ∷ Misfit.Reserve ∷ []) (rows_of (found_of values.now))
+        ≡ Some misfit) }
 {
     let port = port_of(values).ok_or(Misfit::Port)?;
     let file = value_of(values, "FILE").ok_or(Misfit::File)?;
-    Ok(Order::Open { port, file })
+    let reserve = reserve_of(values).ok_or(Misfit::Reserve)?;
+    let sparing = Sparing {
+        tells_low: is_low(values),
+        reserve,
+    };
+    Ok(Order::Open {
+        port,
+        file,
+        sparing,
+    })
 }
 
 #[tactic(auto, unfolding(crate::specs::Orders::close_in))]

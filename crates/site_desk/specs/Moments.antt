@@ -1,11 +1,11 @@
 -- What the book under a desk's lock is at one moment, and what is answered by it then. (Our own.)
-use Rattle.std.specs.Prelude.{◌≡◌, ℕ, true, false, List, Vec, take, length, Option, Some, None, Result, Ok, Err, IfOk, if◌then◌else◌}
+use Rattle.std.specs.Prelude.{◌≡◌, ℕ, ◌+◌, ◌≤◌, true, false, List, Vec, take, length, Option, Some, None, Result, Ok, Err, IfOk, if◌then◌else◌}
 use Rattle.rights_lattice.specs.State.{AtOrBelow, knows}
 use Rattle.request_ledger.specs.declared.request.Request.{Request}
 use Rattle.book_core.specs.declared.entry.Entry.{Entry}
 use Rattle.book_core.specs.BookView.{BookView}
 use Rattle.book_core.specs.Decision.{Office, shortage, sites_of}
-use Rattle.book_core.specs.History.{names_known, state_of}
+use Rattle.book_core.specs.History.{kept, names_known, state_of}
 use Rattle.book_core.specs.Legal.{IsLegal}
 use Rattle.history_keeper.specs.declared.lookup.Found.{Found}
 use Rattle.history_keeper.specs.declared.lookup.Listed.{Listed}
@@ -117,6 +117,12 @@ Shares event (Err look_up.Memory) site = site.closed ≡ false
 -- what is left where an open site would refuse the request, under a new number, for want of seats
 abbrev pub IsShortage : {K : Type 0} → ℕ → Request → Option ℕ → SiteView K → Type 0
 IsShortage number request left site = left ≡ (if site.closed then None else shortage site.book.office site.book.history number request)
+
+-- an open site has no reply under the number, and of its limit no more than so many entries are free
+pub record IsReserved {K : Type 0} (number reserve : ℕ) (site : SiteView K) : Type 0 where
+  pub is_open : site.closed ≡ false
+  pub is_new : kept site.book.history number ≡ None
+  pub is_used : site.book.office.limit ≤ length site.book.history + reserve
 
 abbrev pub Takes : {K : Type 0} → (K → ℕ) → Message → Result Taken TakeFault → SiteView K → Type 0
 Takes failed message (Ok taken) site = (site.closed ≡ false) × IsTaken (verdict_in site.book message) (ack_for message) taken

@@ -6,7 +6,7 @@ ghost use Rattle.site_desk.specs.Answers.{ack_of};
 ghost use Rattle.site_desk.specs.Calls.{fresh_given};
 ghost use Rattle.site_desk.specs.Count.{asked_since};
 ghost use Rattle.site_desk.specs.Finish.{FindsFirst, HasItsReceipt, StandsIn, WasSeen, handed_back, receipt_of};
-ghost use Rattle.site_desk.specs.Moments.{AsksAtDesk, AtOneMoment, Events, Finds, HoldsDelta, HoldsReceipt, IsAtDesk, IsShortage, IsStanding, Lists, Looks, Replies, Sends, Shares, StandsGiven, Takes};
+ghost use Rattle.site_desk.specs.Moments.{AsksAtDesk, AtOneMoment, Events, Finds, HoldsDelta, HoldsReceipt, IsAtDesk, IsReserved, IsShortage, IsStanding, Lists, Looks, Replies, Sends, Shares, StandsGiven, Takes};
 ghost use Rattle.site_desk.specs.Seats.{held, parts_of, shares_of};
 ghost use Rattle.site_desk.specs.SiteView.{SiteInStep, SiteView};
 
@@ -208,6 +208,14 @@ impl<K: Keeper, L: Opens> Desk<K, L> {
         ensures shortage { AtOneMoment L.office L.began (SiteInStep K.Keeper) (IsShortage number request.now result) }
     {
         self.lock.lock(rt).shortage(number, request)
+    }
+
+    /// Whether the number is new, and of the limit of entries no more than `reserve` are free. Of a closed book it is false.
+    pub fn is_reserved<R: Wait>(&self, rt: &R, number: RequestNumber, reserve: u64) -> bool
+        ensures reserved { result ≡ true → AtOneMoment L.office L.began (SiteInStep K.Keeper) (IsReserved number reserve) }
+        ensures free { result ≡ false → AtOneMoment L.office L.began (SiteInStep K.Keeper) (λ site. IsReserved number reserve site → ⊥) }
+    {
+        self.lock.lock(rt).is_reserved(number, reserve)
     }
 
     /// Which site it is, and how long its history is, also where the book is closed.

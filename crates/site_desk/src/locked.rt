@@ -9,7 +9,7 @@ ghost use Rattle.site_desk.specs.Looks.{IsSeenAt};
 ghost use Rattle.site_desk.specs.Calls.{AskAllCall, AskCall, TakeCall, answer_in, answers_in, fresh_given};
 ghost use Rattle.site_desk.specs.SiteView.{SiteInStep, site_of};
 ghost use Rattle.site_desk.specs.Count.{asked_since};
-ghost use Rattle.site_desk.specs.Moments.{Events, Finds, IsAtDesk, IsShortage, IsStanding, Lists, Shares};
+ghost use Rattle.site_desk.specs.Moments.{Events, Finds, IsAtDesk, IsReserved, IsShortage, IsStanding, Lists, Shares};
 ghost use Rattle.site_desk.specs.Finish.{FindsFirst, HasItsReceipt, StandsIn, WasSeen, handed_back, receipt_of};
 ghost use Rattle.site_desk.specs.Seats.{held, parts_of, shares_of};
 
@@ -266,6 +266,16 @@ impl<K: Keeper, L: Opens> Locked<K, L> {
             return None;
         }
         self.book.book().shortage(number, request)
+    }
+
+    /// Whether the number is new, and of the limit no more than so many entries are free.
+    pub fn is_reserved(&self, number: RequestNumber, reserve: u64) -> bool
+        ensures at_desk { IsAtDesk L.office L.began (SiteInStep K.Keeper) self.now }
+        ensures reserved { IsTrue result ↔ IsReserved number reserve self.now }
+    {
+        let book = self.book.book();
+        let is_used = book.limit().entries().saturating_sub(reserve) <= book.len() as u64;
+        !self.book.is_closed() && is_used && book.kept(number).is_none()
     }
 
     /// Which site it is, and how long its history is.

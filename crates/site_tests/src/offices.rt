@@ -7,7 +7,7 @@ ghost use Rattle.live_office.specs.declared.door.Access.TheVariants.{Session, Of
 use crate::books::talked;
 use crate::said::{Office, book_of};
 use history_keeper::ListKeeper;
-use live_office::{Access, Call, Closing, Door, open_office};
+use live_office::{Access, Call, Closing, Door, Sparing, open_office};
 use rights_lattice::Event;
 use site_desk::SiteBook;
 use std::alloc::Global;
@@ -161,7 +161,15 @@ fn left_after<'a, T: Threads + Wait + Clock + Abort + Sync>(
     let closing = Closing::new();
     let clerks = ClerksDoor(clerks);
     let operators = OperatorsDoor(operators);
-    match open_office(rt, alloc, book, &clerks, &operators, &closing) {
+    match open_office(
+        rt,
+        alloc,
+        book,
+        &clerks,
+        &operators,
+        &closing,
+        Sparing::nothing(),
+    ) {
         Ok(book) => book.book().left(Event::read(b"gala").expect(rt, "a name")),
         Err(_) => panic!(rt; "threads, and memory"),
     }

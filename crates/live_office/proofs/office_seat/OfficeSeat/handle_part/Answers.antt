@@ -9,5 +9,5 @@ pub returns-in_default : goal.returns-in_default
 returns-in_default g c =
     let d = admissible g.L.Opens.office g.L.Opens.began g.K.Keeper in
     let message = c.args.bytes.items ++ c.args.line.now ++ 10 ∷ [] in
-    subst (λ (is_last : Bool). HandlesPart d c.args.self.now.seat message is_last (answer_text c.lose.result) c.lose.new.self) c.ends_message-is_last.ensures
-    (lost_part d c.args.self.now.seat message c.ends_message-is_last.result (answer_text c.lose.result) c.lose.new.self c.lose.ensures)
+    subst (λ (is_last : Bool). HandlesPart d c.args.self.now message is_last (answer_text c.lose.result) c.lose.new.self) c.ends_message-is_last.ensures
+    (lost_part d c.args.self.now message c.ends_message-is_last.result (answer_text c.lose.result) c.lose.new.self c.lose.ensures)
