@@ -2,7 +2,7 @@
 // each sell a seat so often, each line behind the reply to the one before. Prints the microseconds from the first line to
 // the last reply, and of one sale: the median, the 99th percentile and the worst.
 //
-// usage: callers PORT CALLERS SALES
+// usage: callers PORT CALLERS SALES [REPLY]     (REPLY: what each is answered, `done` without it)
 
 use std::io::{BufRead, BufReader, Write};
 use std::net::TcpStream;
@@ -19,7 +19,7 @@ fn connected(port: u16) -> TcpStream {
     }
 }
 
-fn sell(stream: &TcpStream, caller: u64, sales: u64) -> Vec<u128> {
+fn sell(stream: &TcpStream, caller: u64, sales: u64, wanted: &str) -> Vec<u128> {
     let mut replies = BufReader::new(stream);
     let mut out = stream;
     let mut reply = String::new();
@@ -30,14 +30,15 @@ fn sell(stream: &TcpStream, caller: u64, sales: u64) -> Vec<u128> {
         out.write_all(line.as_bytes()).expect("a connection");
         reply.clear();
         replies.read_line(&mut reply).expect("a reply");
-        assert_eq!(reply, "done\n");
+        assert_eq!(reply.trim_end(), wanted);
         times.push(began.elapsed().as_micros());
     }
     times
 }
 
 fn main() {
-    let words: Vec<u64> = std::env::args().skip(1).map(|word| word.parse().expect("a number")).collect();
+    let wanted: Arc<str> = std::env::args().nth(4).unwrap_or("done".to_string()).into();
+    let words: Vec<u64> = std::env::args().skip(1).take(3).map(|word| word.parse().expect("a number")).collect();
     let (port, callers, sales) = (words[0] as u16, words[1], words[2]);
     let streams: Vec<TcpStream> = (0..callers).map(|_| connected(port)).collect();
     let ready = Arc::new(Barrier::new(callers as usize + 1));
@@ -45,11 +46,11 @@ fn main() {
         .into_iter()
         .enumerate()
         .map(|(caller, stream)| {
-            let ready = ready.clone();
+            let (ready, wanted) = (ready.clone(), wanted.clone());
             thread::spawn(move || {
                 stream.set_nodelay(true).expect("a connection");
                 ready.wait();
-                sell(&stream, caller as u64, sales)
+                sell(&stream, caller as u64, sales, &wanted)
             })
         })
         .collect();

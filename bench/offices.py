@@ -66,9 +66,10 @@ def compiled(folder: str, name: str, *flags: str) -> str:
     return made
 
 
-def called(caller: str, port: int, callers: int, each: int) -> Timed:
-    """What so many callers came to who make so many sales each at a port."""
-    told = subprocess.run([caller, str(port), str(callers), str(each)], stdout=subprocess.PIPE, text=True, check=True)
+def called(caller: str, port: int, callers: int, each: int, reply: str = 'done') -> Timed:
+    """What so many callers came to who make so many sales each at a port, each of which is answered so."""
+    words = [caller, str(port), str(callers), str(each), reply]
+    told = subprocess.run(words, stdout=subprocess.PIPE, text=True, check=True)
     taken, *times = map(float, told.stdout.split())
     return Timed(callers * each / taken * 1e6, *times)
 

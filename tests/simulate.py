@@ -56,8 +56,8 @@ class Differs(Exception):
 class Place:
     """A site: its file, its office, and what it has to be by the model."""
 
-    def __init__(self, folder: str, me: int, sites: int, limit: int) -> None:
-        self.folder, self.me, self.file = folder, me, f"{me}.db"
+    def __init__(self, folder: str, me: int, sites: int, limit: int, chance: random.Random) -> None:
+        self.folder, self.me, self.file, self.chance = folder, me, f"{me}.db", chance
         self.model = Site(me, sites, limit)
         # The requests that were answered, with their replies.
         self.journal: dict[int, tuple[str, str]] = {}
@@ -67,7 +67,10 @@ class Place:
         self.open()
 
     def open(self) -> None:
-        self.office = Office(self.folder, self.file, free_port(), 300)
+        low, reserve = self.chance.random() < 0.5, self.chance.choice([0, 0, 10, 60])
+        words = [*(["--low"] if low else []), *(["--reserve", str(reserve)] if reserve else [])]
+        self.model.low, self.model.reserve = low, reserve
+        self.office = Office(self.folder, self.file, free_port(), 300, words=words)
         self.operator = Operator(self.office.path)
         # An office that is opened has forgotten what was acknowledged.
         self.model.acked, self.callers = {}, []
@@ -94,9 +97,14 @@ class Place:
             self.callers.remove(caller)
             caller.go_away()
         must(f"site {self.me}: {line}", reply, wanted)
-        if line.split(" ")[0] not in ("left", "totals") and reply not in ("bad-line", "reused", "history-full"):
+        if line.split(" ")[0] not in ("left", "totals") and not is_unkept(reply):
             self.answered(line, reply)
         return reply
+
+
+def is_unkept(reply: str) -> bool:
+    """Whether a reply to a request is one that keeps nothing."""
+    return reply in ("bad-line", "reused", "history-full") or reply.startswith("low ")
 
 
 def must(what: str, found: object, wanted: object) -> None:
@@ -112,7 +120,7 @@ class World:
         self.done: collections.Counter[str] = collections.Counter()
         sites = self.chance.choice([2, 2, 3, 3, 4])
         self.limit = self.chance.choice([1_000_000, 1_000_000, 1_000_000, 150])
-        self.places = [Place(folder, me, sites, self.limit) for me in range(sites)]
+        self.places = [Place(folder, me, sites, self.limit, self.chance) for me in range(sites)]
         # Messages that were made and not dropped: to whom, and the text.
         self.under_way: list[tuple[int, str]] = []
         self.steps: list[tuple[int, Callable[[Place], None]]] = [
@@ -244,7 +252,8 @@ class World:
         while len(place.model.rows) < count:
             line = at.get(len(place.model.rows), "")
             if line:
-                reply = place.model.ask(line)
+                # (those who ask at one moment may each find an entry that is free)
+                reply = place.model.ask(line, spares=False)
                 must(f"site {place.me}: {line}, as it is kept", found[line].split(" ", 1)[1], reply)
                 if line in told:
                     must(f"site {place.me}: {line}, as it was answered", told[line], reply)
@@ -261,7 +270,7 @@ class World:
             must(f"site {place.me}: the message", word, "joined")
         for line in lines:
             if found[line] == "none":
-                must(f"site {place.me}: {line} was not kept", told.get(line, "history-full"), "history-full")
+                must(f"site {place.me}: {line} was not kept", is_unkept(told.get(line, "history-full")), True)
                 place.ask(self.chance, line)
 
     def dies_at_work(self, place: Place) -> None:

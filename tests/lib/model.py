@@ -132,6 +132,8 @@ class Site:
         # What each peer has acknowledged to the office that is open.
         self.acked: dict[int, int] = {}
         self.count = sites
+        # How the office that is open spares its history.
+        self.low, self.reserve = False, 0
         # By sales how many seats were given back, and whether all that was left.
         self.back: dict[int, tuple[int, bool]] = {}
         for row in rows:
@@ -167,8 +169,8 @@ class Site:
 
     # Requests and looks.
 
-    def ask(self, line: str) -> str:
-        """The reply to a line."""
+    def ask(self, line: str, spares: bool = True) -> str:
+        """The reply to a line, by an office that spares its history or as it is kept."""
         try:
             verb, *words = words_of(line)
         except ValueError:
@@ -178,9 +180,13 @@ class Site:
         key = self.columns(verb, words)
         if (row := self.by_number.get(words[0])) is not None:
             return reply_of(row) if row[2:7] == key else "reused"
+        reply, rest, delta = self.decided(*key)
+        if spares and verb not in ("refund", "cede") and len(self.rows) + self.reserve >= self.limit:
+            return "history-full"
+        if spares and self.low and reply == "short":
+            return f"low {rest}"
         if len(self.rows) >= self.limit:
             return "history-full"
-        reply, rest, delta = self.decided(*key)
         self.enter(None, *key, reply, rest, delta)
         return reply_of(self.rows[-1])
 

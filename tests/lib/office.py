@@ -4,10 +4,12 @@ from __future__ import annotations
 
 import contextlib
 import os
+import re
 import socket
 import subprocess
 import threading
 import time
+from collections.abc import Sequence
 from typing import Any
 
 from .checks import same
@@ -15,9 +17,9 @@ from .options import PROGRAM
 from .program import SECONDS, Found, begun, call, free_port
 from .sites import EMPTY_LOG, intact, opened
 
-# The file of an office.
+# The file of an office, and what one says whose history is nearly full.
 FILE = "site.db"
-
+FILLED = re.compile(rb"filled (90|95|99) of 100: \d+ of \d+ entries\n")
 
 Program = subprocess.Popen[bytes]
 
@@ -121,7 +123,7 @@ class Operator(Caller):
 
 
 class Office:
-    """An office, once callers can come."""
+    """An office, once callers can come. The words come behind those that it has to be opened by."""
 
     def __init__(
         self,
@@ -130,11 +132,12 @@ class Office:
         port: int | None = None,
         seconds: float = SECONDS,
         program: str = PROGRAM,
+        words: Sequence[str] = (),
         **more: Any,
     ) -> None:
         self.folder, self.file, self.port, self.built = folder, file, port or free_port(), program
         self.path = os.path.join(folder, file + "-sock")
-        self.program = begun(folder, ["open", str(self.port), file], program, **more)
+        self.program = begun(folder, ["open", str(self.port), file, *words], program, **more)
         watch = threading.Timer(seconds, self.program.kill)
         watch.start()
         assert self.program.stdout
@@ -143,7 +146,8 @@ class Office:
 
     def kill(self) -> None:
         self.program.kill()
-        same("it was killed", (self.program.wait(SECONDS), *self.program.communicate()), (-9, b"", b""))
+        status, (out, err) = self.program.wait(SECONDS), self.program.communicate()
+        same("it was killed", (status, out, FILLED.sub(b"", err)), (-9, b"", b""))
 
     def close(self) -> None:
         same(f"close {self.file}", call(self.folder, ["close", self.file], program=self.built), (0, "", ""))
@@ -151,7 +155,8 @@ class Office:
 
     def has_ended(self) -> None:
         """Nothing but the file and a log without entries is left."""
-        same(f"the end of {self.file}", ended(self.program), (0, "", ""))
+        status, out, err = ended(self.program)
+        same(f"the end of {self.file}", (status, out, FILLED.sub(b"", err.encode())), (0, "", b""))
         same(f"no socket of {self.file} is left", os.path.lexists(self.path), False)
         log = os.path.join(self.folder, self.file + "-wal")
         same(f"the log of {self.file}", (os.path.getsize(log) if os.path.exists(log) else 0) in (0, EMPTY_LOG), True)

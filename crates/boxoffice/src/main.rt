@@ -19,9 +19,9 @@ use crate::connections::visits;
 use crate::doors::Socket;
 use crate::files::{FileFault, Files, close, failed, open_or_make, open_there};
 use crate::offices::visited;
-use crate::watch::{FileId, Held, id_at, watch};
+use crate::watch::{FileId, Fill, Held, id_at, watch};
 use book_core::Limit;
-use live_office::{Closing, Places, Sparing, TcpDoor, UnixDoor};
+use live_office::{Closing, Gauge, Places, Sparing, TcpDoor, UnixDoor};
 use operator_cli::{
     CloseFault, FileNames, Order, Status, WordsFault, ask_store, audit_stores, events_store,
     export_store, find_store, grow_store, import_store, init_store, list_store, migrate_store,
@@ -462,6 +462,7 @@ fn office<S: Alter + Drop + Send>(
     clerks: &TcpDoor<'_>,
     operators: &UnixDoor<'_>,
     closing: &Closing,
+    gauge: &Gauge,
     sparing: Sparing,
 ) -> (Status, Option<Connection<S>>) {
     office_store(
@@ -473,6 +474,7 @@ fn office<S: Alter + Drop + Send>(
         clerks,
         operators,
         closing,
+        gauge,
         sparing,
         &mut rt.stdout(),
         &mut rt.stderr(),
@@ -490,12 +492,15 @@ fn office_watched<S: Alter + Drop + Send>(
     clerks: &TcpDoor<'_>,
     operators: &UnixDoor<'_>,
     closing: &Closing,
+    gauge: &Gauge,
     sparing: Sparing,
 ) -> (Status, Option<Connection<S>>) {
+    let limit = site.book().limit().entries();
+    let fill = Fill::new(gauge, limit.saturating_sub(sparing.reserve));
     // The watch is first: a first closure that gets no thread runs when the second has ended.
     let ((), came) = join(
         host,
-        move || watch(rt, held, closing),
+        move || watch(rt, held, closing, fill),
         move || {
             let came = office(
                 rt,
@@ -506,6 +511,7 @@ fn office_watched<S: Alter + Drop + Send>(
                 clerks,
                 operators,
                 closing,
+                gauge,
                 sparing,
             );
             closing.ended();
@@ -604,8 +610,9 @@ fn run_open<S: Alter + Drop + Send, H: Shelf<Connection<S>>>(
             return Ok(close_site(rt, shelf, status, site));
         }
     };
+    let gauge = Gauge::new(site.book().len() as u64);
     let came = office_watched(
-        rt, host, site, port, &held, &clerks, &operators, &closing, sparing,
+        rt, host, site, port, &held, &clerks, &operators, &closing, &gauge, sparing,
     );
     socket.put_aside(host);
     let status = close_office(rt, shelf, &held, &closing, came);

@@ -1,6 +1,6 @@
-//! Whether the file of an office is still the one that it holds.
+//! Whether the file of an office is still the one that it holds, and how much of its history is used.
 
-use live_office::Closing;
+use live_office::{Closing, Gauge};
 use std::io::{self, ErrorKind};
 use std::os::unix::fs::MetadataExt;
 use std::time::Duration;
@@ -87,18 +87,60 @@ fn look(rt: &HostRuntime, held: &Held<'_>, closing: &Closing) {
     }
 }
 
+// How many of a hundred entries are used when it is told, once each.
+const MARKS: [u64; 3] = [90, 95, 99];
+
+/// How much is used of the entries that new requests may have, and the last mark that was told.
+#[derive(Drop)]
+pub(crate) struct Fill<'a> {
+    gauge: &'a Gauge,
+    most: u64,
+    told: u64,
+}
+
+impl<'a> Fill<'a> {
+    /// Nothing was told of this gauge; new requests may have so many entries.
+    pub(crate) fn new(gauge: &'a Gauge, most: u64) -> Fill<'a> {
+        Fill {
+            gauge,
+            most,
+            told: 0,
+        }
+    }
+
+    // Tells the last mark that was passed, if it was not told.
+    fn tell(&mut self, rt: &HostRuntime) {
+        let entries = self.gauge.entries();
+        let mut passed = 0;
+        for mark in &MARKS {
+            if entries.saturating_mul(100) >= self.most.saturating_mul(*mark) {
+                passed = *mark;
+            }
+        }
+        if self.most > 0 && passed > self.told {
+            self.told = passed;
+            let _ = eprintln!(rt;
+                "filled {passed} of 100: {entries} of {} entries",
+                self.most
+            );
+        }
+    }
+}
+
 /// Looks each second whether file and log are still those that the office holds, and once more as it closes. Where they are
-/// not, the office closes. Nothing of them is read or changed.
-pub(crate) fn watch(rt: &HostRuntime, held: &Held<'_>, closing: &Closing) {
+/// not, the office closes. Nothing of them is read or changed. It tells too when the history is nearly full.
+pub(crate) fn watch(rt: &HostRuntime, held: &Held<'_>, closing: &Closing, mut fill: Fill<'_>) {
     for turn in 0..u64::MAX {
         if closing.is_closing() {
             break;
         }
         if turn % PAUSES == 0 {
             look(rt, held, closing);
+            fill.tell(rt);
         }
         thread::sleep(rt, Duration::from_millis(PAUSE));
     }
     look(rt, held, closing);
+    fill.tell(rt);
     closing.looked();
 }

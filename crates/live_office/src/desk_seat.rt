@@ -77,10 +77,12 @@ impl<'a, K: Keeper, L: Opens> DeskSeat<'a, K, L> {
             alloc,
             desk,
             together,
+            gauge,
             ..
         } = self.shared;
         match together.ask(rt, *alloc, desk, &mut self.seat, number, request) {
             Ok(receipt) => {
+                gauge.reach((receipt.place as u64).saturating_add(1));
                 self.latest = Some(later(self.latest, receipt.place));
                 Answered::Kept(receipt.reply)
             }

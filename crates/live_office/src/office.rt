@@ -10,6 +10,7 @@ ghost use Rattle.live_office.specs.declared.office.TheConstants.{WORKERS};
 use crate::callers::Callers;
 use crate::closing::Closing;
 use crate::door::Door;
+use crate::gauge::Gauge;
 use crate::shared::Shared;
 use crate::sparing::Sparing;
 use crate::together::Together;
@@ -109,6 +110,7 @@ fn at_desk<
     clerks: &C,
     operators: &O,
     closing: &Closing,
+    gauge: &Gauge,
     sparing: Sparing,
 ) -> Result<SiteBook<K>, (SiteBook<K>, OfficeFault)>
     requires blank { (blank.name ≡ L.name) × (blank.parts ≡ L.parts) × (WORKERS < blank.parts) }
@@ -128,6 +130,7 @@ fn at_desk<
         together: &together,
         closing,
         callers: &callers,
+        gauge,
         sparing,
     };
     let office = Office {
@@ -144,7 +147,7 @@ fn at_desk<
 
 /// Opens a site's office, which spares its history so: callers at the two doors are served, each by a thread, until one
 /// of them says `close`, the store fails, or a thread could not be started. Then all threads are joined, and the book is returned. It is closed
-/// where the store failed.
+/// where the store failed. The gauge shows meanwhile how long the history is.
 ///
 /// Errors return the book too: with `Memory` as it was; with `NotStarted` it may have new entries.
 pub fn open_office<
@@ -161,6 +164,7 @@ pub fn open_office<
     clerks: &C,
     operators: &O,
     closing: &Closing,
+    gauge: &Gauge,
     sparing: Sparing,
 ) -> Result<SiteBook<K>, (SiteBook<K>, OfficeFault)>
     ensures later { IsLater book.book.office book.book.history (book_in result).book }
@@ -174,6 +178,7 @@ pub fn open_office<
         clerks,
         operators,
         closing,
+        gauge,
         sparing,
     )
 }

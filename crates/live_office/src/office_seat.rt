@@ -258,6 +258,8 @@ impl<'a, K: Keeper, L: Opens> OfficeSeat<'a, K, L> {
         if is_failed_store(&result) {
             self.shared.closing.failed(self.shared.desk);
         }
+        let standing = self.shared.desk.standing(rt);
+        self.shared.gauge.reach(standing.entries as u64);
         OfficeAnswer::Imported { result }
     }
 

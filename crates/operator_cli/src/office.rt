@@ -12,7 +12,7 @@ use crate::ending::{close_book, flushed, tell_fault};
 use crate::status::Status;
 use crate::store_fault::StoreFault;
 use history_keeper::Keeper;
-use live_office::{Closing, Door, SocketFault, Sparing, open_office};
+use live_office::{Closing, Door, Gauge, SocketFault, Sparing, open_office};
 use plain_words::{WriteFault, numbered, put, write_bytes};
 use site_desk::SiteBook;
 use sql_records::Records;
@@ -117,6 +117,7 @@ pub fn office_store<
     clerks: &C,
     operators: &O,
     closing: &Closing,
+    gauge: &Gauge,
     sparing: Sparing,
     out: &mut W,
     err: &mut E,
@@ -134,7 +135,7 @@ pub fn office_store<
     if let Err(fault) = say_open(port, file, out) {
         return close_book(Err(fault), book, out, err);
     }
-    match open_office(rt, alloc, book, clerks, operators, closing, sparing) {
+    match open_office(rt, alloc, book, clerks, operators, closing, gauge, sparing) {
         Ok(book) => close_book(office_end(&book), book, out, err),
         Err((book, fault)) => close_book(Err(StoreFault::from(fault)), book, out, err),
     }

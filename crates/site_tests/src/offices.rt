@@ -7,7 +7,7 @@ ghost use Rattle.live_office.specs.declared.door.Access.TheVariants.{Session, Of
 use crate::books::talked;
 use crate::said::{Office, book_of};
 use history_keeper::ListKeeper;
-use live_office::{Access, Call, Closing, Door, Sparing, open_office};
+use live_office::{Access, Call, Closing, Door, Gauge, Sparing, open_office};
 use rights_lattice::Event;
 use site_desk::SiteBook;
 use std::alloc::Global;
@@ -168,6 +168,7 @@ fn left_after<'a, T: Threads + Wait + Clock + Abort + Sync>(
         &clerks,
         &operators,
         &closing,
+        &Gauge::new(0),
         Sparing::nothing(),
     ) {
         Ok(book) => book.book().left(Event::read(b"gala").expect(rt, "a name")),
