@@ -68,8 +68,8 @@ lost_parts old false text new h = ap (λ (s : SeatState). s.seat.parts) h.1
 by_parts : {K : Type 0} (d : Admissible K) (old : SeatState) (gathering : Gathering) (line text : List ℕ) (new : SeatState) →
     HandlesBy d old gathering line text new → new.seat.parts ≡ old.seat.parts
 by_parts d old Nothing line text new h = line_parts d old (office_line_of line) text new h
-by_parts d old (Text so_far) line text new h = part_parts d old _ (ends_message line) text new h
-by_parts d old Lost line text new h = lost_parts old (ends_message line) text new h
+by_parts d old (Text so_far) line text new h = part_parts d (with_gathering old Nothing) _ (ends_message line) text new h
+by_parts d old Lost line text new h = lost_parts (with_gathering old Nothing) (ends_message line) text new h
 
 if_parts : {K : Type 0} (d : Admissible K) (permitted : Bool) (old : CallerState) (line text : List ℕ) (new : CallerState) → HandlesIf d permitted old line text new → new.seat.seat.parts ≡ old.seat.seat.parts
 if_parts d true old line text new h = ap (λ (s : CallerState). s.seat.seat.parts) h.2 ∙ by_parts d old.seat old.seat.gathering line text h.0 h.1

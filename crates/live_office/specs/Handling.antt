@@ -106,8 +106,8 @@ ends_message line = bytes_eq line (codes "end")
 -- a line, by what has come of a message before it
 abbrev pub HandlesBy : {K : Type 0} → Admissible K → SeatState → Gathering → List ℕ → List ℕ → SeatState → Type 0
 HandlesBy d old Nothing line text new = HandlesLine d old (office_line_of line) text new
-HandlesBy d old (Text so_far) line text new = HandlesPart d old (so_far ++ line ++ 10 ∷ []) (ends_message line) text new
-HandlesBy d old Lost line text new = HandlesLost old (ends_message line) text new
+HandlesBy d old (Text so_far) line text new = HandlesPart d (with_gathering old Nothing) (so_far ++ line ++ 10 ∷ []) (ends_message line) text new
+HandlesBy d old Lost line text new = HandlesLost (with_gathering old Nothing) (ends_message line) text new
 
 -- a seat handles a line by this text, and then has this state
 abbrev pub Handles : {K : Type 0} → Admissible K → SeatState → List ℕ → List ℕ → SeatState → Type 0

@@ -91,7 +91,7 @@ impl<'a, K: Keeper, L: Opens> CallerSeat<'a, K, L> {
     /// The seat answers at this desk, and tells the count of callers from here. No line was read.
     pub fn new(shared: &'a Shared<'a, K, L>, seat: Seat<L>, access: Access) -> CallerSeat<'a, K, L>
         ensures { result ≡ caller_state access false
-            (seat_state shared.sparing (sitting seat.parts None) Nothing) }
+            (seat_state shared.now.sparing (sitting seat.parts None) Nothing) }
     {
         CallerSeat {
             access,

@@ -54,7 +54,7 @@ impl<'a, K: Keeper, L: Opens> Model for OfficeSeat<'a, K, L> {
 
     ghost Value = { SeatState };
 
-    ghost view = { λ s. seat_state s.shared.sparing s.seat (gathering s.gathered) };
+    ghost view = { λ s. seat_state s.shared.now.sparing s.seat (gathering s.gathered) };
 }
 
 // The text with one line more, and none where memory was refused.
@@ -96,7 +96,7 @@ fn ends_message(line: &[u8]) -> bool
 impl<'a, K: Keeper, L: Opens> OfficeSeat<'a, K, L> {
     /// The seat answers at this desk, and tells the count of callers from here. No message comes.
     pub fn new(shared: &'a Shared<'a, K, L>, seat: Seat<L>) -> OfficeSeat<'a, K, L>
-        ensures { result ≡ seat_state shared.sparing (sitting seat.parts None) Nothing }
+        ensures { result ≡ seat_state shared.now.sparing (sitting seat.parts None) Nothing }
     {
         OfficeSeat {
             shared,
