@@ -1,0 +1,3 @@
+pub mod BringLemmas
+pub mod DeltaLemmas
+pub mod PrefixLemmas
