@@ -21,6 +21,7 @@ use history_keeper::Keeper;
 use site_desk::{Opens, Seat};
 use std::marker::Model;
 use std::sync::Wait;
+use std::time::Clock;
 
 /// A seat at a desk for a caller with an access, and whether a line of theirs could be read.
 #[derive(Drop)]
@@ -118,7 +119,7 @@ impl<'a, K: Keeper, L: Opens> Handler for CallerSeat<'a, K, L> {
 
     ghost ends = { LastOfCaller };
 
-    fn handle<T: Wait>(&mut self, rt: &T, line: &[u8]) -> Result<OfficeAnswer, Last> {
+    fn handle<T: Wait + Clock>(&mut self, rt: &T, line: &[u8]) -> Result<OfficeAnswer, Last> {
         if !is_permitted(self.access, line) {
             return match self.access {
                 Access::Kept => Err(Last::Full),

@@ -14,10 +14,10 @@ use desk_lines::{Answered, Line};
 use history_keeper::Keeper;
 use request_ledger::{Request, RequestNumber};
 use rights_lattice::Event;
-use session_server::Answerer;
 use site_desk::{AskFault, LookFault, Opens, Seat};
 use std::marker::Model;
 use std::sync::Wait;
+use std::time::Clock;
 
 /// A seat at a desk that serves one session after another. It keeps neither receipts nor looks, so that its memory
 /// does not grow: of its replies it knows the last place. Where the store fails, it closes the office.
@@ -69,7 +69,7 @@ impl<'a, K: Keeper, L: Opens> DeskSeat<'a, K, L> {
         Answered::Refused(fault)
     }
 
-    fn ask<T: Wait>(&mut self, rt: &T, number: RequestNumber, request: &Request) -> Answered
+    fn ask<T: Wait + Clock>(&mut self, rt: &T, number: RequestNumber, request: &Request) -> Answered
         ensures { SeatAnswers (admissible L.office L.began K.Keeper)
             self.old (Ask number request.now) result self.new }
     {
@@ -111,6 +111,19 @@ impl<'a, K: Keeper, L: Opens> DeskSeat<'a, K, L> {
         };
         Answered::TotalsAre(seen.totals)
     }
+
+    /// Answers a line that asks something.
+    pub fn answer<T: Wait + Clock>(&mut self, rt: &T, line: &Line) -> Answered
+        ensures { SeatAnswers (admissible L.office L.began K.Keeper)
+            self.old line.now result self.new }
+    {
+        match line {
+            Line::Ask { number, request } => self.ask(rt, *number, request),
+            Line::Left { event } => self.left(rt, *event),
+            Line::Totals { event } => self.totals(rt, *event),
+            Line::Quit => Answered::NotKnown,
+        }
+    }
 }
 
 // The later of two places.
@@ -129,22 +142,5 @@ fn not_shown(fault: LookFault) -> Answered
     match fault {
         LookFault::Unknown => Answered::NotKnown,
         LookFault::Closed => Answered::Refused(AskFault::Closed),
-    }
-}
-
-impl<'a, K: Keeper, L: Opens> Answerer for DeskSeat<'a, K, L> {
-    ghost use Rattle.live_office.specs.Admissible.{admissible};
-    ghost use Rattle.live_office.specs.SeatAnswers.{SeatAnswers};
-
-    ghost step = { SeatAnswers
-        (admissible L.office L.began K.Keeper) };
-
-    fn answer<T: Wait>(&mut self, rt: &T, line: &Line) -> Answered {
-        match line {
-            Line::Ask { number, request } => self.ask(rt, *number, request),
-            Line::Left { event } => self.left(rt, *event),
-            Line::Totals { event } => self.totals(rt, *event),
-            Line::Quit => Answered::NotKnown,
-        }
     }
 }

@@ -6,6 +6,7 @@ ghost use Rattle.live_office.specs.Answers.{answer_text};
 
 use crate::office_answer::OfficeAnswer;
 use std::sync::Wait;
+use std::time::Clock;
 
 /// Why a line is the last of a session.
 #[derive(Clone, Copy, PartialEq, Eq, Debug)]
@@ -29,7 +30,7 @@ pub trait Handler {
     ghost ends: { Self → List ℕ → LastLine → Type 0 };
 
     /// Answers a line, or reports that it is the last, which changes nothing.
-    fn handle<T: Wait>(&mut self, rt: &T, line: &[u8]) -> Result<OfficeAnswer, Last>
+    fn handle<T: Wait + Clock>(&mut self, rt: &T, line: &[u8]) -> Result<OfficeAnswer, Last>
         ensures { MatchResult result
             (λ answer. handles self.old line.now (answer_text answer) self.new)
             (λ last. ends self.old line.now last × (self.new ≡ self.old)) };

@@ -24,12 +24,12 @@ use desk_lines::{Answered, BadLine, Line};
 use history_keeper::Keeper;
 use request_ledger::{Request, RequestNumber};
 use rights_lattice::{Event, SiteId};
-use session_server::Answerer;
 use site_desk::{Opens, Seat, Taken};
 use site_exchange::TakeFault;
 use std::marker::Model;
 use std::mem;
 use std::sync::Wait;
+use std::time::Clock;
 
 // What has come of a message.
 #[derive(Drop)]
@@ -113,7 +113,7 @@ impl<'a, K: Keeper, L: Opens> OfficeSeat<'a, K, L> {
         seat.into_seat()
     }
 
-    fn reply<T: Wait>(&mut self, rt: &T, line: &Line) -> OfficeAnswer
+    fn reply<T: Wait + Clock>(&mut self, rt: &T, line: &Line) -> OfficeAnswer
         ensures { HandlesSession (admissible L.office L.began K.Keeper) self.old line.now (answer_text result) self.new }
     {
         let answered = self.seat.answer(rt, line);
@@ -121,7 +121,12 @@ impl<'a, K: Keeper, L: Opens> OfficeSeat<'a, K, L> {
     }
 
     // A request, which is asked unless the history is spared it.
-    fn ask<T: Wait>(&mut self, rt: &T, number: RequestNumber, request: &Request) -> OfficeAnswer
+    fn ask<T: Wait + Clock>(
+        &mut self,
+        rt: &T,
+        number: RequestNumber,
+        request: &Request,
+    ) -> OfficeAnswer
         ensures { HandlesAsk (admissible L.office L.began K.Keeper)
             self.old number request.now (answer_text result) self.new }
     {
@@ -139,7 +144,7 @@ impl<'a, K: Keeper, L: Opens> OfficeSeat<'a, K, L> {
     }
 
     // A line of a session.
-    fn handle_session<T: Wait>(&mut self, rt: &T, line: &Line) -> Result<OfficeAnswer, Last>
+    fn handle_session<T: Wait + Clock>(&mut self, rt: &T, line: &Line) -> Result<OfficeAnswer, Last>
         ensures { MatchResult result (λ answer. HandlesLine (admissible L.office L.began K.Keeper) self.old (Some (Session line.now)) (answer_text answer)
             self.new) (λ last. IsLast last (Some (Session line.now)) × (self.new ≡ self.old)) }
     {
@@ -213,7 +218,11 @@ impl<'a, K: Keeper, L: Opens> OfficeSeat<'a, K, L> {
     }
 
     // What a line asks where no message comes.
-    fn handle_asked<T: Wait>(&mut self, rt: &T, line: &OfficeLine) -> Result<OfficeAnswer, Last>
+    fn handle_asked<T: Wait + Clock>(
+        &mut self,
+        rt: &T,
+        line: &OfficeLine,
+    ) -> Result<OfficeAnswer, Last>
         requires { self.old.gathering ≡ Nothing }
         ensures { MatchResult result (λ answer. HandlesLine (admissible L.office L.began K.Keeper) self.old (Some line.now) (answer_text answer)
             self.new) (λ last. IsLast last (Some line.now) × (self.new ≡ self.old)) }
@@ -238,7 +247,7 @@ impl<'a, K: Keeper, L: Opens> OfficeSeat<'a, K, L> {
     }
 
     // A line where no message comes.
-    fn handle_line<T: Wait>(&mut self, rt: &T, line: &[u8]) -> Result<OfficeAnswer, Last>
+    fn handle_line<T: Wait + Clock>(&mut self, rt: &T, line: &[u8]) -> Result<OfficeAnswer, Last>
         requires { self.old.gathering ≡ Nothing }
         ensures { MatchResult result (λ answer. HandlesLine (admissible L.office L.began K.Keeper) self.old (office_line_of line.now) (answer_text answer)
             self.new) (λ last. IsLast last (office_line_of line.now) × (self.new ≡ self.old)) }
@@ -307,7 +316,7 @@ impl<'a, K: Keeper, L: Opens> Handler for OfficeSeat<'a, K, L> {
 
     ghost ends = { LastHandled };
 
-    fn handle<T: Wait>(&mut self, rt: &T, line: &[u8]) -> Result<OfficeAnswer, Last> {
+    fn handle<T: Wait + Clock>(&mut self, rt: &T, line: &[u8]) -> Result<OfficeAnswer, Last> {
         match mem::replace(&mut self.gathered, Gathered::Nothing) {
             Gathered::Nothing => self.handle_line(rt, line),
             Gathered::Text { bytes } => Ok(self.handle_part(rt, bytes, line)),

@@ -19,6 +19,7 @@ use site_desk::{Desk, Opens, Seat};
 use std::io::{Read, Write};
 use std::snapshot::Snapshot;
 use std::sync::Wait;
+use std::time::Clock;
 
 /// A caller that came in. It has neither `Drop` nor `Clone`: nothing but serving it uses it up.
 pub struct Call<R: Read + Drop, W: Write + Drop> {
@@ -110,7 +111,7 @@ impl<R: Read + Drop, W: Write + Drop, K: Keeper, L: Opens> Served<'_, R, W, K, L
 }
 
 // Answers a caller.
-fn answer<T: Wait, R: Read + Drop, W: Write, K: Keeper, L: Opens>(
+fn answer<T: Wait + Clock, R: Read + Drop, W: Write, K: Keeper, L: Opens>(
     rt: &T,
     shared: &Shared<'_, K, L>,
     seat: Seat<L>,
@@ -128,7 +129,7 @@ fn answer<T: Wait, R: Read + Drop, W: Write, K: Keeper, L: Opens>(
 }
 
 // Serves a caller, from the first line to the last, and counts it meanwhile.
-pub(crate) fn serve<'a, T: Wait, R: Read + Drop, W: Write + Drop, K: Keeper, L: Opens>(
+pub(crate) fn serve<'a, T: Wait + Clock, R: Read + Drop, W: Write + Drop, K: Keeper, L: Opens>(
     rt: &T,
     shared: &Shared<'a, K, L>,
     seat: Seat<L>,

@@ -14,6 +14,7 @@ use session_server::TalkFault;
 use std::alloc::Global;
 use std::io::{BufRead, BufReader, Read, Write};
 use std::sync::Wait;
+use std::time::Clock;
 
 // Writes an answer, and flushes it.
 fn send<W: Write>(answer: &OfficeAnswer, out: &mut W) -> Result<(), TalkFault>
@@ -29,7 +30,7 @@ fn send<W: Write>(answer: &OfficeAnswer, out: &mut W) -> Result<(), TalkFault>
 }
 
 // Answers the next line, or reports how the session ends there.
-fn talk_next<T: Wait, R: BufRead, W: Write, H: Handler>(
+fn talk_next<T: Wait + Clock, R: BufRead, W: Write, H: Handler>(
     rt: &T,
     reader: &mut R,
     out: &mut W,
@@ -51,7 +52,7 @@ fn talk_next<T: Wait, R: BufRead, W: Write, H: Handler>(
 }
 
 // A session over a reader that is lent.
-fn talk_over<T: Wait, R: BufRead, W: Write, H: Handler>(
+fn talk_over<T: Wait + Clock, R: BufRead, W: Write, H: Handler>(
     rt: &T,
     reader: &mut R,
     out: &mut W,
@@ -78,7 +79,7 @@ fn talk_over<T: Wait, R: BufRead, W: Write, H: Handler>(
 ///
 /// Errors are those of `session_server::talk`, with what they leave: what was answered stays entered, and of the answer
 /// that could not be written a prefix went out. `NotStarted` is none of them.
-pub fn office_talk<T: Wait, R: Read + Drop, W: Write, H: Handler>(
+pub fn office_talk<T: Wait + Clock, R: Read + Drop, W: Write, H: Handler>(
     rt: &T,
     alloc: Global,
     reader: R,
