@@ -66,21 +66,25 @@ def compiled(folder: str, name: str, *flags: str) -> str:
     return made
 
 
-def called(caller: str, port: int, callers: int, each: int, reply: str = 'done') -> Timed:
-    """What so many callers came to who make so many sales each at a port, each of which is answered so."""
-    words = [caller, str(port), str(callers), str(each), reply]
+def called(caller: str, peer: str, callers: int, each: int, lines: int = 1, reply: str = 'done') -> Timed:
+    """What so many callers came to who make so many sales each at a port, or at a peer that callers.rs knows, so many
+    lines at once. An office answers each so."""
+    words = [caller, peer, str(callers), str(each), str(lines), reply]
     told = subprocess.run(words, stdout=subprocess.PIPE, text=True, check=True)
     taken, *times = map(float, told.stdout.split())
     return Timed(callers * each / taken * 1e6, *times)
 
 
-def office_rate(program: str, caller: str, folder: str, env: dict[str, str], callers: int, each: int) -> Timed:
-    """What so many callers come to who make so many sales each at a new office, whose audit finds as many."""
+def office_rate(
+    program: str, caller: str, folder: str, env: dict[str, str], lines: int, callers: int, each: int
+) -> Timed:
+    """What so many callers come to who make so many sales each, so many lines at once, at a new office. Its audit finds
+    as many."""
     released(program, os.path.join(folder, FILE))
     office = Office(folder, FILE, program=program, env=env)
     try:
         well()
-        rate = called(caller, office.port, callers, each)
+        rate = called(caller, str(office.port), callers, each, lines)
         office.close()
     finally:
         office.program.kill()
@@ -94,7 +98,7 @@ def serve_rate(program: str, caller: str, folder: str, env: dict[str, str], call
     port = free_port()
     serving = started(folder, port, callers, 0, [FILE], program=program, env=env)
     try:
-        rate = called(caller, port, callers, each)
+        rate = called(caller, str(port), callers, each)
         found = ended(serving)
     finally:
         serving.kill()

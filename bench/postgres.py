@@ -16,6 +16,14 @@ ONE_STATEMENT = (
     "WITH sale AS (%s RETURNING 1)"
     " INSERT INTO requests (number, event, amount) SELECT nextval('numbers'), 'gala', 1 FROM sale;\n" % TAKE
 )
+# The row is free once the sale is committed without a sync. The record behind it is synced, and the sale with it,
+# before the client is answered.
+EARLY_RELEASE = 'CALL sell(nextval(\'numbers\'));\n'
+SELL = (
+    'CREATE PROCEDURE sell(number BIGINT) LANGUAGE plpgsql AS $$ BEGIN SET LOCAL synchronous_commit TO off; %s;'
+    " IF FOUND THEN INSERT INTO requests (number, event, amount) VALUES (sell.number, 'gala', 1); END IF; COMMIT;"
+    " PERFORM pg_logical_emit_message(true, 'sold', ''); COMMIT; END $$" % TAKE
+)
 
 
 def installed() -> str | None:
@@ -46,6 +54,7 @@ class Postgres:
         self.sql('CREATE TABLE requests (number BIGINT PRIMARY KEY, event TEXT NOT NULL, amount BIGINT NOT NULL)')
         self.sql('CREATE SEQUENCE numbers CACHE 1000')
         self.sql("INSERT INTO events VALUES ('gala', 1000000000)")
+        self.sql(SELL)
 
     def run(self, name: str, *words: str, env: dict[str, str] | None = None) -> str:
         every = [*self.as_user, os.path.join(self.binaries, name), *words]

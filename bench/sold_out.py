@@ -58,7 +58,7 @@ def refusals(program: str, caller: str, folder: str, env: dict[str, str], low: b
     same("the opening", call(folder, ["ask", FILE], lines, program=program), (0, "done\n" * 3, ""))
     office = Office(folder, FILE, program=program, words=["--low"] if low else [], env=env)
     try:
-        rate = called(caller, office.port, callers, each, "low 0" if low else "short 0")
+        rate = called(caller, str(office.port), callers, each, reply="low 0" if low else "short 0")
         entries = int(call(folder, ["status", FILE], program=program)[1].split()[5])
         same("the entries of a refusal", entries - 3, 0 if low else callers * each)
         office.close()

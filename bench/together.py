@@ -1,18 +1,22 @@
 #!/usr/bin/env python3
 """Times durable sales of one event at open offices of several programs, beside PostgreSQL and Redis.
 
-usage: together.py [--rounds N] [--slower MICROSECONDS,..] [--folder FOLDER] [--callers 1,4,16,64] [--serve]
+usage: together.py [--rounds N] [--slower MICROSECONDS,..] [--folder FOLDER] [--callers 1,4,16,64] [--lines N] [--serve]
 NAME=PROGRAM ..
 
 Each PROGRAM is a built boxoffice, and NAME what it is called in the output. Callers (bench/callers.rs, which rustc has
 to be there for) sell over loopback at the port of `open`, each line behind the reply to the one before; each sale is in
 the file and synced before it is answered. Then `close` ends the office, and `audit` has to find just as many sold.
---serve times `serve` of each program too, where each sale has a sync of its own.
+--serve times `serve` of each program too, where each sale has a sync of its own. With --lines 10 each caller sends ten
+lines at once, and the next ten behind their replies; then the offices and Redis are timed.
 
-PostgreSQL does the same over a local socket by pgbench with as many clients, its commits synchronous: one statement
-takes a seat from the one row that all sell from, and inserts the request's number. Redis does it over a local socket by
-redis-benchmark with as many clients: one script keeps the request's number and takes a seat from the one counter, and
-the log of it is synced before the answer. Where one of them is not installed, this is said, and the others are timed.
+Redis does the same over a local socket, called by the same program: one script, loaded before and named by its sum
+(EVALSHA), keeps the request's number and takes a seat from the one counter, and the log of it is synced before the
+answer. `redis-benchmark` is the same script, sent whole (EVAL) by the program of that name. PostgreSQL does it over a
+local socket by pgbench with as many clients, its commits synchronous: one statement takes a seat from the one row that
+all sell from, and inserts the request's number. With early release a procedure commits that without a sync, so that
+the row is free at once, and then a record behind it with one. Where one of them is not installed, this is said, and the
+others are timed.
 
 All files stand in FOLDER (a temporary one without it). Each sells for some two seconds, by turns, for N rounds (five
 without it). A rate is the median of the rounds, with the lowest and the highest in brackets; then the microseconds of a
@@ -34,8 +38,8 @@ import tempfile
 import time
 from collections.abc import Callable, Container, Mapping, Sequence
 
-from offices import SEATS, Timed, compiled, office_rate, serve_rate
-from postgres import ONE_STATEMENT, Postgres, installed
+from offices import SEATS, Timed, called, compiled, office_rate, serve_rate
+from postgres import EARLY_RELEASE, ONE_STATEMENT, Postgres, installed
 
 from lib.slower import slowed
 
@@ -86,17 +90,31 @@ class Redis:
         every = [name, '-s', self.socket, *words]
         return subprocess.run(every, stdout=subprocess.PIPE, stderr=subprocess.DEVNULL, text=True).stdout
 
-    def rate(self, callers: int, each: int) -> Timed:
-        """Sales a second of so many clients that make so many each."""
+    def empty(self) -> None:
         self.run('redis-cli', 'del', 'requests')
         self.run('redis-cli', 'set', 'gala', str(SEATS))
+
+    def check(self, least: int, most: int) -> None:
+        kept, left = int(self.run('redis-cli', 'hlen', 'requests')), int(self.run('redis-cli', 'get', 'gala'))
+        if kept + left != SEATS or not least <= kept <= most:
+            sys.exit('Redis kept %d of %d sales, and has %d seats left' % (kept, most, left))
+
+    def rate(self, caller: str, lines: int, callers: int, each: int) -> Timed:
+        """What so many callers come to who make so many sales each, so many at once."""
+        self.empty()
+        script = self.run('redis-cli', 'script', 'load', SALE).strip()
+        rate = called(caller, '%s,%s' % (self.socket, script), callers, each, lines)
+        self.check(callers * each, callers * each)
+        return rate
+
+    def told_rate(self, callers: int, each: int) -> Timed:
+        """The same, as redis-benchmark asks and tells it."""
+        self.empty()
         sales = callers * each
         numbers = ['-r', '1000000000', '-n', str(sales)]
         told = self.run('redis-benchmark', '-c', str(callers), *numbers, '--csv', 'eval', SALE, '0', '__rand_int__')
-        kept, left = int(self.run('redis-cli', 'hlen', 'requests')), int(self.run('redis-cli', 'get', 'gala'))
         # A few numbers are drawn twice.
-        if kept + left != SEATS or kept < 0.99 * sales:
-            sys.exit('Redis kept %d of %d sales, and has %d seats left' % (kept, sales, left))
+        self.check(int(0.99 * sales), sales)
         # The test, its rate, and milliseconds: average, least, median, 95th and 99th percentile, most.
         figures = [float(word.strip('"')) for word in told.strip().split('\n')[-1].split('","')[1:]]
         return Timed(figures[0], *(1000 * figures[at] for at in (3, 5, 6)))
@@ -107,28 +125,33 @@ class Redis:
 
 
 def started(
-    stack: contextlib.ExitStack, programs: Mapping[str, str], folder: str, slower: int, serve: bool
+    stack: contextlib.ExitStack, programs: Mapping[str, str], folder: str, slower: int, lines: int, serve: bool
 ) -> dict[str, Seller]:
     """How each sells, by its name; what runs then ends with the stack."""
     env, caller = environment(folder, slower), compiled(folder, 'callers')
     sellers: dict[str, Seller] = {
-        name: functools.partial(office_rate, program, caller, folder, env) for name, program in programs.items()
+        name: functools.partial(office_rate, program, caller, folder, env, lines)
+        for name, program in programs.items()
     }
     if serve:
         sellers |= {
             name + ', serve': functools.partial(serve_rate, program, caller, folder, env)
             for name, program in programs.items()
         }
-    if binaries := installed():
+    binaries = installed()
+    if binaries and lines == 1:
         postgres = Postgres(binaries, folder, env)
         stack.callback(postgres.stop)
         sellers['PostgreSQL'] = functools.partial(postgres.rate, ONE_STATEMENT)
+        sellers['PostgreSQL, early release'] = functools.partial(postgres.rate, EARLY_RELEASE)
     if shutil.which('redis-server') and shutil.which('redis-benchmark'):
         redis = Redis(folder, env)
         stack.callback(redis.stop)
-        sellers['Redis'] = redis.rate
+        sellers['Redis'] = functools.partial(redis.rate, caller, lines)
+        if lines == 1:
+            sellers['redis-benchmark'] = redis.told_rate
     for name, rate in sellers.items():
-        if rate(1, 200).rate * slower > 1e6:
+        if rate(1, 200).rate * slower > 1e6 * lines:
             sys.exit('%s: its syncs are not slower' % name)
     return sellers
 
@@ -179,6 +202,7 @@ def arguments() -> argparse.Namespace:
     parser.add_argument('--slower', type=numbers, default=[0])
     parser.add_argument('--folder')
     parser.add_argument('--callers', type=numbers, default=[1, 4, 16, 64])
+    parser.add_argument('--lines', type=int, default=1)
     parser.add_argument('--serve', action='store_true')
     parser.add_argument('programs', metavar='NAME=PROGRAM', nargs='+', type=named)
     return parser.parse_args()
@@ -200,7 +224,7 @@ def main() -> None:
         with tempfile.TemporaryDirectory(dir=given.folder) as folder, contextlib.ExitStack() as stack:
             disk = '%g ms more a sync' % (slower / 1000) if slower else 'the disk as it is'
             print('%s (4 kB and a sync took %.0f microseconds before)' % (disk, sync_time(folder)), flush=True)
-            sellers = started(stack, programs, folder, slower, given.serve)
+            sellers = started(stack, programs, folder, slower, given.lines, given.serve)
             for callers in given.callers:
                 print('%d callers' % callers)
                 tell(timed(sellers, given.rounds, callers), programs)
