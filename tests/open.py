@@ -45,7 +45,7 @@ from lib import (
     SECONDS,
     try_each,
 )
-from lib.program import Found
+from lib.program import Found, text_of
 from lib.slower import slowed
 
 SEED = OPTIONS.seed()
@@ -440,6 +440,34 @@ def shared_syncs(folder: str) -> None:
     office.close()
 
 
+def sent_at_once(folder: str) -> None:
+    """Lines that a caller sends at once are answered in order, each as if it came alone. Requests share syncs."""
+    made(folder)
+    office = Office(folder)
+    asked(Caller(office.port), ["announce 1 gala", "release 2 gala 100"], ["done", "done"])
+    row = [f"sell {number} gala 1" for number in range(3, 63)]
+    mixed = [
+        *[("sell 100 gala 10", "done"), ("left gala", "left 30"), ("sell 101 gala 31", "short 30")],
+        *[("sell 100 gala 10", "done"), ("sell 100 gala 9", "reused"), ("sell 102 gala 5", "done")],
+        *[("nonsense", "bad-line"), ("refund 103 102", "done"), ("sell 104 expo 1", "unknown")],
+        *[("sell 105 gala 30", "done"), ("left gala", "left 0"), ("sell 106 gala 1", "short 0")],
+        *[("quit", ""), ("sell 107 gala 1", "")],
+    ]
+    caller, before = Caller(office.port), frames(folder)
+    caller.begin(text_of(row))
+    same("a row of requests", [caller.reply() for _ in row], ["done"] * len(row))
+    after = frames(folder)
+    count = after[1] - before[1]
+    same(f"{count} frames for {len(row)} requests", (after[0], count < len(row)), (before[0], True))
+    caller.begin(text_of([line for line, _ in mixed]))
+    same("requests and looks", [caller.reply() for _ in mixed], [reply for _, reply in mixed])
+    message = ["import", "delta 1 0 1", "name expo", "end"]
+    operator = Operator(office.path).begin(text_of([*message, "sell 108 expo 1", "find 107", "find 108"]))
+    told = ["joined", "ack 0 1 1", "end", "short 0", "none", "70 short 0"]
+    same("a message among them", [operator.reply() for _ in told], told)
+    office.close()
+
+
 def cut_off(folder: str) -> None:
     """What the end of the connection cuts off is not asked."""
     made(folder)
@@ -668,6 +696,7 @@ TRIALS = [
     exchange,
     killed,
     shared_syncs,
+    sent_at_once,
     cut_off,
     places_of_sockets,
     refused,

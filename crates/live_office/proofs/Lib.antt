@@ -1,3 +1,4 @@
+pub mod Rows
 pub mod AskedAs
 pub mod Handled
 pub mod OfficeLines

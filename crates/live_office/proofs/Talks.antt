@@ -2,7 +2,7 @@
 use Rattle.std.proofs.Common.{◌≡◌, ◌≢◌, ℕ, suc, ◌+◌, ◌-◌, ◌<◌, ◌≤◌, Bool, true, List, [], ◌∷◌, ◌++◌, length, Option, Some, None, Result, Ok, Err, refl, sym, ap, subst, ◌∙◌, arith, append-nil, length-append}
 use Rattle.std.specs.Prelude.{IfSome, IsErrAnd}
 use Rattle.std.proofs.lemmas.List.{flat_map_more}
-use Rattle.std.specs.Io.KnownBytes.{Appends}
+use Rattle.std.specs.Io.KnownBytes.{Appends, Keeps}
 use Rattle.std.proofs.KnownBytes.{Appends-trans, Appends-nil, Appends-kept}
 use Rattle.plain_words.specs.Input.{longest_line, lines_of, Between, BeginsTooLong, LineGives, InputEnd, AtEnd, AtLongLine, AtTooMany, TakenLines, taken, none_taken}
 use Rattle.plain_words.specs.Writing.{AppendsFront}
@@ -25,6 +25,33 @@ abbrev pub replied : {A : Type 0} (S : TextSteps A) (a b : Bytes) (line slice : 
     → S before slice text after → Replied S a b before after
 replied S a b line slice more before after text is gives same step =
     record { line = line; text = text; read = subst (λ (m : Bool). LineGives a b line (Ok m)) is gives; step = subst (λ l. S before l text after) same step }
+
+-- A reader that keeps its bytes before the next line is read, is as it was.
+abbrev replied_unknown : {A : Type 0} (S : TextSteps A) (b c : Bytes) (before after : A) → Replied S b c before after → Replied S None c before after
+replied_unknown S b c before after r = record { line = r.line; text = r.text; read = (r.read.0, tt); step = r.step }
+
+kept_unknown : {A : Type 0} (S : TextSteps A) (E : Endings A) (b c old new : Bytes) (before after : A) (result : Result (Option (Option Last)) TalkFault)
+    → NextOfficeTalked S E b c old new before after result → NextOfficeTalked S E None c old new before after result
+kept_unknown S E b c old new before after (Ok None) h = (replied_unknown S b c before after h.0, h.1)
+kept_unknown S E b c old new before after (Ok (Some (Some last))) h = (h.0, (h.1.0, tt), h.2, h.3, h.4)
+kept_unknown S E b c old new before after (Ok (Some None)) h = (tt, h.1, h.2)
+kept_unknown S E b c old new before after (Err fault.Read) h = h
+kept_unknown S E b c old new before after (Err fault.LineTooLong) h = (tt, h.1, h.2, (h.3.0, (h.3.1.0, h.3.1.1, h.3.1.2, tt)))
+kept_unknown S E b c old new before after (Err fault.Write) h = (replied_unknown S b c before after h.0, h.1)
+kept_unknown S E b c old new before after (Err fault.TooLong) h = absurd h
+kept_unknown S E b c old new before after (Err fault.Memory) h = absurd h
+kept_unknown S E b c old new before after (Err fault.NotStarted) h = absurd h
+
+kept_known : {A : Type 0} (S : TextSteps A) (E : Endings A) (a b c old new : Bytes) (before after : A) (result : Result (Option (Option Last)) TalkFault)
+    → Keeps a b → NextOfficeTalked S E b c old new before after result → NextOfficeTalked S E a c old new before after result
+kept_known S E None b c old new before after result k h = kept_unknown S E b c old new before after result h
+kept_known S E (Some x) None c old new before after result k h = absurd k
+kept_known S E (Some x) (Some y) c old new before after result k h = subst (λ (z : List ℕ). NextOfficeTalked S E (Some z) c old new before after result) k h
+
+pub kept_first : {A : Type 0} (S : TextSteps A) (E : Endings A) (a b c old new : Bytes) (before same after : A) (result : Result (Option (Option Last)) TalkFault)
+    → Keeps a b → same ≡ before → NextOfficeTalked S E b c old new same after result → NextOfficeTalked S E a c old new before after result
+kept_first S E a b c old new before same after result k is h =
+    kept_known S E a b c old new before after result k (subst (λ x. NextOfficeTalked S E b c old new x after result) is h)
 
 -- its text went out in part
 pub next_unwritten : {A : Type 0} (S : TextSteps A) (E : Endings A) (a b old new : Bytes) (before after : A) (result : Result (Option (Option Last)) TalkFault) (f : TalkFault) → IsErrAnd result (λ e. e ≡ f) → f ≡ fault.Write

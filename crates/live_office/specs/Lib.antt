@@ -1,4 +1,5 @@
 pub mod Admissible
+pub mod Ahead
 pub mod Answers
 pub mod Caller
 pub mod CallerLines

@@ -119,6 +119,13 @@ impl<'a, K: Keeper, L: Opens> Handler for CallerSeat<'a, K, L> {
 
     ghost ends = { LastOfCaller };
 
+    fn ask_ahead<T: Wait + Clock>(&mut self, rt: &T, bytes: &[u8], most: u32) {
+        match self.access {
+            Access::Kept => {}
+            Access::Session | Access::Office => self.office.ask_ahead(rt, bytes, most),
+        }
+    }
+
     fn handle<T: Wait + Clock>(&mut self, rt: &T, line: &[u8]) -> Result<OfficeAnswer, Last> {
         if !is_permitted(self.access, line) {
             return match self.access {

@@ -7,14 +7,17 @@ ghost use Rattle.session_server.specs.BookStep.{not_shown};
 ghost use Rattle.live_office.specs.Admissible.{IsShut, admissible};
 ghost use Rattle.live_office.specs.SeatAnswers.{SeatAnswers};
 ghost use Rattle.live_office.specs.Sitting.{later, sitting};
+ghost use Rattle.live_office.specs.Together.{IsAskedAs};
 ghost use Rattle.site_desk.specs.declared.fault.AskFault.TheVariants.{Closed, Store};
 
+use crate::ahead::{Ahead, requests_in};
 use crate::shared::Shared;
+use crate::together::AskedRow;
 use desk_lines::{Answered, Line};
 use history_keeper::Keeper;
 use request_ledger::{Request, RequestNumber};
 use rights_lattice::Event;
-use site_desk::{AskFault, LookFault, Opens, Seat};
+use site_desk::{AskFault, LookFault, Opens, Receipt, Seat};
 use std::marker::Model;
 use std::sync::Wait;
 use std::time::Clock;
@@ -26,6 +29,7 @@ pub struct DeskSeat<'a, K: Keeper, L: Opens> {
     shared: &'a Shared<'a, K, L>,
     seat: Seat<L>,
     latest: Option<usize>,
+    ahead: Ahead<K, L>,
 }
 
 impl<'a, K: Keeper, L: Opens> Model for DeskSeat<'a, K, L> {
@@ -45,6 +49,7 @@ impl<'a, K: Keeper, L: Opens> DeskSeat<'a, K, L> {
             shared,
             seat,
             latest: None,
+            ahead: Ahead::new(shared.alloc),
         }
     }
 
@@ -69,20 +74,37 @@ impl<'a, K: Keeper, L: Opens> DeskSeat<'a, K, L> {
         Answered::Refused(fault)
     }
 
-    fn ask<T: Wait + Clock>(&mut self, rt: &T, number: RequestNumber, request: &Request) -> Answered
-        ensures { SeatAnswers (admissible L.office L.began K.Keeper)
-            self.old (Ask number request.now) result self.new }
+    // What a request comes to, which may have been asked before its line came.
+    fn asked<T: Wait + Clock>(
+        &mut self,
+        rt: &T,
+        number: RequestNumber,
+        request: &Request,
+    ) -> Result<Receipt, AskFault>
+        ensures same { self.new ≡ self.old }
+        ensures asked { IsAskedAs (admissible L.office L.began K.Keeper) number request.now result }
     {
+        if let Some(result) = self.ahead.next(number, request) {
+            return result;
+        }
         let Shared {
             alloc,
             desk,
             together,
-            gauge,
             ..
         } = self.shared;
-        match together.ask(rt, *alloc, desk, &mut self.seat, number, request) {
+        together.ask(rt, *alloc, desk, &mut self.seat, number, request)
+    }
+
+    fn ask<T: Wait + Clock>(&mut self, rt: &T, number: RequestNumber, request: &Request) -> Answered
+        ensures { SeatAnswers (admissible L.office L.began K.Keeper)
+            self.old (Ask number request.now) result self.new }
+    {
+        match self.asked(rt, number, request) {
             Ok(receipt) => {
-                gauge.reach((receipt.place as u64).saturating_add(1));
+                self.shared
+                    .gauge
+                    .reach((receipt.place as u64).saturating_add(1));
                 self.latest = Some(later(self.latest, receipt.place));
                 Answered::Kept(receipt.reply)
             }
@@ -110,6 +132,27 @@ impl<'a, K: Keeper, L: Opens> DeskSeat<'a, K, L> {
             Err(fault) => return not_shown(fault),
         };
         Answered::TotalsAre(seen.totals)
+    }
+
+    /// Asks the requests that whole lines at the front of these bytes ask in a row, as one batch, at most so many. Their
+    /// lines are answered by what these came to. Where such requests wait for their lines, nothing is asked.
+    pub(crate) fn ask_ahead<T: Wait + Clock>(&mut self, rt: &T, bytes: &[u8], most: u32)
+        ensures { self.new ≡ self.old }
+    {
+        if !self.ahead.is_empty() {
+            return;
+        }
+        let Shared {
+            alloc,
+            desk,
+            together,
+            ..
+        } = self.shared;
+        let AskedRow { requests } = requests_in(*alloc, bytes, most);
+        if requests.len() > 1 {
+            let told = together.ask_all(rt, *alloc, desk, &mut self.seat, requests.as_slice());
+            self.ahead = Ahead::of(told);
+        }
     }
 
     /// Answers a line that asks something.

@@ -29,6 +29,11 @@ pub trait Handler {
     /// The line is the last that such a handler takes.
     ghost ends: { Self → List ℕ → LastLine → Type 0 };
 
+    /// Bytes of which the front are the lines that come next. It may ask for several of them at once, at most so many, which
+    /// must all be handled then. No line is answered by that.
+    fn ask_ahead<T: Wait + Clock>(&mut self, rt: &T, bytes: &[u8], most: u32)
+        ensures { self.new ≡ self.old };
+
     /// Answers a line, or reports that it is the last, which changes nothing.
     fn handle<T: Wait + Clock>(&mut self, rt: &T, line: &[u8]) -> Result<OfficeAnswer, Last>
         ensures { MatchResult result

@@ -10,7 +10,8 @@
 //! up to a failed write (`Served`). At the port a line that cannot be read is the last, if none before it could be
 //! (`CallerSeat`). A line of a session is answered as in any session, each answer is that of an
 //! admissible book, and the book that is returned extends the one that was passed. Callers who wait at the same moment
-//! are asked for by one of them (`Together`); each is given its own receipt. Of a session only the place of its last
+//! are asked for by one of them (`Together`); each is given its own receipt. Requests that a caller sends at once are asked
+//! before their lines are answered, and each line finds its own receipt. Of a session only the place of its last
 //! reply is kept. A caller that came in can only be served (`Call`), and a line that was cut off is not asked (`WholeLines`).
 //! `Closing` closes for a caller who was served and said `close`, for a desk at which a closed book may stand, where
 //! this crate could not start a thread, or where the program says that the file is lost.
@@ -20,6 +21,7 @@
 //! goes out, who may use the socket, and that `close` ends the threads.
 #![tactic(auto)]
 
+mod ahead;
 mod caller;
 mod caller_seat;
 mod callers;

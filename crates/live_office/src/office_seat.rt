@@ -18,7 +18,7 @@ use crate::importing::{ImportFault, import_at};
 use crate::office_answer::OfficeAnswer;
 use crate::office_line::{OfficeLine, read_office_line};
 use crate::shared::Shared;
-use crate::sparing::spare;
+use crate::sparing::{Sparing, spare};
 use delta_wire::WireFault;
 use desk_lines::{Answered, BadLine, Line};
 use history_keeper::Keeper;
@@ -315,6 +315,16 @@ impl<'a, K: Keeper, L: Opens> Handler for OfficeSeat<'a, K, L> {
         (admissible L.office L.began K.Keeper) };
 
     ghost ends = { LastHandled };
+
+    fn ask_ahead<T: Wait + Clock>(&mut self, rt: &T, bytes: &[u8], most: u32) {
+        // Whether a request is asked of a history that is spared, the entries before it decide.
+        if self.shared.sparing != Sparing::nothing() {
+            return;
+        }
+        if let Gathered::Nothing = self.gathered {
+            self.seat.ask_ahead(rt, bytes, most);
+        }
+    }
 
     fn handle<T: Wait + Clock>(&mut self, rt: &T, line: &[u8]) -> Result<OfficeAnswer, Last> {
         match mem::replace(&mut self.gathered, Gathered::Nothing) {

@@ -1,6 +1,6 @@
 //! Group commit: callers who wait at the same moment are one batch, and one of them, the leader, asks for all.
 
-ghost use Rattle.std.specs.Prelude.{◌≡◌, All, IfOk, IfSome};
+ghost use Rattle.std.specs.Prelude.{◌≡◌, [], ◌++◌, All, IfOk, IfSome, OnErr, OnOk};
 ghost use Rattle.site_desk.specs.Moments.{StandsGiven};
 ghost use Rattle.site_desk.specs.SiteView.{SiteInStep};
 ghost use Rattle.live_office.specs.Admissible.{IsShut, admissible};
@@ -27,11 +27,25 @@ const COST: u64 = 35;
 
 // What a request of a batch came to: its receipt, or None where the store failed.
 #[derive(Drop)]
-struct Told<K: Keeper, L: Opens> {
+pub(crate) struct Told<K: Keeper, L: Opens> {
     receipt: Option<Receipt>,
     of: PhantomData<(K, L)>,
     ghost given: { ∥ IsGiven (admissible L.office L.began K.Keeper)
         receipt ∥₁ },
+}
+
+impl<K: Keeper, L: Opens> Told<K, L> {
+    pub(crate) fn has_failed(&self) -> bool {
+        self.receipt.is_none()
+    }
+
+    // Whether it is what this request came to, as far as it tells.
+    pub(crate) fn is_of(&self, number: RequestNumber, request: &Request) -> bool {
+        match &self.receipt {
+            Some(receipt) => receipt.number == number && receipt.request == *request,
+            None => true,
+        }
+    }
 }
 
 // What was given for a request, for its caller; None for a refusal, since the caller asks again.
@@ -59,7 +73,7 @@ fn told_failed<K: Keeper, L: Opens>() -> Told<K, L>
 }
 
 // What a caller is told of its own request; None where another asks it again.
-fn own_result<K: Keeper, L: Opens>(
+pub(crate) fn own_result<K: Keeper, L: Opens>(
     told: Told<K, L>,
     number: RequestNumber,
     request: &Request,
@@ -153,6 +167,30 @@ impl<K: Keeper, L: Opens> Slot<K, L> {
         let mut notice = self.notice.lock(rt);
         notice.word = Word::Free;
         mem::replace(&mut notice.told, Vec::new(alloc))
+    }
+}
+
+/// Requests that the lines of one caller ask in a row.
+#[derive(Drop)]
+pub(crate) struct AskedRow {
+    pub(crate) requests: Vec<(RequestNumber, Request)>,
+}
+
+impl AskedRow {
+    pub(crate) fn new(alloc: Global) -> AskedRow
+        ensures { result.requests.items ≡ [] }
+    {
+        AskedRow {
+            requests: Vec::new(alloc),
+        }
+    }
+
+    pub(crate) fn push(&mut self, asked: &[(RequestNumber, Request)]) -> Result<(), AllocError>
+        ensures pushed { OnOk result (self.new.requests.items ≡ self.old.requests.items ++ asked.now) }
+        ensures same { OnErr result (self.new.requests.items ≡ self.old.requests.items) }
+    {
+        self.requests.extend_from_slice(asked)?;
+        Ok(())
     }
 }
 
@@ -442,7 +480,7 @@ impl<K: Keeper, L: Opens> Together<K, L> {
 
     // Asks requests with those of all who wait, and gives what they came to, in their order. What is not there was refused,
     // or memory was: the caller asks it again by itself.
-    fn ask_all<T: Wait + Clock>(
+    pub(crate) fn ask_all<T: Wait + Clock>(
         &self,
         rt: &T,
         alloc: Global,
