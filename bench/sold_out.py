@@ -8,9 +8,9 @@ of one that keeps each refusal (`short 0`), and of one with --low (`low 0`, whic
 entries that a refusal takes.
 
 Beside it, where they are installed: Redis by redis-benchmark, whose script finds that no seat is left and writes
-nothing; PostgreSQL by pgbench, whose statement finds no row to take a seat from. Rates are refusals a second: the median
-of the rounds, the lowest and the highest; then the microseconds of a refusal: the median, the 99th percentile and the
-worst. --slower is as in together.py.
+nothing; PostgreSQL by pgbench, whose statement finds no row to take a seat from. Rates are refusals a second, the
+median of the rounds, the lowest and the highest; then the microseconds of a refusal: the median, the 99th percentile
+and the worst. --slower is as in together.py.
 """
 
 import argparse
@@ -93,12 +93,12 @@ def main() -> None:
     parser.add_argument("--slower", type=numbers, default=[0])
     parser.add_argument("--folder")
     parser.add_argument("--callers", type=numbers, default=[1, 64])
-    parser.add_argument("program", type=os.path.abspath)
+    parser.add_argument("program", type=str)
     given = parser.parse_args()
     print(f"refusals a second, {given.rounds} rounds; {os.cpu_count()} processors, load {os.getloadavg()[0]:.1f}")
     for slower in given.slower:
         with tempfile.TemporaryDirectory(dir=given.folder) as folder, contextlib.ExitStack() as stack:
-            every = sellers(stack, given.program, folder, slower)
+            every = sellers(stack, os.path.abspath(given.program), folder, slower)
             for callers in given.callers:
                 print(f"{callers} callers, {slower} us more a sync:", flush=True)
                 tell(timed(every, given.rounds, callers), {"open --low"})

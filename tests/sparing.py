@@ -113,7 +113,7 @@ def reserve(folder: str) -> None:
     site(folder, 9, GALA)
     office = Office(folder, words=["--reserve", "4"])
     lines = [("sell 3 gala 2", "done"), ("sell 4 gala 9", "short 3"), ("announce 5 opera", "done")]
-    lines += [("sell 6 gala 1", "history-full"), ("announce 7 ballet", "history-full"), ("release 8 gala 1", "history-full")]
+    lines += [(line, "history-full") for line in ("sell 6 gala 1", "announce 7 ballet", "release 8 gala 1")]
     lines += [("sell 3 gala 2", "done"), ("refund 9 3 1", "done"), ("cede 10 gala 1 1", "done")]
     said(office, lines)
     operator = Operator(office.path)
@@ -167,7 +167,8 @@ def filled(folder: str) -> None:
     same("nothing else", re.sub(r"filled \d+ of 100: \d+ of 200 entries\n", "", err), "")
     office = Office(folder)
     same("close", call(folder, ["close", "site.db"]), (0, "", ""))
-    same("it is told again at once, of the limit alone", ended(office.program)[2], "filled 95 of 100: 200 of 210 entries\n")
+    err = ended(office.program)[2]
+    same("it is told again at once, of the limit alone", err, "filled 95 of 100: 200 of 210 entries\n")
 
 
 def words(folder: str) -> None:
