@@ -37,7 +37,7 @@ Seller = Callable[[int, int], Timed]
 class Refusing(Redis):
     """A server that has no seat left."""
 
-    def rate(self, callers: int, each: int) -> Timed:
+    def refused_rate(self, callers: int, each: int) -> Timed:
         self.run("redis-cli", "del", "requests")
         self.run("redis-cli", "set", "gala", "0")
         many = ["-r", "1000000000", "-n", str(callers * each)]
@@ -77,7 +77,7 @@ def sellers(stack: contextlib.ExitStack, program: str, folder: str, slower: int)
     if shutil.which("redis-server") and shutil.which("redis-benchmark"):
         redis = Refusing(folder, env)
         stack.callback(redis.stop)
-        found["Redis"] = redis.rate
+        found["Redis"] = redis.refused_rate
     if binaries := installed():
         postgres = Postgres(binaries, folder, env)
         stack.callback(postgres.stop)

@@ -325,7 +325,7 @@ class World:
         must(f"site {place.me}: grow", call(self.folder, ["grow", place.file, str(count)]), (status, word + "\n", ""))
         place.open()
         if word == "grown" and count > len(self.places):
-            self.places.append(Place(self.folder, len(self.places), count, self.limit))
+            self.places.append(Place(self.folder, len(self.places), count, self.limit, self.chance))
 
     # The end.
 
