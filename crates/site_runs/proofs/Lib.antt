@@ -8,6 +8,7 @@ pub mod Sums
 pub mod Growing
 pub mod Histories
 pub mod Adding
+mod CopiesLaws
 mod Copying
 mod Examples
 mod Forging

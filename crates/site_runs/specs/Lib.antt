@@ -3,3 +3,4 @@ pub mod Steps
 pub mod SitesCode
 pub mod Premises
 pub mod Moving
+pub mod Copies

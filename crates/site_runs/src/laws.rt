@@ -1,4 +1,5 @@
 //! What holds over every run of sites' books.
+ghost use Rattle.site_runs.specs.Copies.{CallsAreOfCopies, CopiesNeverOversell, LossIsARestart};
 ghost use Rattle.site_runs.specs.Premises.{ForgedDeltasOversell, ForgedMessagesOversell, SecondHistoriesOversell, TwoCopiesOversell};
 ghost use Rattle.site_runs.specs.Runs.{BooksNeverOversold};
 ghost use Rattle.site_runs.specs.Steps.{BooksAgreeOnceAcknowledged, RunsAreSteps, RunsKeepPromises};
@@ -24,6 +25,14 @@ pub fn books_never_oversold<K: Keeper>()
 /// Two sites of a run that each count all of the other's history as acknowledged know the same.
 pub fn books_agree_once_acknowledged<K: Keeper>()
     ensures { BooksAgreeOnceAcknowledged K.Keeper }
+{}
+
+/// Nor do sites that keep two copies of their history, if at any moment one of a site's two is lost and it goes on from what
+/// the other may leave: that is a restart of the run, of what the site had.
+pub fn sites_with_two_copies_never_oversell<K: Keeper>()
+    ensures calls { CallsAreOfCopies K.Keeper }
+    ensures loss { LossIsARestart K.Keeper }
+    ensures bounded { CopiesNeverOversell K.Keeper }
 {}
 
 /// That messages are genuine is needed: a run with one forged message oversells.

@@ -6,8 +6,9 @@
 //! shape of the definition.
 //!
 //! Guaranteed (`laws`): each run is a list of steps of a world that shows the same; so no run oversells, and no more is
-//! given back than was sold. `books` has books of several sites as one value that keeps this, whatever is done with it;
-//! `calls` has a start and a message given as calls of a run. For callers: `proofs::Growing` (one call more).
+//! given back than was sold. The same holds if sites keep two copies, of which either is lost at any moment. `books` has
+//! books of several sites as one value that keeps this, whatever is done with it; `calls` has a start and a message given
+//! as calls of a run. For callers: `proofs::Growing` (one call more).
 #![tactic(auto)]
 
 pub mod books;
