@@ -62,6 +62,8 @@ def shown(result: Any) -> str:
             return f"{number} done"
         case boxoffice.Short(number, left):
             return f"{number} short {left}"
+        case boxoffice.Low(left):
+            return f"low {left}"
         case boxoffice.Refused(number, word, left):
             return " ".join(str(part) for part in (number, word, left) if part is not None)
         case boxoffice.Totals(released, sold, refunded, still_open):

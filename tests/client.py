@@ -34,7 +34,7 @@ from collections.abc import Callable, Iterable
 from lib import call, Caller, FILE, HERE, Office, opened, Operator, OPTIONS, same, SECONDS, try_each
 
 import boxoffice
-from boxoffice import Done, Refused, Short, Till, Totals
+from boxoffice import Done, Low, Refused, Short, Till, Totals
 
 SEED = OPTIONS.seed()
 TILL_KILLS, BETWEEN = OPTIONS.count("kills", 12), OPTIONS.count("between", 2000)
@@ -74,8 +74,9 @@ class Stub:
             if last is None:
                 self.silent.put(stream)
             else:
-                stream.sendall(last)
-                stream.shutdown(socket.SHUT_RDWR)
+                with contextlib.suppress(BrokenPipeError):
+                    stream.sendall(last)
+                    stream.shutdown(socket.SHUT_RDWR)
 
     def end(self, *lines: str) -> None:
         self.thread.join(SECONDS)
@@ -166,9 +167,9 @@ def office_killed(folder: str) -> None:
     with till(folder, offices[0].port) as seller, concurrent.futures.ThreadPoolExecutor(1) as pool:
         killer = pool.submit(kills, seller.journal)
         while not killer.done():
-            sale = seller.sell("gala", 2).number
-            assert sale is not None
-            same("a refund", type(seller.refund(sale, 1)), Done)
+            sale = seller.sell("gala", 2)
+            assert isinstance(sale, Done)
+            same("a refund", type(seller.refund(sale.number, 1)), Done)
         killer.result()
     print(f"an office killed {KILLS} times under {agree('office', folder, offices[0].port)} requests")
     offices[-1].close()
@@ -366,7 +367,7 @@ def threads(folder: str) -> None:
     office = begun(folder)
     with till(folder, office.port) as seller, concurrent.futures.ThreadPoolExecutor(8) as pool:
         found = list(pool.map(lambda at: (seller.sell("gala", 1 + at % 3), seller.left("gala"))[0], range(80)))
-    numbers = sorted(result.number for result in found if result.number is not None)
+    numbers = sorted(result.number for result in found if isinstance(result, Done))
     same("each has a number of its own", numbers, list(range(FIRST, FIRST + 80)))
     same("what they asked", agree("threads", folder, office.port), 80)
     office.close()
@@ -509,8 +510,42 @@ def longest(name: str) -> float:
     return LONGEST + LONGEST_KILL * kills
 
 
+def spared(folder: str) -> None:
+    """What an office with --low does not ask takes no number, unless an earlier attempt may be under way."""
+    stub = Stub((b"low 3\n", b"done\n"))
+    with till(folder, stub.port) as seller:
+        same("low", [seller.sell("gala", 5), seller.sell("gala", 1)], [Low(3), Done(1001)])
+        same("its journal", seller.find(1001), ("sell 1001 gala 1", Done(1001)))
+    stub.end("sell 1001 gala 5", "sell 1001 gala 1")
+    boxoffice.DOUBT, doubt = 0.0, boxoffice.DOUBT
+    stub = Stub(b"", (b"low 3\n", b"done\n"))
+    with till(folder, stub.port) as seller:
+        same("low after no reply", [seller.sell("gala", 5), seller.sell("gala", 1)], [Low(3), Done(1003)])
+        same("no request", (seller.find(1002), seller.find(1001)), (None, ("sell 1001 gala 1", Done(1001))))
+    stub.end("sell 1002 gala 5", "sell 1002 gala 5", "sell 1003 gala 1")
+    boxoffice.DOUBT = doubt
+    journal = pathlib.Path(folder, JOURNAL)
+    ends = ["free 1001", "reply 1001 done", "not-asked 1002", "reply 1003 done"]
+    same("the journal", journal.read_text("ascii").splitlines()[2::2], ends)
+    stub = Stub(b"", (b"low 3\n", b"low 3\n", b"low 3\n", b"low 3\n"))
+    with till(folder, stub.port, 0.1) as seller:
+        raised("it may be under way", boxoffice.Unanswered, seller.sell, "gala", 5)
+        same("so it is open", seller.journal.open, "sell 1004 gala 5")
+    journal.unlink()
+    office = begun(folder)
+    office.close()
+    office = Office(folder, words=["--low"])
+    with till(folder, office.port) as seller:
+        found = [seller.sell("gala", 3), seller.sell("gala", SEATS)]
+        found += [seller.cede("gala", SEATS, 1), seller.sell("gala", 1)]
+        same("at an office", found, [Done(1001), Low(SEATS - 3), Low(SEATS - 3), Done(1002)])
+    same("kept", kept(folder), [("sell 1001 gala 3", "done"), ("sell 1002 gala 1", "done")])
+    office.close()
+
+
 TRIALS = [
     sells,
+    spared,
     threads,
     sockets,
     ended_by_words,

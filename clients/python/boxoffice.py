@@ -1,7 +1,7 @@
 """A client of an open office: each request of a till counts exactly once, whatever breaks.
 
     with Till(7000, "till-3.journal", 3000000001, 3000999999) as till:
-        result = till.sell("gala", 2)       # Done(number), Short(number, left) or Refused(number, word)
+        result = till.sell("gala", 2)       # Done(number), Short(number, left), Low(left) or Refused(number, word)
 
 A till takes the numbers of its range in order. It writes number and request to its journal, synced, before it asks, and
 then the reply. Where none comes (the line broke, the office was killed, or it answers `store`, `closed` or `memory`) it
@@ -10,9 +10,11 @@ request stays open in the journal: `resume` asks it again. So does the next `Til
 else, also after the program or the machine was killed: `resumed` is that request with its result, and `journal.last`
 the last one that has a result.
 
-A refusal is a result, and is kept under its number: to try again, call again, which takes a new number. A range belongs
-to one journal, and a journal to one site. Never delete a journal whose range is in use, go on from an older copy of it,
-or use its range elsewhere. Threads may share a till; it asks one line at a time.
+A refusal is a result, and is kept under its number: to try again, call again, which takes a new number. `Low`, of an
+office that was opened with --low, keeps nothing, and its number is taken again, unless an earlier attempt at the same
+request brought no reply: it may be under way. Then `Low` counts once it was the answer for ten seconds, and the number
+is left out. A range belongs to one journal, and a journal to one site. Never delete a journal whose range is in use, go
+on from an older copy of it, or use its range elsewhere. Threads may share a till; it asks one line at a time.
 """
 
 from __future__ import annotations
@@ -30,6 +32,8 @@ from typing import Callable, Literal, Union, cast, get_args
 MAX_NUMBER, MAX_SITE = 1_000_000_000_000, 63
 # The most bytes of a reply, and for how many seconds it is waited for on one connection.
 MAX_REPLY, PATIENCE = 200, 10.0
+# For how many seconds an attempt that brought no reply may be under way.
+DOUBT = 10.0
 TOTALS = "totals released ([0-9]+) sold ([0-9]+) refunded ([0-9]+) open ([0-9]+|none)"
 # Why a request or a look is refused; the manual has what each word means.
 Word = Literal[
@@ -53,6 +57,13 @@ class Short:
 
 
 @dataclass(frozen=True)
+class Low:
+    """Not asked: this site has only `left` seats to sell or to cede. The office keeps nothing of the request."""
+
+    left: int
+
+
+@dataclass(frozen=True)
 class Refused:
     """Refused by a word; after `too-many`, `left` seats of the sale can be given back. A look has no number."""
 
@@ -71,7 +82,7 @@ class Totals:
     open: int | None
 
 
-Result = Union[Done, Short, Refused]
+Result = Union[Done, Short, Low, Refused]
 
 
 class TillError(Exception):
@@ -116,15 +127,17 @@ def result_of(line: str, reply: str) -> Result | None:
         return Done(number)
     if (short := re.fullmatch("short ([0-9]+)", reply)) and verb in ("sell", "cede"):
         return Short(number, int(short[1]))
+    if (low := re.fullmatch("low ([0-9]+)", reply)) and verb in ("sell", "cede"):
+        return Low(int(low[1]))
     if (many := re.fullmatch("too-many ([0-9]+)", reply)) and verb == "refund":
         return Refused(number, "too-many", int(many[1]))
     return Refused(number, cast(Word, reply)) if reply != "too-many" and reply in get_args(Word) else None
 
 
 class Journal:
-    """The range of a till, and in turn `ask` and a request, and `reply` with its number and the reply, or `not-asked`
-    and its number. A line is on the disk when `add` returns. `next` is the number of the open request, or of the next
-    one."""
+    """The range of a till, and in turn `ask` and a request, and `reply` with its number and the reply, `not-asked` and
+    its number, or `free` and its number, which is taken again. A line is on the disk when `add` returns. `next` is the
+    number of the open request, or of the next one."""
 
     def __init__(self, path: str | os.PathLike[str], first: int, final: int) -> None:
         self.next, self.final, self._end, self._failed = first, final, 0, False
@@ -171,8 +184,10 @@ class Journal:
                 word, _, rest = line.rstrip("\n").partition(" ")
                 if word == "ask" and rest.split(" ")[1] == str(number):
                     asked = rest
-                elif asked and word in ("reply", "not-asked"):
-                    return (asked, result_of(asked, rest.partition(" ")[2])) if word == "reply" else None
+                elif asked and word == "reply":
+                    return asked, result_of(asked, rest.partition(" ")[2])
+                elif asked:
+                    asked = None  # (by `free` the number may be that of a later request)
         return (asked, None) if asked else None
 
     def _read(self, head: str) -> None:
@@ -196,9 +211,12 @@ class Journal:
         if not self.open and asked and asked[2] == str(self.next) and self.next <= self.final:
             self.open = asked[1]
             return
+        if self.open and line == f"free {self.next}":
+            self.open = None
+            return
         begin = f"reply {self.next} "
         result = result_of(self.open, line[len(begin) :]) if self.open and line.startswith(begin) else None
-        if not result and (not self.open or line != f"not-asked {self.next}"):
+        if (not result or isinstance(result, Low)) and (not self.open or line != f"not-asked {self.next}"):
             raise JournalError(f"{self.path}: {line!r} cannot be there")
         self.last = (str(self.open), result) if result else self.last
         self.open, self.next = None, self.next + 1
@@ -260,7 +278,7 @@ class Till(contextlib.AbstractContextManager["Till"]):
     def resume(self) -> tuple[str, Result] | None:
         """Asks the open request again under its number; None where there is none."""
         with self._lock:
-            return self._decide(self.journal.open) if self.journal.open else None
+            return self._decide(self.journal.open, in_doubt=True) if self.journal.open else None
 
     def announce(self, event: str) -> Result:
         return self._request("announce", _event(event))
@@ -301,32 +319,42 @@ class Till(contextlib.AbstractContextManager["Till"]):
             self.journal.add(f"ask {line}")
             return self._decide(line)[1]
 
-    def _decide(self, line: str) -> tuple[str, Result]:
-        """Asks the open request until it is decided, and journals the reply."""
-        reply = self._answer(line, lambda reply: result_of(line, reply))
+    def _decide(self, line: str, in_doubt: bool = False) -> tuple[str, Result]:
+        """Asks the open request until it is decided, and journals the reply. It is in doubt if it was asked before."""
+        reply, in_doubt = self._answer(line, lambda reply: result_of(line, reply), in_doubt)
         if reply == "bad-line":
             self.journal.add(f"not-asked {self.journal.next}")
             raise BadLine(line)
-        self.journal.add(f"reply {self.journal.next} {reply}")
-        return line, cast(Result, result_of(line, reply))
+        result = cast(Result, result_of(line, reply))
+        if isinstance(result, Low):
+            self.journal.add(f"{'not-asked' if in_doubt else 'free'} {self.journal.next}")
+        else:
+            self.journal.add(f"reply {self.journal.next} {reply}")
+        return line, result
 
     def _look(self, line: str, pattern: str) -> re.Match[str] | None:
         """What a look shows; None where the event is unknown."""
         with self._lock:
-            reply = self._answer(line, lambda reply: reply == "unknown" or re.fullmatch(pattern, reply))
+            reply, _ = self._answer(line, lambda reply: reply == "unknown" or re.fullmatch(pattern, reply))
         if reply == "bad-line":
             raise BadLine(line)
         return re.fullmatch(pattern, reply)
 
-    def _answer(self, line: str, means: Callable[[str], object]) -> str:
-        """The reply that decides a line, which is asked again on a new connection after each that brought none."""
+    def _answer(self, line: str, means: Callable[[str], object], in_doubt: bool = False) -> tuple[str, bool]:
+        """The reply that decides a line, which is asked again on a new connection after each that brought none, and
+        whether an earlier attempt brought none. Such a one may still be under way: `low` is asked again for a while."""
         end, pause = time.monotonic() + self.seconds, 0.02
+        settled = time.monotonic() + DOUBT if in_doubt else 0.0
         while True:
             try:
-                return self._asked(line, means, max(0.001, min(end - time.monotonic(), PATIENCE)))
+                text = self._asked(line, means, max(0.001, min(end - time.monotonic(), PATIENCE)))
+                if not text.startswith("low ") or time.monotonic() >= settled:
+                    return text, settled > 0
+                why: object = text
             except OSError as error:
-                if time.monotonic() + pause >= end:
-                    raise Unanswered(f"{line!r}: {error}") from error
+                why, settled = error, time.monotonic() + DOUBT
+            if time.monotonic() + pause >= end:
+                raise Unanswered(f"{line!r}: {why}")
             time.sleep(pause)
             pause = min(2 * pause, 1.0)
 

@@ -119,6 +119,11 @@ class Clicks:
         self.rows("DELETE FROM clicks WHERE click = ?", click)
 
     def keep(self, click: str, reply: str) -> None:
+        """What a click came to. By `low` nothing is kept of it, and its number is free for another."""
+        if reply.startswith("low "):
+            sql = "UPDATE clicks SET reply = ?, state = 'refused', number = -rowid WHERE click = ?"
+            self.rows(sql, reply, click)
+            return
         state = "CASE WHEN ? <> 'done' THEN 'refused' WHEN until IS NULL THEN 'done' ELSE 'held' END"
         self.rows(f"UPDATE clicks SET reply = ?, state = {state} WHERE click = ?", reply, reply, click)
 

@@ -35,6 +35,8 @@ def reply_of(result: boxoffice.Result) -> str:
             return "done"
         case boxoffice.Short(_, left):
             return f"short {left}"
+        case boxoffice.Low(left):
+            return f"low {left}"
         case boxoffice.Refused(_, word, left):
             return word if left is None else f"{word} {left}"
     raise TypeError(result)
@@ -75,15 +77,20 @@ class Counter:
             self.waiting = int(row["number"])
             if till.journal.open and till.journal.next == row["number"]:
                 self.clicks.keep(row["click"], reply_of(self._resumed(till)))
-            elif till.journal.last and till.journal.last[1].number == row["number"]:
-                self.clicks.keep(row["click"], reply_of(till.journal.last[1]))
-            elif row["number"] == till.journal.next:
+            elif (last := till.journal.last) and getattr(last[1], "number", None) == row["number"]:
+                self.clicks.keep(row["click"], reply_of(last[1]))
+            elif row["number"] == till.journal.next or self._is_left_out(till, row["number"]):
                 self.clicks.drop(row["click"])
             else:
                 raise boxoffice.JournalError(
                     f"{self.journal!r} has not the number {row['number']} of clicks.db at its end"
                 )
         self.waiting = None
+
+    @staticmethod
+    def _is_left_out(till: boxoffice.Till, number: int) -> bool:
+        """Whether nothing was kept under a number that the journal has passed."""
+        return number < till.journal.next and not till.find(number)
 
     def _resumed(self, till: boxoffice.Till) -> boxoffice.Result:
         try:

@@ -47,7 +47,7 @@ function say(kind, head, text = "") {
 function sayAnswer(click, body) {
   const [word, rest] = [body.reply.split(" ")[0], Number(body.reply.split(" ")[1])];
   if (word === "done") return sayDone(click, body);
-  if (word === "short") {
+  if (word === "short" || word === "low") {
     const elsewhere = openSeats() > rest ? `${openSeats()} are open at all sites: they may be ceded to this one. ` : "";
     return say("bad", rest ? `Only ${plural(rest, "seat")} left here` : "Sold out here", elsewhere + "Nothing was sold.");
   }
