@@ -27,6 +27,9 @@ from lib import CHECKS, HERE, PROGRAM, SECONDS, TOP, quiet_port, same, try_each,
 from lib.proxies import Proxy, is_here
 
 WEB = os.path.join(TOP, "clients", "web")
+sys.path.insert(0, WEB)
+import looks  # noqa: E402
+
 PYTHON = "/usr/bin/python3"  # Debian's, which has Debian's packages.
 LIMIT = 100  # Entries of the office's history.
 NO_BROWSER = 77  # With what lib/web_pages.py ends where no browser starts.
@@ -78,9 +81,9 @@ class Scene:
         self.passwords = {name: self.add(name, role) for name, role in users}
         self.start()
 
-    def call(self, *words: str) -> str:
+    def call(self, *words: str, given: str = "") -> str:
         return subprocess.run(
-            [PROGRAM, *words], cwd=self.folder, text=True, capture_output=True, timeout=SECONDS, check=False
+            [PROGRAM, *words], cwd=self.folder, text=True, input=given, capture_output=True, timeout=SECONDS, check=False
         ).stdout
 
     def open(self) -> None:
@@ -321,13 +324,56 @@ def opened(shown: dict[str, Any]) -> dict[str, Any] | None:
     return shown if shown.get("office") == "open" else None
 
 
+def shown(scene: Scene, cookie: str, what: str, holds: Callable[[dict[str, Any]], object]) -> dict[str, Any]:
+    """What a page is shown, once this holds."""
+    request = urllib.request.Request(scene.url + "/stream", headers={"Cookie": cookie})
+    with urllib.request.urlopen(request, timeout=30) as stream:
+
+        def next_one() -> dict[str, Any] | None:
+            found = opened(json.loads(stream.readline()[6:] or b"{}"))
+            return found if found and holds(found) else None
+
+        return until(what, next_one) or {}
+
+
 def shows_what_is(scene: Scene) -> None:
     boss = scene.log_in("anna")
-    request = urllib.request.Request(scene.url + "/stream", headers={"Cookie": boss})
-    with urllib.request.urlopen(request, timeout=30) as stream:
-        seen = until("the office is seen", lambda: opened(json.loads(stream.readline()[6:] or b"{}")))
-    same("its history", seen and (seen["history"]["entries"], seen["history"]["limit"]), (5, LIMIT))
+    seen = shown(scene, boss, "the office is seen", lambda _: True)
+    history = seen["history"]
+    same("its history", [history[name] for name in ("site", "sites", "entries", "limit")], [0, 2, 5, LIMIT])
+    same("what each site has", seen["events"]["gala"]["shares"], [[160, 0, 0], [40, 0, 0]])
+    same("no cession is seen yet", (seen["moves"], seen["silent"]), ({}, []))
+    scene.call("ask", "north.db", given="sell 6 gala 3\nrefund 7 6 1\ncede 8 gala 7 1\n")
+    seen = shown(scene, boss, "a cession is seen", lambda seen: seen["moves"])
+    same("what each site has then", seen["events"]["gala"]["shares"], [[151, 3, 1], [47, 0, 0]])
+    same("the cession", [move["change"] for move in seen["moves"]["gala"]], [[-7, 7]])
+    with open(os.path.join(scene.folder, "north.db-peers"), "w", encoding="ascii") as peers:
+        peers.write("1 1700000100 1700000000 1\n2 1700000100 0 0\n")
+    seen = shown(scene, boss, "a site is silent", lambda seen: seen["silent"])
+    same("the one that is", seen["silent"], [{"site": 1, "due": 1700000100, "heard": 1700000000}])
     same("points of the board", scene.get("/points", Cookie=boss)[0], 200)
+    points = json.loads(scene.get("/points", Cookie=boss)[1])["gala"]
+    same("the first and the last point", [points[at]["lefts"] for at in (0, -1)], [[160, 40], [151, 47]])
+    same("a clerk is shown no cessions", "moves" in shown(scene, scene.log_in("till-1"), "a till", bool), False)
+
+
+def reads_shares(scene: Scene) -> None:
+    """What is read of an office's words, and who ceded between two looks."""
+    rows = "0 left 5 sold 2 back 1\n1 left none sold 0 back 0\n"
+    same("two sites", looks.shares_of(rows + "end"), [(5, 2, 1), (None, 0, 0)])
+    same("none", [looks.shares_of(text) for text in ("unknown", "full", rows + "store", "end")], [None] * 4)
+    before: list[looks.Share] = [(10, 0, 0), (5, 4, 1), (0, 0, 0)]
+    wanted: dict[str, tuple[list[looks.Share], list[int] | None]] = {
+        "nothing": (before, None),
+        "sales and refunds": ([(8, 2, 0), (6, 4, 2), (0, 0, 0)], None),
+        "a release": ([(30, 0, 0), *before[1:]], None),
+        "a cession": ([(4, 0, 0), (5, 4, 1), (6, 0, 0)], [-6, 0, 6]),
+        "two, and sales": ([(4, 2, 0), (0, 4, 1), (9, 0, 0)], [-4, -5, 9]),
+        "to a new site": ([(7, 0, 0), *before[1:], (3, 0, 0)], [-3, 0, 0, 3]),
+        "a view that is not possible": ([(None, 0, 0), *before[1:]], None),
+    }
+    for what, (now, change) in wanted.items():
+        same(what, looks.moved(before, now), change)
 
 
 def behind(scene: Scene, server: str) -> None:
@@ -403,6 +449,7 @@ BY_HTTP = [
     holds_end,
     strangers_are_refused,
     shows_what_is,
+    reads_shares,
 ]
 
 

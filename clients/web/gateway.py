@@ -18,7 +18,7 @@ from clicks import ROLES, Clicks
 from counter import Counter, NotAsked, Unknown
 
 LOOK_EACH, RELEASE_EACH = 0.7, 0.5  # Seconds between two looks at the office, and at the holds.
-POINTS = 1200  # So many points of each event are kept for the board.
+POINTS, MOVES = 1200, 8  # So many points, and last cessions, of each event are kept for the board.
 
 
 class ConfigError(Exception):
@@ -56,8 +56,11 @@ class Gateway:
         self.clicks = Clicks(os.path.join(folder, "clicks.db"))
         self.counters: dict[str, Counter] = {}
         self._changed, self._version = threading.Condition(), 0
-        self.seen: dict[str, Any] = {"office": "starting", "events": {}, "history": None, "heard": None}
+        self.seen: dict[str, Any] = {"office": "starting", "events": {}, "history": None, "silent": [], "heard": None}
         self.points: dict[str, list[dict[str, Any]]] = {}
+        self.shares: dict[str, list[looks.Share]] = {}
+        # The last cessions of each event: when they were seen, and what each site has more or fewer.
+        self.moves: dict[str, list[dict[str, Any]]] = {}
 
     def add(self, name: str, role: str) -> str:
         """Adds a till or a manager, and gives the password."""
@@ -105,7 +108,7 @@ class Gateway:
                 }
             except OSError:
                 found = {**self.seen, "office": "closed"}
-            is_other = any(found[key] != self.seen[key] for key in ("office", "events"))
+            is_other = any(found[key] != self.seen[key] for key in ("office", "events", "silent"))
             self.seen = found
             if is_other:
                 self._note(found)
@@ -113,7 +116,7 @@ class Gateway:
             time.sleep(LOOK_EACH)
 
     def _note(self, found: dict[str, Any]) -> None:
-        """One more point of each event for the board."""
+        """One more point of each event for the board, and what was ceded since the last one."""
         for event, sums in found["events"].items():
             if sums and found["office"] == "open":
                 points = self.points.setdefault(event, [])
@@ -123,10 +126,20 @@ class Gateway:
                         "sold": sums["sold"] - sums["refunded"],
                         "left": sums["left"],
                         "released": sums["released"],
+                        "lefts": [share[0] for share in sums["shares"] or []],
                     }
                 )
                 if len(points) > POINTS:
                     del points[1 : -POINTS // 2 : 2]  # Older ones are twice as far apart.
+                self._note_moves(event, sums["shares"])
+
+    def _note_moves(self, event: str, shares: list[looks.Share] | None) -> None:
+        if shares:
+            change = looks.moved(self.shares.get(event, shares), shares)
+            self.shares[event] = shares
+            if change:
+                moves = self.moves.get(event, [])
+                self.moves[event] = [*moves, {"t": round(time.time(), 1), "change": change}][-MOVES:]
 
     def _release_on(self) -> None:
         while True:

@@ -209,6 +209,8 @@ def stream() -> Response:
     def events() -> Iterator[str]:
         for _ in it.changes():
             shown = {**it.seen, "till": me.shown() if me else None, "name": name, "now": time.time()}
+            if me is None:
+                shown["moves"] = it.moves
             yield f"data: {json.dumps(shown)}\n\n"
 
     return Response(events(), mimetype="text/event-stream", headers={"X-Accel-Buffering": "no"})

@@ -156,6 +156,16 @@ def refuses(page: Page) -> None:
     until("a refund of nothing", lambda: page.said() == "Refused: no-sale")
 
 
+def shows_shares(board: Page, port: int) -> None:
+    """The board has what each site may sell, and what was ceded."""
+    until("what each site has", lambda: "left at site 1 40" in board.text("events"))
+    with socket.create_connection(("127.0.0.1", port)) as office, office.makefile("r") as replies:
+        office.sendall(b"cede 800 gala 7 1\nquit\n")
+        replies.readline()
+    until("a cession", lambda: "site 0, here \u2192 site 1: 7 seats" in board.text("events"))
+    until("what each has then", lambda: "left at site 1 47" in board.text("events"))
+
+
 def fills(board: Page, port: int, limit: int) -> None:
     """The board marks a history from nine tenths of its LIMIT on, and not before."""
     count = limit * 9 // 10
@@ -193,6 +203,7 @@ def tries(browser: webdriver.Chrome, url: str, passwords: dict[str, str], port: 
     browser.execute_cdp_cmd("Emulation.clearDeviceMetricsOverride", {})
     board = Page(browser, url, "anna", passwords["anna"])
     until("the board has the sums", lambda: "11 sold" in board.text("events"))
+    shows_shares(board, port)
     time.sleep(1.5)
     board.shot("web-board")
     for width in WIDTHS:

@@ -27,9 +27,17 @@ function draw(name, marks, text) {
   return made;
 }
 
+// The name of a site, and the class of its colour.
+const site = (number) => `site ${number}` + (number === seen.history?.site ? ", here" : "");
+const shade = (number) => `share s${number % 16}`;
+
+// What each site has of an event, if this view is possible.
+const shares = (it) => (it.shares?.every(([left]) => left !== null) ? it.shares : null);
+
 // The seats of an event by where they are, as far as this site knows: name, count, and the class of the colour.
 function parts(it) {
   const sold = it.sold - it.refunded;
+  if (shares(it)) return [["sold", sold, "sold"], ...shares(it).map(([left], at) => [`left at ${site(at)}`, left, shade(at)])];
   const elsewhere = Math.max(0, it.released - sold - it.left);
   return [["sold", sold, "sold"], ["left here", it.left, "here"], ["left elsewhere, or under way", elsewhere, "way"]];
 }
@@ -62,8 +70,10 @@ function area(xs, below, above, kind) {
   return draw("path", { d: path + "Z", class: kind });
 }
 
-function overTime(list) {
+function overTime(every) {
   const svg = draw("svg", { viewBox: `0 0 ${WIDTH} ${HEIGHT}`, role: "img", width: "100%" });
+  const sites = Math.max(0, ...every.map((point) => point.lefts.length));
+  const list = every.filter((point) => !sites || point.lefts.length);
   if (list.length < 2) return svg;
   const begin = list[0].t;
   const end = Math.max(list.at(-1).t, begin + 60);
@@ -71,8 +81,15 @@ function overTime(list) {
   const x = (time) => LEFT + ((WIDTH - LEFT - 8) * (time - begin)) / (end - begin);
   const y = (count) => 8 + (HEIGHT - BELOW - 8) * (1 - count / top);
   const xs = list.map((point) => x(point.t));
-  const sold = list.map((point) => y(point.sold));
-  svg.append(area(xs, list.map(() => y(0)), sold, "sold"), area(xs, sold, list.map((point) => y(point.sold + point.left)), "here"));
+  let counts = list.map((point) => point.sold);
+  svg.append(area(xs, list.map(() => y(0)), counts.map(y), "sold"));
+  const add = (more, kind) => {
+    const above = counts.map((count, at) => count + (more(list[at]) ?? 0));
+    svg.append(area(xs, counts.map(y), above.map(y), kind));
+    counts = above;
+  };
+  if (sites === 0) add((point) => point.left, "here");
+  for (let at = 0; at < sites; at++) add((point) => point.lefts[at], shade(at));
   for (const count of [0, Math.round(top / 2), top]) {
     svg.append(draw("line", { x1: LEFT, x2: WIDTH - 8, y1: y(count), y2: y(count), class: "rule" }));
     svg.append(draw("text", { x: LEFT - 6, y: y(count) + 4, "text-anchor": "end" }, figure(count)));
@@ -81,6 +98,33 @@ function overTime(list) {
     svg.append(draw("text", { x: x(time), y: HEIGHT - 5, "text-anchor": anchor }, clock(time)));
   }
   return svg;
+}
+
+function row(tag, cells) {
+  return element("tr", {}, ...cells.map((text, at) => element(tag, { textContent: text, className: at ? "n" : "" })));
+}
+
+// A row for each site: what it may sell, what it sold, and what it took back.
+function table(it) {
+  const rows = it.shares.map((share, at) => row("td", [site(at), ...share.map(figure)]));
+  const head = row("th", ["as far as this site knows", "may sell", "sold", "took back"]);
+  return element("table", {}, element("thead", {}, head), element("tbody", {}, ...rows));
+}
+
+// What sites ceded: who has fewer, who has more, and how many.
+function move({ t, change }) {
+  const named = (sign) => change.map((count, at) => [at, sign * count]).filter(([, count]) => count > 0);
+  const [from, to] = [named(-1), named(1)];
+  const isOne = from.length === 1 && to.length === 1 && from[0][1] === to[0][1];
+  const words = (list) => list.map(([at, count]) => site(at) + (isOne ? "" : ` (${figure(count)})`)).join(", ");
+  const text = `${words(from)} → ${words(to)}` + (isOne ? `: ${figure(from[0][1])} seats` : "");
+  return element("li", {}, element("span", { textContent: clock(t) }), text);
+}
+
+function moves(name) {
+  const list = seen.moves?.[name] ?? [];
+  if (!list.length) return [];
+  return [element("h2", { textContent: "Ceded" }), element("ul", { className: "moves" }, ...list.map(move).reverse())];
 }
 
 function section(name, it) {
@@ -97,6 +141,8 @@ function section(name, it) {
     bar(it),
     element("div", { className: "legend" }, ...legend),
     overTime(points[name] ?? []),
+    ...(it.shares ? [table(it)] : []),
+    ...moves(name),
   );
   return made;
 }
@@ -113,14 +159,19 @@ function show() {
   field("more").textContent = history ? `${used} · ${history.callers} callers` : "";
   field("more").className = isNear ? "late" : "";
   field("at").textContent = seen.heard ? `as of ${clock(seen.heard)}` : "";
-  field("events").replaceChildren(...Object.entries(seen.events).map(([name, it]) => section(name, it)));
+  const silent = seen.silent.map(({ site: number, due, heard }) => {
+    const last = heard ? `last heard of ${clock(heard)}` : "never heard of";
+    return element("p", { className: "late", textContent: `Site ${number} is silent: ${last}, something is due to it since ${clock(due)}` });
+  });
+  field("events").replaceChildren(...silent, ...Object.entries(seen.events).map(([name, it]) => section(name, it)));
 }
 
 function note() {
   for (const [name, it] of Object.entries(seen.events)) {
     const list = (points[name] ??= []);
     if (it && (!list.length || seen.heard - list.at(-1).t > 0.2)) {
-      list.push({ t: seen.heard, sold: it.sold - it.refunded, released: it.released, left: it.left });
+      const lefts = (it.shares ?? []).map(([left]) => left);
+      list.push({ t: seen.heard, sold: it.sold - it.refunded, released: it.released, left: it.left, lefts });
     }
   }
 }
