@@ -83,7 +83,13 @@ class Scene:
 
     def call(self, *words: str, given: str = "") -> str:
         return subprocess.run(
-            [PROGRAM, *words], cwd=self.folder, text=True, input=given, capture_output=True, timeout=SECONDS, check=False
+            [PROGRAM, *words],
+            cwd=self.folder,
+            text=True,
+            input=given,
+            capture_output=True,
+            timeout=SECONDS,
+            check=False,
         ).stdout
 
     def open(self) -> None:
