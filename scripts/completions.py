@@ -56,7 +56,7 @@ def commands(program: str) -> Commands:
     listed, found = helped(program).partition("\nCommands:\n")[2].partition("\n\n")[0], Commands()
     for name, what in re.findall(r"^  (\S+) +(.+)$", listed, re.MULTILINE):
         text = "" if name == "help" else helped(program, name)
-        use = re.search(rf"^Usage: \S+ {name}\b(.*)$", text, re.MULTILINE)
+        use = re.search(rf"^Usage: \S+ {name}\b(?: \[OPTIONS\])?(.*)$", text, re.MULTILINE)
         found[name] = what, re.sub("[<>]", "", use[1]).split() if use else []
     if "open" not in found or found["open"][1] != ["PORT", "FILE"]:
         sys.exit(f"completions.py: the help of {program} is not understood")

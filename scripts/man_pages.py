@@ -47,6 +47,7 @@ SCRIPTS: dict[str, tuple[str, str, list[str]]] = {
     ),
     "boxoffice-answer": ("exchange/ssh/boxoffice-answer", EXCHANGE, ["ssh"]),
     "boxoffice-succeed": ("exchange/succeed", EXCHANGE, ["A successor"]),
+    "boxoffice-balance": ("exchange/balance", "docs/BALANCE.md", []),
     "boxoffice-web": (
         "clients/web/boxoffice-web",
         "clients/web/README.md",
@@ -60,6 +61,7 @@ INSTALLED = [
     (r"(?<![/\w])(?:exchange/)?(folder|mqtt|ssh)/boxoffice-exchange\b", r"boxoffice-exchange-\1"),
     (r"(?<![/\w])(?:exchange/)?succeed(?= (?:OLD|north|--))", "boxoffice-succeed"),
     (r"(?<![/\w])clients/web/boxoffice-web\b", "boxoffice-web"),
+    (r"(?<![/\w])exchange/balance\b", "boxoffice-balance"),
     (r"(?<![/\w])examples/(?=\w+\.(?:py|sql))", DOCUMENTS + "/examples/"),
 ]
 
