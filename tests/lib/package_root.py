@@ -28,7 +28,7 @@ SYSTEMCTL = """#!/bin/sh
 echo "$*" >> /systemctl.log
 unit=/usr/lib/systemd/system/boxoffice@.service wants=/etc/systemd/system/multi-user.target.wants
 [ -e /etc/boxoffice/north.conf ] && . /etc/boxoffice/north.conf
-by_unit() { sed -n "s/^$1=-*//p" "$unit" | sed "s|[$]{PORT}|$PORT|; s|[$]{FILE}|$FILE|"; }
+by_unit() { sed -n "s/^$1=-*//p" "$unit" | sed "s|[$]{PORT}|$PORT|; s|[$]{FILE}|$FILE|; s|[$]WORDS|$WORDS|"; }
 case "$1" in enable) mkdir -p "$wants"; ln -sf "$unit" "$wants/boxoffice@north.service" ;; esac
 case "$*" in
 'enable --now boxoffice@north' | 'start boxoffice@north')
@@ -147,7 +147,7 @@ def use(root: Root, program: str) -> None:
     for command in commands[2:-1]:
         told = root.told("sh", "-c", command)
         if " status " in command:
-            same(command, told, "site 0 sites 4 entries 0 limit 200000 callers 1\n")
+            same(command, told, "site 0 sites 4 entries 0 limit 200000 callers 1 reserve 50000\n")
     lines = "announce 1 gala\nrelease 2 gala 10\nleft gala\n"
     asked = root.told("runuser", "-u", "boxoffice", "--", "boxoffice", "ask", FILE, given=lines)
     same("boxoffice ask", asked, "done\ndone\nleft 10\n")
@@ -183,7 +183,7 @@ def look(root: Root) -> None:
     completes = ". /usr/share/bash-completion/completions/boxoffice; COMP_WORDS=(boxoffice ex) COMP_CWORD=1; _boxoffice"
     same("completion", root.told("bash", "-c", completes + "; echo ${COMPREPLY[*]}"), "export\n")
     if os.path.exists(root.at("/usr/bin/systemd-analyze")):
-        for unit in ("boxoffice@north", "boxoffice-exchange@north"):
+        for unit in ("boxoffice@north", "boxoffice-exchange@north", "boxoffice-balance@north"):
             status, told, error = root.run("systemd-analyze", "verify", f"{unit}.service")
             same(f"{unit}: {told}{error}", [line for line in error.splitlines() if "oxoffice" in line], [])
 
@@ -209,7 +209,7 @@ def upgrade(root: Root, package: str) -> None:
     same("the office goes on", root.offices(), offices)
     same("with the old program", [root.program_of(office) for office in offices], ["boxoffice (deleted)"])
     status = root.told("runuser", "-u", "boxoffice", "--", "boxoffice", "status", FILE)
-    same("and answers", status, "site 0 sites 4 entries 3 limit 200000 callers 1\n")
+    same("and answers", status, "site 0 sites 4 entries 3 limit 200000 callers 1 reserve 50000\n")
     root.told("sh", "-c", shown("By systemd")[-1])
     same("it is closed as the manual says", os.path.exists(root.at(FILE + "-sock")), False)
     root.told("systemctl", "start", "boxoffice@north")
