@@ -230,4 +230,5 @@ def main() -> None:
                 tell(timed(sellers, given.rounds, callers), programs)
 
 
-main()
+if __name__ == '__main__':
+    main()

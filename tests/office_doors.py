@@ -16,6 +16,7 @@ import os
 import resource
 import shutil
 import socket
+import stat
 import subprocess
 import sys
 import threading
@@ -330,7 +331,10 @@ def without_threads(folder: str) -> None:
     os.chmod(program, 0o755)
     same("init", call(folder, ["init", FILE, "0", "2", "1000"]), (0, "done\n", ""))
     if who:
-        os.chmod(folder, 0o755)
+        # (the folders above are those of the run, which lets nobody else in)
+        above = os.path.dirname(folder)
+        for at in (folder, above, os.path.dirname(above)):
+            os.chmod(at, stat.S_IMODE(os.stat(at).st_mode) | 0o011)
         for name in ("", *os.listdir(folder)):
             os.chown(os.path.join(folder, name), 12345, 12345)
     office = begun(
