@@ -17,8 +17,10 @@ pub same_lists : (D S : State) (names : List (List ℕ)) (marks : List Valued) �
 same_lists D S names marks d s =
     let known = d.0 ∙ sym s.0 in
     let marked = d.1 ∙ sym s.1 in
-    let cells_are = same_cells D.cells S.cells (λ e c. sym (greatest-marks_of D.cells e c) ∙ ap (λ (l : List Valued). greatest l e c) marked ∙ greatest-marks_of S.cells e c) in
-    let names_are = same_names D.names S.names (λ n. finite.contains_key-keys D.names n ∙ ap (list_any (eq_by_cmp (slice_cmp nat_cmp) n)) known ∙ sym (finite.contains_key-keys S.names n)) in
+    let cells_are = same_cells D.cells S.cells (λ e c. sym (greatest-marks_of D.cells e c) ∙ ap (λ (l : List Valued). greatest l e c) marked
+    ∙ greatest-marks_of S.cells e c) in
+    let names_are = same_names D.names S.names (λ n. finite.contains_key-keys D.names n ∙ ap (list_any (eq_by_cmp (slice_cmp nat_cmp) n)) known
+    ∙ sym (finite.contains_key-keys S.names n)) in
     λ i. record { cells = cells_are i; names = names_are i }
 
 -- a test of a delta's lists is a test of the delta

@@ -10,11 +10,13 @@ use Rattle.book_core.specs.OwnRow.{LeavesOwnRow, HasOwnRights}
 use Rattle.book_core.proofs.Rows.{joined_own, grown_at, legal_rights}
 
 -- a delta that is entered leaves the own row
-pub entered_own : (old new : BookView) (entry : Entry) → IsNext old.office old.history entry → new.history ≡ old.history ++ entry ∷ [] → LeavesOwnRow entry old new
+pub entered_own : (old new : BookView) (entry : Entry) → IsNext old.office old.history entry → new.history ≡ old.history ++ entry ∷ []
+    → LeavesOwnRow entry old new
 entered_own old new (Asked number request reply delta) next is = tt
 entered_own old new (Joined peer delta) next is = λ event cell own.
     ap (λ (h : List Entry). value_at (state_of h).cells event cell) is ∙ joined_own old.office.me old.history peer delta next.own_row event cell own
-entered_own old new (Grown sites) next is = λ event cell. ap (λ (h : List Entry). value_at (state_of h).cells event cell) is ∙ grown_at old.history sites event cell
+entered_own old new (Grown sites) next is = λ event cell. ap (λ (h : List Entry). value_at (state_of h).cells event cell) is
+    ∙ grown_at old.history sites event cell
 
 -- a book whose history is legal has rights
 pub own_rights : (book : BookView) → IsLegal book.office book.history → HasOwnRights book

@@ -22,7 +22,7 @@ use Rattle.request_ledger.specs.Ledger.{KeptByNumber, kept_under, sale_in, sale_
 use Rattle.request_ledger.proofs.SumLaws.{parts}
 use Rattle.book_core.specs.History.{state_of, asked, asked_from, kept, sale_of}
 use Rattle.book_core.proofs.Kept.{asked-push}
-use Rattle.book_core.specs.Decision.{Office, Releasing, Selling, Refunding, Ceding, refund_of, refund_reply}
+use Rattle.book_core.specs.Decision.{SiteConfig, Releasing, Selling, Refunding, Ceding, refund_of, refund_reply}
 use Rattle.book_core.specs.Legal.{IsNext, IsLegal}
 use Rattle.book_core.specs.Operations.{operations, total}
 use Rattle.book_core.proofs.Histories.{operations_push, legal_along}
@@ -37,7 +37,8 @@ abbrev sales : (ℕ → ℕ → ℕ) → List ℕ → List Entry → ℕ
 sales r event h = sum_by (sale_part r event) h
 
 part_le : (r q : ℕ → ℕ → ℕ) (event : List ℕ) → ((m a : ℕ) → r m a ≤ q m a) → (entry : Entry) → sale_part r event entry ≤ sale_part q event entry
-part_le r q event le (Asked number (Sell of seats) reply delta) = cond_le (same_event event of && is_done reply) (r number seats) (q number seats) (le number seats)
+part_le r q event le (Asked number (Sell of seats) reply delta) = cond_le (same_event event of && is_done reply) (r number seats) (q number seats)
+    (le number seats)
 part_le r q event le _ = omega arith
 
 sales_le : (r q : ℕ → ℕ → ℕ) (event : List ℕ) → ((m a : ℕ) → r m a ≤ q m a) → (h : List Entry) → sales r event h ≤ sales q event h
@@ -79,7 +80,8 @@ sales_found r q event le sale seats amount of less place (Asked m request reply 
     by_test : (b : Bool) → (m == sale) ≡ b
         → cond b (Some (record { place = place; request = request; reply = reply })) (kept_under (asked_from (place + 1) h) sale) ≡ Some k
         → (kept_under (asked_from (place + 1) h) sale ≡ Some k → sales r event h + cond (same_event event of) amount 0 ≤ sales q event h)
-        → (sale_part r event (Asked m request reply delta) + sales r event h) + cond (same_event event of) amount 0 ≤ sale_part q event (Asked m request reply delta) + sales q event h
+        → (sale_part r event (Asked m request reply delta) + sales r event h) + cond (same_event event of) amount 0 ≤ sale_part q event
+        (Asked m request reply delta) + sales q event h
     by_test false e here more = omega (arith, part_le r q event le (Asked m request reply delta), more here)
     by_test true e here more =
         let number : m ≡ sale = eqb-true m sale e in
@@ -100,7 +102,8 @@ kept_seats h number seats = seats - given h number seats
 parts_push : (h : List Entry) (entry : Entry) (sale seats : ℕ)
     → parts (asked (h ++ entry ∷ [])) sale seats ≡ parts (asked h) sale seats + parts (asked_from (length h) (entry ∷ [])) sale seats
 parts_push h entry sale seats =
-    ap (λ (es : KeptByNumber). parts es sale seats) (asked-push h entry) ∙ sum_by-append (part_counted sale seats) (asked h) (asked_from (length h) (entry ∷ []))
+    ap (λ (es : KeptByNumber). parts es sale seats) (asked-push h entry)
+    ∙ sum_by-append (part_counted sale seats) (asked h) (asked_from (length h) (entry ∷ []))
 
 -- what is given back grows
 kept_less : (h : List Entry) (entry : Entry) (sale seats : ℕ) → kept_seats (h ++ entry ∷ []) sale seats ≤ kept_seats h sale seats
@@ -119,11 +122,13 @@ no_share false n = refl
 pub done_within : (part : Option ℕ) (sale : SaleState) → Done ≡ refund_reply (Some sale) part → amount_back part sale ≤ rest_of sale
 done_within part sale d = by_rest (rest_of sale == 0) d
   where
-    by_amount : (b : Bool) → nat_lt (rest_of sale) (amount_back part sale) ≡ b → Done ≡ cond b (TooMany (rest_of sale)) Done → amount_back part sale ≤ rest_of sale
+    by_amount : (b : Bool) → nat_lt (rest_of sale) (amount_back part sale) ≡ b → Done ≡ cond b (TooMany (rest_of sale)) Done
+        → amount_back part sale ≤ rest_of sale
     by_amount true q e = cc
     by_amount false q e = ltb-false (rest_of sale) (amount_back part sale) q
 
-    by_rest : (b : Bool) → Done ≡ cond b Refunded (cond (nat_lt (rest_of sale) (amount_back part sale)) (TooMany (rest_of sale)) Done) → amount_back part sale ≤ rest_of sale
+    by_rest : (b : Bool) → Done ≡ cond b Refunded (cond (nat_lt (rest_of sale) (amount_back part sale)) (TooMany (rest_of sale)) Done)
+        → amount_back part sale ≤ rest_of sale
     by_rest true e = cc
     by_rest false e = by_amount (nat_lt (rest_of sale) (amount_back part sale)) refl e
 
@@ -138,8 +143,10 @@ done_is Done d = refl
 done_is r d = cc
 
 -- the rest of a sale falls by the amount of a refund that is done
-gives_back : (h : List Entry) (number sale : ℕ) (part : Option ℕ) (reply : Reply) (delta : State) (s : SaleState) → is_done reply ≡ true → s.given_back ≡ given h sale s.seats
-    → amount_back part s ≤ rest_of s → kept_seats (h ++ Asked number (Refund sale part) reply delta ∷ []) sale s.seats + amount_back part s ≤ kept_seats h sale s.seats
+gives_back : (h : List Entry) (number sale : ℕ) (part : Option ℕ) (reply : Reply) (delta : State) (s : SaleState) → is_done reply ≡ true
+    → s.given_back ≡ given h sale s.seats
+    → amount_back part s ≤ rest_of s
+    → kept_seats (h ++ Asked number (Refund sale part) reply delta ∷ []) sale s.seats + amount_back part s ≤ kept_seats h sale s.seats
 gives_back h number sale part reply delta s d is within =
     let asked_for : parts (asked_from (length h) (Asked number (Refund sale part) reply delta ∷ [])) sale s.seats ≡ unwrap_or part s.seats =
     omega (arith, ap (λ b. cond b (cond (sale == sale) (unwrap_or part s.seats) 0) 0) d, ap (λ b. cond b (unwrap_or part s.seats) 0) (eq-eqb sale sale refl)) in
@@ -157,7 +164,8 @@ Balanced me h event = total Refunding event (operations me h) + sales (kept_seat
 
 -- an entry whose share of the sums keeps them
 balanced_push : (me : ℕ) (h : List Entry) (number : ℕ) (request : Request) (reply : Reply) (delta : State) (event : List ℕ) → Balanced me h event
-    → sales (kept_seats (h ++ Asked number request reply delta ∷ [])) event h + sale_part (kept_seats (h ++ Asked number request reply delta ∷ [])) event (Asked number request reply delta) + share Refunding event (accepted h request reply)
+    → sales (kept_seats (h ++ Asked number request reply delta ∷ [])) event h + sale_part (kept_seats (h ++ Asked number request reply delta ∷ [])) event
+    (Asked number request reply delta) + share Refunding event (accepted h request reply)
     ≤ sales (kept_seats h) event h + share Selling event (accepted h request reply)
     → Balanced me (h ++ Asked number request reply delta ∷ []) event
 balanced_push me h number request reply delta event before step =
@@ -183,7 +191,8 @@ pub sale_kept : (h : List Entry) (number : ℕ) (o : Option Kept) (sale : SaleSt
 sale_kept h number None sale e = cc
 sale_kept h number (Some k) sale e = (k, refl, e)
 
-balanced_after : (office : Office) (h : List Entry) (entry : Entry) → ((event : List ℕ) → Balanced office.me h event) → IsNext office h entry → (event : List ℕ) → Balanced office.me (h ++ entry ∷ []) event
+balanced_after : (office : SiteConfig) (h : List Entry) (entry : Entry) → ((event : List ℕ) → Balanced office.me h event) → IsNext office h entry
+    → (event : List ℕ) → Balanced office.me (h ++ entry ∷ []) event
 balanced_after office h (Joined peer delta) before next event =
     omega (
       arith,
@@ -204,71 +213,112 @@ balanced_after office h (Grown sites) before next event =
     )
 balanced_after office h (Asked number (Announce name) reply delta) before next event =
     balanced_push office.me h number (Announce name) reply delta event (before event)
-    (omega (arith, sales_le (kept_seats (h ++ Asked number (Announce name) reply delta ∷ [])) (kept_seats h) event (kept_less h (Asked number (Announce name) reply delta)) h, by_test (is_done reply)))
+    (omega (
+      arith,
+      sales_le (kept_seats (h ++ Asked number (Announce name) reply delta ∷ [])) (kept_seats h) event
+          (kept_less h (Asked number (Announce name) reply delta)) h,
+      by_test (is_done reply),
+    ))
   where
     by_test : (b : Bool) → share Refunding event (cond b None None) ≤ share Selling event (cond b None None)
     by_test true = omega arith
     by_test false = omega arith
 balanced_after office h (Asked number (Release of seats) reply delta) before next event =
     balanced_push office.me h number (Release of seats) reply delta event (before event)
-    (omega (arith, sales_le (kept_seats (h ++ Asked number (Release of seats) reply delta ∷ [])) (kept_seats h) event (kept_less h (Asked number (Release of seats) reply delta)) h, by_test (is_done reply)))
+    (omega (
+      arith,
+      sales_le (kept_seats (h ++ Asked number (Release of seats) reply delta ∷ [])) (kept_seats h) event
+          (kept_less h (Asked number (Release of seats) reply delta)) h,
+      by_test (is_done reply),
+    ))
   where
     by_test : (b : Bool) → share Refunding event (cond b (Some (record { kind = Releasing; event = of; amount = seats })) None) ≤ 0
     by_test true = omega (arith, no_share (same_event event of) seats)
     by_test false = omega arith
 balanced_after office h (Asked number (Cede of to seats) reply delta) before next event =
     balanced_push office.me h number (Cede of to seats) reply delta event (before event)
-    (omega (arith, sales_le (kept_seats (h ++ Asked number (Cede of to seats) reply delta ∷ [])) (kept_seats h) event (kept_less h (Asked number (Cede of to seats) reply delta)) h, by_test (is_done reply)))
+    (omega (
+      arith,
+      sales_le (kept_seats (h ++ Asked number (Cede of to seats) reply delta ∷ [])) (kept_seats h) event
+          (kept_less h (Asked number (Cede of to seats) reply delta)) h,
+      by_test (is_done reply),
+    ))
   where
     by_test : (b : Bool) → share Refunding event (cond b (Some (record { kind = Ceding to; event = of; amount = seats })) None) ≤ 0
     by_test true = omega (arith, no_share (same_event event of) seats)
     by_test false = omega arith
 balanced_after office h (Asked number (Sell of seats) reply delta) before next event =
     balanced_push office.me h number (Sell of seats) reply delta event (before event)
-    (omega (arith, sales_le (kept_seats (h ++ Asked number (Sell of seats) reply delta ∷ [])) (kept_seats h) event (kept_less h (Asked number (Sell of seats) reply delta)) h, by_test (is_done reply)))
+    (omega (
+      arith,
+      sales_le (kept_seats (h ++ Asked number (Sell of seats) reply delta ∷ [])) (kept_seats h) event
+          (kept_less h (Asked number (Sell of seats) reply delta)) h,
+      by_test (is_done reply),
+    ))
   where
-    by_test : (d : Bool) → cond (same_event event of && d) (kept_seats (h ++ Asked number (Sell of seats) reply delta ∷ []) number seats) 0 + share Refunding event (cond d (Some (record { kind = Selling; event = of; amount = seats })) None)
+    by_test : (d : Bool) → cond (same_event event of && d) (kept_seats (h ++ Asked number (Sell of seats) reply delta ∷ []) number seats) 0 + share
+        Refunding event (cond d (Some (record { kind = Selling; event = of; amount = seats })) None)
         ≤ share Selling event (cond d (Some (record { kind = Selling; event = of; amount = seats })) None)
-    by_test true = omega (arith, no_share (same_event event of) seats, cond_le (same_event event of && true) (kept_seats (h ++ Asked number (Sell of seats) reply delta ∷ []) number seats) seats (omega arith))
+    by_test true = omega (
+      arith,
+      no_share (same_event event of) seats,
+      cond_le (same_event event of && true) (kept_seats (h ++ Asked number (Sell of seats) reply delta ∷ []) number seats) seats (omega arith),
+    )
     by_test false = omega (arith, no_share (same_event event of) (kept_seats (h ++ Asked number (Sell of seats) reply delta ∷ []) number seats))
 balanced_after office h (Asked number (Refund sale part) reply delta) before next event =
     balanced_push office.me h number (Refund sale part) reply delta event (before event) (by_test (is_done reply) refl)
   where
     of_sale : (o : Option SaleState) → sale_of h sale ≡ o → is_done reply ≡ true
-        → sales (kept_seats (h ++ Asked number (Refund sale part) reply delta ∷ [])) event h + 0 + share Refunding event (refund_of o part) ≤ sales (kept_seats h) event h + share Selling event (refund_of o part)
-    of_sale None e d = omega (arith, sales_le (kept_seats (h ++ Asked number (Refund sale part) reply delta ∷ [])) (kept_seats h) event (kept_less h (Asked number (Refund sale part) reply delta)) h)
+        → sales (kept_seats (h ++ Asked number (Refund sale part) reply delta ∷ [])) event h + 0 + share Refunding event (refund_of o part) ≤ sales
+        (kept_seats h) event h + share Selling event (refund_of o part)
+    of_sale None e d = omega (
+      arith,
+      sales_le (kept_seats (h ++ Asked number (Refund sale part) reply delta ∷ [])) (kept_seats h) event
+          (kept_less h (Asked number (Refund sale part) reply delta)) h,
+    )
     of_sale (Some s) e d =
         let found = sale_kept h sale (kept h sale) s e in
         let is = sale_is h sale found.0.request found.0.reply s found.2 in
         let less : kept_seats (h ++ Asked number (Refund sale part) reply delta ∷ []) sale s.seats + amount_back part s ≤ kept_seats h sale s.seats =
-        gives_back h number sale part reply delta s d is.2 (done_within part s (sym (done_is reply d) ∙ next.answer ∙ ap (λ (x : Option SaleState). refund_reply x part) e)) in
+        gives_back h number sale part reply delta s d is.2
+        (done_within part s (sym (done_is reply d) ∙ next.answer ∙ ap (λ (x : Option SaleState). refund_reply x part) e)) in
         omega (
           arith,
-          sales_found (kept_seats (h ++ Asked number (Refund sale part) reply delta ∷ [])) (kept_seats h) event (kept_less h (Asked number (Refund sale part) reply delta)) sale s.seats (amount_back part s) s.event less 0 h found.0 found.1 is.0 is.1,
+          sales_found (kept_seats (h ++ Asked number (Refund sale part) reply delta ∷ [])) (kept_seats h) event
+              (kept_less h (Asked number (Refund sale part) reply delta)) sale s.seats (amount_back part s) s.event less 0 h found.0 found.1 is.0 is.1,
           whole_share (same_event event s.event) (amount_back part s),
           no_share (same_event event s.event) (amount_back part s),
         )
 
     by_test : (d : Bool) → is_done reply ≡ d
-        → sales (kept_seats (h ++ Asked number (Refund sale part) reply delta ∷ [])) event h + 0 + share Refunding event (cond d (refund_of (sale_of h sale) part) None)
+        → sales (kept_seats (h ++ Asked number (Refund sale part) reply delta ∷ [])) event h + 0 + share Refunding event
+        (cond d (refund_of (sale_of h sale) part) None)
         ≤ sales (kept_seats h) event h + share Selling event (cond d (refund_of (sale_of h sale) part) None)
     by_test true d = of_sale (sale_of h sale) refl d
-    by_test false d = omega (arith, sales_le (kept_seats (h ++ Asked number (Refund sale part) reply delta ∷ [])) (kept_seats h) event (kept_less h (Asked number (Refund sale part) reply delta)) h)
+    by_test false d = omega (
+      arith,
+      sales_le (kept_seats (h ++ Asked number (Refund sale part) reply delta ∷ [])) (kept_seats h) event
+          (kept_less h (Asked number (Refund sale part) reply delta)) h,
+    )
 
 -- no site gives back more than it sold
-pub legal_refunds : (office : Office) (h : List Entry) → IsLegal office h → (event : List ℕ) → total Refunding event (operations office.me h) ≤ total Selling event (operations office.me h)
+pub legal_refunds : (office : SiteConfig) (h : List Entry) → IsLegal office h → (event : List ℕ)
+    → total Refunding event (operations office.me h) ≤ total Selling event (operations office.me h)
 legal_refunds office h legal event =
-    let all : Balanced office.me h event = legal_along office (λ g. (event : List ℕ) → Balanced office.me g event) (λ e. omega arith) (balanced_after office) h legal event in
+    let all : Balanced office.me h event = legal_along office (λ g. (event : List ℕ) → Balanced office.me g event) (λ e. omega arith)
+    (balanced_after office) h legal event in
     omega (arith, all)
 
 -- what is left of a sale fits beside what is given back: no more than what was sold
-pub refund_fits : (office : Office) (h : List Entry) (number : ℕ) (sale : SaleState) → IsLegal office h → sale_of h number ≡ Some sale
+pub refund_fits : (office : SiteConfig) (h : List Entry) (number : ℕ) (sale : SaleState) → IsLegal office h → sale_of h number ≡ Some sale
     → value_at (state_of h).cells sale.event (Back office.me) + rest_of sale ≤ value_at (state_of h).cells sale.event (Used office.me)
 refund_fits office h number sale legal found =
-    let all : Balanced office.me h sale.event = legal_along office (λ g. (event : List ℕ) → Balanced office.me g event) (λ e. omega arith) (balanced_after office) h legal sale.event in
+    let all : Balanced office.me h sale.event = legal_along office (λ g. (event : List ℕ) → Balanced office.me g event) (λ e. omega arith)
+    (balanced_after office) h legal sale.event in
     let kept_is = sale_kept h number (kept h number) sale found in
     let is = sale_is h number kept_is.0.request kept_is.0.reply sale kept_is.2 in
-    let one = sales_found (λ _ _. 0) (kept_seats h) sale.event (λ m a. omega arith) number sale.seats (rest_of sale) sale.event (omega (arith, is.2)) 0 h kept_is.0 kept_is.1 is.0 is.1 in
+    let one = sales_found (λ _ _. 0) (kept_seats h) sale.event (λ m a. omega arith) number sale.seats (rest_of sale) sale.event (omega (arith, is.2)) 0 h
+    kept_is.0 kept_is.1 is.0 is.1 in
     omega (
       arith,
       all,

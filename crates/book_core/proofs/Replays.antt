@@ -4,19 +4,19 @@ use Rattle.std.specs.Prelude.{slice_get}
 use Rattle.std.proofs.lemmas.List.{take_more, map-id}
 use Rattle.std.proofs.Math.Seq.{take-append_seam}
 use Rattle.book_core.specs.declared.entry.Entry.{Entry}
-use Rattle.book_core.specs.Decision.{Office}
+use Rattle.book_core.specs.Decision.{SiteConfig}
 use Rattle.book_core.specs.Legal.{IsNext, IsLegal}
 use Rattle.book_core.specs.BookView.{BookView}
 use Rattle.book_core.specs.Replay.{IsFirstIllegal, HasLegalEntry}
 use Rattle.book_core.proofs.Histories.{legal_push}
 
-pub legal_empty : (office : Office) (h : List Entry) → h ≡ [] → IsLegal office h
+pub legal_empty : (office : SiteConfig) (h : List Entry) → h ≡ [] → IsLegal office h
 legal_empty office h is = subst (λ (g : List Entry). IsLegal office g) (sym is) (λ k entry found. cc)
 
 pub legal_entered : (old new : BookView) (entry : Entry) → IsLegal old.office old.history → IsNext old.office old.history entry
     → new.office ≡ old.office → new.history ≡ old.history ++ entry ∷ [] → IsLegal new.office new.history
 legal_entered old new entry legal next office_is history_is =
-    subst (λ (o : Office). IsLegal o new.history) (sym office_is)
+    subst (λ (o : SiteConfig). IsLegal o new.history) (sym office_is)
     (subst (λ (h : List Entry). IsLegal old.office h) (sym history_is) (legal_push old.office old.history entry legal next))
 
 get_end : {A : Type 0} (xs : List A) (y : A) → slice_get (xs ++ y ∷ []) (length xs) ≡ Some y
@@ -39,35 +39,38 @@ pub at_entry : (entries yielded h : List Entry) (entry : Entry) → h ≡ yielde
 at_entry entries yielded h entry is so_far turn =
     let before : yielded ≡ take (length yielded) entries = sym (map-id yielded) ∙ so_far in
     let with_it : take (length yielded + 1) entries ≡ yielded ++ entry ∷ [] =
-    take_more entries (length yielded) entry turn.0 ∙ ap (λ (e : Entry). take (length yielded) entries ++ e ∷ []) (sym turn.1) ∙ ap (λ (g : List Entry). g ++ entry ∷ []) (sym before) in
+    take_more entries (length yielded) entry turn.0 ∙ ap (λ (e : Entry). take (length yielded) entries ++ e ∷ []) (sym turn.1)
+    ∙ ap (λ (g : List Entry). g ++ entry ∷ []) (sym before) in
     subst (λ (g : List Entry). IsAt entries g entry) (sym is) (record { there = turn.0; before = before; with_it = with_it })
 
 -- an entry that is not next is the first that is not legal
-pub replay_stops : (office : Office) (entries : List Entry) (entry : Entry) (book : BookView) (place : ℕ) → IsAt entries book.history entry
+pub replay_stops : (office : SiteConfig) (entries : List Entry) (entry : Entry) (book : BookView) (place : ℕ) → IsAt entries book.history entry
     → book.office ≡ office → IsLegal book.office book.history → (IsNext book.office book.history entry → ⊥) → place ≡ length book.history
     → IsFirstIllegal office entries place
 replay_stops office entries entry book place at office_is legal refused place_is =
-    subst (λ (o : Office). IsFirstIllegal o entries place) office_is
+    subst (λ (o : SiteConfig). IsFirstIllegal o entries place) office_is
     (subst (λ (k : ℕ). IsFirstIllegal book.office entries k) (sym place_is)
     (record {
       there = at.there;
       before = subst (λ (g : List Entry). IsLegal book.office g) at.before legal;
       here = λ all.
           let whole : IsLegal book.office (book.history ++ entry ∷ []) = subst (λ (g : List Entry). IsLegal book.office g) at.with_it all in
-          refused (subst (λ (g : List Entry). IsNext book.office g entry) (take-append_seam book.history (entry ∷ [])) (whole (length book.history) entry (get_end book.history entry)));
+          refused (subst (λ (g : List Entry). IsNext book.office g entry) (take-append_seam book.history (entry ∷ []))
+          (whole (length book.history) entry (get_end book.history entry)));
     }))
 
 -- an entry that is next is legal
-pub replay_goes_on : (office : Office) (entries : List Entry) (entry : Entry) (book : BookView) → IsAt entries book.history entry
+pub replay_goes_on : (office : SiteConfig) (entries : List Entry) (entry : Entry) (book : BookView) → IsAt entries book.history entry
     → book.office ≡ office → IsLegal book.office book.history → IsNext book.office book.history entry → HasLegalEntry office entries
 replay_goes_on office entries entry book at office_is legal next = (
   length book.history,
   at.there,
-  subst (λ (o : Office). IsLegal o (take (length book.history + 1) entries)) office_is
+  subst (λ (o : SiteConfig). IsLegal o (take (length book.history + 1) entries)) office_is
       (subst (λ (g : List Entry). IsLegal book.office g) (sym at.with_it) (legal_push book.office book.history entry legal next)),
 )
 
 -- the list of all entries is legal where the history is
-pub replay_ends : (office : Office) (entries : List Entry) (book : BookView) → book.office ≡ office → book.history ≡ entries → IsLegal book.office book.history → IsLegal office entries
+pub replay_ends : (office : SiteConfig) (entries : List Entry) (book : BookView) → book.office ≡ office → book.history ≡ entries
+    → IsLegal book.office book.history → IsLegal office entries
 replay_ends office entries book office_is history_is legal =
-    subst (λ (o : Office). IsLegal o entries) office_is (subst (λ (h : List Entry). IsLegal book.office h) history_is legal)
+    subst (λ (o : SiteConfig). IsLegal o entries) office_is (subst (λ (h : List Entry). IsLegal book.office h) history_is legal)

@@ -13,7 +13,7 @@ use Rattle.request_ledger.specs.Ledger.{KeptByNumber, part_asked, part_counted, 
 use Rattle.request_ledger.proofs.SumLaws.{Fits, one_more, parts, seats_or_new}
 use Rattle.book_core.specs.declared.entry.Entry.{Entry}
 use Rattle.book_core.specs.declared.entry.Entry.TheVariants.{Asked, Joined, Grown}
-use Rattle.book_core.specs.Decision.{Office, refund_of, refund_reply, reply_to}
+use Rattle.book_core.specs.Decision.{SiteConfig, refund_of, refund_reply, reply_to}
 use Rattle.book_core.specs.History.{asked, kept, sale_of}
 use Rattle.book_core.specs.Legal.{IsNext}
 use Rattle.book_core.specs.Returned.{amount_of, returned_in, returned_by, returned_from, returned, SalesAreReturnedWithinTheirSeats}
@@ -62,24 +62,27 @@ idle h sale n place q r amount part = record {
   part = λ seats. zero_if (is_done r) (part_asked sale seats q) (part seats);
 }
 
-gives : (office : Office) (h : List Entry) (sale n place : ℕ) (q : Request) (r : Reply) → r ≡ reply_to office h q
+gives : (office : SiteConfig) (h : List Entry) (sale n place : ℕ) (q : Request) (r : Reply) → r ≡ reply_to office h q
     → GivesNothing h sale n (record { place = place; request = q; reply = r }) ⊎ Gives h sale n (record { place = place; request = q; reply = r })
 gives office h sale n place (Refund other part) r answer = by_sale (other == sale) refl
   where
     of_sale : (o : Option SaleState) → sale_of h other ≡ o → (other == sale) ≡ true → is_done r ≡ true
-        → GivesNothing h sale n (record { place = place; request = Refund other part; reply = r }) ⊎ Gives h sale n (record { place = place; request = Refund other part; reply = r })
+        → GivesNothing h sale n (record { place = place; request = Refund other part; reply = r })
+        ⊎ Gives h sale n (record { place = place; request = Refund other part; reply = r })
     of_sale None f e d = let never : false ≡ true = sym (ap is_done (answer ∙ ap (λ o. refund_reply o part) f)) ∙ d in cc
     of_sale (Some s) f e d = inr (record {
       state = s;
       of = subst (λ m. sale_of h m ≡ Some s) (eqb-true other sale e) f;
       asks = part;
-      amount = ap (λ b. cond b (returned_in sale h (Refund other part)) 0) d ∙ ap (λ b. cond b (amount_of (refund_of (sale_of h other) part)) 0) e ∙ ap (λ o. amount_of (refund_of o part)) f;
+      amount = ap (λ b. cond b (returned_in sale h (Refund other part)) 0) d ∙ ap (λ b. cond b (amount_of (refund_of (sale_of h other) part)) 0) e
+          ∙ ap (λ o. amount_of (refund_of o part)) f;
       within = done_within part s (sym (done_is r d) ∙ answer ∙ ap (λ o. refund_reply o part) f);
       part = λ seats. ap (λ b. cond b (cond (other == sale) (unwrap_or part seats) 0) 0) d ∙ ap (λ b. cond b (unwrap_or part seats) 0) e;
     })
 
     by_done : (d : Bool) → is_done r ≡ d → (other == sale) ≡ true
-        → GivesNothing h sale n (record { place = place; request = Refund other part; reply = r }) ⊎ Gives h sale n (record { place = place; request = Refund other part; reply = r })
+        → GivesNothing h sale n (record { place = place; request = Refund other part; reply = r })
+        ⊎ Gives h sale n (record { place = place; request = Refund other part; reply = r })
     by_done true d e = of_sale (sale_of h other) refl e d
     by_done false d e = inl (record {
       amount = ap (λ b. cond b (returned_in sale h (Refund other part)) 0) d;
@@ -87,9 +90,11 @@ gives office h sale n place (Refund other part) r answer = by_sale (other == sal
     })
 
     by_sale : (e : Bool) → (other == sale) ≡ e
-        → GivesNothing h sale n (record { place = place; request = Refund other part; reply = r }) ⊎ Gives h sale n (record { place = place; request = Refund other part; reply = r })
+        → GivesNothing h sale n (record { place = place; request = Refund other part; reply = r })
+        ⊎ Gives h sale n (record { place = place; request = Refund other part; reply = r })
     by_sale true e = by_done (is_done r) refl e
-    by_sale false e = inl (idle h sale n place (Refund other part) r (ap (λ b. cond b (amount_of (refund_of (sale_of h other) part)) 0) e) (λ seats. ap (λ b. cond b (unwrap_or part seats) 0) e))
+    by_sale false e = inl (idle h sale n place (Refund other part) r (ap (λ b. cond b (amount_of (refund_of (sale_of h other) part)) 0) e)
+        (λ seats. ap (λ b. cond b (unwrap_or part seats) 0) e))
 gives office h sale n place q r answer = inl (idle h sale n place q r refl (λ seats. refl))
 
 -- of what is no sale nothing is given back; of a sale what its refunds gave back
@@ -117,7 +122,8 @@ stays es sale n k count part before = elim (seats_or_new es n k sale) [
     of_none b (Some seats) = omega (arith, b.0, sum_by_push (part_counted sale seats) es (n, k), b.1 seats, part seats)
 
 -- a sale of the history has its seats, and what is given back of it
-sale_seats : (h : List Entry) (sale : ℕ) (s : SaleState) → sale_of h sale ≡ Some s → (seats_under (asked h) sale ≡ Some s.seats) × (s.given_back ≡ given_back (asked h) sale s.seats)
+sale_seats : (h : List Entry) (sale : ℕ) (s : SaleState) → sale_of h sale ≡ Some s
+    → (seats_under (asked h) sale ≡ Some s.seats) × (s.given_back ≡ given_back (asked h) sale s.seats)
 sale_seats h sale s found =
     let kept_is = sale_kept h sale (kept h sale) s found in
     let is = sale_is h sale kept_is.0.request kept_is.0.reply s kept_is.2 in
@@ -142,7 +148,7 @@ raised h sale n k count g before =
       | inr none ↦ let never : Some s.seats ≡ None = sym is.0 ∙ none in cc
     ]
 
-even_after : (office : Office) (h : List Entry) (entry : Entry) → AllEven h → IsNext office h entry → AllEven (h ++ entry ∷ [])
+even_after : (office : SiteConfig) (h : List Entry) (entry : Entry) → AllEven h → IsNext office h entry → AllEven (h ++ entry ∷ [])
 even_after office h (Joined peer delta) before next sale =
     let count : returned sale h ≡ returned sale (h ++ Joined peer delta ∷ []) = omega (arith, returned_push sale h (Joined peer delta)) in
     let kept_is : asked h ≡ asked (h ++ Joined peer delta ∷ []) = sym (asked-push h (Joined peer delta) ∙ append-nil (asked h)) in
@@ -157,9 +163,11 @@ even_after office h (Asked n q r d) before next sale =
     let k : Kept = record { place = length h; request = q; reply = r } in
     subst (λ (es : KeptByNumber). Even (returned sale (h ++ Asked n q r d ∷ [])) es sale (seats_under es sale)) (sym (asked-push h (Asked n q r d)))
     (elim (gives office h sale n (length h) q r next.answer) [
-      | inl none ↦ subst (λ m. Even m (asked h ++ (n, k) ∷ []) sale (seats_under (asked h ++ (n, k) ∷ []) sale)) (sym (returned_push sale h (Asked n q r d) ∙ ap (λ m. returned sale h + m) none.amount ∙ omega arith))
+      | inl none ↦ subst (λ m. Even m (asked h ++ (n, k) ∷ []) sale (seats_under (asked h ++ (n, k) ∷ []) sale))
+          (sym (returned_push sale h (Asked n q r d) ∙ ap (λ m. returned sale h + m) none.amount ∙ omega arith))
           (stays (asked h) sale n k (returned sale h) none.part (before sale))
-      | inr some ↦ subst (λ m. Even m (asked h ++ (n, k) ∷ []) sale (seats_under (asked h ++ (n, k) ∷ []) sale)) (sym (returned_push sale h (Asked n q r d) ∙ ap (λ m. returned sale h + m) some.amount))
+      | inr some ↦ subst (λ m. Even m (asked h ++ (n, k) ∷ []) sale (seats_under (asked h ++ (n, k) ∷ []) sale))
+          (sym (returned_push sale h (Asked n q r d) ∙ ap (λ m. returned sale h + m) some.amount))
           (raised h sale n k (returned sale h) some (before sale))
     ])
 

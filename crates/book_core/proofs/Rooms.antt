@@ -8,7 +8,7 @@ use Rattle.request_ledger.specs.Requests.{is_done}
 use Rattle.book_core.specs.declared.entry.Entry.{Entry}
 use Rattle.book_core.specs.declared.entry.Entry.TheVariants.{Asked}
 use Rattle.book_core.specs.BookView.{Room, HasRoomFor}
-use Rattle.book_core.specs.Decision.{Office, Full, Fresh, decision, decision_if, reply_to}
+use Rattle.book_core.specs.Decision.{SiteConfig, Full, Fresh, decision, decision_if, reply_to}
 use Rattle.book_core.specs.History.{kept}
 use Rattle.book_core.specs.Plans.{IsFreshRefusal}
 use Rattle.book_core.proofs.Deltas.{lists_of_nothing}
@@ -24,7 +24,7 @@ room_for_refusal room number request reply delta is place one = rw is (record {
 })
 
 -- a new number on a history with room, whose reply adds nothing
-pub fresh_refusal : (office : Office) (h : List Entry) (number : ℕ) (request : Request) → kept h number ≡ None → nat_le office.limit (length h) ≡ false
+pub fresh_refusal : (office : SiteConfig) (h : List Entry) (number : ℕ) (request : Request) → kept h number ≡ None → nat_le office.limit (length h) ≡ false
     → IsFreshRefusal (decision office h number request) → is_done (reply_to office h request) ≡ false
 fresh_refusal office h number request new room refusal =
     subst IsFreshRefusal

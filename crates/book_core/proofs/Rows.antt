@@ -24,7 +24,7 @@ use Rattle.request_ledger.specs.Requests.{is_done}
 use Rattle.book_core.specs.declared.entry.Entry.{Entry}
 use Rattle.book_core.specs.declared.entry.Entry.TheVariants.{Asked, Joined, Grown}
 use Rattle.book_core.specs.History.{state_of, sale_of}
-use Rattle.book_core.specs.Decision.{Office, Kind, Releasing, Selling, Refunding, Ceding, Change, cell_of, change_of, refund_of, marked, addition_of, delta_for, reply_to, own_left}
+use Rattle.book_core.specs.Decision.{SiteConfig, Kind, Releasing, Selling, Refunding, Ceding, Change, cell_of, change_of, refund_of, marked, addition_of, delta_for, reply_to, own_left}
 use Rattle.book_core.specs.Legal.{IsNext, IsLegal}
 use Rattle.book_core.specs.Operations.{operations, operation_of, operation_if, counted, total, same_kind}
 use Rattle.book_core.proofs.Histories.{at-push, operations_push, legal_along}
@@ -40,7 +40,13 @@ pub marked_at : (me : ℕ) (X : Cells) (o : Option Change) (event : List ℕ) (c
 marked_at me X None event cell = omega (arith, value_at-all_zero event cell)
 marked_at me X (Some c) event cell =
     let m = mark_plus X c.event (cell_of me c.kind) c.amount in
-    omega (arith, value_at-raise all_zero m event cell, value_at-all_zero event cell, value_in-tests m event cell, by_test (same_event event c.event && same_cell cell (cell_of me c.kind)) refl)
+    omega (
+      arith,
+      value_at-raise all_zero m event cell,
+      value_at-all_zero event cell,
+      value_in-tests m event cell,
+      by_test (same_event event c.event && same_cell cell (cell_of me c.kind)) refl,
+    )
   where
     by_test : (b : Bool) → (same_event event c.event && same_cell cell (cell_of me c.kind)) ≡ b
         → max (value_at X event cell) (cond b (value_at X c.event (cell_of me c.kind) + c.amount) 0) ≡ value_at X event cell + cond b c.amount 0
@@ -52,8 +58,9 @@ marked_at me X (Some c) event cell =
         omega arith
 
 -- so does joining what a request adds
-pub addition_at : (office : Office) (h : List Entry) (request : Request) (event : List ℕ) (cell : Cell)
-    → max (value_at (state_of h).cells event cell) (value_at (addition_of office h request).cells event cell) ≡ value_at (state_of h).cells event cell + gain office.me (change_of h request) event cell
+pub addition_at : (office : SiteConfig) (h : List Entry) (request : Request) (event : List ℕ) (cell : Cell)
+    → max (value_at (state_of h).cells event cell) (value_at (addition_of office h request).cells event cell) ≡ value_at (state_of h).cells event cell +
+    gain office.me (change_of h request) event cell
 addition_at office h (Announce name) event cell = omega (arith, value_at-all_zero event cell)
 addition_at office h (Release of n) event cell = marked_at office.me (state_of h).cells (change_of h (Release of n)) event cell
 addition_at office h (Sell of n) event cell = marked_at office.me (state_of h).cells (change_of h (Sell of n)) event cell
@@ -65,8 +72,9 @@ abbrev pub accepted : List Entry → Request → Reply → Option Change
 accepted h request reply = cond (is_done reply) (change_of h request) None
 
 -- an asked entry adds the amount of its change to its cell
-pub asked_at : (office : Office) (h : List Entry) (number : ℕ) (request : Request) (reply : Reply) (event : List ℕ) (cell : Cell)
-    → value_at (state_of (h ++ Asked number request reply (delta_for office h request reply) ∷ [])).cells event cell ≡ value_at (state_of h).cells event cell + gain office.me (accepted h request reply) event cell
+pub asked_at : (office : SiteConfig) (h : List Entry) (number : ℕ) (request : Request) (reply : Reply) (event : List ℕ) (cell : Cell)
+    → value_at (state_of (h ++ Asked number request reply (delta_for office h request reply) ∷ [])).cells event cell ≡ value_at (state_of h).cells event
+    cell + gain office.me (accepted h request reply) event cell
 asked_at office h number request reply event cell =
     at-push h (Asked number request reply (delta_for office h request reply)) (At event cell) ∙ by_test (is_done reply)
   where
@@ -86,13 +94,15 @@ total_if me place kind event None = refl
 total_if me place kind event (Some c) = omega arith
 
 pub asked_total : (me : ℕ) (h : List Entry) (number : ℕ) (request : Request) (reply : Reply) (delta : State) (kind : Kind) (event : List ℕ)
-    → total kind event (operations me (h ++ Asked number request reply delta ∷ [])) ≡ total kind event (operations me h) + share kind event (accepted h request reply)
+    → total kind event (operations me (h ++ Asked number request reply delta ∷ [])) ≡ total kind event (operations me h) + share kind event
+    (accepted h request reply)
 asked_total me h number request reply delta kind event =
     ap (total kind event) (operations_push me h (Asked number request reply delta))
     ∙ sum_by-append (counted kind event) (operations me h) (operation_of me h (Asked number request reply delta))
     ∙ ap (λ n. total kind event (operations me h) + n) (by_test (is_done reply))
   where
-    by_test : (b : Bool) → total kind event (cond b (operation_if me (length h) (change_of h request)) []) ≡ share kind event (cond b (change_of h request) None)
+    by_test : (b : Bool) → total kind event (cond b (operation_if me (length h) (change_of h request)) []) ≡ share kind event
+        (cond b (change_of h request) None)
     by_test true = total_if me (length h) kind event (change_of h request)
     by_test false = refl
 
@@ -112,7 +122,8 @@ pub past : (b : Bool) (refusal reply : Reply) → is_done refusal ≡ false → 
 past true refusal reply refused h = cc
 past false refusal reply refused h = (refl, h)
 
-pub done_allowed : (office : Office) (h : List Entry) (request : Request) → is_done (reply_to office h request) ≡ true → Allowed office.me (state_of h).cells (change_of h request)
+pub done_allowed : (office : SiteConfig) (h : List Entry) (request : Request) → is_done (reply_to office h request) ≡ true
+    → Allowed office.me (state_of h).cells (change_of h request)
 done_allowed office h (Announce event) e = tt
 done_allowed office h (Release event seats) e = tt
 done_allowed office h (Refund sale part) e = of_sale (sale_of h sale)
@@ -132,14 +143,16 @@ done_allowed office h (Cede event to seats) e =
     (eqb-false to office.me other.0, ltb-false (own_left office h event) seats enough.0)
 
 -- a legal asked entry is allowed
-pub asked_allowed : (office : Office) (h : List Entry) (request : Request) (reply : Reply) → reply ≡ reply_to office h request → Allowed office.me (state_of h).cells (accepted h request reply)
+pub asked_allowed : (office : SiteConfig) (h : List Entry) (request : Request) (reply : Reply) → reply ≡ reply_to office h request
+    → Allowed office.me (state_of h).cells (accepted h request reply)
 asked_allowed office h request reply answer = by_test (is_done reply) refl
   where
     by_test : (b : Bool) → is_done reply ≡ b → Allowed office.me (state_of h).cells (cond b (change_of h request) None)
     by_test true q = done_allowed office h request (ap is_done (sym answer) ∙ q)
     by_test false q = tt
 
-ceded_le : (x y : Cells) (event : List ℕ) (i j : ℕ) → (j ≢ i → (value_at y event (Gave i j)) ≤ (value_at x event (Gave i j))) → ceded_in y event i j ≤ ceded_in x event i j
+ceded_le : (x y : Cells) (event : List ℕ) (i j : ℕ) → (j ≢ i → (value_at y event (Gave i j)) ≤ (value_at x event (Gave i j)))
+    → ceded_in y event i j ≤ ceded_in x event i j
 ceded_le x y event i j h = by_test (i == j) refl
   where
     by_test : (b : Bool) → (i == j) ≡ b → cond b 0 ((value_at y event (Gave i j))) ≤ cond b 0 ((value_at x event (Gave i j)))
@@ -149,11 +162,19 @@ ceded_le x y event i j h = by_test (i == j) refl
 -- a state with no more in the cells that consume, and no less elsewhere, keeps rights not negative
 pub spent_le : (x y : Cells) (event : List ℕ) (i : ℕ) → (value_at y event (Used i)) ≤ (value_at x event (Used i))
     → ((j : ℕ) → j ≢ i → (value_at y event (Gave i j)) ≤ (value_at x event (Gave i j))) → spent y event i ≤ spent x event i
-spent_le x y event i used gave = omega (arith, used, sum_below_le max_sites (λ j. ceded_in y event i j) (λ j. ceded_in x event i j) (λ j l. ceded_le x y event i j (gave j)))
+spent_le x y event i used gave = omega
+    (arith, used, sum_below_le max_sites (λ j. ceded_in y event i j) (λ j. ceded_in x event i j) (λ j l. ceded_le x y event i j (gave j)))
 
-pub gained_le : (x y : Cells) (event : List ℕ) (i : ℕ) → ((cell : Cell) → (value_at x event cell) ≤ (value_at y event cell)) → gained x event i ≤ gained y event i
+pub gained_le : (x y : Cells) (event : List ℕ) (i : ℕ) → ((cell : Cell) → (value_at x event cell) ≤ (value_at y event cell))
+    → gained x event i ≤ gained y event i
 gained_le x y event i more =
-    omega (arith, more (Gave i i), more (Back i), sum_below_le max_sites (λ j. ceded_in x event j i) (λ j. ceded_in y event j i) (λ j l. ceded_le y x event j i (λ _. more (Gave j i))))
+    omega (
+      arith,
+      more (Gave i i),
+      more (Back i),
+      sum_below_le max_sites (λ j. ceded_in x event j i) (λ j. ceded_in y event j i)
+          (λ j l. ceded_le y x event j i (λ _. more (Gave j i))),
+    )
 
 pub miss : (b c : Bool) (a : ℕ) → c ≡ false → cond (b && c) a 0 ≡ 0
 miss true c a q = ap (λ t. cond t a 0) q
@@ -164,7 +185,8 @@ abbrev pub After : ℕ → Cells → Option Change → Cells → Type 0
 After me x o y = (event : List ℕ) (cell : Cell) → (value_at y event cell) ≡ (value_at x event cell) + gain me o event cell
 
 spent_by_kind : (me : ℕ) (x y : Cells) (kind : Kind) (of : List ℕ) (amount : ℕ)
-    → ((event : List ℕ) (cell : Cell) → (value_at y event cell) ≡ (value_at x event cell) + gain me (Some (record { kind = kind; event = of; amount = amount })) event cell)
+    → ((event : List ℕ) (cell : Cell)
+    → (value_at y event cell) ≡ (value_at x event cell) + gain me (Some (record { kind = kind; event = of; amount = amount })) event cell)
     → IsAllowed me x kind of amount
     → (event : List ℕ) → spent x event me ≤ gained x event me → event ≡ of → spent y event me ≤ gained x event me
 spent_by_kind me x y Releasing of amount step may event before same =
@@ -173,7 +195,11 @@ spent_by_kind me x y Releasing of amount step may event before same =
       before,
       spent_le x y event me
           (omega (arith, step event (Used me), miss (same_event event of) false amount refl))
-          (λ j ne. omega (arith, step event (Gave me j), miss (same_event event of) ((me == me) && (j == me)) amount (and_right (me == me) (j == me) (ne_eqb j me ne)))),
+          (λ j ne. omega (
+            arith,
+            step event (Gave me j),
+            miss (same_event event of) ((me == me) && (j == me)) amount (and_right (me == me) (j == me) (ne_eqb j me ne)),
+          )),
     )
 spent_by_kind me x y Refunding of amount step may event before same =
     omega (
@@ -193,19 +219,26 @@ spent_by_kind me x y Selling of amount step may event before same =
 spent_by_kind me x y (Ceding to) of amount step may event before same =
     let gave : sum_below max_sites (λ j. ceded_in y event me j) ≤ sum_below max_sites (λ j. ceded_in x event me j) + amount =
     sum_raised max_sites (λ j. ceded_in x event me j) (λ j. ceded_in y event me j) to amount
-    (λ j ne. ceded_le x y event me j (λ _. omega (arith, step event (Gave me j), miss (same_event event of) ((me == me) && (j == to)) amount (and_right (me == me) (j == to) (ne_eqb j to ne)))))
+    (λ j ne. ceded_le x y event me j
+    (λ _. omega (
+      arith,
+      step event (Gave me j),
+      miss (same_event event of) ((me == me) && (j == to)) amount (and_right (me == me) (j == to) (ne_eqb j to ne)),
+    )))
     (ceded_more (me == to) (omega (arith, step event (Gave me to), part_le (same_event event of && ((me == me) && (to == to))) amount))) in
     let used : (value_at y event (Used me)) ≤ (value_at x event (Used me)) =
     omega (arith, step event (Used me), miss (same_event event of) false amount refl) in
     let enough : amount ≤ left_of x event me = subst (λ e. amount ≤ left_of x e me) (sym same) may.1 in
     omega (arith, before, gave, used, enough)
   where
-    ceded_more : (b : Bool) → (value_at y event (Gave me to)) ≤ (value_at x event (Gave me to)) + amount → cond b 0 ((value_at y event (Gave me to))) ≤ cond b 0 ((value_at x event (Gave me to))) + amount
+    ceded_more : (b : Bool) → (value_at y event (Gave me to)) ≤ (value_at x event (Gave me to)) + amount
+        → cond b 0 ((value_at y event (Gave me to))) ≤ cond b 0 ((value_at x event (Gave me to))) + amount
     ceded_more true h = omega arith
     ceded_more false h = h
 
 -- what is at or below for all cells of the event keeps rights not negative
-rights_same : (me : ℕ) (x y : Cells) (event : List ℕ) → ((cell : Cell) → (value_at y event cell) ≡ (value_at x event cell)) → spent x event me ≤ gained x event me → spent y event me ≤ gained y event me
+rights_same : (me : ℕ) (x y : Cells) (event : List ℕ) → ((cell : Cell) → (value_at y event cell) ≡ (value_at x event cell))
+    → spent x event me ≤ gained x event me → spent y event me ≤ gained y event me
 rights_same me x y event same before =
     omega (
       arith,
@@ -222,7 +255,8 @@ rights_after me x y (Some c) step may event before = by_test (same_event event c
   where
     by_test : (b : Bool) → same_event event c.event ≡ b → spent y event me ≤ gained y event me
     by_test false q =
-        rights_same me x y event (λ cell. step event cell ∙ ap (λ b. (value_at x event cell) + cond (b && same_cell cell (cell_of me c.kind)) c.amount 0) q ∙ omega arith) before
+        rights_same me x y event (λ cell. step event cell ∙ ap (λ b. (value_at x event cell) + cond (b && same_cell cell (cell_of me c.kind)) c.amount 0) q
+        ∙ omega arith) before
     by_test true q =
         omega (
           arith,
@@ -231,12 +265,14 @@ rights_after me x y (Some c) step may event before = by_test (same_event event c
         )
 
 -- a delta with no more on the own row than the state leaves that row
-pub joined_own : (me : ℕ) (h : List Entry) (peer : ℕ) (delta : State) → RowAtOrBelow me delta.cells (state_of h).cells → (event : List ℕ) (cell : Cell) → owner_of cell ≡ me
+pub joined_own : (me : ℕ) (h : List Entry) (peer : ℕ) (delta : State) → RowAtOrBelow me delta.cells (state_of h).cells → (event : List ℕ) (cell : Cell)
+    → owner_of cell ≡ me
     → (value_at (state_of (h ++ Joined peer delta ∷ [])).cells event cell) ≡ (value_at (state_of h).cells event cell)
 joined_own me h peer delta row event cell own = omega (arith, at-push h (Joined peer delta) (At event cell), row event cell own)
 
 -- a growth leaves each cell
-pub grown_at : (h : List Entry) (sites : ℕ) (event : List ℕ) (cell : Cell) → value_at (state_of (h ++ Grown sites ∷ [])).cells event cell ≡ value_at (state_of h).cells event cell
+pub grown_at : (h : List Entry) (sites : ℕ) (event : List ℕ) (cell : Cell)
+    → value_at (state_of (h ++ Grown sites ∷ [])).cells event cell ≡ value_at (state_of h).cells event cell
 grown_at h sites event cell = omega (arith, at-push h (Grown sites) (At event cell), value_at-all_zero event cell)
 
 zero_le : (b : Bool) (v : ℕ) → v ≡ 0 → cond b 0 v ≤ 0
@@ -244,15 +280,24 @@ zero_le true v h = omega arith
 zero_le false v h = omega (arith, h)
 
 -- local rights are never negative
-pub legal_rights : (office : Office) (h : List Entry) → IsLegal office h → (event : List ℕ) → spent (state_of h).cells event office.me ≤ gained (state_of h).cells event office.me
+pub legal_rights : (office : SiteConfig) (h : List Entry) → IsLegal office h → (event : List ℕ)
+    → spent (state_of h).cells event office.me ≤ gained (state_of h).cells event office.me
 legal_rights office = legal_along office (λ h. (event : List ℕ) → spent (state_of h).cells event office.me ≤ gained (state_of h).cells event office.me)
-    (λ event. omega (arith, value_at-all_zero event (Used office.me), sum_below_le max_sites (λ j. ceded_in (state_of []).cells event office.me j) (λ _. 0) (λ j l. zero_le (office.me == j) _ (value_at-all_zero event (Gave office.me j))), sum_below-zero max_sites))
+    (λ event. omega (
+      arith,
+      value_at-all_zero event (Used office.me),
+      sum_below_le max_sites (λ j. ceded_in (state_of []).cells event office.me j) (λ _. 0)
+          (λ j l. zero_le (office.me == j) _ (value_at-all_zero event (Gave office.me j))),
+      sum_below-zero max_sites,
+    ))
     more
   where
-    more : (h : List Entry) (entry : Entry) → ((event : List ℕ) → spent (state_of h).cells event office.me ≤ gained (state_of h).cells event office.me) → IsNext office h entry
+    more : (h : List Entry) (entry : Entry) → ((event : List ℕ) → spent (state_of h).cells event office.me ≤ gained (state_of h).cells event office.me)
+        → IsNext office h entry
         → (event : List ℕ) → spent (state_of (h ++ entry ∷ [])).cells event office.me ≤ gained (state_of (h ++ entry ∷ [])).cells event office.me
     more h (Asked number request reply delta) before next event =
-        rw next.change (rights_after office.me (state_of h).cells (state_of (h ++ Asked number request reply (delta_for office h request reply) ∷ [])).cells (accepted h request reply)
+        rw next.change (rights_after office.me (state_of h).cells
+        (state_of (h ++ Asked number request reply (delta_for office h request reply) ∷ [])).cells (accepted h request reply)
         (asked_at office h number request reply) (asked_allowed office h request reply next.answer) event (before event))
     more h (Joined peer delta) before next event =
         omega (
@@ -261,7 +306,8 @@ legal_rights office = legal_along office (λ h. (event : List ℕ) → spent (st
           spent_le (state_of h).cells (state_of (h ++ Joined peer delta ∷ [])).cells event office.me
               (omega (arith, joined_own office.me h peer delta next.own_row event (Used office.me) refl))
               (λ j ne. omega (arith, joined_own office.me h peer delta next.own_row event (Gave office.me j) refl)),
-          gained_le (state_of h).cells (state_of (h ++ Joined peer delta ∷ [])).cells event office.me (λ cell. omega (arith, at-push h (Joined peer delta) (At event cell))),
+          gained_le (state_of h).cells (state_of (h ++ Joined peer delta ∷ [])).cells event office.me
+              (λ cell. omega (arith, at-push h (Joined peer delta) (At event cell))),
         )
     more h (Grown sites) before next event =
         rights_same office.me (state_of h).cells (state_of (h ++ Grown sites ∷ [])).cells event (grown_at h sites event) (before event)
@@ -296,7 +342,8 @@ allowed_proper me x Selling event amount h = tt
 allowed_proper me x Refunding event amount h = tt
 allowed_proper me x (Ceding to) event amount h = h.0
 
-gain_share : (me : ℕ) (x : Cells) (o : Option Change) → Allowed me x o → (k : Kind) → IsProper me k → (event : List ℕ) → gain me o event (cell_of me k) ≡ share k event o
+gain_share : (me : ℕ) (x : Cells) (o : Option Change) → Allowed me x o → (k : Kind) → IsProper me k → (event : List ℕ)
+    → gain me o event (cell_of me k) ≡ share k event o
 gain_share me x None may k p event = refl
 gain_share me x (Some c) may k p event =
     ap (λ b. cond (same_event event c.event && b) c.amount 0) (own_cells me k c.kind p (allowed_proper me x c.kind c.event c.amount may))
@@ -308,13 +355,18 @@ own_cell me Refunding = refl
 own_cell me (Ceding to) = refl
 
 -- each own cell is the sum of the operations of its kind
-pub legal_cells : (office : Office) (h : List Entry) → IsLegal office h → (k : Kind) → IsProper office.me k → (event : List ℕ) → (value_at (state_of h).cells event (cell_of office.me k)) ≡ total k event (operations office.me h)
-legal_cells office = legal_along office (λ h. (k : Kind) → IsProper office.me k → (event : List ℕ) → (value_at (state_of h).cells event (cell_of office.me k)) ≡ total k event (operations office.me h))
+pub legal_cells : (office : SiteConfig) (h : List Entry) → IsLegal office h → (k : Kind) → IsProper office.me k → (event : List ℕ)
+    → (value_at (state_of h).cells event (cell_of office.me k)) ≡ total k event (operations office.me h)
+legal_cells office = legal_along office (λ h. (k : Kind) → IsProper office.me k → (event : List ℕ)
+    → (value_at (state_of h).cells event (cell_of office.me k)) ≡ total k event (operations office.me h))
     (λ k p event. value_at-all_zero event (cell_of office.me k))
     more
   where
-    more : (h : List Entry) (entry : Entry) → ((k : Kind) → IsProper office.me k → (event : List ℕ) → (value_at (state_of h).cells event (cell_of office.me k)) ≡ total k event (operations office.me h)) → IsNext office h entry
-        → (k : Kind) → IsProper office.me k → (event : List ℕ) → (value_at (state_of (h ++ entry ∷ [])).cells event (cell_of office.me k)) ≡ total k event (operations office.me (h ++ entry ∷ []))
+    more : (h : List Entry) (entry : Entry)
+        → ((k : Kind) → IsProper office.me k → (event : List ℕ)
+        → (value_at (state_of h).cells event (cell_of office.me k)) ≡ total k event (operations office.me h)) → IsNext office h entry
+        → (k : Kind) → IsProper office.me k → (event : List ℕ)
+        → (value_at (state_of (h ++ entry ∷ [])).cells event (cell_of office.me k)) ≡ total k event (operations office.me (h ++ entry ∷ []))
     more h (Asked number request reply delta) before next k p event =
         rw next.change (
         asked_at office h number request reply event (cell_of office.me k)

@@ -8,9 +8,9 @@ use Rattle.rights_lattice.specs.State.{names_in_order}
 use Rattle.local_rights.specs.Rights.{HasRights}
 use Rattle.book_core.specs.declared.entry.Entry.{Entry}
 use Rattle.book_core.specs.declared.entry.Entry.TheVariants.{Asked, Joined, Grown}
-use Rattle.book_core.specs.Decision.{Office, sites_of}
+use Rattle.book_core.specs.Decision.{SiteConfig, office_after, sites_of}
 use Rattle.book_core.specs.History.{delta_of, state_of, names_known, asked}
-use Rattle.book_core.specs.Legal.{IsLegal}
+use Rattle.book_core.specs.Legal.{IsLegal, IsNext}
 
 -- room for entries, for cells that are 0 now, for names, and for request numbers
 pub record Room : Type 0 where
@@ -20,9 +20,17 @@ pub record Room : Type 0 where
   pub numbers : ℕ
 
 pub record BookView : Type 0 where
-  pub office : Office
+  pub office : SiteConfig
   pub history : List Entry
   pub room : Room
+
+-- the office of the book, with the count of sites that its history comes to
+abbrev pub office_now : BookView → SiteConfig
+office_now book = office_after book.office book.history
+
+-- the entry is legal after the book's history
+abbrev pub MayFollow : BookView → Entry → Type 0
+MayFollow book entry = IsNext book.office book.history entry
 
 -- what the viewer shows of the owner's row is at or below what the owner shows of it
 abbrev pub SeesWithin : BookView → BookView → Type 0
@@ -40,6 +48,10 @@ pub record HasRoomFor (room : Room) (entry : Entry) : Type 0 where
   pub for_cells : length (marks_of (delta_of entry).cells) ≤ room.cells
   pub for_names : length (names_in_order (delta_of entry).names) ≤ room.names
   pub for_number : numbers_in entry ≤ room.numbers
+
+-- the entry cannot be added without more memory
+abbrev pub LacksRoomFor : Room → Entry → Type 0
+LacksRoomFor room entry = HasRoomFor room entry → ⊥
 
 -- no room is lost
 pub record KeepsRoom (old new : Room) : Type 0 where
@@ -80,7 +92,7 @@ abbrev pub MarksAreWithin : ℕ → List Valued → Type 0
 MarksAreWithin sites marks = (event : List ℕ) (cell : Cell) → 1 ≤ greatest marks event cell → IsCellOf sites cell
 
 -- the kept count of sites, cells, names and numbers are those of the history, which is legal
-pub record IsInOrder (office : Office) (history : List Entry) (sites : ℕ) (cells : Cells) (names : List (List ℕ)) (ledger : KeptByNumber) : Type 0 where
+pub record IsInOrder (office : SiteConfig) (history : List Entry) (sites : ℕ) (cells : Cells) (names : List (List ℕ)) (ledger : KeptByNumber) : Type 0 where
   pub me_is_site : office.me < office.sites
   pub legal : IsLegal office history
   pub sites_are : sites ≡ sites_of office history

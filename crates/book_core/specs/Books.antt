@@ -15,4 +15,5 @@ operations_in books = operations_below (length books) (history_among books)
 -- The tickets outstanding over all books never exceed the seats released, and no more is given back than was sold.
 abbrev pub AreNotOversold : List BookView → Type 0
 AreNotOversold books = (event : List ℕ)
-    → (outstanding event (operations_in books) ≤ released event (operations_in books)) × (refunded event (operations_in books) ≤ sold event (operations_in books))
+    → (outstanding event (operations_in books) ≤ released event (operations_in books))
+    × (refunded event (operations_in books) ≤ sold event (operations_in books))

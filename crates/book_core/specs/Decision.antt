@@ -1,5 +1,5 @@
 -- The decision on a request, and the delta of an accepted one. (The delta: JPDC 2018; the decision: our own.)
-use Rattle.std.specs.Prelude.{ℕ, ◌+◌, Bool, Option, Some, None, if◌then◌else◌, not, ◌==◌, nat_lt, nat_le, List, length}
+use Rattle.std.specs.Prelude.{◌≡◌, ℕ, ◌+◌, Bool, false, Option, Some, None, if◌then◌else◌, not, ◌==◌, nat_lt, nat_le, List, length}
 use Rattle.std.specs.List.{fold}
 use Rattle.rights_lattice.specs.declared.cell.Cell.{Cell}
 use Rattle.rights_lattice.specs.declared.cell.Cell.TheVariants.{Gave, Used, Back}
@@ -23,17 +23,21 @@ use Rattle.book_core.specs.declared.entry.Entry.TheVariants.{Asked}
 use Rattle.book_core.specs.History.{state_of, kept, sale_of, sites_after}
 
 -- a site, the count of sites with which its history begins, and the greatest length of the history
-pub record Office : Type 0 where
+pub record SiteConfig : Type 0 where
   pub me : ℕ
   pub sites : ℕ
   pub limit : ℕ
 
+-- the office of site `me` of so many sites, under this limit
+abbrev pub office_from : ℕ → ℕ → ℕ → SiteConfig
+office_from me sites limit = record { me = me; sites = sites; limit = limit }
+
 -- the count of sites after a history
-abbrev pub sites_of : Office → List Entry → ℕ
+abbrev pub sites_of : SiteConfig → List Entry → ℕ
 sites_of office h = fold sites_after office.sites h
 
 -- the same office, with the count of sites after a history
-abbrev pub office_after : Office → List Entry → Office
+abbrev pub office_after : SiteConfig → List Entry → SiteConfig
 office_after office h = record office { sites = sites_of office h }
 
 -- what an accepted request adds to, and how much
@@ -77,12 +81,12 @@ state_of_item None = bottom
 state_of_item (Some i) = items.item_state i
 
 -- what a request that is done adds to the state
-abbrev pub addition_of : Office → List Entry → Request → State
+abbrev pub addition_of : SiteConfig → List Entry → Request → State
 addition_of office h (Announce event) = items.item_state (item.Name event)
 addition_of office h request = marked office.me (state_of h).cells (change_of h request)
 
 -- the delta of a request with its reply
-abbrev pub delta_for : Office → List Entry → Request → Reply → State
+abbrev pub delta_for : SiteConfig → List Entry → Request → Reply → State
 delta_for office h request reply = if is_done reply then addition_of office h request else bottom
 
 -- the cell has no room for the amount
@@ -97,11 +101,11 @@ refund_reply (Some sale) part =
     else Done
 
 -- the rights that the site has left
-abbrev pub own_left : Office → List Entry → List ℕ → ℕ
+abbrev pub own_left : SiteConfig → List Entry → List ℕ → ℕ
 own_left office h event = left_of (state_of h).cells event office.me
 
 -- the first reply that applies, for a new number and a history with room
-abbrev pub reply_to : Office → List Entry → Request → Reply
+abbrev pub reply_to : SiteConfig → List Entry → Request → Reply
 reply_to office h (Announce event) = if knows (state_of h).names event then Known else Done
 reply_to office h (Release event n) =
     if not (knows (state_of h).names event) then Unknown
@@ -121,16 +125,22 @@ reply_to office h (Cede event to n) =
     else if is_full (state_of h).cells event (Gave office.me to) n then CellFull
     else Done
 
+-- the reply that is due to the request, and the item that it adds: a refusal adds none
+pub record Decides (office : SiteConfig) (h : List Entry) (request : Request) (came : Reply × Option Item) : Type 0 where
+  pub reply : came.0 ≡ reply_to office h request
+  pub item : state_of_item came.1 ≡ delta_for office h request came.0
+  pub idle : is_done came.0 ≡ false → came.1 ≡ None
+
 -- what is left where a request under a new number asks for more than that, and would be refused
 abbrev pub left_if_short : Reply → Option ℕ
 left_if_short (Short left) = Some left
 left_if_short _ = None
 
-abbrev pub shortage_if : Option Kept → Office → List Entry → Request → Option ℕ
+abbrev pub shortage_if : Option Kept → SiteConfig → List Entry → Request → Option ℕ
 shortage_if (Some k) office h request = None
 shortage_if None office h request = left_if_short (reply_to office h request)
 
-abbrev pub shortage : Office → List Entry → ℕ → Request → Option ℕ
+abbrev pub shortage : SiteConfig → List Entry → ℕ → Request → Option ℕ
 shortage office h number request = shortage_if (kept h number) office h request
 
 -- the answer to a request under its number
@@ -140,17 +150,17 @@ pub data Decision : Type 0 where
   Full : Decision
   Fresh : (reply : Reply) → Decision
 
-abbrev pub decision_if : Option Kept → Office → List Entry → Request → Decision
+abbrev pub decision_if : Option Kept → SiteConfig → List Entry → Request → Decision
 decision_if (Some k) office h request = if same_request k.request request then Again k.place k.reply else Reused k.place
 decision_if None office h request = if nat_le office.limit (length h) then Full else Fresh (reply_to office h request)
 
-abbrev pub decision : Office → List Entry → ℕ → Request → Decision
+abbrev pub decision : SiteConfig → List Entry → ℕ → Request → Decision
 decision office h number request = decision_if (kept h number) office h request
 
-abbrev pub entry_if : Decision → Office → List Entry → ℕ → Request → Option Entry
+abbrev pub entry_if : Decision → SiteConfig → List Entry → ℕ → Request → Option Entry
 entry_if (Fresh reply) office h number request = Some (Asked number request reply (delta_for office h request reply))
 entry_if _ office h number request = None
 
 -- the entry that asking adds, if any
-abbrev pub entry_of_ask : Office → List Entry → ℕ → Request → Option Entry
+abbrev pub entry_of_ask : SiteConfig → List Entry → ℕ → Request → Option Entry
 entry_of_ask office h number request = entry_if (decision office h number request) office h number request

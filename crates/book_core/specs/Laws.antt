@@ -8,7 +8,7 @@ use Rattle.request_ledger.specs.declared.request.Request.{Request}
 use Rattle.request_ledger.specs.declared.reply.Reply.{Reply}
 use Rattle.book_core.specs.declared.entry.Entry.{Entry}
 use Rattle.book_core.specs.declared.entry.Entry.TheVariants.{Asked}
-use Rattle.book_core.specs.Decision.{Office, Refunding, Selling}
+use Rattle.book_core.specs.Decision.{SiteConfig, Refunding, Selling}
 use Rattle.book_core.specs.History.{state_of, kept}
 use Rattle.book_core.specs.Joining.{IsPeer, foreign, is_of_sites}
 use Rattle.book_core.specs.Legal.{IsLegal}
@@ -16,28 +16,28 @@ use Rattle.book_core.specs.Operations.{operations, total}
 
 -- for no event are the site's own rights negative (SRDS 2015)
 abbrev pub RightsNeverNegative : Type 0
-RightsNeverNegative = (office : Office) (h : List Entry) → IsLegal office h → (event : List ℕ) → HasRights (state_of h).cells event office.me
+RightsNeverNegative = (office : SiteConfig) (h : List Entry) → IsLegal office h → (event : List ℕ) → HasRights (state_of h).cells event office.me
 
 -- an asked entry is what is kept under its number
 abbrev pub EachReplyIsKept : Type 0
-EachReplyIsKept = (office : Office) (h : List Entry) → IsLegal office h
+EachReplyIsKept = (office : SiteConfig) (h : List Entry) → IsLegal office h
     → (k number : ℕ) (request : Request) (reply : Reply) (delta : State) → slice_get h k ≡ Some (Asked number request reply delta)
     → kept h number ≡ Some (record { place = k; request = request; reply = reply })
 
 -- two asked entries of one number are one entry
 abbrev pub NumbersAreKeptOnce : Type 0
-NumbersAreKeptOnce = (office : Office) (h : List Entry) → IsLegal office h
+NumbersAreKeptOnce = (office : SiteConfig) (h : List Entry) → IsLegal office h
     → (j k number : ℕ) (p q : Request) (r s : Reply) (D E : State)
     → slice_get h j ≡ Some (Asked number p r D) → slice_get h k ≡ Some (Asked number q s E) → j ≡ k
 
 -- no more is given back than was sold
 abbrev pub RefundsAreWithinSales : Type 0
-RefundsAreWithinSales = (office : Office) (h : List Entry) → IsLegal office h
+RefundsAreWithinSales = (office : SiteConfig) (h : List Entry) → IsLegal office h
     → (event : List ℕ) → total Refunding event (operations office.me h) ≤ total Selling event (operations office.me h)
 
 -- the history is as long as its limit at most
 abbrev pub HistoryIsWithinLimit : Type 0
-HistoryIsWithinLimit = (office : Office) (h : List Entry) → IsLegal office h → length h ≤ office.limit
+HistoryIsWithinLimit = (office : SiteConfig) (h : List Entry) → IsLegal office h → length h ≤ office.limit
 
 -- no mark of the own row is above the state exactly where the delta has no more on that row
 abbrev pub RowTestIsTheOrder : Type 0
@@ -45,4 +45,5 @@ RowTestIsTheOrder = (site : ℕ) (D X : State) → (foreign site X.cells (marks_
 
 -- the test of sites is that the peer is another site and that the cells name sites of the book
 abbrev pub SitesTestIsTheRange : Type 0
-SitesTestIsTheRange = (office : Office) (peer : ℕ) (delta : State) → IsTrue (is_of_sites office peer delta) ↔ (IsPeer office peer × IsWithin office.sites delta.cells)
+SitesTestIsTheRange = (office : SiteConfig) (peer : ℕ) (delta : State)
+    → IsTrue (is_of_sites office peer delta) ↔ (IsPeer office peer × IsWithin office.sites delta.cells)

@@ -19,7 +19,8 @@ cell_in book event cell = value_at (state_of book.history).cells event cell
 -- the entry that is planned raises no cell of the book's own row
 abbrev pub KeepsOwnRow : BookView → JoinPlan → Type 0
 KeepsOwnRow book NothingNew = Unit {0}
-KeepsOwnRow book (New entry) = (event : List ℕ) (cell : Cell) → owner_of cell ≡ book.office.me → value_at (delta_of entry).cells event cell ≤ cell_in book event cell
+KeepsOwnRow book (New entry) = (event : List ℕ) (cell : Cell) → owner_of cell ≡ book.office.me
+    → value_at (delta_of entry).cells event cell ≤ cell_in book event cell
 
 -- a delta that is joined changes no cell of the book's own row, and a growth no cell
 abbrev pub LeavesOwnRow : Entry → BookView → BookView → Type 0

@@ -12,6 +12,7 @@ use Rattle.book_core.specs.declared.plan.PlanFault.TheVariants as fault
 use Rattle.book_core.specs.Decision.{Decision, Again, Reused, Full, Fresh, decision}
 use Rattle.book_core.specs.declared.plan.JoinPlan.{JoinPlan}
 use Rattle.book_core.specs.declared.plan.JoinPlan.TheVariants as join_plan
+use Rattle.book_core.specs.declared.plan.JoinDecision.{JoinDecision}
 use Rattle.book_core.specs.declared.plan.JoinFault.{JoinFault}
 use Rattle.book_core.specs.declared.plan.JoinFault.TheVariants as join_fault
 use Rattle.book_core.specs.declared.plan.GrowFault.{GrowFault}
@@ -20,9 +21,8 @@ use Rattle.rights_lattice.specs.State.{State}
 use Rattle.book_core.specs.Growing as grow
 use Rattle.book_core.specs.Growing.{grow_decision}
 use Rattle.book_core.specs.Joining as join
-use Rattle.book_core.specs.Joining.{join_decision}
-use Rattle.book_core.specs.Legal.{IsNext}
-use Rattle.book_core.specs.BookView.{BookView, HasRoomFor, KeepsRoom}
+use Rattle.book_core.specs.Joining.{decision_told, join_decision}
+use Rattle.book_core.specs.BookView.{BookView, HasRoomFor, KeepsRoom, MayFollow}
 
 -- the entry is of this number and this request
 abbrev pub IsEntryOf : ℕ → Request → Entry → Type 0
@@ -44,7 +44,7 @@ HasReply (Grown sites) r = ⊥
 
 -- the entry may follow the book's history, and the book has room for it
 pub record IsReady (book : BookView) (entry : Entry) : Type 0 where
-  pub next : IsNext book.office book.history entry
+  pub next : MayFollow book entry
   pub room : HasRoomFor book.room entry
 
 -- the plan is the decision on the request
@@ -74,6 +74,10 @@ LeavesRoom _ old new = new ≡ old
 abbrev pub IsFreshRefusal : Decision → Type 0
 IsFreshRefusal (Fresh reply) = is_done reply ≡ false
 IsFreshRefusal _ = ⊥
+
+-- what a book tells of a delta is the decision on it
+abbrev pub IsJoinDecision : BookView → ℕ → State → JoinDecision → Type 0
+IsJoinDecision book peer delta told = decision_told told ≡ join_decision book.office book.history peer delta
 
 -- the plan is the decision on the delta
 abbrev pub IsJoinPlan : BookView → ℕ → State → JoinPlan → Type 0

@@ -6,7 +6,7 @@ use Rattle.request_ledger.specs.declared.reply.SaleState.{SaleState}
 use Rattle.request_ledger.specs.Requests.{is_done}
 use Rattle.book_core.specs.declared.entry.Entry.{Entry}
 use Rattle.book_core.specs.declared.entry.Entry.TheVariants.{Asked, Joined, Grown}
-use Rattle.book_core.specs.Decision.{Office, Change, change_of}
+use Rattle.book_core.specs.Decision.{SiteConfig, Change, change_of}
 use Rattle.book_core.specs.History.{sale_of}
 use Rattle.book_core.specs.Legal.{IsLegal}
 
@@ -34,5 +34,5 @@ returned sale h = returned_from sale [] h
 
 -- what the ledger tells as given back of a sale is what its refunds gave back, and no more than the sale has
 abbrev pub SalesAreReturnedWithinTheirSeats : Type 0
-SalesAreReturnedWithinTheirSeats = (office : Office) (h : List Entry) → IsLegal office h
+SalesAreReturnedWithinTheirSeats = (office : SiteConfig) (h : List Entry) → IsLegal office h
     → (number : ℕ) (sale : SaleState) → sale_of h number ≡ Some sale → (returned number h ≡ sale.given_back) × (returned number h ≤ sale.seats)

@@ -1,14 +1,14 @@
 //! The book of a site.
-ghost use Rattle.std.specs.Prelude.{drop, IsSome, IfSome, pos, vec_len, vec_capacity, nat_le, IsTrue, ◌↔◌, IsOk, OnOk, ◌++◌, ◌∷◌, ◌≡◌, ◌<◌, ◌≤◌, [], ◌+◌, length, slice_get};
+ghost use Rattle.std.specs.Prelude.{drop, vec_len, vec_capacity, nat_le, IsTrue, ◌↔◌, IsOk, OnOk, ◌++◌, ◌∷◌, ◌≡◌, ◌<◌, ◌≤◌, [], ◌+◌, length, slice_get};
 ghost use Rattle.std.specs.Option.{option_copied};
 ghost use Rattle.rights_lattice.specs.Cells.{value_at, raise_all, greatest_value};
 ghost use Rattle.rights_lattice.specs.State.{knows};
 ghost use Rattle.rights_lattice.specs.RightsView.{IsWithin};
-ghost use Rattle.local_rights.specs.OpenSeats.{view_in};
-ghost use Rattle.local_rights.specs.Rights.{HasRights, IsPosition, paper_value};
+ghost use Rattle.local_rights.specs.OpenSeats.{view_in, AreOpenSeats};
+ghost use Rattle.local_rights.specs.Rights.{HasRights};
 ghost use Rattle.local_rights.specs.Shares.{share_in};
 ghost use Rattle.book_core.specs.History.{state_of, kept, sale_of, names_known, asked_from, sites_after};
-ghost use Rattle.book_core.specs.Decision.{own_left, sites_of};
+ghost use Rattle.book_core.specs.Decision.{office_from, own_left, sites_of};
 ghost use Rattle.book_core.specs.Legal.{IsLegal};
 ghost use Rattle.book_core.specs.BookView.{HasRoomFor, KeepsRoom, IsUnkept, KeepsRefunds, MakesNoRoom, Spends, KeepRights, MarksAreWithin, SeesWithin, numbers_in};
 ghost use Rattle.book_core.specs.OwnRow.{HasOwnRights, LeavesOwnRow};
@@ -69,7 +69,7 @@ impl Book {
     /// The book of a site that has no history.
     pub fn new(alloc: Global, me: SiteId, sites: Sites, limit: Limit) -> Book
         requires { me < sites }
-        ensures office { result.office ≡ record { me = me; sites = sites; limit = limit } }
+        ensures office { result.office ≡ office_from me sites limit }
         ensures history { result.history ≡ [] }
         ensures room { (result.room.entries ≡ 0) × (result.room.cells ≡ 0) }
     {
@@ -179,8 +179,7 @@ impl Book {
     /// seats are told where the view is no position.
     pub fn totals(&self, event: Event) -> ViewTotals
         ensures view { result ≡ view_in (state_of self.now.history).cells event }
-        ensures position { IsSome result.open_seats ↔ IsPosition (state_of self.now.history).cells event }
-        ensures value { IfSome result.open_seats (λ seats. pos seats ≡ paper_value (state_of self.now.history).cells event) }
+        ensures open { AreOpenSeats (state_of self.now.history).cells event result.open_seats }
     {
         let view = self.rights.rights();
         let sums = totals(view, event);

@@ -11,6 +11,10 @@
 //!
 //! The state is a bounded counter (SRDS 2015); refunds, growth and request numbers are our own.
 //!
+//! A new decision is a case of `specs/Decision.antt` and a branch of `book/deciding.rt`. A new kind of entry is a
+//! variant of `Entry`, with its cases in `specs/History.antt` and `Legal.antt`, a function that plans it, and a
+//! branch of `is_next` (`book/replaying.rt`) and of what `enter` joins (`book/joining.rt`).
+//!
 //! Lemmas for callers: `BookLaws`, `Deltas`, `Growths`, `Histories`, `NameLaws`, `Next`, `Refunds`, `Rows`.
 #![tactic(auto)]
 

@@ -30,5 +30,6 @@ meeting h a m b low high =
     let sizes : b - a ≡ (m - a) + (b - m) = omega arith in
     let place : a + (m - a) ≡ m = omega arith in
     ap (λ n. state_of (take n (drop a h))) sizes
-    ∙ ap state_of (take-add (m - a) (b - m) (drop a h) ∙ ap (λ (xs : List Entry). take (m - a) (drop a h) ++ take (b - m) xs) (drop-drop (m - a) a h ∙ ap (λ n. drop n h) place))
+    ∙ ap state_of (take-add (m - a) (b - m) (drop a h)
+    ∙ ap (λ (xs : List Entry). take (m - a) (drop a h) ++ take (b - m) xs) (drop-drop (m - a) a h ∙ ap (λ n. drop n h) place))
     ∙ state_of-append (take (m - a) (drop a h)) (take (b - m) (drop m h))

@@ -21,7 +21,8 @@ added h p entry order is found = record {
 }
 
 -- all entries up to a place joined
-pub caught_up : (h : List Entry) (p : PendingView) (upto : ℕ) → p.from ≤ p.upto → IsPendingOf h p → p.upto ≤ upto → join p.delta (interval h p.upto upto) ≡ interval h p.from upto
+pub caught_up : (h : List Entry) (p : PendingView) (upto : ℕ) → p.from ≤ p.upto → IsPendingOf h p → p.upto ≤ upto
+    → join p.delta (interval h p.upto upto) ≡ interval h p.from upto
 caught_up h p upto order is le = ap (λ X. join X (interval h p.upto upto)) is.delta ∙ sym (meeting h p.from p.upto upto order le)
 
 -- an interval that ends within a history is that of a longer one

@@ -7,6 +7,8 @@
 //! Guaranteed: `add`, `catch_up` and `acked` keep it the join of the deltas of just the entries that it spans, as
 //! `interval` is; an error leaves it as it was.
 //!
+//! What else an interval may do is a method of `Pending` that keeps the invariant of `specs/Pending.antt`.
+//!
 //! Lemmas for callers: `PendingLaws`.
 #![tactic(auto)]
 

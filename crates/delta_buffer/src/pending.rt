@@ -1,10 +1,8 @@
 //! What a peer has not acknowledged of a history, joined as the history grows.
-ghost use Rattle.std.specs.Prelude.{◌≡◌, ◌+◌, ◌<◌, ◌≤◌, max, length, slice_get, Some, List, OnOk, OnErr};
-ghost use Rattle.rights_lattice.specs.State.{bottom, join};
-ghost use Rattle.book_core.specs.declared.entry.Entry.{Entry as Entered};
-ghost use Rattle.book_core.specs.History.{delta_of, interval};
+ghost use Rattle.std.specs.Prelude.{◌≡◌, ◌<◌, ◌≤◌, max, length, OnOk, OnErr};
+ghost use Rattle.rights_lattice.specs.State.{bottom};
 ghost use Rattle.book_core.specs.Limits.{greatest_limit};
-ghost use Rattle.delta_buffer.specs.Pending.{IsPendingOf};
+ghost use Rattle.delta_buffer.specs.Pending.{IsPendingOf, StaysPendingWith, pending_all, pending_with};
 
 use crate::intervals::interval;
 use book_core::{Book, Entry};
@@ -65,8 +63,8 @@ impl Pending {
     /// Joins the entry behind those that were added. An error leaves it as it was.
     pub fn add(&mut self, alloc: Global, entry: &Entry) -> Result<(), AllocError>
         requires { self.old.upto < greatest_limit }
-        ensures added { OnOk result (self.new ≡ record { from = self.old.from; upto = self.old.upto + 1; delta = join self.old.delta (delta_of entry.now) }) }
-        ensures pending { OnOk result ((h : List Entered) → IsPendingOf h self.old → slice_get h self.old.upto ≡ Some entry.now → IsPendingOf h self.new) }
+        ensures added { OnOk result (self.new ≡ pending_with self.old entry.now) }
+        ensures pending { OnOk result (StaysPendingWith entry.now self.old self.new) }
         ensures unchanged { OnErr result (self.new ≡ self.old) }
     {
         self.delta = self.delta.join(alloc, entry.delta())?;
@@ -78,7 +76,7 @@ impl Pending {
     /// over about as often as their number can be halved. An error leaves it as it was.
     pub fn catch_up(&mut self, alloc: Global, book: &Book) -> Result<(), AllocError>
         requires { IsPendingOf book.now.history self.old }
-        ensures added { OnOk result (self.new ≡ record { from = self.old.from; upto = length book.now.history; delta = interval book.now.history self.old.from (length book.now.history) }) }
+        ensures added { OnOk result (self.new ≡ pending_all book.now.history self.old) }
         ensures unchanged { OnErr result (self.new ≡ self.old) }
         ensures memory { OnErr result (self.old.upto < length book.now.history) }
     {

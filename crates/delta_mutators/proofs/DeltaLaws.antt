@@ -15,7 +15,8 @@ use Rattle.delta_mutators.specs.Items.{item_state}
 use Rattle.delta_mutators.specs.ApplyLaw.{ApplyingIsJoining, AddingIsJoining}
 
 pub applying_is_joining : ApplyingIsJoining
-applying_is_joining X m = same_cells _ _ (λ e c. omega (arith, value_at-raise X m e c, value_at-join X (raise all_zero m) e c, value_at-raise all_zero m e c, value_at-all_zero e c))
+applying_is_joining X m = same_cells _ _
+    (λ e c. omega (arith, value_at-raise X m e c, value_at-join X (raise all_zero m) e c, value_at-raise all_zero m e c, value_at-all_zero e c))
 
 join-all_zero : (X : Cells) → X ≡ cells.join X all_zero
 join-all_zero X = same_cells _ _ (λ e c. omega (arith, value_at-join X all_zero e c, value_at-all_zero e c))
@@ -52,8 +53,13 @@ mark_state ns ms m p q h = λ i. record { cells = (ap cells_of q ∙ cells_of-on
 pub joined : (xs ys us vs out : List Valued) (ns ms ps qs names : List (List ℕ)) → us ≡ xs → vs ≡ ys → ps ≡ ns → qs ≡ ms
     → AreLists ns xs → AreLists ms ys
     → IsMerged us vs out (length us) (length vs) → IsMergedNames ps qs names (length ps) (length qs)
-    → ◌≡◌ {A = State} (record { cells = cells_of out; names = names_of names }) (join (record { cells = cells_of xs; names = names_of ns }) (record { cells = cells_of ys; names = names_of ms }))
+    → ◌≡◌ {A = State} (record { cells = cells_of out; names = names_of names })
+    (join (record { cells = cells_of xs; names = names_of ns }) (record { cells = cells_of ys; names = names_of ms }))
 joined xs ys us vs out ns ms ps qs names u_is v_is p_is q_is left right marks known =
-    let cells_are = merged_cells xs ys out left.marks_rise right.marks_rise left.positive right.positive (subst (λ (l : List Valued). IsMerged l ys out (length l) (length ys)) u_is (subst (λ (l : List Valued). IsMerged us l out (length us) (length l)) v_is marks)) in
-    let names_are = merged_names ns ms names left.names_rise right.names_rise (subst (λ (l : List (List ℕ)). IsMergedNames l ms names (length l) (length ms)) p_is (subst (λ (l : List (List ℕ)). IsMergedNames ps l names (length ps) (length l)) q_is known)) in
+    let cells_are = merged_cells xs ys out left.marks_rise right.marks_rise left.positive right.positive
+    (subst (λ (l : List Valued). IsMerged l ys out (length l) (length ys)) u_is
+    (subst (λ (l : List Valued). IsMerged us l out (length us) (length l)) v_is marks)) in
+    let names_are = merged_names ns ms names left.names_rise right.names_rise
+    (subst (λ (l : List (List ℕ)). IsMergedNames l ms names (length l) (length ms)) p_is
+    (subst (λ (l : List (List ℕ)). IsMergedNames ps l names (length ps) (length l)) q_is known)) in
     λ i. record { cells = cells_are i; names = names_are i }

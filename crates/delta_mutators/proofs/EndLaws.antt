@@ -51,7 +51,8 @@ module _ {K X : Type 0} (R : K → K → Ordering) (o : IsTotalOrder R) where
 
   below_all-end : (x k : K) (v : X) (es : List (K × X)) → entry.below_all R x (es ++ (k, v) ∷ []) ≡ (entry.below_all R x es && is_lt (R x k))
   below_all-end x k v [] = and-true _
-  below_all-end x k v (e ∷ es) = ap (λ b. is_lt (R x e.0) && b) (below_all-end x k v es) ∙ sym (and_assoc (is_lt (R x e.0)) (entry.below_all R x es) (is_lt (R x k)))
+  below_all-end x k v (e ∷ es) = ap (λ b. is_lt (R x e.0) && b) (below_all-end x k v es)
+      ∙ sym (and_assoc (is_lt (R x e.0)) (entry.below_all R x es) (is_lt (R x k)))
 
   pub is_sorted-end : (k : K) (v : X) (es : List (K × X)) → entry.is_sorted R (es ++ (k, v) ∷ []) ≡ (entry.is_sorted R es && all_below es k)
   is_sorted-end k v [] = refl
@@ -80,7 +81,8 @@ module _ {K X : Type 0} (R : K → K → Ordering) (o : IsTotalOrder R) where
       ap (λ (r : Ordering). entry.by_order r ((k, v) ∷ e ∷ es) ((e.0, v) ∷ es) (e ∷ entry.put R k v es)) (reversed R o e.0 k parts.0)
       ∙ ap (λ (t : List (K × X)). e ∷ t) (put-end k v es parts.1)
 
-  last_step : {A : Type 0} (f : A → K × X) (x y : A) (ys : List A) (k : K) (last : Bool) → is_lt (R (f x).0 (f y).0) ≡ true → last ≡ list_all (λ a. is_lt (R (f a).0 k)) (y ∷ ys)
+  last_step : {A : Type 0} (f : A → K × X) (x y : A) (ys : List A) (k : K) (last : Bool) → is_lt (R (f x).0 (f y).0) ≡ true
+      → last ≡ list_all (λ a. is_lt (R (f a).0 k)) (y ∷ ys)
       → last ≡ (is_lt (R (f x).0 k) && list_all (λ a. is_lt (R (f a).0 k)) (y ∷ ys))
   last_step f x y ys k last lt e = elim (cases_Bool (list_all (λ a. is_lt (R (f a).0 k)) (y ∷ ys))) [
     | inl all ↦ let x_below = lt_trans R o (f x).0 (f y).0 k lt (and_parts _ _ all).0 in e ∙ all ∙ sym (and_from _ _ x_below all)
@@ -98,12 +100,14 @@ module _ {K X : Type 0} (R : K → K → Ordering) (o : IsTotalOrder R) where
       let parts = and_parts _ _ h in
       last_step f x y ys k _ (and_parts _ _ parts.0).0 (all-last f (y ∷ ys) i d k (omega (arith, e)) parts.1)
 
-pub names_last : (ns : List (List ℕ)) (last e : List ℕ) → 0 < length ns → last ≡ get_or ns (length ns - 1) last → IsTrue (are_rising_names ns) → is_lt (slice_cmp nat_cmp last e) ≡ is_after_names ns e
+pub names_last : (ns : List (List ℕ)) (last e : List ℕ) → 0 < length ns → last ≡ get_or ns (length ns - 1) last → IsTrue (are_rising_names ns)
+    → is_lt (slice_cmp nat_cmp last e) ≡ is_after_names ns e
 names_last ns last e lt is h =
     ap (λ (n : List ℕ). is_lt (slice_cmp nat_cmp n e)) is
     ∙ all-last (slice_cmp nat_cmp) nat_list_cmp_total (λ (n : List ℕ). let u : Unit {0} = tt in (n, u)) ns (length ns - 1) last e (omega (arith, lt)) h
 
-pub marks_last : (ms : List Valued) (last m : Valued) → 0 < length ms → last ≡ get_or ms (length ms - 1) last → IsTrue (are_rising_marks ms) → is_lt (key_cmp (last.event, last.cell) (m.event, m.cell)) ≡ is_after_marks ms m
+pub marks_last : (ms : List Valued) (last m : Valued) → 0 < length ms → last ≡ get_or ms (length ms - 1) last → IsTrue (are_rising_marks ms)
+    → is_lt (key_cmp (last.event, last.cell) (m.event, m.cell)) ≡ is_after_marks ms m
 marks_last ms last m lt is h =
     ap (λ (x : Valued). is_lt (key_cmp (x.event, x.cell) (m.event, m.cell))) is
     ∙ all-last key_cmp key_cmp_total (λ (x : Valued). ((x.event, x.cell), x.value - 1)) ms (length ms - 1) last (m.event, m.cell) (omega (arith, lt)) h
@@ -124,15 +128,19 @@ names_below ns e h = all_map (λ (x : List ℕ × Unit {0}). is_lt (slice_cmp na
 marks_below : (ms : List Valued) (m : Valued) → IsTrue (is_after_marks ms m) → all_below key_cmp key_cmp_total (keyed_marks ms) (m.event, m.cell) ≡ true
 marks_below ms m h = all_map (λ (x : Key × ℕ). is_lt (key_cmp x.0 (m.event, m.cell))) (λ (x : Valued). ((x.event, x.cell), x.value - 1)) ms ∙ h
 
-pub rising_names-end : (ns : List (List ℕ)) (e : List ℕ) → IsTrue (are_rising_names ns) → IsTrue (is_after_names ns e) → IsTrue (are_rising_names (ns ++ e ∷ []))
+pub rising_names-end : (ns : List (List ℕ)) (e : List ℕ) → IsTrue (are_rising_names ns) → IsTrue (is_after_names ns e)
+    → IsTrue (are_rising_names (ns ++ e ∷ []))
 rising_names-end ns e h after =
-    ap (entry.is_sorted (slice_cmp nat_cmp)) (names_end ns e) ∙ is_sorted-end (slice_cmp nat_cmp) nat_list_cmp_total e tt (keyed_names ns) ∙ and_from _ _ h (names_below ns e after)
+    ap (entry.is_sorted (slice_cmp nat_cmp)) (names_end ns e) ∙ is_sorted-end (slice_cmp nat_cmp) nat_list_cmp_total e tt (keyed_names ns)
+    ∙ and_from _ _ h (names_below ns e after)
 
 pub rising_marks-end : (ms : List Valued) (m : Valued) → IsTrue (are_rising_marks ms) → IsTrue (is_after_marks ms m) → IsTrue (are_rising_marks (ms ++ m ∷ []))
 rising_marks-end ms m h after =
-    ap (entry.is_sorted key_cmp) (marks_end ms m) ∙ is_sorted-end key_cmp key_cmp_total (m.event, m.cell) (m.value - 1) (keyed_marks ms) ∙ and_from _ _ h (marks_below ms m after)
+    ap (entry.is_sorted key_cmp) (marks_end ms m) ∙ is_sorted-end key_cmp key_cmp_total (m.event, m.cell) (m.value - 1) (keyed_marks ms)
+    ∙ and_from _ _ h (marks_below ms m after)
 
-pub names_of-end : (ns : List (List ℕ)) (e : List ℕ) → IsTrue (are_rising_names ns) → IsTrue (is_after_names ns e) → names_of (ns ++ e ∷ []) ≡ with_name (names_of ns) e
+pub names_of-end : (ns : List (List ℕ)) (e : List ℕ) → IsTrue (are_rising_names ns) → IsTrue (is_after_names ns e)
+    → names_of (ns ++ e ∷ []) ≡ with_name (names_of ns) e
 unfolding with_name
 names_of-end ns e h after =
     finite.same_entries_map _ _
@@ -142,19 +150,28 @@ names_of-end ns e h after =
     ∙ ap (entry.put (slice_cmp nat_cmp) e tt) (sym (finite.entries-from_sorted (slice_cmp nat_cmp) (keyed_names ns) (as_test _ h)))
     ∙ sym (finite.entries-insert nat_list_cmp_total (names_of ns) e tt))
 
-pub cells_of-end : (ms : List Valued) (m : Valued) → IsTrue (are_rising_marks ms) → AreMarks ms → IsTrue (is_after_marks ms m) → 1 ≤ m.value → cells_of (ms ++ m ∷ []) ≡ raise (cells_of ms) m
+pub cells_of-end : (ms : List Valued) (m : Valued) → IsTrue (are_rising_marks ms) → AreMarks ms → IsTrue (is_after_marks ms m) → 1 ≤ m.value
+    → cells_of (ms ++ m ∷ []) ≡ raise (cells_of ms) m
 cells_of-end ms m h k after v =
-    same_cells _ _ (λ e c. omega (arith, value_at-cells_of (ms ++ m ∷ []) (rising_marks-end ms m h after) (AreMarks-end ms m k v) e c, value_at-cells_of ms h k e c, value_at-raise (cells_of ms) m e c, greatest-append ms (m ∷ []) e c))
+    same_cells _ _ (λ e c. omega (
+      arith,
+      value_at-cells_of (ms ++ m ∷ []) (rising_marks-end ms m h after) (AreMarks-end ms m k v) e c,
+      value_at-cells_of ms h k e c,
+      value_at-raise (cells_of ms) m e c,
+      greatest-append ms (m ∷ []) e c,
+    ))
 
 pub rises_lists : (ns : List (List ℕ)) (ms : List Valued) (S : State) (i : Item) → AreLists ns ms → state_from ns ms ≡ S → rises S i ≡ follows ns ms i
 rises_lists ns ms S i a view =
     ap (λ (T : State). rises T i) (sym view)
     ∙ (λ k. follows (names_in_order-names_of ns a.names_rise k) (marks_of-cells_of ms a.marks_rise a.positive k) i)
 
-pub rises_name : (ns : List (List ℕ)) (ms : List Valued) (S : State) (i : Item) (e : List ℕ) (r : Bool) → AreLists ns ms → state_from ns ms ≡ S → i ≡ item.Name e → r ≡ is_after_names ns e → r ≡ rises S i
+pub rises_name : (ns : List (List ℕ)) (ms : List Valued) (S : State) (i : Item) (e : List ℕ) (r : Bool) → AreLists ns ms → state_from ns ms ≡ S
+    → i ≡ item.Name e → r ≡ is_after_names ns e → r ≡ rises S i
 rises_name ns ms S i e r a view is r_is = r_is ∙ sym (rises_lists ns ms S i a view ∙ ap (follows ns ms) is)
 
-pub rises_mark : (ns : List (List ℕ)) (ms : List Valued) (S : State) (i : Item) (m : Valued) (r : Bool) → AreLists ns ms → state_from ns ms ≡ S → i ≡ item.Cell m → r ≡ is_after_marks ms m → r ≡ rises S i
+pub rises_mark : (ns : List (List ℕ)) (ms : List Valued) (S : State) (i : Item) (m : Valued) (r : Bool) → AreLists ns ms → state_from ns ms ≡ S
+    → i ≡ item.Cell m → r ≡ is_after_marks ms m → r ≡ rises S i
 rises_mark ns ms S i m r a view is r_is = r_is ∙ sym (rises_lists ns ms S i a view ∙ ap (follows ns ms) is)
 
 -- what follows from a push
@@ -164,7 +181,8 @@ pub record Pushes (ns ns' : List (List ℕ)) (ms ms' : List Valued) (S : State) 
   pub names : names_in_order (names_of ns') ≡ names_in_order S.names ++ names_in i
   pub marks : marks_of (cells_of ms') ≡ marks_of S.cells ++ marks_in i
 
-pub pushes_name : (ns ns' : List (List ℕ)) (ms : List Valued) (S : State) (i : Item) (e : List ℕ) → AreLists ns ms → state_from ns ms ≡ S → IsTrue (rises S i) → i ≡ item.Name e → ns' ≡ ns ++ e ∷ [] → Pushes ns ns' ms ms S i
+pub pushes_name : (ns ns' : List (List ℕ)) (ms : List Valued) (S : State) (i : Item) (e : List ℕ) → AreLists ns ms → state_from ns ms ≡ S
+    → IsTrue (rises S i) → i ≡ item.Name e → ns' ≡ ns ++ e ∷ [] → Pushes ns ns' ms ms S i
 pushes_name ns ns' ms S i e a view r is new =
     let after = sym (rises_lists ns ms S i a view ∙ ap (follows ns ms) is) ∙ r in
     let rise = rising_names-end ns e a.names_rise after in
@@ -176,7 +194,8 @@ pushes_name ns ns' ms S i e a view r is new =
       marks = sym (append-nil _);
     }
 
-pub pushes_mark : (ns : List (List ℕ)) (ms ms' : List Valued) (S : State) (i : Item) (m : Valued) → AreLists ns ms → state_from ns ms ≡ S → IsTrue (rises S i) → i ≡ item.Cell m → 1 ≤ m.value → ms' ≡ ms ++ m ∷ [] → Pushes ns ns ms ms' S i
+pub pushes_mark : (ns : List (List ℕ)) (ms ms' : List Valued) (S : State) (i : Item) (m : Valued) → AreLists ns ms → state_from ns ms ≡ S
+    → IsTrue (rises S i) → i ≡ item.Cell m → 1 ≤ m.value → ms' ≡ ms ++ m ∷ [] → Pushes ns ns ms ms' S i
 pushes_mark ns ms ms' S i m a view r is v new =
     let after = sym (rises_lists ns ms S i a view ∙ ap (follows ns ms) is) ∙ r in
     let rise = rising_marks-end ms m a.marks_rise after in
@@ -205,8 +224,10 @@ all_positive (e ∷ es) = (omega arith, all_positive es)
 pub lists_of : (S : State) → AreLists (names_in_order S.names) (marks_of S.cells)
 unfolding marks_of
 lists_of S = record {
-  marks_rise = as_true _ (subst (λ (es : List (Key × ℕ)). T (entry.is_sorted key_cmp es)) (sym (marks_again (finite.entries S.cells))) (finite.entries_sorted S.cells));
-  names_rise = as_true _ (subst (λ (es : List (List ℕ × Unit {0})). T (entry.is_sorted (slice_cmp nat_cmp) es)) (sym (names_again (finite.entries S.names))) (finite.entries_sorted S.names));
+  marks_rise = as_true _ (subst (λ (es : List (Key × ℕ)). T (entry.is_sorted key_cmp es)) (sym (marks_again (finite.entries S.cells)))
+      (finite.entries_sorted S.cells));
+  names_rise = as_true _ (subst (λ (es : List (List ℕ × Unit {0})). T (entry.is_sorted (slice_cmp nat_cmp) es))
+      (sym (names_again (finite.entries S.names))) (finite.entries_sorted S.names));
   positive = all_positive (finite.entries S.cells);
 }
 
@@ -214,8 +235,10 @@ lists_of S = record {
 pub state_again : (S : State) → state_from (names_in_order S.names) (marks_of S.cells) ≡ S
 unfolding marks_of
 state_again S = λ i. record {
-  cells = (ap finite.from_sorted (marks_again (finite.entries S.cells)) ∙ finite.same_entries_map _ _ (finite.entries-from_sorted key_cmp (finite.entries S.cells) (finite.entries_sorted S.cells))) i;
-  names = (ap finite.from_sorted (names_again (finite.entries S.names)) ∙ finite.same_entries_map _ _ (finite.entries-from_sorted (slice_cmp nat_cmp) (finite.entries S.names) (finite.entries_sorted S.names))) i;
+  cells = (ap finite.from_sorted (marks_again (finite.entries S.cells))
+      ∙ finite.same_entries_map _ _ (finite.entries-from_sorted key_cmp (finite.entries S.cells) (finite.entries_sorted S.cells))) i;
+  names = (ap finite.from_sorted (names_again (finite.entries S.names))
+      ∙ finite.same_entries_map _ _ (finite.entries-from_sorted (slice_cmp nat_cmp) (finite.entries S.names) (finite.entries_sorted S.names))) i;
 }
 
 -- what comes after a front of rising lists is above all of it

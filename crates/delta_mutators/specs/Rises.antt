@@ -1,5 +1,5 @@
 -- Items that come after all those of their kind: a name above the last name, a mark above the last mark. Our own.
-use Rattle.std.specs.Prelude.{ℕ, Bool, List, [], ◌∷◌}
+use Rattle.std.specs.Prelude.{◌≡◌, ℕ, Bool, List, [], ◌∷◌, ◌++◌}
 use Rattle.std.specs.List.{list_all}
 use Rattle.std.specs.Ordering.{nat_cmp, is_lt}
 use Rattle.std.specs.Cmp.Lexicographic.{slice_cmp}
@@ -39,3 +39,11 @@ names_in (item.Cell mark) = []
 abbrev pub marks_in : Item → List Valued
 marks_in (item.Name name) = []
 marks_in (item.Cell mark) = mark ∷ []
+
+-- the names of the new state are those of the old one, and then that of the item, if it is one
+abbrev pub PutsNameLast : State → Item → State → Type 0
+PutsNameLast old item new = names_in_order new.names ≡ names_in_order old.names ++ names_in item
+
+-- the marks of the new state are those of the old one, and then that of the item, if it is one
+abbrev pub PutsMarkLast : State → Item → State → Type 0
+PutsMarkLast old item new = marks_of new.cells ≡ marks_of old.cells ++ marks_in item

@@ -1,9 +1,9 @@
 //! Deltas: states as rising lists.
-ghost use Rattle.std.specs.Prelude.{◌≡◌, ◌++◌, IfOk, OnOk, OnErr, IsTrue};
+ghost use Rattle.std.specs.Prelude.{◌≡◌, IfOk, OnOk, OnErr, IsTrue};
 ghost use Rattle.rights_lattice.specs.Cells.{marks_of};
 ghost use Rattle.rights_lattice.specs.Marks.{are_rising_marks, are_rising_names};
 ghost use Rattle.rights_lattice.specs.State.{bottom, join, names_in_order};
-ghost use Rattle.delta_mutators.specs.Rises.{rises, pushed, names_in, marks_in, is_after_names, is_after_marks};
+ghost use Rattle.delta_mutators.specs.Rises.{rises, pushed, PutsNameLast, PutsMarkLast, is_after_names, is_after_marks};
 
 use rights_lattice::{Event, Mark, key_order, merge_marks, merge_names};
 use std::alloc::{AllocError, Global};
@@ -120,9 +120,8 @@ impl Delta {
         requires { IsTrue (rises self.old item) }
         ensures ok { OnOk result (self.new ≡ pushed self.old item) }
         ensures joined { OnOk result (self.new ≡ join self.old (item_state item)) }
-        ensures names { OnOk result
-            (names_in_order self.new.names ≡ names_in_order self.old.names ++ names_in item) }
-        ensures marks { OnOk result (marks_of self.new.cells ≡ marks_of self.old.cells ++ marks_in item) }
+        ensures names { OnOk result (PutsNameLast self.old item self.new) }
+        ensures marks { OnOk result (PutsMarkLast self.old item self.new) }
         ensures err { OnErr result (self.new ≡ self.old) }
     {
         match item {

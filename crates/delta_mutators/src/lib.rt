@@ -10,6 +10,9 @@
 //! The operations are those of an escrow bounded counter (SRDS 2015); announced names are a grow-only set (RR-7506),
 //! and refunds are our own.
 //!
+//! A new operation is a function of `mutators.rt` whose contract is `IsRaised` at its cell, or says its item. A new
+//! kind of item is a variant of `Item`, with its place in `specs/Items.antt` and a case of `Rises.antt`.
+//!
 //! Lemmas for callers: `EndLaws`.
 #![tactic(auto)]
 

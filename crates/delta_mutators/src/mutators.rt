@@ -1,9 +1,8 @@
 //! The mark of one operation, or the name that it announces: to join a state of that alone is to apply the operation.
-ghost use Rattle.std.specs.Prelude.{◌≡◌, ◌≢◌, ◌+◌, ◌<◌, ◌↔◌, IfOk, IsErr};
+ghost use Rattle.std.specs.Prelude.{◌≡◌, ◌≢◌};
 ghost use Rattle.rights_lattice.specs.declared.cell.Cell.TheVariants.{Gave, Used, Back};
-ghost use Rattle.rights_lattice.specs.Cells.{greatest_value, value_at};
 ghost use Rattle.delta_mutators.specs.declared.delta.Item.TheVariants.{Name};
-ghost use Rattle.delta_mutators.specs.Marks.{mark_plus};
+ghost use Rattle.delta_mutators.specs.Marks.{IsRaised};
 
 use crate::delta::Item;
 use rights_lattice::{Amount, Cell, Event, GREATEST_VALUE, Mark, Rights, SiteId};
@@ -18,8 +17,7 @@ pub struct CellFull;
 ///
 /// `CellFull` where the seats of the event that the site released would exceed `GREATEST_VALUE`.
 pub fn release(rights: &Rights, me: SiteId, event: Event, amount: Amount) -> Result<Mark, CellFull>
-    ensures mark { IfOk result (λ mark. mark ≡ mark_plus rights.now.cells event (Gave me me) amount) }
-    ensures full { IsErr result ↔ (greatest_value < value_at rights.now.cells event (Gave me me) + amount) }
+    ensures { IsRaised rights.now.cells event (Gave me me) amount result }
 {
     raised_by(rights, event, &Cell::Gave { by: me, to: me }, amount)
 }
@@ -28,8 +26,7 @@ pub fn release(rights: &Rights, me: SiteId, event: Event, amount: Amount) -> Res
 ///
 /// `CellFull` where the seats of the event that the site sold would exceed `GREATEST_VALUE`.
 pub fn sale(rights: &Rights, me: SiteId, event: Event, amount: Amount) -> Result<Mark, CellFull>
-    ensures mark { IfOk result (λ mark. mark ≡ mark_plus rights.now.cells event (Used me) amount) }
-    ensures full { IsErr result ↔ (greatest_value < value_at rights.now.cells event (Used me) + amount) }
+    ensures { IsRaised rights.now.cells event (Used me) amount result }
 {
     raised_by(rights, event, &Cell::Used { by: me }, amount)
 }
@@ -38,8 +35,7 @@ pub fn sale(rights: &Rights, me: SiteId, event: Event, amount: Amount) -> Result
 ///
 /// `CellFull` where the seats of the event that the site took back would exceed `GREATEST_VALUE`.
 pub fn refund(rights: &Rights, me: SiteId, event: Event, amount: Amount) -> Result<Mark, CellFull>
-    ensures mark { IfOk result (λ mark. mark ≡ mark_plus rights.now.cells event (Back me) amount) }
-    ensures full { IsErr result ↔ (greatest_value < value_at rights.now.cells event (Back me) + amount) }
+    ensures { IsRaised rights.now.cells event (Back me) amount result }
 {
     raised_by(rights, event, &Cell::Back { by: me }, amount)
 }
@@ -55,8 +51,7 @@ pub fn cession(
     to: SiteId,
 ) -> Result<Mark, CellFull>
     requires other { to ≢ me }
-    ensures mark { IfOk result (λ mark. mark ≡ mark_plus rights.now.cells event (Gave me to) amount) }
-    ensures full { IsErr result ↔ (greatest_value < value_at rights.now.cells event (Gave me to) + amount) }
+    ensures { IsRaised rights.now.cells event (Gave me to) amount result }
 {
     raised_by(rights, event, &Cell::Gave { by: me, to }, amount)
 }
@@ -70,8 +65,7 @@ pub fn announce(event: Event) -> Item
 
 // The mark of a cell at its old value plus the amount.
 fn raised_by(rights: &Rights, event: Event, cell: &Cell, amount: Amount) -> Result<Mark, CellFull>
-    ensures mark { IfOk result (λ mark. mark ≡ mark_plus rights.now.cells event cell.now amount) }
-    ensures full { IsErr result ↔ (greatest_value < value_at rights.now.cells event cell.now + amount) }
+    ensures { IsRaised rights.now.cells event cell.now amount result }
 {
     let value = rights.get(event, *cell) + amount.seats();
     if value > GREATEST_VALUE {

@@ -28,7 +28,8 @@ small_in_lines = record { names = name_byte_small; digits = λ b low high. lt-lt
 lines_small : (items : List Item) → AllByRecursion IsItem items → Holds is_small (lines_text (map item_line items))
 lines_small [] h = refl
 lines_small (i ∷ items) h =
-    holds_append is_small (item_line i ++ 10 ∷ []) (lines_text (map item_line items)) (holds_append is_small (item_line i) (10 ∷ []) (item_holds is_small small_in_lines i h.0) refl) (lines_small items h.1)
+    holds_append is_small (item_line i ++ 10 ∷ []) (lines_text (map item_line items))
+    (holds_append is_small (item_line i) (10 ∷ []) (item_holds is_small small_in_lines i h.0) refl) (lines_small items h.1)
 
 small_at : (w : List ℕ) → Holds is_small w → (i : ℕ) → get_or w i 0 < 128
 small_at [] h i = omega arith

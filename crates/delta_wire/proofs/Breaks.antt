@@ -34,7 +34,8 @@ header_lacks = header_holds is_no_break breaks_in_no_line
 -- ---- cutting and joining
 
 -- the pieces of whole lines, and of what follows them
-pub split_lines : (lines : List (List ℕ)) (rest : List ℕ) → AllByRecursion Lacks lines → slice_split is_line_break (lines_text lines ++ rest) ≡ lines ++ slice_split is_line_break rest
+pub split_lines : (lines : List (List ℕ)) (rest : List ℕ) → AllByRecursion Lacks lines
+    → slice_split is_line_break (lines_text lines ++ rest) ≡ lines ++ slice_split is_line_break rest
 split_lines [] rest h = refl
 split_lines (line ∷ lines) rest h =
     ap (slice_split is_line_break) (append_assoc (line ++ 10 ∷ []) (lines_text lines) rest ∙ append_assoc line (10 ∷ []) (lines_text lines ++ rest))
@@ -49,7 +50,9 @@ pub join_lines : (lines : List (List ℕ)) → join_with_byte 10 (lines ++ [] �
 join_lines [] = refl
 join_lines (line ∷ lines) =
     let w = shape lines in
-    let one : join_with_byte 10 (line ∷ (lines ++ [] ∷ [])) ≡ line ++ 10 ∷ join_with_byte 10 (lines ++ [] ∷ []) = ap (λ (r : List (List ℕ)). join_with_byte 10 (line ∷ r)) w.2 ∙ ap (λ (r : List (List ℕ)). line ++ 10 ∷ join_with_byte 10 r) (sym w.2) in
+    let one : join_with_byte 10 (line ∷ (lines ++ [] ∷ [])) ≡ line ++ 10
+    ∷ join_with_byte 10 (lines ++ [] ∷ []) = ap (λ (r : List (List ℕ)). join_with_byte 10 (line ∷ r)) w.2
+    ∙ ap (λ (r : List (List ℕ)). line ++ 10 ∷ join_with_byte 10 r) (sym w.2) in
     one ∙ ap (λ (t : List ℕ). line ++ 10 ∷ t) (join_lines lines) ∙ sym (append_assoc line (10 ∷ []) (lines_text lines))
 
 -- a text is that of its lines

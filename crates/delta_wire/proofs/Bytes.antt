@@ -42,7 +42,8 @@ join_holds p is w (v ∷ ws) h hs = holds_append p w (32 ∷ join_with_byte 32 (
 
 letters_hold : (p : ℕ → Bool) → HoldsOfNames p → (w : List ℕ) → list_all is_event_byte w ≡ true → Holds p w
 letters_hold p names [] e = refl
-letters_hold p names (b ∷ w) e = let parts = and_parts (is_event_byte b) (list_all is_event_byte w) e in and_from _ _ (names b parts.0) (letters_hold p names w parts.1)
+letters_hold p names (b ∷ w) e = let parts = and_parts (is_event_byte b) (list_all is_event_byte w) e in and_from _ _ (names b parts.0)
+    (letters_hold p names w parts.1)
 
 pub name_holds : (p : ℕ → Bool) → HoldsOfNames p → (e : List ℕ) → IsEventName e → Holds p e
 name_holds p names e h = letters_hold p names e h.bytes_allowed
@@ -54,14 +55,22 @@ digits_hold p is (b ∷ w) h = let r = digit_from_value b h.0 in and_from _ _ (i
 decimal_holds : (p : ℕ → Bool) → IsOfLines p → (n : ℕ) → n ≤ 2 ^ 58 → Holds p (decimal n)
 decimal_holds p is n h = digits_hold p is (decimal n) (own.to _ (digits_decimal own n (omega arith)))
 
-cell_holds : (p : ℕ → Bool) → IsOfLines p → (e : List ℕ) (c : Cell) (v : ℕ) → IsEventName e → IsCell c → IsValue v → Holds p (join_with_byte 32 (cell_words e v c))
+cell_holds : (p : ℕ → Bool) → IsOfLines p → (e : List ℕ) (c : Cell) (v : ℕ) → IsEventName e → IsCell c → IsValue v
+    → Holds p (join_with_byte 32 (cell_words e v c))
 cell_holds p is e (Gave i j) v h k w =
-    join_holds p is (codes "gave") (e ∷ decimal i ∷ decimal j ∷ decimal v ∷ []) (letters_hold p is.names (codes "gave") refl)
-    (name_holds p is.names e h, (decimal_holds p is i (omega (arith, k.0)), (decimal_holds p is j (omega (arith, k.1)), (decimal_holds p is v (omega (arith, w)), tt))))
+    join_holds p is (codes "gave") (e ∷ decimal i ∷ decimal j ∷ decimal v ∷ []) (letters_hold p is.names (codes "gave") refl) (
+      name_holds p is.names e h,
+      (
+        decimal_holds p is i (omega (arith, k.0)),
+        (decimal_holds p is j (omega (arith, k.1)), (decimal_holds p is v (omega (arith, w)), tt)),
+      ),
+    )
 cell_holds p is e (Used i) v h k w =
-    join_holds p is (codes "used") (e ∷ decimal i ∷ decimal v ∷ []) (letters_hold p is.names (codes "used") refl) (name_holds p is.names e h, (decimal_holds p is i (omega (arith, k)), (decimal_holds p is v (omega (arith, w)), tt)))
+    join_holds p is (codes "used") (e ∷ decimal i ∷ decimal v ∷ []) (letters_hold p is.names (codes "used") refl)
+    (name_holds p is.names e h, (decimal_holds p is i (omega (arith, k)), (decimal_holds p is v (omega (arith, w)), tt)))
 cell_holds p is e (Back i) v h k w =
-    join_holds p is (codes "back") (e ∷ decimal i ∷ decimal v ∷ []) (letters_hold p is.names (codes "back") refl) (name_holds p is.names e h, (decimal_holds p is i (omega (arith, k)), (decimal_holds p is v (omega (arith, w)), tt)))
+    join_holds p is (codes "back") (e ∷ decimal i ∷ decimal v ∷ []) (letters_hold p is.names (codes "back") refl)
+    (name_holds p is.names e h, (decimal_holds p is i (omega (arith, k)), (decimal_holds p is v (omega (arith, w)), tt)))
 
 pub item_holds : (p : ℕ → Bool) → IsOfLines p → (i : Item) → IsItem i → Holds p (item_line i)
 unfolding item_line
@@ -72,7 +81,8 @@ purpose_holds : (p : ℕ → Bool) → IsOfLines p → (q : Purpose) → Holds p
 purpose_holds p is purpose.Delta = letters_hold p is.names (purpose_text purpose.Delta) refl
 purpose_holds p is purpose.Ack = letters_hold p is.names (purpose_text purpose.Ack) refl
 
-pub header_holds : (p : ℕ → Bool) → IsOfLines p → (q : Purpose) (by to upto : ℕ) → IsSite by → IsSite to → IsUpto upto → Holds p (header_line (purpose_text q) by to upto)
+pub header_holds : (p : ℕ → Bool) → IsOfLines p → (q : Purpose) (by to upto : ℕ) → IsSite by → IsSite to → IsUpto upto
+    → Holds p (header_line (purpose_text q) by to upto)
 unfolding header_line
 header_holds p is q by to upto h k u =
     join_holds p is (purpose_text q) (decimal by ∷ decimal to ∷ decimal upto ∷ []) (purpose_holds p is q)

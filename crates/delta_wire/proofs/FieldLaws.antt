@@ -17,8 +17,10 @@ event_at_found words x e =
     let a = bind_some (first_word words) (λ w. name_of w.0 >>= λ n. Some (n, w.1)) x e in
     let b = bind_some (name_of a.0.0) (λ n. Some (n, a.0.1)) x a.2 in
     let f = name_of_found a.0.0 b.0 b.1 in
-    let same : (b.0, a.0.1) ≡ x = same_Some (b.0, a.0.1) x b.2 in
-    (word_found words a.0 a.1 ∙ ap (λ (w : List ℕ). w ∷ a.0.1) f.0 ∙ ap (λ (p : List ℕ × List (List ℕ)). p.0 ∷ p.1) same, subst (λ (p : List ℕ × List (List ℕ)). IsEventName p.0) same f.1)
+    let same : (b.0, a.0.1) ≡ x = same_Some (b.0, a.0.1) x b.2 in (
+      word_found words a.0 a.1 ∙ ap (λ (w : List ℕ). w ∷ a.0.1) f.0 ∙ ap (λ (p : List ℕ × List (List ℕ)). p.0 ∷ p.1) same,
+      subst (λ (p : List ℕ × List (List ℕ)). IsEventName p.0) same f.1,
+    )
 
 pub event_again : (e : List ℕ) (ws : List (List ℕ)) → IsEventName e → event_at (e ∷ ws) ≡ Some (e, ws)
 unfolding event_at

@@ -39,8 +39,11 @@ ack_found k m [] e = absurd cc
 ack_found k m (last ∷ []) e = absurd cc
 ack_found k m (line ∷ next ∷ more) e = elim (cases_Bool (bytes_eq line (codes "end"))) [
   | inl t ↦
-      let c = cond_ok (is_over (next ∷ more)) k m Trailing (sym (cond-true (bytes_eq line (codes "end")) _ _ t) ∙ e) in
-      (c.1, ap (λ (l : List ℕ). l ∷ next ∷ more) ((bytes_eq-Decides line (codes "end")).0 t) ∙ ap (λ (r : List (List ℕ)). codes "end" ∷ r) (over_is (next ∷ more) c.0))
+      let c = cond_ok (is_over (next ∷ more)) k m Trailing (sym (cond-true (bytes_eq line (codes "end")) _ _ t) ∙ e) in (
+        c.1,
+        ap (λ (l : List ℕ). l ∷ next ∷ more) ((bytes_eq-Decides line (codes "end")).0 t)
+            ∙ ap (λ (r : List (List ℕ)). codes "end" ∷ r) (over_is (next ∷ more) c.0),
+      )
   | inr other ↦ let bad : ◌≡◌ {A = Read} (Err (BadLine 2)) (Ok m) = sym (cond-false (bytes_eq line (codes "end")) _ _ other) ∙ e in absurd cc
 ]
 
@@ -48,28 +51,33 @@ with_delta_found : (h : Header) (r : Result State WireFault) (m : Message) → w
 with_delta_found h (Ok S) m e = (S, refl, ok_is (Delta h.by h.to h.upto S) m e)
 with_delta_found h (Err f) m e = absurd cc
 
-delta_spelled : (h : Header) (line : List ℕ) (pieces : List (List ℕ)) (m : Message) → line ≡ header_line (codes "delta") h.by h.to h.upto → IsSite h.by × IsSite h.to × IsUpto h.upto
+delta_spelled : (h : Header) (line : List ℕ) (pieces : List (List ℕ)) (m : Message) → line ≡ header_line (codes "delta") h.by h.to h.upto
+    → IsSite h.by × IsSite h.to × IsUpto h.upto
     → with_delta h (items_from AtEndLine 2 [] [] pieces) ≡ Ok m → Spelled (line ∷ pieces) m
 delta_spelled h line pieces m is f e =
     let w = with_delta_found h (items_from AtEndLine 2 [] [] pieces) m e in
     let g = spelled_delta AtEndLine 2 pieces w.0 w.1 in
     subst (Spelled (line ∷ pieces)) w.2 (
       (f.0, f.1, f.2, g.0),
-      (λ k. is k ∷ g.1 k) ∙ ap (λ (t : List (List ℕ)). header_line (codes "delta") h.by h.to h.upto ∷ t) (sym (append_assoc (delta_lines w.0) (codes "end" ∷ []) ([] ∷ []))),
+      (λ k. is k ∷ g.1 k) ∙ ap (λ (t : List (List ℕ)). header_line (codes "delta") h.by h.to h.upto ∷ t)
+          (sym (append_assoc (delta_lines w.0) (codes "end" ∷ []) ([] ∷ []))),
     )
 
-ack_spelled : (h : Header) (line : List ℕ) (pieces : List (List ℕ)) (m : Message) → line ≡ header_line (codes "ack") h.by h.to h.upto → IsSite h.by × IsSite h.to × IsUpto h.upto
+ack_spelled : (h : Header) (line : List ℕ) (pieces : List (List ℕ)) (m : Message) → line ≡ header_line (codes "ack") h.by h.to h.upto
+    → IsSite h.by × IsSite h.to × IsUpto h.upto
     → ack_from (Ack h.by h.to h.upto) pieces ≡ Ok m → Spelled (line ∷ pieces) m
 ack_spelled h line pieces m is f e =
     let w = ack_found (Ack h.by h.to h.upto) m pieces e in
     subst (Spelled (line ∷ pieces)) w.0 (f, λ k. is k ∷ w.1 k)
 
-purpose_spelled : (p : Purpose) (h : Header) (line : List ℕ) (pieces : List (List ℕ)) (m : Message) → line ≡ header_line (purpose_text p) h.by h.to h.upto → IsSite h.by × IsSite h.to × IsUpto h.upto
+purpose_spelled : (p : Purpose) (h : Header) (line : List ℕ) (pieces : List (List ℕ)) (m : Message) → line ≡ header_line (purpose_text p) h.by h.to h.upto
+    → IsSite h.by × IsSite h.to × IsUpto h.upto
     → for_purpose p h pieces ≡ Ok m → Spelled (line ∷ pieces) m
 purpose_spelled purpose.Delta h line pieces m is f e = delta_spelled h line pieces m is f e
 purpose_spelled purpose.Ack h line pieces m is f e = ack_spelled h line pieces m is f e
 
-header_spelled : (o : Option Header) (line : List ℕ) (pieces : List (List ℕ)) (m : Message) → header_of line ≡ o → after_header o pieces ≡ Ok m → Spelled (line ∷ pieces) m
+header_spelled : (o : Option Header) (line : List ℕ) (pieces : List (List ℕ)) (m : Message) → header_of line ≡ o → after_header o pieces ≡ Ok m
+    → Spelled (line ∷ pieces) m
 header_spelled None line pieces m is e = absurd cc
 header_spelled (Some h) line pieces m is e =
     let f = header_found line h is in
@@ -99,15 +107,19 @@ with_cond : (h : Header) (b : Bool) (S : State) → with_delta h (cond b (Ok S) 
 with_cond h true S = refl
 with_cond h false S = refl
 
-end_read : (n : ℕ) (ns : List (List ℕ)) (S : State) (next : List ℕ) (more : List (List ℕ)) → items_from AtEndLine (n + length (items_of S)) (all_names (items_of S)) (all_marks (items_of S)) (codes "end" ∷ next ∷ more) ≡ cond (is_over (next ∷ more)) (Ok S) (Err Trailing)
+end_read : (n : ℕ) (ns : List (List ℕ)) (S : State) (next : List ℕ) (more : List (List ℕ))
+    → items_from AtEndLine (n + length (items_of S)) (all_names (items_of S)) (all_marks (items_of S)) (codes "end" ∷ next ∷ more) ≡ cond
+    (is_over (next ∷ more)) (Ok S) (Err Trailing)
 unfolding items_from
 end_read n ns S next more = ap (λ (T : State). cond (is_over (next ∷ more)) (Ok T) (Err Trailing)) (made_again S)
 
-line_more : (line : List ℕ) (lines : List (List ℕ)) (next : List ℕ) (more : List (List ℕ)) → (x : List ℕ) × (xs : List (List ℕ)) × (lines ++ line ∷ next ∷ more ≡ x ∷ xs)
+line_more : (line : List ℕ) (lines : List (List ℕ)) (next : List ℕ) (more : List (List ℕ))
+    → (x : List ℕ) × (xs : List (List ℕ)) × (lines ++ line ∷ next ∷ more ≡ x ∷ xs)
 line_more line [] next more = (line, next ∷ more, refl)
 line_more line (l ∷ lines) next more = (l, lines ++ line ∷ next ∷ more, refl)
 
-from_header : (line : List ℕ) (pieces : List (List ℕ)) (x : List ℕ) (xs : List (List ℕ)) (h : Header) → pieces ≡ x ∷ xs → header_of line ≡ Some h → message_from (line ∷ pieces) ≡ for_purpose h.purpose h pieces
+from_header : (line : List ℕ) (pieces : List (List ℕ)) (x : List ℕ) (xs : List (List ℕ)) (h : Header) → pieces ≡ x ∷ xs → header_of line ≡ Some h
+    → message_from (line ∷ pieces) ≡ for_purpose h.purpose h pieces
 from_header line pieces x xs h is found =
     ap (λ (p : List (List ℕ)). message_from (line ∷ p)) is ∙ ap (λ (o : Option Header). after_header o (x ∷ xs)) found ∙ ap (for_purpose h.purpose h) (sym is)
 
@@ -116,12 +128,14 @@ read_pieces (Delta by to upto S) next more f =
     let h : Header = record { purpose = purpose.Delta; by = by; to = to; upto = upto } in
     let w = line_more (codes "end") (delta_lines S) next more in
     ap (λ (t : List (List ℕ)). message_from (header_line (codes "delta") by to upto ∷ t)) (append_assoc (delta_lines S) (codes "end" ∷ []) (next ∷ more))
-    ∙ from_header (header_line (codes "delta") by to upto) (delta_lines S ++ codes "end" ∷ next ∷ more) w.0 w.1 h w.2 (header_again purpose.Delta by to upto f.0 f.1 f.2)
+    ∙ from_header (header_line (codes "delta") by to upto) (delta_lines S ++ codes "end" ∷ next ∷ more) w.0 w.1 h w.2
+    (header_again purpose.Delta by to upto f.0 f.1 f.2)
     ∙ ap (with_delta h) (read_delta_lines AtEndLine 2 S (codes "end") (next ∷ more) f.3 ∙ end_read 2 [] S next more)
     ∙ with_cond h (is_over (next ∷ more)) S
 read_pieces (Ack by to upto) next more f =
     let h : Header = record { purpose = purpose.Ack; by = by; to = to; upto = upto } in
-    from_header (header_line (codes "ack") by to upto) (codes "end" ∷ next ∷ more) (codes "end") (next ∷ more) h refl (header_again purpose.Ack by to upto f.0 f.1 f.2)
+    from_header (header_line (codes "ack") by to upto) (codes "end" ∷ next ∷ more) (codes "end") (next ∷ more) h refl
+    (header_again purpose.Ack by to upto f.0 f.1 f.2)
 
 lacks_end : (lines : List (List ℕ)) → AllByRecursion Lacks lines → AllByRecursion Lacks (lines ++ codes "end" ∷ [])
 lacks_end [] h = (refl, tt)

@@ -34,7 +34,8 @@ unfolding items_from
 no_item_trails n ns ms [] e = cc
 no_item_trails n ns ms (last ∷ []) e = at_last (is_over (last ∷ [])) (state_from ns ms) e
 no_item_trails n ns ms (line ∷ next ∷ more) e =
-    at_item n ns ms (item_of line) (λ ns' ms'. items_from AtEndOfBytes (n + 1) ns' ms' (next ∷ more)) (λ ns' ms'. no_item_trails (n + 1) ns' ms' (next ∷ more)) e
+    at_item n ns ms (item_of line) (λ ns' ms'. items_from AtEndOfBytes (n + 1) ns' ms' (next ∷ more))
+    (λ ns' ms'. no_item_trails (n + 1) ns' ms' (next ∷ more)) e
 
 -- no reading of a delta answers that bytes follow
 pub never_trailing : (bytes : List ℕ) (r : Result State WireFault) → Gives r (delta_from_text bytes) → IfErr r (λ fault. fault ≢ Trailing)

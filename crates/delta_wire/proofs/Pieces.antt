@@ -14,7 +14,8 @@ single_is_not_over : (x : ℕ) (first : List ℕ) (more : List (List ℕ)) → i
 single_is_not_over x first [] = ne_eqb _ _ (λ e. omega arith)
 single_is_not_over x first (y ∷ more) = refl
 
-cut_is_not_over : (b : Bool) (x : ℕ) (first : List ℕ) (more rest : List (List ℕ)) → rest ≡ first ∷ more → is_over (cond b ([] ∷ rest) (onto_first x rest)) ≡ false
+cut_is_not_over : (b : Bool) (x : ℕ) (first : List ℕ) (more rest : List (List ℕ)) → rest ≡ first ∷ more
+    → is_over (cond b ([] ∷ rest) (onto_first x rest)) ≡ false
 cut_is_not_over true x first more rest e = ap (λ (r : List (List ℕ)). is_over ([] ∷ r)) e
 cut_is_not_over false x first more rest e = ap (λ (r : List (List ℕ)). is_over (onto_first x r)) e ∙ single_is_not_over x first more
 
@@ -25,11 +26,13 @@ over_at (x ∷ xs) =
     let left : eqb (length (x ∷ xs)) 0 ≡ false = ne_eqb _ _ (λ e. omega arith) in
     left ∙ sym (cut_is_not_over (is_line_break x) x w.0 w.1 (slice_split is_line_break xs) w.2)
 
-pub last_piece : (rest : List ℕ) (now : List (List ℕ)) → slice_split is_line_break rest ≡ now → position is_line_break rest ≡ None → (last : List ℕ) × (now ≡ last ∷ [])
+pub last_piece : (rest : List ℕ) (now : List (List ℕ)) → slice_split is_line_break rest ≡ now → position is_line_break rest ≡ None
+    → (last : List ℕ) × (now ≡ last ∷ [])
 last_piece rest now view e = (rest, sym view ∙ split_none is_line_break rest e)
 
 pub next_piece : (rest : List ℕ) (now : List (List ℕ)) (k : ℕ) → slice_split is_line_break rest ≡ now → position is_line_break rest ≡ Some k
-    → (next : List ℕ) × (more : List (List ℕ)) × (slice_split is_line_break (take (length rest - (k + 1)) (drop (k + 1) rest)) ≡ next ∷ more) × (now ≡ take k rest ∷ next ∷ more)
+    → (next : List ℕ) × (more : List (List ℕ)) × (slice_split is_line_break (take (length rest - (k + 1)) (drop (k + 1) rest)) ≡ next ∷ more)
+    × (now ≡ take k rest ∷ next ∷ more)
 next_piece rest now k view e =
     let w = first_part is_line_break (drop (k + 1) rest) in
     (w.0, w.1, rw take_rest w.2, sym view ∙ split_some is_line_break rest k e ∙ ap (λ (t : List (List ℕ)). take k rest ∷ t) w.2)

@@ -33,7 +33,8 @@ pub record IsTakenOff (now rest : List (List ℕ)) (line : List ℕ) : Type 0 wh
   pub after : rest ≡ next ∷ more
   pub before : now ≡ line ∷ next ∷ more
 
-pub taken_off : (now rest : List (List ℕ)) (line : List ℕ) → (next : List ℕ) × (more : List (List ℕ)) × (rest ≡ next ∷ more) × (now ≡ line ∷ next ∷ more) → IsTakenOff now rest line
+pub taken_off : (now rest : List (List ℕ)) (line : List ℕ) → (next : List ℕ) × (more : List (List ℕ)) × (rest ≡ next ∷ more) × (now ≡ line ∷ next ∷ more)
+    → IsTakenOff now rest line
 taken_off now rest line w = record { next = w.0; more = w.1; after = w.2; before = w.3 }
 
 pub gives_same : {Y : Type 0} (r t : Result Y WireFault) → t ≡ r → Gives r t
@@ -44,7 +45,8 @@ gives_same (Err (OutOfOrder n)) t e = e
 gives_same (Err Trailing) t e = e
 gives_same (Err Memory) t e = tt
 
-pub last_is : (e : Ending) (n : ℕ) (S : State) (now rest : List (List ℕ)) (last : List ℕ) (total result : Read) → reads e n S now ≡ total → now ≡ last ∷ [] → rest ≡ now → result ≡ at_last e rest S → Gives result total
+pub last_is : (e : Ending) (n : ℕ) (S : State) (now rest : List (List ℕ)) (last : List ℕ) (total result : Read) → reads e n S now ≡ total → now ≡ last ∷ []
+    → rest ≡ now → result ≡ at_last e rest S → Gives result total
 unfolding items_from
 last_is e n S now rest last total result h is same r =
     gives_same result total
@@ -52,7 +54,8 @@ last_is e n S now rest last total result h is same r =
     ∙ ap (at_last e (last ∷ [])) (state_again S)
     ∙ ap (λ (p : List (List ℕ)). at_last e p S) (sym (same ∙ is)) ∙ sym r)
 
-at_end : (e : Ending) (n : ℕ) (S : State) (now : List (List ℕ)) (line next : List ℕ) (more : List (List ℕ)) → now ≡ line ∷ next ∷ more → ends e line ≡ true → reads e n S now ≡ cond (is_over (next ∷ more)) (Ok S) (Err Trailing)
+at_end : (e : Ending) (n : ℕ) (S : State) (now : List (List ℕ)) (line next : List ℕ) (more : List (List ℕ)) → now ≡ line ∷ next ∷ more → ends e line ≡ true
+    → reads e n S now ≡ cond (is_over (next ∷ more)) (Ok S) (Err Trailing)
 unfolding items_from
 at_end e n S now line next more is t =
     ap (reads e n S) is ∙ cond-true (ends e line) _ _ t ∙ ap (λ (T : State). cond (is_over (next ∷ more)) (Ok T) (Err Trailing)) (state_again S)
@@ -62,26 +65,32 @@ at_item : (e : Ending) (n : ℕ) (S : State) (now : List (List ℕ)) (line next 
 unfolding items_from
 at_item e n S now line next more is t = ap (reads e n S) is ∙ cond-false (ends e line) _ _ t
 
-pub ends_well : (e : Ending) (n : ℕ) (S : State) (now rest : List (List ℕ)) (line : List ℕ) (total : Read) → reads e n S now ≡ total → IsTakenOff now rest line → ends e line ≡ true → is_over rest ≡ true → total ≡ Ok S
+pub ends_well : (e : Ending) (n : ℕ) (S : State) (now rest : List (List ℕ)) (line : List ℕ) (total : Read) → reads e n S now ≡ total
+    → IsTakenOff now rest line → ends e line ≡ true → is_over rest ≡ true → total ≡ Ok S
 ends_well e n S now rest line total h t is over =
     sym h ∙ at_end e n S now line t.next t.more t.before is ∙ cond-true (is_over (t.next ∷ t.more)) (Ok S) (Err Trailing) (ap is_over (sym t.after) ∙ over)
 
-pub trails : (e : Ending) (n : ℕ) (S : State) (now rest : List (List ℕ)) (line : List ℕ) (total : Read) → reads e n S now ≡ total → IsTakenOff now rest line → ends e line ≡ true → is_over rest ≡ false → total ≡ Err Trailing
+pub trails : (e : Ending) (n : ℕ) (S : State) (now rest : List (List ℕ)) (line : List ℕ) (total : Read) → reads e n S now ≡ total
+    → IsTakenOff now rest line → ends e line ≡ true → is_over rest ≡ false → total ≡ Err Trailing
 trails e n S now rest line total h t is over =
     sym h ∙ at_end e n S now line t.next t.more t.before is ∙ cond-false (is_over (t.next ∷ t.more)) (Ok S) (Err Trailing) (ap is_over (sym t.after) ∙ over)
 
-pub is_bad : (e : Ending) (n : ℕ) (S : State) (now rest : List (List ℕ)) (line : List ℕ) (total : Read) → reads e n S now ≡ total → IsTakenOff now rest line → ends e line ≡ false → item_of line ≡ None → total ≡ Err (BadLine n)
+pub is_bad : (e : Ending) (n : ℕ) (S : State) (now rest : List (List ℕ)) (line : List ℕ) (total : Read) → reads e n S now ≡ total
+    → IsTakenOff now rest line → ends e line ≡ false → item_of line ≡ None → total ≡ Err (BadLine n)
 is_bad e n S now rest line total h t is none =
     sym h ∙ at_item e n S now line t.next t.more t.before is
     ∙ ap (λ (o : Option Item). with_item n (names_in_order S.names) (marks_of S.cells) o (λ ns ms. items_from e (n + 1) ns ms (t.next ∷ t.more))) none
 
-pub is_low : (e : Ending) (n : ℕ) (S : State) (now rest : List (List ℕ)) (line : List ℕ) (i : Item) (total : Read) → reads e n S now ≡ total → IsTakenOff now rest line → ends e line ≡ false → item_of line ≡ Some i → comes_next (names_in_order S.names) (marks_of S.cells) i ≡ false → total ≡ Err (OutOfOrder n)
+pub is_low : (e : Ending) (n : ℕ) (S : State) (now rest : List (List ℕ)) (line : List ℕ) (i : Item) (total : Read) → reads e n S now ≡ total
+    → IsTakenOff now rest line → ends e line ≡ false → item_of line ≡ Some i → comes_next (names_in_order S.names) (marks_of S.cells) i ≡ false
+    → total ≡ Err (OutOfOrder n)
 is_low e n S now rest line i total h t is some low =
     sym h ∙ at_item e n S now line t.next t.more t.before is
     ∙ ap (λ (o : Option Item). with_item n (names_in_order S.names) (marks_of S.cells) o (λ ns ms. items_from e (n + 1) ns ms (t.next ∷ t.more))) some
     ∙ cond-false (comes_next (names_in_order S.names) (marks_of S.cells) i) _ _ low
 
-pub goes_on : (e : Ending) (n : ℕ) (S S' : State) (now rest : List (List ℕ)) (line : List ℕ) (i : Item) (total : Read) → reads e n S now ≡ total → IsTakenOff now rest line → ends e line ≡ false → item_of line ≡ Some i → comes_next (names_in_order S.names) (marks_of S.cells) i ≡ true
+pub goes_on : (e : Ending) (n : ℕ) (S S' : State) (now rest : List (List ℕ)) (line : List ℕ) (i : Item) (total : Read) → reads e n S now ≡ total
+    → IsTakenOff now rest line → ends e line ≡ false → item_of line ≡ Some i → comes_next (names_in_order S.names) (marks_of S.cells) i ≡ true
     → names_in_order S'.names ≡ names_in_order S.names ++ names_in i → marks_of S'.cells ≡ marks_of S.cells ++ marks_in i → reads e (n + 1) S' rest ≡ total
 goes_on e n S S' now rest line i total h t is some up names marks =
     (λ k. items_from e (n + 1) (names k) (marks k) (t.after k))
@@ -99,7 +108,8 @@ item_is_there : (now rest : List (List ℕ)) (line : List ℕ) (i : Item) → Is
 item_is_there now rest line i t is = subst BeginsWithItem (sym t.before) (i, is)
 
 -- an item was read, so the first line spells one
-pub begins_with_item : (first now rest : List (List ℕ)) (line : List ℕ) (i : Item) → IsEmptyOrBegun first now → IsTakenOff now rest line → item_of line ≡ Some i → BeginsWithItem first
+pub begins_with_item : (first now rest : List (List ℕ)) (line : List ℕ) (i : Item) → IsEmptyOrBegun first now → IsTakenOff now rest line
+    → item_of line ≡ Some i → BeginsWithItem first
 begins_with_item first now rest line i (inl same) t is = subst BeginsWithItem same (item_is_there now rest line i t is)
 begins_with_item first now rest line i (inr h) t is = h
 

@@ -36,7 +36,8 @@ closing AtEndOfBytes = [] ∷ []
 
 -- what was read from some lines on: the items, and their lines
 abbrev pub Spelled : Ending → List (List ℕ) → List Valued → List (List ℕ) → State → Type 0
-Spelled e ns ms pieces S = (items : List Item) × (S ≡ state_from (ns ++ all_names items) (ms ++ all_marks items)) × Extends ns ms items × (pieces ≡ map item_line items ++ closing e)
+Spelled e ns ms pieces S = (items : List Item) × (S ≡ state_from (ns ++ all_names items) (ms ++ all_marks items)) × Extends ns ms items
+    × (pieces ≡ map item_line items ++ closing e)
 
 pub over_is : (pieces : List (List ℕ)) → is_over pieces ≡ true → pieces ≡ [] ∷ []
 over_is [] e = absurd cc
@@ -53,19 +54,27 @@ cond_ok false x y f e = absurd cc
 state_is : (ns : List (List ℕ)) (ms : List Valued) → state_from ns ms ≡ state_from (ns ++ []) (ms ++ [])
 state_is ns ms = λ i. state_from (sym (append-nil ns) i) (sym (append-nil ms) i)
 
-ended_found : (e : Ending) (ns : List (List ℕ)) (ms : List Valued) (line : List ℕ) (rest : List (List ℕ)) (S : State) → ends e line ≡ true → cond (is_over rest) (Ok (state_from ns ms)) (Err Trailing) ≡ Ok S → Spelled e ns ms (line ∷ rest) S
+ended_found : (e : Ending) (ns : List (List ℕ)) (ms : List Valued) (line : List ℕ) (rest : List (List ℕ)) (S : State) → ends e line ≡ true
+    → cond (is_over rest) (Ok (state_from ns ms)) (Err Trailing) ≡ Ok S → Spelled e ns ms (line ∷ rest) S
 ended_found AtEndLine ns ms line rest S t e =
-    let c = cond_ok (is_over rest) (state_from ns ms) S Trailing e in
-    ([], sym c.1 ∙ state_is ns ms, tt, ap (λ (l : List ℕ). l ∷ rest) ((bytes_eq-Decides line (codes "end")).0 t) ∙ ap (λ (r : List (List ℕ)). codes "end" ∷ r) (over_is rest c.0))
+    let c = cond_ok (is_over rest) (state_from ns ms) S Trailing e in (
+      [],
+      sym c.1 ∙ state_is ns ms,
+      tt,
+      ap (λ (l : List ℕ). l ∷ rest) ((bytes_eq-Decides line (codes "end")).0 t)
+          ∙ ap (λ (r : List (List ℕ)). codes "end" ∷ r) (over_is rest c.0),
+    )
 ended_found AtEndOfBytes ns ms line rest S t e = absurd (false≢true t)
 
-last_found : (e : Ending) (ns : List (List ℕ)) (ms : List Valued) (pieces : List (List ℕ)) (S : State) → at_last e pieces (state_from ns ms) ≡ Ok S → Spelled e ns ms pieces S
+last_found : (e : Ending) (ns : List (List ℕ)) (ms : List Valued) (pieces : List (List ℕ)) (S : State) → at_last e pieces (state_from ns ms) ≡ Ok S
+    → Spelled e ns ms pieces S
 last_found AtEndLine ns ms pieces S e = absurd cc
 last_found AtEndOfBytes ns ms pieces S e =
     let c = cond_ok (is_over pieces) (state_from ns ms) S Truncated e in
     ([], sym c.1 ∙ state_is ns ms, tt, over_is pieces c.0)
 
-one_more : (e : Ending) (ns : List (List ℕ)) (ms : List Valued) (line : List ℕ) (rest : List (List ℕ)) (S : State) (i : Item) → (line ≡ item_line i) × IsItem i → comes_next ns ms i ≡ true
+one_more : (e : Ending) (ns : List (List ℕ)) (ms : List Valued) (line : List ℕ) (rest : List (List ℕ)) (S : State) (i : Item)
+    → (line ≡ item_line i) × IsItem i → comes_next ns ms i ≡ true
     → Spelled e (ns ++ names_in i) (ms ++ marks_in i) rest S → Spelled e ns ms (line ∷ rest) S
 one_more e ns ms line rest S i f up w = (
   i ∷ w.0,
@@ -74,8 +83,10 @@ one_more e ns ms line rest S i f up w = (
   ap (λ (l : List ℕ). l ∷ rest) f.0 ∙ ap (λ (r : List (List ℕ)). item_line i ∷ r) w.3,
 )
 
-item_step : (e : Ending) (n : ℕ) (ns : List (List ℕ)) (ms : List Valued) (line : List ℕ) (rest : List (List ℕ)) (S : State) (o : Option Item) (go : List (List ℕ) → List Valued → Read) → item_of line ≡ o
-    → ((ns' : List (List ℕ)) (ms' : List Valued) → go ns' ms' ≡ Ok S → Spelled e ns' ms' rest S) → with_item n ns ms o go ≡ Ok S → Spelled e ns ms (line ∷ rest) S
+item_step : (e : Ending) (n : ℕ) (ns : List (List ℕ)) (ms : List Valued) (line : List ℕ) (rest : List (List ℕ)) (S : State) (o : Option Item)
+    (go : List (List ℕ) → List Valued → Read) → item_of line ≡ o
+    → ((ns' : List (List ℕ)) (ms' : List Valued) → go ns' ms' ≡ Ok S → Spelled e ns' ms' rest S) → with_item n ns ms o go ≡ Ok S
+    → Spelled e ns ms (line ∷ rest) S
 item_step e n ns ms line rest S None go is ih h = absurd cc
 item_step e n ns ms line rest S (Some i) go is ih h = elim (cases_Bool (comes_next ns ms i)) [
   | inl up ↦
@@ -84,13 +95,15 @@ item_step e n ns ms line rest S (Some i) go is ih h = elim (cases_Bool (comes_ne
   | inr other ↦ let bad : ◌≡◌ {A = Read} (Err (OutOfOrder n)) (Ok S) = sym (cond-false (comes_next ns ms i) _ _ other) ∙ h in absurd cc
 ]
 
-pub found_from : (e : Ending) (n : ℕ) (ns : List (List ℕ)) (ms : List Valued) (pieces : List (List ℕ)) (S : State) → items_from e n ns ms pieces ≡ Ok S → Spelled e ns ms pieces S
+pub found_from : (e : Ending) (n : ℕ) (ns : List (List ℕ)) (ms : List Valued) (pieces : List (List ℕ)) (S : State) → items_from e n ns ms pieces ≡ Ok S
+    → Spelled e ns ms pieces S
 unfolding items_from
 found_from e n ns ms [] S h = absurd cc
 found_from e n ns ms (last ∷ []) S h = last_found e ns ms (last ∷ []) S h
 found_from e n ns ms (line ∷ next ∷ more) S h = elim (cases_Bool (ends e line)) [
   | inl t ↦ ended_found e ns ms line (next ∷ more) S t (sym (cond-true (ends e line) _ _ t) ∙ h)
-  | inr other ↦ item_step e n ns ms line (next ∷ more) S (item_of line) (λ ns' ms'. items_from e (n + 1) ns' ms' (next ∷ more)) refl (λ ns' ms'. found_from e (n + 1) ns' ms' (next ∷ more) S) (sym (cond-false (ends e line) _ _ other) ∙ h)
+  | inr other ↦ item_step e n ns ms line (next ∷ more) S (item_of line) (λ ns' ms'. items_from e (n + 1) ns' ms' (next ∷ more)) refl
+      (λ ns' ms'. found_from e (n + 1) ns' ms' (next ∷ more) S) (sym (cond-false (ends e line) _ _ other) ∙ h)
 ]
 
 -- ---- back
@@ -124,20 +137,24 @@ again_from e n ns ms (i ∷ items) next more h =
     ∙ step
     ∙ ap (items_from e (n + 1) (ns ++ names_in i) (ms ++ marks_in i)) (sym w.2)
     ∙ again_from e (n + 1) (ns ++ names_in i) (ms ++ marks_in i) items next more h.2
-    ∙ (λ k. items_from e (later n (length items) k) (append_assoc ns (names_in i) (all_names items) k) (append_assoc ms (marks_in i) (all_marks items) k) (next ∷ more))
+    ∙ (λ k. items_from e (later n (length items) k) (append_assoc ns (names_in i) (all_names items) k) (append_assoc ms (marks_in i) (all_marks items) k)
+    (next ∷ more))
 
 -- ---- items in order are those of the delta that they make
 
-name_extends : (ns : List (List ℕ)) (ms : List Valued) (e : List ℕ) → AreLists ns ms → comes_next ns ms (item.Name e) ≡ true → AreLists (ns ++ e ∷ []) (ms ++ [])
+name_extends : (ns : List (List ℕ)) (ms : List Valued) (e : List ℕ) → AreLists ns ms → comes_next ns ms (item.Name e) ≡ true
+    → AreLists (ns ++ e ∷ []) (ms ++ [])
 name_extends ns ms e a up =
     let after = (and_parts (eqb (length ms) 0) (is_after_names ns e) up).1 in
     rw append-nil record { marks_rise = a.marks_rise; names_rise = rising_names-end ns e a.names_rise after; positive = a.positive }
 
-mark_extends : (ns : List (List ℕ)) (ms : List Valued) (m : Valued) → AreLists ns ms → IsValue m.value → comes_next ns ms (item.Cell m) ≡ true → AreLists (ns ++ []) (ms ++ m ∷ [])
+mark_extends : (ns : List (List ℕ)) (ms : List Valued) (m : Valued) → AreLists ns ms → IsValue m.value → comes_next ns ms (item.Cell m) ≡ true
+    → AreLists (ns ++ []) (ms ++ m ∷ [])
 mark_extends ns ms m a v up =
     rw append-nil record { marks_rise = rising_marks-end ms m a.marks_rise up; names_rise = a.names_rise; positive = AreMarks-end ms m a.positive v.0 }
 
-still_rises : (ns : List (List ℕ)) (ms : List Valued) (items : List Item) → AreLists ns ms → Extends ns ms items → AreLists (ns ++ all_names items) (ms ++ all_marks items)
+still_rises : (ns : List (List ℕ)) (ms : List Valued) (items : List Item) → AreLists ns ms → Extends ns ms items
+    → AreLists (ns ++ all_names items) (ms ++ all_marks items)
 still_rises ns ms [] a h = subst (λ (l : List (List ℕ)). AreLists l (ms ++ [])) (sym (append-nil ns)) (subst (AreLists ns) (sym (append-nil ms)) a)
 still_rises ns ms (item.Name e ∷ items) a h =
     let more = still_rises (ns ++ e ∷ []) (ms ++ []) items (name_extends ns ms e a h.1) h.2 in
@@ -189,7 +206,8 @@ items_read items S is h =
 
 -- ---- the items of a delta rise
 
-marks_extend : (ns : List (List ℕ)) (done ms : List Valued) → IsTrue (are_rising_marks (done ++ ms)) → AllByRecursion IsItem (map (λ m. item.Cell m) ms) → Extends ns done (map (λ m. item.Cell m) ms)
+marks_extend : (ns : List (List ℕ)) (done ms : List Valued) → IsTrue (are_rising_marks (done ++ ms)) → AllByRecursion IsItem (map (λ m. item.Cell m) ms)
+    → Extends ns done (map (λ m. item.Cell m) ms)
 marks_extend ns done [] h k = tt
 marks_extend ns done (m ∷ ms) h k = (
   k.0,
@@ -198,7 +216,8 @@ marks_extend ns done (m ∷ ms) h k = (
       (marks_extend ns (done ++ m ∷ []) ms (ap are_rising_marks (append_assoc done (m ∷ []) ms) ∙ h) k.1),
 )
 
-items_extend : (done ns : List (List ℕ)) (ms : List Valued) → IsTrue (are_rising_names (done ++ ns)) → IsTrue (are_rising_marks ms) → AllByRecursion IsItem (in_order ns ms) → Extends done [] (in_order ns ms)
+items_extend : (done ns : List (List ℕ)) (ms : List Valued) → IsTrue (are_rising_names (done ++ ns)) → IsTrue (are_rising_marks ms)
+    → AllByRecursion IsItem (in_order ns ms) → Extends done [] (in_order ns ms)
 items_extend done [] ms h g k = marks_extend done [] ms g k
 items_extend done (n ∷ ns) ms h g k = (
   k.0,
@@ -226,7 +245,8 @@ pub items_rise : (S : State) → IsDelta S → Extends [] [] (items_of S)
 items_rise S h = let a = lists_of S in items_extend [] (names_in_order S.names) (marks_of S.cells) a.names_rise a.marks_rise h
 
 pub made_again : (S : State) → state_from (all_names (items_of S)) (all_marks (items_of S)) ≡ S
-made_again S = (λ k. state_from (all_names_of (names_in_order S.names) (marks_of S.cells) k) (all_marks_of (names_in_order S.names) (marks_of S.cells) k)) ∙ state_again S
+made_again S = (λ k. state_from (all_names_of (names_in_order S.names) (marks_of S.cells) k) (all_marks_of (names_in_order S.names) (marks_of S.cells) k))
+    ∙ state_again S
 
 -- ---- a delta's text
 
@@ -235,14 +255,17 @@ lines_lack [] h = tt
 lines_lack (i ∷ items) h = (item_lacks i h.0, lines_lack items h.1)
 
 -- what was read before the end of the items
-pub spelled_delta : (e : Ending) (n : ℕ) (pieces : List (List ℕ)) (S : State) → items_from e n [] [] pieces ≡ Ok S → IsDelta S × (pieces ≡ delta_lines S ++ closing e)
+pub spelled_delta : (e : Ending) (n : ℕ) (pieces : List (List ℕ)) (S : State) → items_from e n [] [] pieces ≡ Ok S
+    → IsDelta S × (pieces ≡ delta_lines S ++ closing e)
 spelled_delta e n pieces S h =
     let w = found_from e n [] [] pieces S h in
     let same = items_read w.0 S w.1 w.2 in
     (subst (AllByRecursion IsItem) (sym same) (all_items [] [] w.0 w.2), w.3 ∙ ap (λ (items : List Item). map item_line items ++ closing e) (sym same))
 
 -- a delta's lines are read, and then what follows them
-pub read_delta_lines : (e : Ending) (n : ℕ) (S : State) (next : List ℕ) (more : List (List ℕ)) → IsDelta S → items_from e n [] [] (delta_lines S ++ next ∷ more) ≡ items_from e (n + length (items_of S)) (all_names (items_of S)) (all_marks (items_of S)) (next ∷ more)
+pub read_delta_lines : (e : Ending) (n : ℕ) (S : State) (next : List ℕ) (more : List (List ℕ)) → IsDelta S
+    → items_from e n [] [] (delta_lines S ++ next ∷ more) ≡ items_from e (n + length (items_of S)) (all_names (items_of S)) (all_marks (items_of S))
+    (next ∷ more)
 read_delta_lines e n S next more h = again_from e n [] [] (items_of S) next more (items_rise S h)
 
 pub delta_found : (bytes : List ℕ) (S : State) → delta_from_text bytes ≡ Ok S → IsDelta S × (bytes ≡ delta_text S)

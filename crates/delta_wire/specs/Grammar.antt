@@ -1,5 +1,5 @@
 -- The text of a delta and of a message: a header line, item lines and the line `end`. Our own.
-use Rattle.std.specs.Prelude.{ℕ, List, [], ◌∷◌, ◌++◌, map, codes}
+use Rattle.std.specs.Prelude.{◌≡◌, ℕ, ◌+◌, ◌<◌, List, [], ◌∷◌, ◌++◌, map, length, codes}
 use Rattle.std.specs.List.{join_with_byte, flat_map, AllByRecursion}
 use Rattle.std.specs.Fmt.{decimal}
 use Rattle.rights_lattice.specs.declared.cell.Cell.{Cell}
@@ -80,3 +80,19 @@ IsDelta S = AllByRecursion IsItem (items_of S)
 abbrev pub IsMessage : Message → Type 0
 IsMessage (Delta by to upto delta) = IsSite by × IsSite to × IsUpto upto × IsDelta delta
 IsMessage (Ack by to upto) = IsSite by × IsSite to × IsUpto upto
+
+-- the delta has a name or a mark
+abbrev pub HasItems : State → Type 0
+HasItems S = 0 < length (names_in_order S.names) + length (marks_of S.cells)
+
+-- these bytes are the text of the delta, which has one
+abbrev pub Spells : List ℕ → State → Type 0
+Spells bytes delta = IsDelta delta × (bytes ≡ delta_text delta)
+
+-- these bytes are the text of the message, which has one
+abbrev pub SpellsMessage : List ℕ → Message → Type 0
+SpellsMessage bytes message = IsMessage message × (bytes ≡ message_text message)
+
+-- the text of a delta in a message, with the last line
+abbrev pub body_text : State → List ℕ
+body_text delta = delta_text delta ++ codes "end\n"

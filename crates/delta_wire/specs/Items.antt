@@ -1,6 +1,7 @@
 -- Items one after another. Our own.
 use Rattle.std.specs.Prelude.{◌≡◌, ℕ, Bool, true, ◌&&◌, ◌==◌, List, [], ◌∷◌, ◌++◌, length}
-use Rattle.rights_lattice.specs.Cells.{Valued}
+use Rattle.rights_lattice.specs.Cells.{Valued, marks_of}
+use Rattle.rights_lattice.specs.State.{State, names_in_order}
 use Rattle.delta_mutators.specs.declared.delta.Item.{Item}
 use Rattle.delta_mutators.specs.declared.delta.Item.TheVariants as item
 use Rattle.delta_mutators.specs.Rises.{follows, names_in, marks_in}
@@ -18,6 +19,10 @@ all_marks (i ∷ items) = marks_in i ++ all_marks items
 abbrev pub comes_next : List (List ℕ) → List Valued → Item → Bool
 comes_next names marks (item.Name name) = length marks == 0 && follows names marks (item.Name name)
 comes_next names marks (item.Cell mark) = follows names marks (item.Cell mark)
+
+-- the same behind the lines of a delta
+abbrev pub follows_delta : State → Item → Bool
+follows_delta S item = comes_next (names_in_order S.names) (marks_of S.cells) item
 
 -- the items may stand so behind these names and marks
 abbrev pub Extends : List (List ℕ) → List Valued → List Item → Type 0

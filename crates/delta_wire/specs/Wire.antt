@@ -10,6 +10,7 @@ use Rattle.delta_mutators.specs.Lists.{state_from}
 use Rattle.delta_mutators.specs.Rises.{names_in, marks_in}
 use Rattle.site_exchange.specs.declared.message.Message.{Message}
 use Rattle.site_exchange.specs.declared.message.Message.TheVariants.{Delta, Ack}
+use Rattle.delta_wire.specs.Grammar.{IsDelta, delta_text, IsMessage, message_text}
 use Rattle.delta_wire.specs.Items.{comes_next}
 use Rattle.delta_wire.specs.Reading.{item_of, header_of}
 use Rattle.delta_wire.specs.declared.header.Header.{Header}
@@ -31,6 +32,10 @@ Fails Trailing read = read ≡ Err Trailing
 abbrev pub Gives : {Y : Type 0} → Result Y WireFault → Result Y WireFault → Type 0
 Gives (Ok x) read = read ≡ Ok x
 Gives (Err f) read = Fails f read
+
+-- the lines are this one, which a line break ends, and then those that are left
+abbrev pub TakesLine : List (List ℕ) → List ℕ → List (List ℕ) → Type 0
+TakesLine old line new = (next : List ℕ) × (more : List (List ℕ)) × (new ≡ next ∷ more) × (old ≡ line ∷ next ∷ more)
 
 -- nothing follows the last line break
 abbrev pub is_over : List (List ℕ) → Bool
@@ -111,3 +116,13 @@ HasItem purpose.Ack pieces = ⊥
 abbrev pub BeginsWithDelta : List (List ℕ) → Type 0
 BeginsWithDelta [] = ⊥
 BeginsWithDelta (line ∷ pieces) = (h : Header) × (header_of line ≡ Some h) × HasItem h.purpose pieces
+
+-- ---- what is spelled is read
+
+-- whichever delta the bytes spell, it is what is read, or memory ran out
+abbrev pub ReadsEachDelta : List ℕ → Result State WireFault → Type 0
+ReadsEachDelta bytes read = (delta : State) → IsDelta delta → bytes ≡ delta_text delta → Gives read (Ok delta)
+
+-- whichever message the bytes spell, it is what is read, or memory ran out
+abbrev pub ReadsEachMessage : List ℕ → Result Message WireFault → Type 0
+ReadsEachMessage bytes read = (message : Message) → IsMessage message → bytes ≡ message_text message → Gives read (Ok message)

@@ -9,6 +9,9 @@
 //! Guaranteed: a text is read exactly where it is the text of a message, and as that message; a text that is none
 //! gives its first fault. `laws` say that no two messages share a text, and that none is a prefix of another's.
 //!
+//! A new item is a variant of `ItemKind`, with its words in `specs/Grammar.antt` and `Reading.antt`, its place in the
+//! order in `specs/Items.antt`, its reading in `items.rt` and its writing in `text.rt`.
+//!
 //! Lemmas for callers: `FieldLaws`, `Names`, `Texts`.
 #![tactic(auto)]
 

@@ -3,7 +3,7 @@
 ghost use Rattle.std.specs.Prelude.{◌≡◌, ◌+◌, ◌^◌, ◌<◌, ◌==◌, length, position, IfSome, IfNone, List, ℕ, ◌∷◌, []};
 ghost use Rattle.std.specs.List.{slice_split};
 ghost use Rattle.plain_words.specs.Input.{is_line_break};
-ghost use Rattle.delta_wire.specs.Wire.{is_over};
+ghost use Rattle.delta_wire.specs.Wire.{is_over, TakesLine};
 
 use std::marker::Model;
 
@@ -45,7 +45,7 @@ impl<'a> Lines<'a> {
     pub fn next(&mut self) -> Option<&'a [u8]>
         ensures last { IfNone result ((last : List ℕ) × (self.old ≡ last ∷ [])) }
         ensures same { IfNone result (self.new ≡ self.old) }
-        ensures line { IfSome result (λ line. (next : List ℕ) × (more : List (List ℕ)) × (self.new ≡ next ∷ more) × (self.old ≡ line.now ∷ next ∷ more)) }
+        ensures line { IfSome result (λ line. TakesLine self.old line.now self.new) }
     {
         let bytes = self.rest;
         match first_break(bytes) {

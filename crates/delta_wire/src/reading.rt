@@ -1,14 +1,12 @@
 //! Reading deltas and messages.
 ghost use Rattle.std.specs.Prelude.{◌≡◌, ◌≢◌, ◌≤◌, ◌<◌, ◌+◌, ◌^◌, length, [], Ok, Err, IfOk, IfErr, IsTrue};
-ghost use Rattle.rights_lattice.specs.Cells.{marks_of};
-ghost use Rattle.rights_lattice.specs.State.{State, names_in_order};
 ghost use Rattle.delta_mutators.specs.Rises.{rises};
 ghost use Rattle.site_exchange.specs.declared.message.Message.{Message};
-ghost use Rattle.delta_wire.specs.Grammar.{IsDelta, delta_text, IsMessage, message_text};
+ghost use Rattle.delta_wire.specs.Grammar.{Spells, SpellsMessage};
 ghost use Rattle.std.specs.List.{slice_split};
 ghost use Rattle.plain_words.specs.Input.{is_line_break};
-ghost use Rattle.delta_wire.specs.Wire.{items_from, delta_from_text, message_of, Gives, ends, at_last, ack_from, for_purpose, BeginsWithItem, HasItem, BeginsWithDelta};
-ghost use Rattle.delta_wire.specs.Items.{comes_next};
+ghost use Rattle.delta_wire.specs.Wire.{items_from, delta_from_text, message_of, Gives, ends, at_last, ack_from, for_purpose, BeginsWithItem, HasItem, BeginsWithDelta, ReadsEachDelta, ReadsEachMessage};
+ghost use Rattle.delta_wire.specs.Items.{follows_delta};
 ghost use Rattle.delta_wire.specs.declared.fault.WireFault.TheVariants.{Trailing, Memory};
 
 use crate::fault::WireFault;
@@ -57,7 +55,7 @@ fn read_items(
 
 // Whether the item's line may stand next: the item rises, and no name stands behind a mark.
 fn comes_next(delta: &Delta, item: &Item) -> bool
-    ensures value { result ≡ comes_next (names_in_order delta.now.names) (marks_of delta.now.cells) item.now }
+    ensures value { result ≡ follows_delta delta.now item.now }
     ensures rises { IsTrue result → IsTrue (rises delta.now item.now) }
 {
     match item {
@@ -161,9 +159,9 @@ fn delta_from_text(alloc: Global, bytes: &[u8]) -> Result<Delta, WireFault>
 /// where the first line is an item.
 pub fn read_delta(alloc: Global, bytes: &[u8]) -> Result<Delta, WireFault>
     // What is read is spelled so.
-    ensures found { IfOk result (λ delta. IsDelta delta × (bytes.now ≡ delta_text delta)) }
+    ensures found { IfOk result (Spells bytes.now) }
     // What is spelled so is read, unless memory runs out.
-    ensures only { (delta : State) → IsDelta delta → bytes.now ≡ delta_text delta → Gives result (Ok delta) }
+    ensures only { ReadsEachDelta bytes.now result }
     // Which fault it is, unless memory runs out: the first from the top.
     ensures exact { Gives result (delta_from_text bytes.now) }
     ensures never_trailing { IfErr result (λ fault. fault ≢ Trailing) }
@@ -179,9 +177,9 @@ pub fn read_delta(alloc: Global, bytes: &[u8]) -> Result<Delta, WireFault>
 /// line behind the head of a delta is an item.
 pub fn read_message(alloc: Global, bytes: &[u8]) -> Result<Message, WireFault>
     // What is read is spelled so.
-    ensures found { IfOk result (λ message. IsMessage message × (bytes.now ≡ message_text message)) }
+    ensures found { IfOk result (SpellsMessage bytes.now) }
     // What is spelled so is read, unless memory runs out.
-    ensures only { (message : Message) → IsMessage message → bytes.now ≡ message_text message → Gives result (Ok message) }
+    ensures only { ReadsEachMessage bytes.now result }
     // Which fault it is, unless memory runs out: the first from the top.
     ensures exact { Gives result (message_of bytes.now) }
     // `Memory` comes only where the first line behind the head of a delta is an item.

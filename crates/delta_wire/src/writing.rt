@@ -1,10 +1,8 @@
 //! Writing deltas and messages.
-ghost use Rattle.std.specs.Prelude.{◌≡◌, ◌<◌, ◌+◌, ◌++◌, length, codes, OnOk, OnErr, IfOk, string_bytes};
+ghost use Rattle.std.specs.Prelude.{◌≡◌, ◌<◌, length, OnOk, OnErr, IfOk, string_bytes};
 ghost use Rattle.std.specs.List.{AllByRecursion};
-ghost use Rattle.rights_lattice.specs.Cells.{marks_of};
-ghost use Rattle.rights_lattice.specs.State.{names_in_order};
 ghost use Rattle.delta_mutators.specs.declared.delta.Item.TheVariants as item;
-ghost use Rattle.delta_wire.specs.Grammar.{IsItem, IsDelta, delta_text, IsMessage, message_text};
+ghost use Rattle.delta_wire.specs.Grammar.{IsItem, IsDelta, HasItems, body_text, delta_text, IsMessage, message_text};
 ghost use Rattle.delta_wire.specs.Parts.{names_text, marks_text};
 ghost use Rattle.plain_words.specs.Writing.{Writes};
 
@@ -44,7 +42,7 @@ fn write_marks<W: Write>(marks: &[Mark], out: &mut W) -> Result<(), WriteFault>
 fn write_items<W: Write>(delta: &Delta, out: &mut W) -> Result<(), WriteFault>
     ensures text { Writes (W.contents out.old) (W.contents out.new) result (delta_text delta.now) }
     ensures fits { OnOk result (IsDelta delta.now) }
-    ensures some { OnErr result (0 < length (names_in_order delta.now.names) + length (marks_of delta.now.cells)) }
+    ensures some { OnErr result (HasItems delta.now) }
 {
     write_names(delta.names(), out)?;
     write_marks(delta.marks(), out)
@@ -52,7 +50,7 @@ fn write_items<W: Write>(delta: &Delta, out: &mut W) -> Result<(), WriteFault>
 
 // Writes the lines of a delta, and the last line.
 fn write_body<W: Write>(delta: &Delta, out: &mut W) -> Result<(), WriteFault>
-    ensures text { Writes (W.contents out.old) (W.contents out.new) result (delta_text delta.now ++ codes "end\n") }
+    ensures text { Writes (W.contents out.old) (W.contents out.new) result (body_text delta.now) }
     ensures fits { OnOk result (IsDelta delta.now) }
 {
     write_items(delta, out)?;
@@ -63,7 +61,8 @@ fn write_body<W: Write>(delta: &Delta, out: &mut W) -> Result<(), WriteFault>
 ///
 /// After a fault a front of the text is written.
 pub fn write_message<W: Write>(message: &Message, out: &mut W) -> Result<(), WriteFault>
-    ensures text { Writes (W.contents out.old) (W.contents out.new) result (message_text message.now) }
+    ensures text { Writes
+        (W.contents out.old) (W.contents out.new) result (message_text message.now) }
     // So what was written is read back, unless memory runs out.
     ensures fits { OnOk result (IsMessage message.now) }
 {
@@ -93,7 +92,7 @@ pub fn delta_text(alloc: Global, delta: &Delta) -> Result<String, AllocError>
     // So what was written is read back, unless memory runs out.
     ensures fits { OnOk result (IsDelta delta.now) }
     // Memory is refused only to the text of a delta that has an item.
-    ensures memory { OnErr result (0 < length (names_in_order delta.now.names) + length (marks_of delta.now.cells)) }
+    ensures memory { OnErr result (HasItems delta.now) }
 {
     let mut bytes = Vec::new(alloc);
     match write_items(delta, &mut bytes) {

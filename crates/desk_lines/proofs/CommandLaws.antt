@@ -49,7 +49,10 @@ command_is_no_number command.Stop = refl
 command_found : (w : List ℕ) (c : Command) → command_of w ≡ Some c → w ≡ command_text c
 unfolding command_of
 command_found w c e =
-    word_tested command_text w command.Send c _ (word_tested command_text w command.Deliver c _ (word_tested command_text w command.Restart c _ (word_tested command_text w command.Grow c _ (word_tested command_text w command.Stop c None (λ n. absurd cc))))) e
+    word_tested command_text w command.Send c _
+    (word_tested command_text w command.Deliver c _
+    (word_tested command_text w command.Restart c _
+    (word_tested command_text w command.Grow c _ (word_tested command_text w command.Stop c None (λ n. absurd cc))))) e
 
 stored_again : (b : Bool) → stored_of (stored_text b) ≡ Some b
 unfolding stored_of
@@ -65,7 +68,8 @@ unfolding stored_at
 stored_at_found words x e =
     let a = bind_some (first_word words) (λ w. stored_of w.0 >>= λ b. Some (b, w.1)) x e in
     let b = bind_some (stored_of a.0.0) (λ b. Some (b, a.0.1)) x a.2 in
-    word_found words a.0 a.1 ∙ ap (λ (w : List ℕ). w ∷ a.0.1) (stored_found a.0.0 b.0 b.1) ∙ ap (λ (p : Bool × List (List ℕ)). stored_text p.0 ∷ p.1) (same_Some (b.0, a.0.1) x b.2)
+    word_found words a.0 a.1 ∙ ap (λ (w : List ℕ). w ∷ a.0.1) (stored_found a.0.0 b.0 b.1)
+    ∙ ap (λ (p : Bool × List (List ℕ)). stored_text p.0 ∷ p.1) (same_Some (b.0, a.0.1) x b.2)
 
 -- the words are those of the input
 abbrev SpellsInput : List (List ℕ) → Input → Type 0
@@ -77,7 +81,8 @@ take_found words x e =
     let a = bind_some (index_at words) (λ k. ended (input.Take k.0) k.1) x e in
     let p = number_at_found 0 greatest_index words a.0 (lit< tt) a.1 in
     let z = ended_found (input.Take a.0.0) x a.0.1 a.2 in
-    subst (SpellsInput (codes "deliver" ∷ words)) z.1 (ap (λ (t : List (List ℕ)). codes "deliver" ∷ t) (p.0 ∙ ap (λ (t : List (List ℕ)). decimal a.0.0 ∷ t) z.0), p.2)
+    subst (SpellsInput (codes "deliver" ∷ words)) z.1
+    (ap (λ (t : List (List ℕ)). codes "deliver" ∷ t) (p.0 ∙ ap (λ (t : List (List ℕ)). decimal a.0.0 ∷ t) z.0), p.2)
 
 grow_input_found : (words : List (List ℕ)) (x : Input) → grow_input_at words ≡ Some x → SpellsInput (codes "grow" ∷ words) x
 unfolding grow_input_at
@@ -85,7 +90,10 @@ grow_input_found words x e =
     let a = bind_some (sites_at words) (λ n. ended (input.Grow n.0) n.1) x e in
     let p = number_at_found 1 most_sites words a.0 (lit< tt) a.1 in
     let z = ended_found (input.Grow a.0.0) x a.0.1 a.2 in
-    subst (SpellsInput (codes "grow" ∷ words)) z.1 (ap (λ (t : List (List ℕ)). codes "grow" ∷ t) (p.0 ∙ ap (λ (t : List (List ℕ)). decimal a.0.0 ∷ t) z.0), (p.1, p.2))
+    subst (SpellsInput (codes "grow" ∷ words)) z.1 (
+      ap (λ (t : List (List ℕ)). codes "grow" ∷ t) (p.0 ∙ ap (λ (t : List (List ℕ)). decimal a.0.0 ∷ t) z.0),
+      (p.1, p.2),
+    )
 
 request_input_found : (word : List ℕ) (words : List (List ℕ)) (x : Input) → request_input_of word words ≡ Some x → SpellsInput (word ∷ words) x
 unfolding request_input_of
@@ -108,13 +116,15 @@ input_found words x e =
 
     grows_or_asks : (w : List ℕ) (ws : List (List ℕ)) → grown_or_asked w ws ≡ Some x → SpellsInput (w ∷ ws) x
     grows_or_asks w ws h = elim (cases_Bool (bytes_eq w (codes "grow"))) [
-      | inl same ↦ let chosen : grow_input_at ws ≡ Some x = rw same at h in subst (λ (v : List ℕ). SpellsInput (v ∷ ws) x) (sym ((bytes_eq-Decides w (codes "grow")).0 same)) (grow_input_found ws x chosen)
+      | inl same ↦ let chosen : grow_input_at ws ≡ Some x = rw same at h in subst (λ (v : List ℕ). SpellsInput (v ∷ ws) x)
+          (sym ((bytes_eq-Decides w (codes "grow")).0 same)) (grow_input_found ws x chosen)
       | inr other ↦ let chosen : request_input_of w ws ≡ Some x = rw other at h in request_input_found w ws x chosen
     ]
 
     which : (w : List ℕ) (ws : List (List ℕ)) → input_behind w ws ≡ Some x → SpellsInput (w ∷ ws) x
     which w ws h = elim (cases_Bool (bytes_eq w (codes "deliver"))) [
-      | inl same ↦ let chosen : take_at ws ≡ Some x = rw same at h in subst (λ (v : List ℕ). SpellsInput (v ∷ ws) x) (sym ((bytes_eq-Decides w (codes "deliver")).0 same)) (take_found ws x chosen)
+      | inl same ↦ let chosen : take_at ws ≡ Some x = rw same at h in subst (λ (v : List ℕ). SpellsInput (v ∷ ws) x)
+          (sym ((bytes_eq-Decides w (codes "deliver")).0 same)) (take_found ws x chosen)
       | inr other ↦ let chosen : grown_or_asked w ws ≡ Some x = rw other at h in grows_or_asks w ws chosen
     ]
 
@@ -132,8 +142,11 @@ send_found words l e =
     let p = site_at_found words a.0 a.1 in
     let q = site_at_found a.0.1 b.0 b.1 in
     let z = ended_found (Make (step.Send a.0.0 b.0.0)) l b.0.1 b.2 in
-    subst (SpellsWhole (codes "send" ∷ words)) z.1
-    (ap (λ (t : List (List ℕ)). codes "send" ∷ t) (p.0 ∙ ap (λ (t : List (List ℕ)). decimal a.0.0 ∷ t) (q.0 ∙ ap (λ (t : List (List ℕ)). decimal b.0.0 ∷ t) z.0)), (p.1, q.1))
+    subst (SpellsWhole (codes "send" ∷ words)) z.1 (
+      ap (λ (t : List (List ℕ)). codes "send" ∷ t)
+          (p.0 ∙ ap (λ (t : List (List ℕ)). decimal a.0.0 ∷ t) (q.0 ∙ ap (λ (t : List (List ℕ)). decimal b.0.0 ∷ t) z.0)),
+      (p.1, q.1),
+    )
 
 deliver_found : (words : List (List ℕ)) (l : ScriptLine) → deliver_at words ≡ Some l → SpellsWhole (codes "deliver" ∷ words) l
 unfolding deliver_at
@@ -141,7 +154,8 @@ deliver_found words l e =
     let a = bind_some (index_at words) (λ k. ended (Make (step.Deliver k.0)) k.1) l e in
     let p = number_at_found 0 greatest_index words a.0 (lit< tt) a.1 in
     let z = ended_found (Make (step.Deliver a.0.0)) l a.0.1 a.2 in
-    subst (SpellsWhole (codes "deliver" ∷ words)) z.1 (ap (λ (t : List (List ℕ)). codes "deliver" ∷ t) (p.0 ∙ ap (λ (t : List (List ℕ)). decimal a.0.0 ∷ t) z.0), p.2)
+    subst (SpellsWhole (codes "deliver" ∷ words)) z.1
+    (ap (λ (t : List (List ℕ)). codes "deliver" ∷ t) (p.0 ∙ ap (λ (t : List (List ℕ)). decimal a.0.0 ∷ t) z.0), p.2)
 
 restart_found : (words : List (List ℕ)) (l : ScriptLine) → restart_at words ≡ Some l → SpellsWhole (codes "restart" ∷ words) l
 unfolding restart_at
@@ -149,7 +163,8 @@ restart_found words l e =
     let a = bind_some (site_at words) (λ i. ended (Make (step.Restart i.0)) i.1) l e in
     let p = site_at_found words a.0 a.1 in
     let z = ended_found (Make (step.Restart a.0.0)) l a.0.1 a.2 in
-    subst (SpellsWhole (codes "restart" ∷ words)) z.1 (ap (λ (t : List (List ℕ)). codes "restart" ∷ t) (p.0 ∙ ap (λ (t : List (List ℕ)). decimal a.0.0 ∷ t) z.0), p.1)
+    subst (SpellsWhole (codes "restart" ∷ words)) z.1
+    (ap (λ (t : List (List ℕ)). codes "restart" ∷ t) (p.0 ∙ ap (λ (t : List (List ℕ)). decimal a.0.0 ∷ t) z.0), p.1)
 
 grow_found : (words : List (List ℕ)) (l : ScriptLine) → grow_at words ≡ Some l → SpellsWhole (codes "grow" ∷ words) l
 unfolding grow_at
@@ -159,8 +174,11 @@ grow_found words l e =
     let p = site_at_found words a.0 a.1 in
     let q = number_at_found 1 most_sites a.0.1 b.0 (lit< tt) b.1 in
     let z = ended_found (Make (step.Grow a.0.0 b.0.0)) l b.0.1 b.2 in
-    subst (SpellsWhole (codes "grow" ∷ words)) z.1
-    (ap (λ (t : List (List ℕ)). codes "grow" ∷ t) (p.0 ∙ ap (λ (t : List (List ℕ)). decimal a.0.0 ∷ t) (q.0 ∙ ap (λ (t : List (List ℕ)). decimal b.0.0 ∷ t) z.0)), (p.1, (q.1, q.2)))
+    subst (SpellsWhole (codes "grow" ∷ words)) z.1 (
+      ap (λ (t : List (List ℕ)). codes "grow" ∷ t)
+          (p.0 ∙ ap (λ (t : List (List ℕ)). decimal a.0.0 ∷ t) (q.0 ∙ ap (λ (t : List (List ℕ)). decimal b.0.0 ∷ t) z.0)),
+      (p.1, (q.1, q.2)),
+    )
 
 stop_found : (words : List (List ℕ)) (l : ScriptLine) → stop_at words ≡ Some l → SpellsWhole (codes "stop" ∷ words) l
 unfolding stop_at
@@ -171,8 +189,11 @@ stop_found words l e =
     let p = site_at_found words a.0 a.1 in
     let q = stored_at_found a.0.1 b.0 b.1 in
     let r = input_found b.0.1 d.0 d.1 in
-    subst (SpellsWhole (codes "stop" ∷ words)) (same_Some (Make (step.Stop a.0.0 d.0 b.0.0)) l d.2)
-    (ap (λ (t : List (List ℕ)). codes "stop" ∷ t) (p.0 ∙ ap (λ (t : List (List ℕ)). decimal a.0.0 ∷ t) (q ∙ ap (λ (t : List (List ℕ)). stored_text b.0.0 ∷ t) r.0)), (p.1, r.1))
+    subst (SpellsWhole (codes "stop" ∷ words)) (same_Some (Make (step.Stop a.0.0 d.0 b.0.0)) l d.2) (
+      ap (λ (t : List (List ℕ)). codes "stop" ∷ t)
+          (p.0 ∙ ap (λ (t : List (List ℕ)). decimal a.0.0 ∷ t) (q ∙ ap (λ (t : List (List ℕ)). stored_text b.0.0 ∷ t) r.0)),
+      (p.1, r.1),
+    )
 
 after_command_found : (c : Command) (words : List (List ℕ)) (l : ScriptLine) → after_command c words ≡ Some l → SpellsWhole (command_text c ∷ words) l
 after_command_found command.Send words l e = send_found words l e

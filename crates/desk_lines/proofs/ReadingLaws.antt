@@ -32,7 +32,8 @@ use Rattle.desk_lines.proofs.CommandLaws.{SpellsWhole, command_again, command_is
 
 -- what a session line asks, asked of a site
 asked_at_found : (i : ℕ) (l : Line) (s : ScriptLine) → IsSite i → at_a_site i l ≡ Some s → IsSessionLine l → SpellsWhole (decimal i ∷ session_words l) s
-asked_at_found i (line.Ask n q) s site e fits = subst (SpellsWhole (decimal i ∷ request_words n q)) (same_Some (Make (step.Ask i n q)) s e) (refl, (site, fits.0, fits.1))
+asked_at_found i (line.Ask n q) s site e fits = subst (SpellsWhole (decimal i ∷ request_words n q)) (same_Some (Make (step.Ask i n q)) s e)
+    (refl, (site, fits.0, fits.1))
 asked_at_found i (line.Left v) s site e fits = subst (SpellsWhole (decimal i ∷ codes "left" ∷ v ∷ [])) (same_Some (Left i v) s e) (refl, (site, fits))
 asked_at_found i (line.Totals v) s site e fits = subst (SpellsWhole (decimal i ∷ codes "totals" ∷ v ∷ [])) (same_Some (Totals i v) s e) (refl, (site, fits))
 asked_at_found i line.Quit s site e fits = absurd cc
@@ -47,7 +48,8 @@ at_site_found i words s site e =
 
 -- ---- lines
 
-after_first_found : (o : Option ℕ) (word : List ℕ) (words : List (List ℕ)) (l : ScriptLine) → number_of 0 greatest_site word ≡ o → after_first o word words ≡ Some l → SpellsWhole (word ∷ words) l
+after_first_found : (o : Option ℕ) (word : List ℕ) (words : List (List ℕ)) (l : ScriptLine) → number_of 0 greatest_site word ≡ o
+    → after_first o word words ≡ Some l → SpellsWhole (word ∷ words) l
 after_first_found None word words l given e = commanded_found word words l e
 after_first_found (Some i) word words l given e =
     let p = number_found 0 greatest_site word i (lit< tt) given in
@@ -81,10 +83,12 @@ command_line_again c words = rw (command_is_no_number c, command_again c) refl
 line_again : (l : ScriptLine) → IsScriptLine l → line_of_words (script_words l) ≡ Some l
 unfolding line_of_words line_at_site send_at deliver_at restart_at grow_at
 line_again (Make (step.Ask i n q)) h = rw (first_again i h.0, ask_again n q h.1 h.2) refl
-line_again (Make (step.Send i j)) h = command_line_again command.Send (decimal i ∷ decimal j ∷ []) ∙ rw (site_again i (decimal j ∷ []) h.0, site_again j [] h.1) refl
+line_again (Make (step.Send i j)) h = command_line_again command.Send (decimal i ∷ decimal j ∷ [])
+    ∙ rw (site_again i (decimal j ∷ []) h.0, site_again j [] h.1) refl
 line_again (Make (step.Deliver k)) h = command_line_again command.Deliver (decimal k ∷ []) ∙ rw (index_again k [] h) refl
 line_again (Make (step.Restart i)) h = command_line_again command.Restart (decimal i ∷ []) ∙ rw (site_again i [] h) refl
-line_again (Make (step.Grow i n)) h = command_line_again command.Grow (decimal i ∷ decimal n ∷ []) ∙ rw (site_again i (decimal n ∷ []) h.0, count_again n [] h.1) refl
+line_again (Make (step.Grow i n)) h = command_line_again command.Grow (decimal i ∷ decimal n ∷ [])
+    ∙ rw (site_again i (decimal n ∷ []) h.0, count_again n [] h.1) refl
 line_again (Make (step.Stop i x b)) h = command_line_again command.Stop (decimal i ∷ stored_text b ∷ input_words x) ∙ stop_again i x b h.0 h.1
 line_again (Left i e) h = rw (first_again i h.0, left_again e h.1) refl
 line_again (Totals i e) h = rw (first_again i h.0, totals_again e h.1) refl
@@ -95,7 +99,8 @@ line_splits (Make (step.Send i j)) h = split_join _ (decimal i ∷ decimal j ∷
 line_splits (Make (step.Deliver k)) h = split_join _ (decimal k ∷ []) refl (index_lacks k h, tt)
 line_splits (Make (step.Restart i)) h = split_join _ (decimal i ∷ []) refl (site_lacks_space i h, tt)
 line_splits (Make (step.Grow i n)) h = split_join _ (decimal i ∷ decimal n ∷ []) refl (site_lacks_space i h.0, (count_lacks n h.1, tt))
-line_splits (Make (step.Stop i x b)) h = split_join _ (decimal i ∷ stored_text b ∷ input_words x) refl (site_lacks_space i h.0, (stored_lacks b, input_lacks x h.1))
+line_splits (Make (step.Stop i x b)) h = split_join _ (decimal i ∷ stored_text b ∷ input_words x) refl
+    (site_lacks_space i h.0, (stored_lacks b, input_lacks x h.1))
 line_splits (Left i e) h = split_join _ (codes "left" ∷ e ∷ []) (site_lacks_space i h.0) (refl, (name_lacks_space e h.1, tt))
 line_splits (Totals i e) h = split_join _ (codes "totals" ∷ e ∷ []) (site_lacks_space i h.0) (refl, (name_lacks_space e h.1, tt))
 
@@ -107,7 +112,8 @@ line_reads l h = ap line_of_words (line_splits l h) ∙ line_again l h
 -- ---- a name and its number
 
 -- The readers for one name.
-pub named_takes : (name : List ℕ) (high : ℕ) (bytes : List ℕ) (n : ℕ) → high < 2 ^ 64 → named_number name high (slice_split is_space bytes) ≡ Some n → ((1 ≤ n) × (n ≤ high)) × (bytes ≡ join_with_byte 32 (name ∷ decimal n ∷ []))
+pub named_takes : (name : List ℕ) (high : ℕ) (bytes : List ℕ) (n : ℕ) → high < 2 ^ 64 → named_number name high (slice_split is_space bytes) ≡ Some n
+    → ((1 ≤ n) × (n ≤ high)) × (bytes ≡ join_with_byte 32 (name ∷ decimal n ∷ []))
 unfolding named_number
 named_takes name high bytes n bound e =
     let words = slice_split is_space bytes in
@@ -125,18 +131,26 @@ named_takes name high bytes n bound e =
     chosen true o x h = (refl, h)
     chosen false o x h = absurd cc
 
-pub named_reads : (name : List ℕ) (high n : ℕ) → high < 2 ^ 64 → lacks_space name ≡ true → 1 ≤ n → n ≤ high → named_number name high (slice_split is_space (join_with_byte 32 (name ∷ decimal n ∷ []))) ≡ Some n
+pub named_reads : (name : List ℕ) (high n : ℕ) → high < 2 ^ 64 → lacks_space name ≡ true → 1 ≤ n → n ≤ high
+    → named_number name high (slice_split is_space (join_with_byte 32 (name ∷ decimal n ∷ []))) ≡ Some n
 unfolding named_number
 named_reads name high n bound lacks low fits =
     let itself : bytes_eq name name ≡ true = (bytes_eq-Decides name name).1 refl in
     rw (split_join name (decimal n ∷ []) lacks (decimal_lacks_space n (omega arith), tt), itself, number_at_again 1 high n [] bound low fits) refl
 
 -- both, of whatever read it
-pub named_exactly : (name : List ℕ) (high : ℕ) (bytes : List ℕ) (r : Option ℕ) → high < 2 ^ 64 → lacks_space name ≡ true → r ≡ named_number name high (slice_split is_space bytes)
+pub named_exactly : (name : List ℕ) (high : ℕ) (bytes : List ℕ) (r : Option ℕ) → high < 2 ^ 64 → lacks_space name ≡ true
+    → r ≡ named_number name high (slice_split is_space bytes)
     → IfSome r (λ n. ((1 ≤ n) × (n ≤ high)) × (bytes ≡ join_with_byte 32 (name ∷ decimal n ∷ [])))
     × ((n : ℕ) → (1 ≤ n) × (n ≤ high) → bytes ≡ join_with_byte 32 (name ∷ decimal n ∷ []) → r ≡ Some n)
-named_exactly name high bytes r bound lacks e = (found r e, λ n fits spelled. e ∙ ap (λ (t : List ℕ). named_number name high (slice_split is_space t)) spelled ∙ named_reads name high n bound lacks fits.0 fits.1)
+named_exactly name high bytes r bound lacks e
+    = (
+      found r e,
+      λ n fits spelled. e ∙ ap (λ (t : List ℕ). named_number name high (slice_split is_space t)) spelled
+          ∙ named_reads name high n bound lacks fits.0 fits.1,
+    )
   where
-    found : (r : Option ℕ) → r ≡ named_number name high (slice_split is_space bytes) → IfSome r (λ n. ((1 ≤ n) × (n ≤ high)) × (bytes ≡ join_with_byte 32 (name ∷ decimal n ∷ [])))
+    found : (r : Option ℕ) → r ≡ named_number name high (slice_split is_space bytes)
+        → IfSome r (λ n. ((1 ≤ n) × (n ≤ high)) × (bytes ≡ join_with_byte 32 (name ∷ decimal n ∷ [])))
     found None e = tt
     found (Some n) e = named_takes name high bytes n bound (sym e)

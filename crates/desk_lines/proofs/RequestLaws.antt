@@ -22,14 +22,16 @@ use Rattle.desk_lines.specs.Requests.{sized_at, announce_at, release_at, sell_at
 
 -- ---- a word, and the words after it
 
-sized_at_found : (words : List (List ℕ)) (x : (List ℕ × ℕ) × List (List ℕ)) → sized_at words ≡ Some x → (words ≡ x.0.0 ∷ decimal x.0.1 ∷ x.1) × IsEventName x.0.0 × IsValue x.0.1
+sized_at_found : (words : List (List ℕ)) (x : (List ℕ × ℕ) × List (List ℕ)) → sized_at words ≡ Some x
+    → (words ≡ x.0.0 ∷ decimal x.0.1 ∷ x.1) × IsEventName x.0.0 × IsValue x.0.1
 unfolding sized_at
 sized_at_found words x e =
     let a = bind_some (event_at words) (λ v. natural_at v.1 >>= λ n. Some ((v.0, n.0), n.1)) x e in
     let b = bind_some (natural_at a.0.1) (λ n. Some ((a.0.0, n.0), n.1)) x a.2 in
     let p = event_at_found words a.0 a.1 in
     let q = value_at_found a.0.1 b.0 b.1 in
-    subst (λ (y : (List ℕ × ℕ) × List (List ℕ)). (words ≡ y.0.0 ∷ decimal y.0.1 ∷ y.1) × IsEventName y.0.0 × IsValue y.0.1) (same_Some ((a.0.0, b.0.0), b.0.1) x b.2)
+    subst (λ (y : (List ℕ × ℕ) × List (List ℕ)). (words ≡ y.0.0 ∷ decimal y.0.1 ∷ y.1) × IsEventName y.0.0 × IsValue y.0.1)
+    (same_Some ((a.0.0, b.0.0), b.0.1) x b.2)
     (p.0 ∙ ap (λ (t : List (List ℕ)). a.0.0 ∷ t) q.0, p.1, q.1)
 
 -- ---- requests
@@ -44,9 +46,11 @@ announce_found words q e =
     let a = bind_some (event_at words) (λ v. ended (Announce v.0) v.1) q e in
     let p = event_at_found words a.0 a.1 in
     let z = ended_found (Announce a.0.0) q a.0.1 a.2 in
-    subst (Spells verb.Announce words) z.1 (λ n. ap (λ (t : List (List ℕ)). codes "announce" ∷ decimal n ∷ t) (p.0 ∙ ap (λ (t : List (List ℕ)). a.0.0 ∷ t) z.0), p.1)
+    subst (Spells verb.Announce words) z.1
+    (λ n. ap (λ (t : List (List ℕ)). codes "announce" ∷ decimal n ∷ t) (p.0 ∙ ap (λ (t : List (List ℕ)). a.0.0 ∷ t) z.0), p.1)
 
-sized_whole : (v : Verb) (words : List (List ℕ)) (x : (List ℕ × ℕ) × List (List ℕ)) (n : ℕ) → words ≡ x.0.0 ∷ decimal x.0.1 ∷ x.1 → x.1 ≡ [] → verb_word v ∷ decimal n ∷ words ≡ verb_word v ∷ decimal n ∷ x.0.0 ∷ decimal x.0.1 ∷ []
+sized_whole : (v : Verb) (words : List (List ℕ)) (x : (List ℕ × ℕ) × List (List ℕ)) (n : ℕ) → words ≡ x.0.0 ∷ decimal x.0.1 ∷ x.1 → x.1 ≡ []
+    → verb_word v ∷ decimal n ∷ words ≡ verb_word v ∷ decimal n ∷ x.0.0 ∷ decimal x.0.1 ∷ []
 sized_whole v words x n e z = ap (λ (t : List (List ℕ)). verb_word v ∷ decimal n ∷ t) (e ∙ ap (λ (t : List (List ℕ)). x.0.0 ∷ decimal x.0.1 ∷ t) z)
 
 release_found : (words : List (List ℕ)) (q : Request) → release_at words ≡ Some q → Spells verb.Release words q
@@ -100,8 +104,11 @@ cede_found words q e =
     let p = sized_at_found words a.0 a.1 in
     let r = site_at_found a.0.1 b.0 b.1 in
     let z = ended_found (Cede a.0.0.0 b.0.0 a.0.0.1) q b.0.1 b.2 in
-    subst (Spells verb.Cede words) z.1
-    (λ n. ap (λ (t : List (List ℕ)). codes "cede" ∷ decimal n ∷ t) (p.0 ∙ ap (λ (t : List (List ℕ)). a.0.0.0 ∷ decimal a.0.0.1 ∷ t) (r.0 ∙ ap (λ (t : List (List ℕ)). decimal b.0.0 ∷ t) z.0)), (p.1, p.2, r.1))
+    subst (Spells verb.Cede words) z.1 (
+      λ n. ap (λ (t : List (List ℕ)). codes "cede" ∷ decimal n ∷ t)
+          (p.0 ∙ ap (λ (t : List (List ℕ)). a.0.0.0 ∷ decimal a.0.0.1 ∷ t) (r.0 ∙ ap (λ (t : List (List ℕ)). decimal b.0.0 ∷ t) z.0)),
+      (p.1, p.2, r.1),
+    )
 
 request_found : (v : Verb) (words : List (List ℕ)) (q : Request) → request_at v words ≡ Some q → Spells v words q
 request_found verb.Announce words q e = announce_found words q e
@@ -110,7 +117,8 @@ request_found verb.Sell words q e = sell_found words q e
 request_found verb.Refund words q e = refund_found words q e
 request_found verb.Cede words q e = cede_found words q e
 
-numbered_found : (v : Verb) (words : List (List ℕ)) (x : ℕ × Request) → numbered_at v words ≡ Some x → (verb_word v ∷ words ≡ request_words x.0 x.1) × IsValue x.0 × IsRequest x.1
+numbered_found : (v : Verb) (words : List (List ℕ)) (x : ℕ × Request) → numbered_at v words ≡ Some x → (verb_word v ∷ words ≡ request_words x.0 x.1)
+    × IsValue x.0 × IsRequest x.1
 unfolding numbered_at
 numbered_found v words x e =
     let a = bind_some (natural_at words) (λ n. request_at v n.1 >>= λ q. Some (n.0, q)) x e in
@@ -121,7 +129,8 @@ numbered_found v words x e =
     (ap (λ (t : List (List ℕ)). verb_word v ∷ t) p.0 ∙ r.0 a.0.0, p.1, r.1)
 
 -- a request that begins with a word
-pub request_from_found : (word : List ℕ) (words : List (List ℕ)) (x : ℕ × Request) → request_from word words ≡ Some x → (word ∷ words ≡ request_words x.0 x.1) × IsValue x.0 × IsRequest x.1
+pub request_from_found : (word : List ℕ) (words : List (List ℕ)) (x : ℕ × Request) → request_from word words ≡ Some x
+    → (word ∷ words ≡ request_words x.0 x.1) × IsValue x.0 × IsRequest x.1
 unfolding request_from
 request_from_found word words x e =
     let a = bind_some (verb_of word) (λ v. numbered_at v words) x e in

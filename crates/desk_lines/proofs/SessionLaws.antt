@@ -55,10 +55,12 @@ totals_found words l e =
     subst (SpellsSession (codes "totals" ∷ words)) z.1 (ap (λ (t : List (List ℕ)). codes "totals" ∷ t) (p.0 ∙ ap (λ (t : List (List ℕ)). a.0.0 ∷ t) z.0), p.1)
 
 -- a line whose first word is one of the two that look, and else one that asks
-look_or : (look : List ℕ) (word : List ℕ) (words : List (List ℕ)) (here other : Option Line) (l : Line) → (here ≡ Some l → SpellsSession (look ∷ words) l) → (other ≡ Some l → SpellsSession (word ∷ words) l)
+look_or : (look : List ℕ) (word : List ℕ) (words : List (List ℕ)) (here other : Option Line) (l : Line) → (here ≡ Some l → SpellsSession (look ∷ words) l)
+    → (other ≡ Some l → SpellsSession (word ∷ words) l)
     → cond (bytes_eq word look) here other ≡ Some l → SpellsSession (word ∷ words) l
 look_or look word words here other l f g e = elim (cases_Bool (bytes_eq word look)) [
-  | inl same ↦ let chosen : here ≡ Some l = rw same at e in subst (λ (w : List ℕ). SpellsSession (w ∷ words) l) (sym ((bytes_eq-Decides word look).0 same)) (f chosen)
+  | inl same ↦ let chosen : here ≡ Some l = rw same at e in subst (λ (w : List ℕ). SpellsSession (w ∷ words) l) (sym ((bytes_eq-Decides word look).0 same))
+      (f chosen)
   | inr differs ↦ let chosen : other ≡ Some l = rw differs at e in g chosen
 ]
 
@@ -79,7 +81,8 @@ pub session_takes : (bytes : List ℕ) (l : Line) → session_line_of bytes ≡ 
 unfolding session_text
 session_takes bytes l e = elim (cases_Bool (bytes_eq bytes (codes "quit"))) [
   | inl same ↦ let chosen : Some Quit ≡ Some l = rw same at e in
-      subst (λ (m : Line). IsSessionLine m × (bytes ≡ join_with_byte 32 (session_words m))) (same_Some Quit l chosen) (tt, (bytes_eq-Decides bytes (codes "quit")).0 same)
+      subst (λ (m : Line). IsSessionLine m × (bytes ≡ join_with_byte 32 (session_words m))) (same_Some Quit l chosen)
+      (tt, (bytes_eq-Decides bytes (codes "quit")).0 same)
   | inr other ↦ let chosen : asked_in (slice_split is_space bytes) ≡ Some l = rw other at e in
       let f = asked_found (slice_split is_space bytes) l chosen in
       (f.1, sym (join_with_byte-slice_split 32 bytes) ∙ ap (join_with_byte 32) f.0)

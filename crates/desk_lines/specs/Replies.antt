@@ -65,7 +65,8 @@ open_text None = codes "none"
 open_text (Some seats) = decimal seats
 
 abbrev pub totals_text : ViewTotals → List ℕ
-totals_text t = codes "totals released " ++ decimal t.released ++ codes " sold " ++ decimal t.sold ++ codes " refunded " ++ decimal t.refunded ++ codes " open " ++ open_text t.open_seats
+totals_text t = codes "totals released " ++ decimal t.released ++ codes " sold " ++ decimal t.sold ++ codes " refunded " ++ decimal t.refunded ++ codes
+    " open " ++ open_text t.open_seats
 
 abbrev pub answered_text : Answered → List ℕ
 answered_text (Kept reply) = reply_text reply

@@ -9,6 +9,11 @@
 //!
 //! The texts of replies are in `texts.rt`; their words are those of `request_ledger`.
 //!
+//! A new line of a session is a variant of `Line`, with its words in `specs/Grammar.antt` and a function of
+//! `session_lines.rt`; a new reply is a text of `texts.rt` with its row in `specs/Replies.antt`; a new command of a
+//! script is a variant of `Command` (`script_commands.rt`), with its words in `specs/Grammar.antt` and its case in
+//! `specs/Commands.antt`.
+//!
 //! Lemmas for callers: `ReadingLaws`.
 #![tactic(auto)]
 

@@ -15,4 +15,5 @@ pub record CatalogueView : Type 0 where
   pub room : ℕ
 
 abbrev pub coded_catalogue : Coded CatalogueView
-coded_catalogue = code_by (List (List ℕ) × ℕ) (coded× (coded_list (coded_list coded_ℕ)) coded_ℕ) (λ c. (c.names, c.room)) (λ p. record { names = p.0; room = p.1 }) (λ _. refl)
+coded_catalogue = code_by (List (List ℕ) × ℕ) (coded× (coded_list (coded_list coded_ℕ)) coded_ℕ) (λ c. (c.names, c.room))
+    (λ p. record { names = p.0; room = p.1 }) (λ _. refl)

@@ -6,6 +6,8 @@
 //! Guaranteed: no name is there twice (`len: distinct`); `join` is the union, known names keep their index, and
 //! `reserve` changes no name.
 //!
+//! What is asked of names is a method of `Catalogue`, with its definition in `specs/Catalogue.antt`.
+//!
 //! Lemmas for callers: `NameLaws`.
 #![tactic(auto)]
 

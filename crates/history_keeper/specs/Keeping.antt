@@ -1,5 +1,5 @@
 -- What a keeper holds, and what a stop may leave of it. (Our own.)
-use Rattle.std.specs.Prelude.{◌≡◌, ◌⊎◌, List, [], ◌∷◌, ◌++◌, Option, Some, None, IsSome}
+use Rattle.std.specs.Prelude.{◌≡◌, ◌⊎◌, ℕ, List, [], ◌∷◌, ◌++◌, Option, Some, None, IsSome}
 use Rattle.book_core.specs.declared.entry.Entry.{Entry}
 
 -- What a stop leaves is the list that the next open reads, and none where an open would not read it.
@@ -8,6 +8,10 @@ use Rattle.book_core.specs.declared.entry.Entry.{Entry}
 pub record LeavesOnly (list : List Entry) (may_leave : Option (List Entry) → Type 0) : Type 0 where
   pub left : may_leave (Some list)
   pub alone : (other : Option (List Entry)) → may_leave other → other ≡ Some list
+
+-- as long as no call has failed and nothing else has written the store, a stop leaves what is kept
+abbrev pub RestsAt : ℕ → Type 0 → List Entry → (Option (List Entry) → Type 0) → Type 0
+RestsAt failures trusted kept may_leave = failures ≡ 0 → trusted → LeavesOnly kept may_leave
 
 -- the list is kept, and a stop leaves it and nothing else
 pub record Keeps (list kept : List Entry) (may_leave : Option (List Entry) → Type 0) : Type 0 where

@@ -1,5 +1,5 @@
 -- What contracts see of a keeper in memory. (Our own.)
-use Rattle.std.specs.Prelude.{◌≤◌, ◌-◌, ◌++◌, ◌∷◌, [], ℕ, List, Option, Some, None, if◌then◌else◌, refl}
+use Rattle.std.specs.Prelude.{◌≡◌, ◌≤◌, ◌-◌, ◌++◌, ◌∷◌, [], ℕ, List, Option, Some, None, if◌then◌else◌, refl}
 use Rattle.std.specs.Coded.{Coded, code_by, coded×, coded_ℕ, coded_list, coded_option}
 use Rattle.book_core.specs.BookCode.{coded_entry}
 use Rattle.book_core.specs.declared.entry.Entry.{Entry}
@@ -25,6 +25,14 @@ FailsNext (Some failing) = failing.append ≤ 1
 abbrev pub one_less : Option Failing → Option Failing
 one_less None = None
 one_less (Some failing) = Some (record failing { append = failing.append - 1 })
+
+-- with these entries more, one append later
+abbrev pub appended : ListView → List Entry → ListView
+appended old entries = record old { kept = old.kept ++ entries; failing = one_less old.failing }
+
+-- no append had failed, and these entries are kept too
+abbrev pub AppendsAll : ListView → List Entry → ListView → Type 0
+AppendsAll old entries new = (old.failures ≡ 0) × (new ≡ appended old entries)
 
 -- what is kept once an append failed that was to fail: these entries too, where they are stored
 abbrev pub left_by_all : Option Failing → List Entry → List Entry → List Entry

@@ -2,7 +2,7 @@
 ghost use Rattle.std.specs.Prelude.{◌≡◌, ◌≢◌, ℕ, List, Option, [], ◌∷◌, ◌++◌, OnOk, OnErr, IsErrOf, MatchResult};
 ghost use Rattle.book_core.specs.declared.entry.Entry.{Entry as Entered};
 ghost use Rattle.history_keeper.specs.declared.meta.Meta.{Meta};
-ghost use Rattle.history_keeper.specs.Keeping.{Keeps, LeavesOnly, LeavesAllOrNone, LeavesWithOrWithout};
+ghost use Rattle.history_keeper.specs.Keeping.{Keeps, RestsAt, LeavesAllOrNone, LeavesWithOrWithout};
 
 use book_core::Entry;
 use std::alloc::AllocError;
@@ -84,7 +84,7 @@ pub trait Keeper {
     /// 0, or 1 once a call has failed: the keeper is shut. As long as none has, a stop leaves what is kept.
     fn failures(&self) -> u64
         ensures counted { result ≡ failed self.now }
-        ensures rest { result ≡ 0 → is_trusted self.now → LeavesOnly (kept self.now) (may_leave self.now) };
+        ensures rest { RestsAt result (is_trusted self.now) (kept self.now) (may_leave self.now) };
 
     /// A stop leaves something, also once the keeper is shut.
     ghost survives: { (k : Self) → is_trusted k → ∥ ((left : Option (List Entered)) × may_leave k left) ∥₁ };

@@ -1,7 +1,7 @@
 //! A keeper in memory.
 ghost use Rattle.std.specs.Prelude.{◌≡◌, ◌≢◌, ◌⊎◌, ◌++◌, [], ◌∷◌, Some, None, IsErr, false, true, refl};
 ghost use Rattle.std.specs.Prelude.{OnOk, OnErr};
-ghost use Rattle.history_keeper.specs.ListView.{FailsNext, left_by, left_by_all, one_less};
+ghost use Rattle.history_keeper.specs.ListView.{AppendsAll, FailsNext, left_by, left_by_all};
 
 use crate::keeper::{KeepFault, Keeper};
 use book_core::Entry;
@@ -114,8 +114,7 @@ impl Keeper for ListKeeper {
     /// As of every keeper; and `Disk` only where `fail_at` says so, with the entry kept where it says so. There the
     /// append is never Ok.
     fn append(&mut self, entry: &Entry) -> Result<(), KeepFault>
-        ensures added { OnOk result ((self.old.failures ≡ 0) × (self.new ≡ record self.old
-            { kept = self.old.kept ++ entry.now ∷ []; failing = one_less self.old.failing })) }
+        ensures added { OnOk result (AppendsAll self.old (entry.now ∷ []) self.new) }
         ensures due { FailsNext self.old.failing → IsErr result }
         ensures disk { result ≡ Err KeepFault.Disk → FailsNext self.old.failing
             × (self.new.kept ≡ left_by self.old.failing self.old.kept entry.now) }
@@ -133,10 +132,7 @@ impl Keeper for ListKeeper {
     /// As of every keeper; and `Disk` only where `fail_at` says so of the next append, with all entries kept where it says so.
     /// There it is never Ok.
     fn append_all(&mut self, entries: &[Entry]) -> Result<(), KeepFault>
-        ensures added { OnOk result ((self.old.failures ≡ 0) × (self.new ≡ record self.old {
-          kept = self.old.kept ++ entries.now;
-          failing = one_less self.old.failing;
-        })) }
+        ensures added { OnOk result (AppendsAll self.old entries.now self.new) }
         ensures due { FailsNext self.old.failing → IsErr result }
         ensures disk { result ≡ Err KeepFault.Disk → FailsNext self.old.failing
             × (self.new.kept ≡ left_by_all self.old.failing self.old.kept entries.now) }

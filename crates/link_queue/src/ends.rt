@@ -1,7 +1,7 @@
 //! The two ends of a link, while messages go through it and when they are over.
-ghost use Rattle.std.specs.Prelude.{◌≡◌, ◌<◌, [], ◌∷◌, ◌++◌, IfOk, MatchResult, IsErr, true, false, length};
+ghost use Rattle.std.specs.Prelude.{◌≡◌, ◌<◌, [], IfOk, IsErr, true, false, length};
 ghost use mathlib.Core.List.{IsPrefix};
-ghost use Rattle.link_queue.specs.End.{end_of, rx_state};
+ghost use Rattle.link_queue.specs.End.{end_of, rx_state, Receives, Sends};
 
 use crate::item::{Item, View};
 use crate::rule::{Ends, InOrder, Puts, Takes, Total};
@@ -110,7 +110,7 @@ impl Tx {
     /// Puts a message behind the others, and waits for room, after more than 2^61 messages perhaps for ever. Where the
     /// receiver is gone, or 2^63 messages were put, the message is handed back and nothing is put.
     pub fn send<R: Wait>(&mut self, rt: &R, message: Message) -> Result<(), Message>
-        ensures { MatchResult result (λ _. self.new ≡ end_of self.old.link (self.old.messages ++ message ∷ [])) (λ back. (back ≡ message) × (self.new ≡ self.old)) }
+        ensures { Sends self.old message self.new result }
     {
         if self.count >= MOST_PUT {
             return Err(message);
@@ -152,7 +152,7 @@ impl Tx {
 impl Rx {
     /// The next message, and waits for it; or that nothing more comes, now and ever after.
     pub fn recv<R: Wait>(&mut self, rt: &R) -> Result<Message, Gone>
-        ensures message { MatchResult result (λ m. self.new ≡ rx_state self.old.link (self.old.messages ++ m ∷ []) false) (λ _. self.new ≡ rx_state self.old.link self.old.messages true) }
+        ensures message { Receives self.old self.new result }
         ensures over { self.old.ended ≡ true → IsErr result }
     {
         if self.ended {

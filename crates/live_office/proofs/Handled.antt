@@ -30,7 +30,7 @@ parts_of_same old new is = ap (λ (s : SeatState). s.seat.parts) is
 
 ask_parts : {K : Type 0} (d : Admissible K) (old : SeatState) (number : ℕ) (request : Request) (text : List ℕ) (new : SeatState) →
     HandlesAsk d old number request text new → new.seat.parts ≡ old.seat.parts
-ask_parts d old number request text new (inl h) = given_parts d old.seat (Ask number request) h.0 new.seat h.1
+ask_parts d old number request text new (inl h) = given_parts d old.seat (Ask number request) h.1.0 new.seat h.1.1
 ask_parts d old number request text new (inr h) = parts_of_same old new h.3
 
 line_parts : {K : Type 0} (d : Admissible K) (old : SeatState) (line : Option OfficeLine) (text : List ℕ) (new : SeatState) →
@@ -71,17 +71,23 @@ by_parts d old Nothing line text new h = line_parts d old (office_line_of line) 
 by_parts d old (Text so_far) line text new h = part_parts d (with_gathering old Nothing) _ (ends_message line) text new h
 by_parts d old Lost line text new h = lost_parts (with_gathering old Nothing) (ends_message line) text new h
 
-if_parts : {K : Type 0} (d : Admissible K) (permitted : Bool) (old : CallerState) (line text : List ℕ) (new : CallerState) → HandlesIf d permitted old line text new → new.seat.seat.parts ≡ old.seat.seat.parts
+if_parts : {K : Type 0} (d : Admissible K) (permitted : Bool) (old : CallerState) (line text : List ℕ) (new : CallerState)
+    → HandlesIf d permitted old line text new → new.seat.seat.parts ≡ old.seat.seat.parts
 if_parts d true old line text new h = ap (λ (s : CallerState). s.seat.seat.parts) h.2 ∙ by_parts d old.seat old.seat.gathering line text h.0 h.1
 if_parts d false old line text new h = ap (λ (s : CallerState). s.seat.seat.parts) h.1
 
 -- a seat that served a session has the parts that it had
-pub handled_parts : {K : Type 0} (d : Admissible K) (input old new : Option (List ℕ)) (before after : CallerState) (result : Result (Option Last) TalkFault) → OfficeTalked (HandlesCaller d) LastOfCaller input old new before after result → after.seat.seat.parts ≡ before.seat.seat.parts
+pub handled_parts : {K : Type 0} (d : Admissible K) (input old new : Option (List ℕ)) (before after : CallerState)
+    (result : Result (Option Last) TalkFault) → OfficeTalked (HandlesCaller d) LastOfCaller input old new before after result
+    → after.seat.seat.parts ≡ before.seat.seat.parts
 handled_parts d input old new before after result talked =
-    chain_keeps (HandlesCaller d) (λ s. s.seat.seat.parts ≡ before.seat.seat.parts) (λ a line text b h is. if_parts d (is_permitted a.access (office_line_of line)) a line text b h ∙ is) before talked.lines talked.texts after talked.chain refl
+    chain_keeps (HandlesCaller d) (λ s. s.seat.seat.parts ≡ before.seat.seat.parts)
+    (λ a line text b h is. if_parts d (is_permitted a.access (office_line_of line)) a line text b h ∙ is) before talked.lines talked.texts after
+    talked.chain refl
 
 -- a caller who was served, by what its reader and writer were as it began
-pub served_by : {K : Type 0} (d : Admissible K) (access : Access) (sparing : Sparing) (a b c a_now b_now : Option (List ℕ)) (result : Result (Option Last) TalkFault)
+pub served_by : {K : Type 0} (d : Admissible K) (access : Access) (sparing : Sparing) (a b c a_now b_now : Option (List ℕ))
+    (result : Result (Option Last) TalkFault)
     → IsServed d access sparing a b c result → a_now ≡ a → b_now ≡ b → IsServed d access sparing a_now b_now c result
 served_by d access sparing a b c a_now b_now result served is_a is_b =
     subst (λ (y : Option (List ℕ) × Option (List ℕ)). IsServed d access sparing y.0 y.1 c result) (λ i. (sym is_a i, sym is_b i)) served

@@ -93,7 +93,8 @@ close_found words l e =
     subst (Spells (codes "close" ∷ words)) z.1 (ap (λ (t : List (List ℕ)). codes "close" ∷ t) z.0, tt)
 
 -- a line whose first word is this one, or another
-this_or : (this word : List ℕ) (words : List (List ℕ)) (here other : Option OfficeLine) (l : OfficeLine) → (here ≡ Some l → Spells (this ∷ words) l) → (other ≡ Some l → Spells (word ∷ words) l)
+this_or : (this word : List ℕ) (words : List (List ℕ)) (here other : Option OfficeLine) (l : OfficeLine) → (here ≡ Some l → Spells (this ∷ words) l)
+    → (other ≡ Some l → Spells (word ∷ words) l)
     → cond (bytes_eq word this) here other ≡ Some l → Spells (word ∷ words) l
 this_or this word words here other l f g e = elim (cases_Bool (bytes_eq word this)) [
   | inl same ↦ let chosen : here ≡ Some l = rw same at e in subst (λ (w : List ℕ). Spells (w ∷ words) l) (sym ((bytes_eq-Decides word this).0 same)) (f chosen)
@@ -124,8 +125,10 @@ pub office_takes : (bytes : List ℕ) (l : OfficeLine) → office_line_of bytes 
 unfolding office_line_text session_text
 office_takes bytes l e = either (session_line_of bytes) refl e
   where
-    either : (o : Option Line) → session_line_of bytes ≡ o → session_or_own o (slice_split is_space bytes) ≡ Some l → IsOfficeLine l × (bytes ≡ join_with_byte 32 (office_words l))
-    either (Some line) is h = subst (λ (m : OfficeLine). IsOfficeLine m × (bytes ≡ join_with_byte 32 (office_words m))) (same_Some (office_line.Session line) l h) (session_takes bytes line is)
+    either : (o : Option Line) → session_line_of bytes ≡ o → session_or_own o (slice_split is_space bytes) ≡ Some l
+        → IsOfficeLine l × (bytes ≡ join_with_byte 32 (office_words l))
+    either (Some line) is h = subst (λ (m : OfficeLine). IsOfficeLine m × (bytes ≡ join_with_byte 32 (office_words m)))
+        (same_Some (office_line.Session line) l h) (session_takes bytes line is)
     either None is h =
         let f = own_found (slice_split is_space bytes) l h in
         (f.1, sym (join_with_byte-slice_split 32 bytes) ∙ ap (join_with_byte 32) f.0)
@@ -187,10 +190,13 @@ own_reads words l splits none again =
 pub office_reads : (l : OfficeLine) → IsOfficeLine l → office_line_of (office_line_text l) ≡ Some l
 unfolding office_line_text session_text own_in import_in events_in site_in status_in close_in asked_in ask_line_in request_from verb_of
 office_reads (office_line.Session line) h = ap (λ (o : Option Line). session_or_own o (slice_split is_space (session_text line))) (session_reads line h)
-office_reads (office_line.Export to) h = own_reads (codes "export" ∷ decimal to ∷ []) (office_line.Export to) (export_splits to h) (no_export to) (export_again to h)
+office_reads (office_line.Export to) h = own_reads (codes "export" ∷ decimal to ∷ []) (office_line.Export to) (export_splits to h) (no_export to)
+    (export_again to h)
 office_reads office_line.Import h = refl
-office_reads (office_line.Find number) h = own_reads (codes "find" ∷ decimal number ∷ []) (office_line.Find number) (find_splits number h) (no_find number) (find_again number h)
-office_reads (office_line.List event) h = own_reads (codes "list" ∷ event ∷ []) (office_line.List event) (list_splits event h) (no_list event) (list_again event h)
+office_reads (office_line.Find number) h = own_reads (codes "find" ∷ decimal number ∷ []) (office_line.Find number) (find_splits number h) (no_find number)
+    (find_again number h)
+office_reads (office_line.List event) h = own_reads (codes "list" ∷ event ∷ []) (office_line.List event) (list_splits event h) (no_list event)
+    (list_again event h)
 office_reads office_line.Events h = refl
 office_reads (office_line.Shares event) h = own_reads (codes "shares" ∷ event ∷ []) (office_line.Shares event) (shares_splits event h) (no_shares event)
     (shares_again event h)

@@ -21,7 +21,8 @@ abbrev Bytes : Type 0
 Bytes = Option (List ℕ)
 
 -- a line that was read, and the text that answers it
-abbrev pub replied : {A : Type 0} (S : TextSteps A) (a b : Bytes) (line slice : List ℕ) (more : Bool) (before after : A) (text : List ℕ) → more ≡ true → LineGives a b line (Ok more) → slice ≡ line
+abbrev pub replied : {A : Type 0} (S : TextSteps A) (a b : Bytes) (line slice : List ℕ) (more : Bool) (before after : A) (text : List ℕ) → more ≡ true
+    → LineGives a b line (Ok more) → slice ≡ line
     → S before slice text after → Replied S a b before after
 replied S a b line slice more before after text is gives same step =
     record { line = line; text = text; read = subst (λ (m : Bool). LineGives a b line (Ok m)) is gives; step = subst (λ l. S before l text after) same step }
@@ -48,16 +49,19 @@ kept_known S E None b c old new before after result k h = kept_unknown S E b c o
 kept_known S E (Some x) None c old new before after result k h = absurd k
 kept_known S E (Some x) (Some y) c old new before after result k h = subst (λ (z : List ℕ). NextOfficeTalked S E (Some z) c old new before after result) k h
 
-pub kept_first : {A : Type 0} (S : TextSteps A) (E : Endings A) (a b c old new : Bytes) (before same after : A) (result : Result (Option (Option Last)) TalkFault)
+pub kept_first : {A : Type 0} (S : TextSteps A) (E : Endings A) (a b c old new : Bytes) (before same after : A)
+    (result : Result (Option (Option Last)) TalkFault)
     → Keeps a b → same ≡ before → NextOfficeTalked S E b c old new same after result → NextOfficeTalked S E a c old new before after result
 kept_first S E a b c old new before same after result k is h =
     kept_known S E a b c old new before after result k (subst (λ x. NextOfficeTalked S E b c old new x after result) is h)
 
 -- its text went out in part
-pub next_unwritten : {A : Type 0} (S : TextSteps A) (E : Endings A) (a b old new : Bytes) (before after : A) (result : Result (Option (Option Last)) TalkFault) (f : TalkFault) → IsErrAnd result (λ e. e ≡ f) → f ≡ fault.Write
+pub next_unwritten : {A : Type 0} (S : TextSteps A) (E : Endings A) (a b old new : Bytes) (before after : A)
+    (result : Result (Option (Option Last)) TalkFault) (f : TalkFault) → IsErrAnd result (λ e. e ≡ f) → f ≡ fault.Write
     → (r : Replied S a b before after) → AppendsFront old new r.text → NextOfficeTalked S E a b old new before after result
 next_unwritten S E a b old new before after (Ok x) f h is r out = absurd h
-next_unwritten S E a b old new before after (Err e) f h is r out = subst (λ (e : TalkFault). NextOfficeTalked S E a b old new before after (Err e)) (sym (h ∙ is)) (r, out)
+next_unwritten S E a b old new before after (Err e) f h is r out = subst (λ (e : TalkFault). NextOfficeTalked S E a b old new before after (Err e))
+    (sym (h ∙ is)) (r, out)
 
 -- what was read, answered and written so far
 pub record SoFar {A : Type 0} (S : TextSteps A) (input rest old new : Bytes) (before after : A) (count : ℕ) : Type 0 where
@@ -96,7 +100,8 @@ replies-push answers answered = flat_map_more (λ (text : List ℕ). text) [] an
 
 -- one line more, with its answer
 pub goes_on : {A : Type 0} (S : TextSteps A) (E : Endings A) (input rest rest' old new new' : Bytes) (before mid after : A) (count : ℕ)
-    → SoFar S input rest old new before mid count → NextOfficeTalked S E rest rest' new new' mid after (Ok None) → SoFar S input rest' old new' before after (count + 1)
+    → SoFar S input rest old new before mid count → NextOfficeTalked S E rest rest' new new' mid after (Ok None)
+    → SoFar S input rest' old new' before after (count + 1)
 goes_on S E input rest rest' old new new' before mid after count h k = record {
   lines = h.lines ++ k.0.line ∷ [];
   answers = h.answers ++ k.0.text ∷ [];
@@ -108,12 +113,15 @@ goes_on S E input rest rest' old new new' before mid after count h k = record {
 }
 
 -- what is taken of an input behind the lines that were read
-taken_after : (more : ℕ) (xs ys lines : Lines) → xs ≡ lines ++ ys → AreShort lines → most_lines ≡ length lines + more → taken most_lines xs ≡ put_before lines (taken more ys)
+taken_after : (more : ℕ) (xs ys lines : Lines) → xs ≡ lines ++ ys → AreShort lines → most_lines ≡ length lines + more
+    → taken most_lines xs ≡ put_before lines (taken more ys)
 taken_after more xs ys lines read short most = (λ i. taken (most i) (read i)) ∙ taken-behind more lines ys short
 
 -- the input ends so behind the lines that were read
-ends_behind : (a b c : Bytes) (lines : Lines) (more : ℕ) (e : InputEnd) (P : Lines → Type 0) → most_lines ≡ length lines + more → AreShort lines → ((rest : Lines) → P rest → taken more rest ≡ none_taken e)
-    → Between a b (λ xs ys. lines_of xs ≡ lines ++ lines_of ys) → Between b c (λ xs ys. P (lines_of xs)) → IfSome a (λ xs. taken most_lines (lines_of xs) ≡ record { lines = lines; end = e })
+ends_behind : (a b c : Bytes) (lines : Lines) (more : ℕ) (e : InputEnd) (P : Lines → Type 0) → most_lines ≡ length lines + more → AreShort lines
+    → ((rest : Lines) → P rest → taken more rest ≡ none_taken e)
+    → Between a b (λ xs ys. lines_of xs ≡ lines ++ lines_of ys) → Between b c (λ xs ys. P (lines_of xs))
+    → IfSome a (λ xs. taken most_lines (lines_of xs) ≡ record { lines = lines; end = e })
 ends_behind None b c lines more e P most short so p q = tt
 ends_behind (Some x) None c lines more e P most short so p q = absurd p
 ends_behind (Some x) (Some y) None lines more e P most short so p q = absurd q
@@ -127,11 +135,14 @@ front_of : (a b : Bytes) (lines : Lines) → length lines ≤ most_lines → Are
     → IfSome a (λ xs. (more : Lines) × ((taken most_lines (lines_of xs)).lines ≡ lines ++ more))
 front_of None b lines few short p = tt
 front_of (Some x) None lines few short p = absurd p
-front_of (Some x) (Some y) lines few short p =
-    ((taken (most_lines - length lines) (lines_of y)).lines, ap (λ (t : TakenLines). t.lines) (taken_after (most_lines - length lines) (lines_of x) (lines_of y) lines p short (omega (arith, few))))
+front_of (Some x) (Some y) lines few short p = (
+  (taken (most_lines - length lines) (lines_of y)).lines,
+  ap (λ (t : TakenLines). t.lines) (taken_after (most_lines - length lines) (lines_of x) (lines_of y) lines p short (omega (arith, few))),
+)
 
 -- and the last behind them is one more
-last_behind : {A : Type 0} (E : Endings A) (after : A) (last : Last) (a b c : Bytes) (lines : Lines) (line : List ℕ) → length lines + 1 ≤ most_lines → AreShort lines → E after line last → length line ≤ longest_line
+last_behind : {A : Type 0} (E : Endings A) (after : A) (last : Last) (a b c : Bytes) (lines : Lines) (line : List ℕ) → length lines + 1 ≤ most_lines
+    → AreShort lines → E after line last → length line ≤ longest_line
     → Between a b (λ xs ys. lines_of xs ≡ lines ++ lines_of ys) → Between b c (λ xs ys. lines_of xs ≡ line ∷ lines_of ys)
     → IfSome a (λ xs. EndsAt E after (Ok (Some last)) lines (taken most_lines (lines_of xs)))
 last_behind E after last None b c lines line few short is fits p q = tt
@@ -139,7 +150,8 @@ last_behind E after last (Some x) None c lines line few short is fits p q = absu
 last_behind E after last (Some x) (Some y) None lines line few short is fits p q = absurd q
 last_behind E after last (Some x) (Some y) (Some z) lines line few short is fits p q =
     let more = most_lines - length lines - 1 in
-    let all = taken_after (suc more) (lines_of x) (lines_of y) lines p short (omega (arith, few)) ∙ ap (put_before lines) (ap (taken (suc more)) q ∙ taken-line more line (lines_of z) fits) in
+    let all = taken_after (suc more) (lines_of x) (lines_of y) lines p short (omega (arith, few))
+    ∙ ap (put_before lines) (ap (taken (suc more)) q ∙ taken-line more line (lines_of z) fits) in
     (line, (taken more (lines_of z)).lines, is, ap (λ (t : TakenLines). t.lines) all)
 
 pub first_empty : (a b : Bytes) → Between a b (λ xs ys. (lines_of xs ≡ []) × (lines_of ys ≡ [])) → Between a b (λ xs ys. lines_of xs ≡ [])
@@ -151,12 +163,15 @@ none_left : (more : ℕ) (rest : Lines) → rest ≡ [] → taken more rest ≡ 
 none_left more rest e = ap (taken more) e ∙ taken-nil more
 
 -- the session ends at the next line
-pub ends : {A : Type 0} (S : TextSteps A) (E : Endings A) (input rest rest' old new new' : Bytes) (before mid after : A) (count : ℕ) (e : Option Last) → count < most_lines
-    → SoFar S input rest old new before mid count → NextOfficeTalked S E rest rest' new new' mid after (Ok (Some e)) → OfficeTalked S E input old new' before after (Ok e)
+pub ends : {A : Type 0} (S : TextSteps A) (E : Endings A) (input rest rest' old new new' : Bytes) (before mid after : A) (count : ℕ) (e : Option Last)
+    → count < most_lines
+    → SoFar S input rest old new before mid count → NextOfficeTalked S E rest rest' new new' mid after (Ok (Some e))
+    → OfficeTalked S E input old new' before after (Ok e)
 ends S E input rest rest' old new new' before mid after count (Some last) few h k = record {
   lines = h.lines;
   texts = h.answers;
-  read = last_behind E after last input rest rest' h.lines k.0 (omega (arith, few, h.counted)) h.short (subst (λ x. E x k.0 last) (sym k.4) k.2) k.1.0 h.read k.1.1;
+  read = last_behind E after last input rest rest' h.lines k.0 (omega (arith, few, h.counted)) h.short (subst (λ x. E x k.0 last) (sym k.4) k.2) k.1.0
+      h.read k.1.1;
   unasked = λ wants. cc;
   chain = subst (Chain S before h.lines h.answers) (sym k.4) h.chain;
   written = Appends-kept old new new' (whole h.answers) h.written k.3;
@@ -164,7 +179,8 @@ ends S E input rest rest' old new new' before mid after count (Some last) few h 
 ends S E input rest rest' old new new' before mid after count None few h k = record {
   lines = h.lines;
   texts = h.answers;
-  read = ends_behind input rest rest' h.lines (most_lines - length h.lines) AtEnd (λ r. r ≡ []) (omega (arith, few, h.counted)) h.short (none_left (most_lines - length h.lines)) h.read (first_empty rest rest' k.0);
+  read = ends_behind input rest rest' h.lines (most_lines - length h.lines) AtEnd (λ r. r ≡ []) (omega (arith, few, h.counted)) h.short
+      (none_left (most_lines - length h.lines)) h.read (first_empty rest rest' k.0);
   unasked = λ wants. cc;
   chain = subst (Chain S before h.lines h.answers) (sym k.2) h.chain;
   written = Appends-kept old new new' (whole h.answers) h.written k.1;
@@ -174,13 +190,17 @@ one_more : (lines : Lines) (line : List ℕ) → lines ++ line ∷ [] ≢ []
 one_more [] line e = cc
 one_more (l ∷ lines) line e = cc
 
-not_none : {A : Type 0} (E : Endings A) (after : A) (a : Bytes) (lines : Lines) → lines ≢ [] → IfSome a (λ xs. (more : Lines) × ((taken most_lines (lines_of xs)).lines ≡ lines ++ more)) → IfSome a (λ xs. EndsAt E after (Err fault.Write) lines (taken most_lines (lines_of xs)))
+not_none : {A : Type 0} (E : Endings A) (after : A) (a : Bytes) (lines : Lines) → lines ≢ []
+    → IfSome a (λ xs. (more : Lines) × ((taken most_lines (lines_of xs)).lines ≡ lines ++ more))
+    → IfSome a (λ xs. EndsAt E after (Err fault.Write) lines (taken most_lines (lines_of xs)))
 not_none E after None lines some p = tt
 not_none E after (Some x) lines some p = (some, p)
 
 -- the session breaks off at the next line
-pub breaks_off : {A : Type 0} (S : TextSteps A) (E : Endings A) (input rest rest' old new new' : Bytes) (before mid after : A) (count : ℕ) (e : TalkFault) → count < most_lines
-    → SoFar S input rest old new before mid count → NextOfficeTalked S E rest rest' new new' mid after (Err e) → OfficeTalked S E input old new' before after (Err e)
+pub breaks_off : {A : Type 0} (S : TextSteps A) (E : Endings A) (input rest rest' old new new' : Bytes) (before mid after : A) (count : ℕ) (e : TalkFault)
+    → count < most_lines
+    → SoFar S input rest old new before mid count → NextOfficeTalked S E rest rest' new new' mid after (Err e)
+    → OfficeTalked S E input old new' before after (Err e)
 breaks_off S E input rest rest' old new new' before mid after count fault.Read few h k = record {
   lines = h.lines;
   texts = h.answers;
@@ -192,7 +212,8 @@ breaks_off S E input rest rest' old new new' before mid after count fault.Read f
 breaks_off S E input rest rest' old new new' before mid after count fault.LineTooLong few h k = record {
   lines = h.lines;
   texts = h.answers;
-  read = ends_behind input rest rest' h.lines (suc (most_lines - length h.lines - 1)) AtLongLine BeginsTooLong (omega (arith, few, h.counted)) h.short (λ r. taken-long (most_lines - length h.lines - 1) r) h.read k.0;
+  read = ends_behind input rest rest' h.lines (suc (most_lines - length h.lines - 1)) AtLongLine BeginsTooLong (omega (arith, few, h.counted)) h.short
+      (λ r. taken-long (most_lines - length h.lines - 1) r) h.read k.0;
   unasked = λ wants. cc;
   chain = subst (Chain S before h.lines h.answers) (sym k.2) h.chain;
   written = Appends-kept old new new' (whole h.answers) h.written k.1;
@@ -201,7 +222,8 @@ breaks_off S E input rest rest' old new new' before mid after count fault.Write 
   lines = h.lines ++ k.0.line ∷ [];
   texts = h.answers ++ k.0.text ∷ [];
   read = not_none E after input (h.lines ++ k.0.line ∷ []) (one_more h.lines k.0.line)
-      (front_of input rest' (h.lines ++ k.0.line ∷ []) (omega (arith, few, h.counted, length-append h.lines (k.0.line ∷ []))) (all_end (λ line. length line ≤ longest_line) h.lines k.0.line h.short k.0.read.0) (read-push input rest rest' h.lines k.0.line h.read k.0.read.1));
+      (front_of input rest' (h.lines ++ k.0.line ∷ []) (omega (arith, few, h.counted, length-append h.lines (k.0.line ∷ [])))
+      (all_end (λ line. length line ≤ longest_line) h.lines k.0.line h.short k.0.read.0) (read-push input rest rest' h.lines k.0.line h.read k.0.read.1));
   unasked = λ wants. cc;
   chain = chain-push S before h.lines h.answers mid k.0.line k.0.text after h.chain k.0.step;
   written = (h.answers, k.0.text, k.1.0, k.1.1, refl, k.1.2, Appends-trans old new new' (whole h.answers) k.1.0 h.written k.1.3);
@@ -211,7 +233,8 @@ breaks_off S E input rest rest' old new new' before mid after count fault.Memory
 breaks_off S E input rest rest' old new new' before mid after count fault.NotStarted few h k = absurd k
 
 -- all lines were read that may be there, and no other is
-pub ends_after_all : {A : Type 0} (S : TextSteps A) (E : Endings A) (input rest rest' old new : Bytes) (before after : A) → SoFar S input rest old new before after most_lines
+pub ends_after_all : {A : Type 0} (S : TextSteps A) (E : Endings A) (input rest rest' old new : Bytes) (before after : A)
+    → SoFar S input rest old new before after most_lines
     → Between rest rest' (λ xs ys. lines_of xs ≡ []) → OfficeTalked S E input old new before after (Ok None)
 ends_after_all S E input rest rest' old new before after h k = record {
   lines = h.lines;
@@ -222,7 +245,8 @@ ends_after_all S E input rest rest' old new before after h k = record {
   written = h.written;
 }
 
-pub too_many : {A : Type 0} (S : TextSteps A) (E : Endings A) (input rest rest' old new : Bytes) (before after : A) → SoFar S input rest old new before after most_lines
+pub too_many : {A : Type 0} (S : TextSteps A) (E : Endings A) (input rest rest' old new : Bytes) (before after : A)
+    → SoFar S input rest old new before after most_lines
     → Between rest rest' (λ xs ys. lines_of xs ≢ []) → OfficeTalked S E input old new before after (Err fault.TooLong)
 too_many S E input rest rest' old new before after h k = record {
   lines = h.lines;
@@ -233,7 +257,8 @@ too_many S E input rest rest' old new before after h k = record {
   written = h.written;
 }
 
-pub fails : {A : Type 0} (S : TextSteps A) (E : Endings A) (input rest old new : Bytes) (before after : A) → SoFar S input rest old new before after most_lines → OfficeTalked S E input old new before after (Err fault.Read)
+pub fails : {A : Type 0} (S : TextSteps A) (E : Endings A) (input rest old new : Bytes) (before after : A)
+    → SoFar S input rest old new before after most_lines → OfficeTalked S E input old new before after (Err fault.Read)
 fails S E input rest old new before after h = record {
   lines = h.lines;
   texts = h.answers;
@@ -248,5 +273,13 @@ nothing_taken E after None = tt
 nothing_taken E after (Some x) = refl
 
 -- no buffer could be made
-pub never_began : {A : Type 0} (S : TextSteps A) (E : Endings A) (input old : Bytes) (before : A) → OfficeTalked S E input old old before before (Err fault.Memory)
-never_began S E input old before = record { lines = []; texts = []; read = nothing_taken E before input; unasked = λ wants. refl; chain = refl; written = Appends-nil old }
+pub never_began : {A : Type 0} (S : TextSteps A) (E : Endings A) (input old : Bytes) (before : A)
+    → OfficeTalked S E input old old before before (Err fault.Memory)
+never_began S E input old before = record {
+  lines = [];
+  texts = [];
+  read = nothing_taken E before input;
+  unasked = λ wants. refl;
+  chain = refl;
+  written = Appends-nil old;
+}

@@ -1,7 +1,7 @@
 -- Which books may stand at a desk, and what it may tell of them. (Our own.)
 use Rattle.std.specs.Prelude.{◌≡◌, ℕ, true, List, Option}
 use Rattle.book_core.specs.declared.entry.Entry.{Entry}
-use Rattle.book_core.specs.Decision.{Office}
+use Rattle.book_core.specs.Decision.{SiteConfig}
 use Rattle.history_keeper.specs.declared.keeper.Keeper.{Ghosts}
 use Rattle.site_desk.specs.Moments.{AtOneMoment}
 use Rattle.site_desk.specs.SiteView.{SiteInStep, SiteView}
@@ -9,12 +9,12 @@ use Rattle.session_server.specs.SeatStep.{Telling, told_at}
 
 -- a desk's site and initial history, which books agree with their store, and how often a store failed
 pub record Admissible (K : Type 0) : Type 1 where
-  pub office : Office
+  pub office : SiteConfig
   pub began : List Entry
   pub in_step : SiteView K → Type 0
   pub failed : K → ℕ
 
-abbrev pub admissible : {K : Type 0} → Office → List Entry → Ghosts K → Admissible K
+abbrev pub admissible : {K : Type 0} → SiteConfig → List Entry → Ghosts K → Admissible K
 admissible office began k = record { office = office; began = began; in_step = SiteInStep k; failed = k.failed }
 
 -- it holds of some book that may stand at the desk

@@ -7,7 +7,7 @@ use Rattle.history_keeper.specs.declared.lookup.Listed.{Listed}
 use Rattle.site_exchange.specs.declared.message.Message.{Message}
 use Rattle.delta_wire.specs.Grammar.{message_text}
 use Rattle.site_desk.specs.declared.answer.SiteShare.{SiteShare}
-use Rattle.site_desk.specs.declared.answer.Standing.{Standing}
+use Rattle.site_desk.specs.declared.answer.SiteStatus.{SiteStatus}
 use Rattle.site_desk.specs.declared.answer.Taken.{Taken}
 use Rattle.site_desk.specs.declared.answer.Taken.TheVariants.{Joined, NothingNew, Acked}
 use Rattle.site_desk.specs.declared.fault.LookUpFault.{LookUpFault}
@@ -17,9 +17,10 @@ use Rattle.site_desk.specs.declared.fault.NextFault.TheVariants as next
 use Rattle.desk_lines.specs.Replies.{reply_line, take_fault_text, wire_fault_text}
 use Rattle.live_office.specs.declared.importing.ImportFault.{ImportFault}
 use Rattle.live_office.specs.declared.importing.ImportFault.TheVariants.{Unread, Refused}
+use Rattle.live_office.specs.declared.office_answer.Crowd.{Crowd}
 use Rattle.live_office.specs.declared.office_answer.OfficeAnswer.{OfficeAnswer}
 use Rattle.live_office.specs.declared.office_answer.OfficeAnswer.TheVariants as answer
-use Rattle.live_office.specs.RecordLines.{event_line, found_line, row_line, share_line, standing_text}
+use Rattle.live_office.specs.RecordLines.{event_line, found_line, row_line, share_line, site_status_text}
 use Rattle.live_office.specs.Sparing.{reserve_text, spared_text}
 
 -- why no message is given
@@ -89,13 +90,17 @@ shares_text (Ok None) = codes "unknown" ++ 10 ∷ []
 shares_text (Ok (Some rows)) = ended_shares rows.items
 shares_text (Err fault) = look_up_fault_text fault ++ 10 ∷ []
 
--- which site it is, how many it counts, how long its history is and may become, how many callers are served, and of which
--- entries the last are kept
-abbrev pub status_text : Standing → ℕ → ℕ → List ℕ
-status_text s callers reserve = standing_text s ++ codes " callers " ++ decimal callers ++ reserve_text reserve ++ 10 ∷ []
+-- how many callers are served, how many have a request that is being stored, and how many wait for the next store
+abbrev pub crowd_text : Crowd → List ℕ
+crowd_text c = codes " callers " ++ decimal c.callers ++ codes " asking " ++ decimal c.asking ++ codes " waiting " ++ decimal c.waiting
+
+-- which site it is, how many it counts, how long its history is and may become, what its callers do, and how many entries
+-- are kept
+abbrev pub status_text : SiteStatus → Crowd → ℕ → List ℕ
+status_text s crowd reserve = site_status_text s ++ crowd_text crowd ++ reserve_text reserve ++ 10 ∷ []
 
 -- which site it is, and how many it counts
-abbrev pub site_text : Standing → List ℕ
+abbrev pub site_text : SiteStatus → List ℕ
 site_text s = codes "site " ++ decimal s.me ++ codes " of " ++ decimal s.sites ++ 10 ∷ []
 
 -- the whole answer to a line, with its line breaks; nothing while a message comes
@@ -108,6 +113,6 @@ answer_text (answer.Found result) = found_text result
 answer_text (answer.Listed result) = listed_text result
 answer_text (answer.Events result) = events_text result
 answer_text (answer.Shares result) = shares_text result
-answer_text (answer.Status standing callers reserve) = status_text standing callers reserve
-answer_text (answer.Site standing) = site_text standing
+answer_text (answer.Status site_status crowd reserve) = status_text site_status crowd reserve
+answer_text (answer.Site site_status) = site_text site_status
 answer_text answer.Quiet = []

@@ -24,7 +24,7 @@ caller_state access was_read seat = record { access = access; was_read = was_rea
 
 -- which lines a caller with this access may ask
 abbrev pub is_permitted : Access → Option OfficeLine → Bool
-is_permitted access.Office line = true
+is_permitted access.Operator line = true
 is_permitted access.Session (Some (office_line.Session line)) = true
 is_permitted access.Session (Some office_line.Site) = true
 is_permitted access.Session _ = false

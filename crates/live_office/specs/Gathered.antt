@@ -1,6 +1,6 @@
 -- What a seat has of a message, as contracts see it. (Our own.)
-use Rattle.live_office.specs.declared.office_seat.Gathered.{Gathered}
-use Rattle.live_office.specs.declared.office_seat.Gathered.TheVariants as gathered
+use Rattle.live_office.specs.declared.office_handler.Gathered.{Gathered}
+use Rattle.live_office.specs.declared.office_handler.Gathered.TheVariants as gathered
 use Rattle.live_office.specs.Handling.{Gathering, Nothing, Text, Lost}
 
 -- the same without where it lies in memory

@@ -1,5 +1,5 @@
 -- How a seat handles the lines of a caller who may use all lines of an office. (Our own.)
-use Rattle.std.specs.Prelude.{◌≡◌, ◌⊎◌, ℕ, Bool, true, false, List, [], ◌∷◌, ◌++◌, Option, Some, None, Result, Err, Vec, codes}
+use Rattle.std.specs.Prelude.{◌≡◌, ◌⊎◌, ℕ, Bool, true, false, List, [], ◌∷◌, ◌++◌, Option, Some, None, Result, Err, MatchResult, Vec, codes}
 use Rattle.std.specs.Str.{bytes_eq}
 use Rattle.std.specs.declared.alloc.Global.{Global}
 use Rattle.request_ledger.specs.declared.request.Request.{Request}
@@ -8,11 +8,13 @@ use Rattle.history_keeper.specs.declared.lookup.Listed.{Listed}
 use Rattle.site_exchange.specs.declared.message.Message.{Message}
 use Rattle.delta_wire.specs.declared.fault.WireFault.TheVariants.{Memory}
 use Rattle.site_desk.specs.declared.answer.SiteShare.{SiteShare}
-use Rattle.site_desk.specs.declared.answer.Standing.{Standing}
+use Rattle.site_desk.specs.declared.answer.SiteStatus.{SiteStatus}
+use Rattle.live_office.specs.declared.office_answer.Crowd.{Crowd}
+use Rattle.live_office.specs.declared.office_answer.OfficeAnswer.{OfficeAnswer}
 use Rattle.site_desk.specs.declared.answer.Taken.{Taken}
 use Rattle.site_desk.specs.declared.fault.LookUpFault.{LookUpFault}
 use Rattle.site_desk.specs.declared.fault.NextFault.{NextFault}
-use Rattle.site_desk.specs.Moments.{Events, Finds, IsStanding, Lists, Sends, Shares}
+use Rattle.site_desk.specs.Moments.{Events, Finds, IsSiteStatus, Lists, Sends, Shares}
 use Rattle.desk_lines.specs.declared.line.Line.{Line}
 use Rattle.desk_lines.specs.declared.line.Line.TheVariants.{Ask, Left, Totals, Quit as QuitLine}
 use Rattle.desk_lines.specs.declared.answered.Answered.{Answered}
@@ -25,14 +27,14 @@ use Rattle.live_office.specs.declared.importing.ImportFault.TheVariants.{Unread}
 use Rattle.live_office.specs.declared.office_line.OfficeLine.{OfficeLine}
 use Rattle.live_office.specs.declared.office_line.OfficeLine.TheVariants as office_line
 use Rattle.live_office.specs.Admissible.{Admissible, SomeAdmissible}
-use Rattle.live_office.specs.Answers.{events_text, exported_text, found_text, imported_text, listed_text, shares_text, site_text, status_text}
+use Rattle.live_office.specs.Answers.{answer_text, events_text, exported_text, found_text, imported_text, listed_text, shares_text, site_text, status_text}
 use Rattle.live_office.specs.Importing.{IsImported}
 use Rattle.live_office.specs.Lines.{office_line_of}
 use Rattle.live_office.specs.SeatAnswers.{SeatAnswers}
 use Rattle.live_office.specs.declared.sparing.Sparing.{Sparing}
 use Rattle.live_office.specs.declared.sparing.Spared.{Spared}
 use Rattle.live_office.specs.Sitting.{Sitting}
-use Rattle.live_office.specs.Sparing.{IsSpared, spared_text}
+use Rattle.live_office.specs.Sparing.{IsNotSpared, IsSpared, spared_text}
 
 -- what has come of a message after `import`: no message comes, its text so far, or memory was refused for it
 pub data Gathering : Type 0 where
@@ -58,13 +60,13 @@ abbrev pub HandlesSession : {K : Type 0} → Admissible K → SeatState → Line
 HandlesSession d old line text new =
     (given : Answered) × SeatAnswers d old.seat line given new.seat × (text ≡ reply_line given) × (new ≡ seat_state old.sparing new.seat old.gathering)
 
--- a request is answered so, or spared: then nothing changes
+-- a request that is not spared is answered so; of one that is nothing changes
 abbrev pub HandlesAsk : {K : Type 0} → Admissible K → SeatState → ℕ → Request → List ℕ → SeatState → Type 0
 HandlesAsk d old number request text new =
-    HandlesSession d old (Ask number request) text new
+    (IsNotSpared d old.sparing number request × HandlesSession d old (Ask number request) text new)
     ⊎ ((spared : Spared) × IsSpared d old.sparing number request spared × (text ≡ spared_text spared) × (new ≡ old))
 
--- A line where no message comes. `quit` and `close` have no answer. The count of callers is not pinned.
+-- A line where no message comes. `quit` and `close` have no answer. The counts of callers are not pinned.
 abbrev pub HandlesLine : {K : Type 0} → Admissible K → SeatState → Option OfficeLine → List ℕ → SeatState → Type 0
 HandlesLine d old (Some (office_line.Session (Ask number request))) text new = HandlesAsk d old number request text new
 HandlesLine d old (Some (office_line.Session (Left event))) text new = HandlesSession d old (Left event) text new
@@ -82,9 +84,10 @@ HandlesLine d old (Some office_line.Events) text new =
 HandlesLine d old (Some (office_line.Shares event)) text new =
     (result : Result (Option (Vec SiteShare Global)) LookUpFault) × SomeAdmissible d (Shares event result) × (text ≡ shares_text result) × (new ≡ old)
 HandlesLine d old (Some office_line.Status) text new =
-    (standing : Standing) × (callers : ℕ) × SomeAdmissible d (IsStanding standing) × (text ≡ status_text standing callers old.sparing.reserve) × (new ≡ old)
+    (site_status : SiteStatus) × (crowd : Crowd) × SomeAdmissible d (IsSiteStatus site_status) × (text ≡ status_text site_status crowd old.sparing.reserve)
+    × (new ≡ old)
 HandlesLine d old (Some office_line.Site) text new =
-    (standing : Standing) × SomeAdmissible d (IsStanding standing) × (text ≡ site_text standing) × (new ≡ old)
+    (site_status : SiteStatus) × SomeAdmissible d (IsSiteStatus site_status) × (text ≡ site_text site_status) × (new ≡ old)
 HandlesLine d old (Some office_line.Close) text new = ⊥
 HandlesLine d old None text new = (text ≡ reply_line answered.Unread) × (new ≡ old)
 
@@ -119,6 +122,10 @@ IsLast last.Quit line = line ≡ Some (office_line.Session QuitLine)
 IsLast last.Close line = line ≡ Some office_line.Close
 IsLast last.Unread line = ⊥
 IsLast last.Full line = ⊥
+
+-- a line where no message comes: it was answered so, or it is the last, and nothing changed
+abbrev pub HandlesOrEnds : {K : Type 0} → Admissible K → SeatState → Option OfficeLine → SeatState → Result OfficeAnswer Last → Type 0
+HandlesOrEnds d old line new result = MatchResult result (λ answer. HandlesLine d old line (answer_text answer) new) (λ last. IsLast last line × (new ≡ old))
 
 -- such a line, where no message comes
 abbrev pub LastHandled : SeatState → List ℕ → Last → Type 0

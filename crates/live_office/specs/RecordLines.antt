@@ -5,7 +5,7 @@ use Rattle.request_ledger.specs.declared.request.Request.{Request}
 use Rattle.request_ledger.specs.declared.reply.Reply.{Reply}
 use Rattle.history_keeper.specs.declared.lookup.Listed.{Listed}
 use Rattle.site_desk.specs.declared.answer.SiteShare.{SiteShare}
-use Rattle.site_desk.specs.declared.answer.Standing.{Standing}
+use Rattle.site_desk.specs.declared.answer.SiteStatus.{SiteStatus}
 use Rattle.desk_lines.specs.Grammar.{request_line}
 use Rattle.desk_lines.specs.Replies.{open_text, reply_text}
 
@@ -29,5 +29,6 @@ abbrev pub share_line : SiteShare → List ℕ
 share_line row = decimal row.site ++ codes " left " ++ open_text row.left ++ codes " sold " ++ decimal row.sold ++ codes " back " ++ decimal row.back ++ 10 ∷ []
 
 -- which site it is, how many it counts, and how long its history is and may become
-abbrev pub standing_text : Standing → List ℕ
-standing_text s = codes "site " ++ decimal s.me ++ codes " sites " ++ decimal s.sites ++ codes " entries " ++ decimal s.entries ++ codes " limit " ++ decimal s.limit
+abbrev pub site_status_text : SiteStatus → List ℕ
+site_status_text s = codes "site " ++ decimal s.me ++ codes " sites " ++ decimal s.sites ++ codes " entries " ++ decimal s.entries ++ codes " limit " ++
+    decimal s.limit

@@ -15,6 +15,7 @@ IsNew access sparing first =
     (first.access ≡ access) × (first.was_read ≡ false) × (first.seat.sparing ≡ sparing) × (first.seat.gathering ≡ Nothing)
 
 -- a caller was answered by a seat, line by line, whatever the seat answered before
-abbrev pub IsServed : {K : Type 0} → Admissible K → Access → Sparing → Option (List ℕ) → Option (List ℕ) → Option (List ℕ) → Result (Option Last) TalkFault → Type 0
+abbrev pub IsServed : {K : Type 0} → Admissible K → Access → Sparing → Option (List ℕ) → Option (List ℕ) → Option (List ℕ) → Result (Option Last) TalkFault
+    → Type 0
 IsServed d access sparing input old new result =
     (first last : CallerState) × IsNew access sparing first × OfficeTalked (HandlesCaller d) LastOfCaller input old new first last result

@@ -1,5 +1,5 @@
 -- What an office does to spare its history. (Our own.)
-use Rattle.std.specs.Prelude.{◌≡◌, ℕ, Bool, true, false, List, [], ◌∷◌, ◌++◌, Some, codes, if◌then◌else◌, ◌==◌}
+use Rattle.std.specs.Prelude.{◌≡◌, ◌⊎◌, ℕ, Bool, true, false, List, [], ◌∷◌, ◌++◌, Some, None, codes, if◌then◌else◌, ◌==◌}
 use Rattle.std.specs.Fmt.{decimal}
 use Rattle.request_ledger.specs.declared.request.Request.{Request}
 use Rattle.request_ledger.specs.declared.request.Request.TheVariants.{Refund, Cede}
@@ -20,6 +20,12 @@ uses_reserve _ = false
 abbrev pub IsSpared : {K : Type 0} → Admissible K → Sparing → ℕ → Request → Spared → Type 0
 IsSpared d sparing number request (Low left) = (sparing.tells_low ≡ true) × SomeAdmissible d (IsShortage number request (Some left))
 IsSpared d sparing number request Reserved = (uses_reserve request ≡ false) × SomeAdmissible d (IsReserved number sparing.reserve)
+
+-- why it is asked: there is no reserve, or the request may use it, or some admissible book is closed, has a reply under its number or more
+-- entries free; and where `low` is told, some admissible book would not refuse it for want of seats
+pub record IsNotSpared {K : Type 0} (d : Admissible K) (sparing : Sparing) (number : ℕ) (request : Request) : Type 0 where
+  pub free : (sparing.reserve ≡ 0) ⊎ ((uses_reserve request ≡ true) ⊎ SomeAdmissible d (λ site. ¬ IsReserved number sparing.reserve site))
+  pub enough : (sparing.tells_low ≡ false) ⊎ SomeAdmissible d (IsShortage number request None)
 
 -- the line that says so
 abbrev pub spared_text : Spared → List ℕ

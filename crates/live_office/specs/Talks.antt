@@ -37,12 +37,16 @@ pub record Replied {A : Type 0} (S : TextSteps A) (input rest : Option (List ℕ
   pub step : S before line text after
 
 -- one line of a session, or how it ends there
-abbrev pub NextOfficeTalked : {A : Type 0} → TextSteps A → Endings A → Option (List ℕ) → Option (List ℕ) → Option (List ℕ) → Option (List ℕ) → A → A → Result (Option (Option Last)) TalkFault → Type 0
+abbrev pub NextOfficeTalked : {A : Type 0} → TextSteps A → Endings A → Option (List ℕ) → Option (List ℕ) → Option (List ℕ) → Option (List ℕ) → A → A
+    → Result (Option (Option Last)) TalkFault → Type 0
 NextOfficeTalked S E input rest old new before after (Ok None) = (r : Replied S input rest before after) × Appends old new r.text
-NextOfficeTalked S E input rest old new before after (Ok (Some (Some last))) = (line : List ℕ) × IsRead input rest line × E before line last × Keeps old new × (after ≡ before)
-NextOfficeTalked S E input rest old new before after (Ok (Some None)) = Between input rest (λ xs ys. (lines_of xs ≡ []) × (lines_of ys ≡ [])) × Keeps old new × (after ≡ before)
+NextOfficeTalked S E input rest old new before after (Ok (Some (Some last))) = (line : List ℕ) × IsRead input rest line × E before line last
+    × Keeps old new × (after ≡ before)
+NextOfficeTalked S E input rest old new before after (Ok (Some None)) = Between input rest (λ xs ys. (lines_of xs ≡ []) × (lines_of ys ≡ []))
+    × Keeps old new × (after ≡ before)
 NextOfficeTalked S E input rest old new before after (Err fault.Read) = Keeps old new × (after ≡ before)
-NextOfficeTalked S E input rest old new before after (Err fault.LineTooLong) = Between input rest (λ xs ys. BeginsTooLong (lines_of xs)) × Keeps old new × (after ≡ before) × ((line : List ℕ) × GivesUp input rest line)
+NextOfficeTalked S E input rest old new before after (Err fault.LineTooLong) = Between input rest (λ xs ys. BeginsTooLong (lines_of xs)) × Keeps old new
+    × (after ≡ before) × ((line : List ℕ) × GivesUp input rest line)
 NextOfficeTalked S E input rest old new before after (Err fault.Write) = (r : Replied S input rest before after) × AppendsFront old new r.text
 NextOfficeTalked S E input rest old new before after (Err _) = ⊥
 
@@ -67,7 +71,8 @@ Wrote (Err fault.NotStarted) old new texts = ⊥
 Wrote _ old new texts = Appends old new (whole texts)
 
 -- A session: the lines that were answered, and their texts in order. Without memory for its buffer, none was answered.
-pub record OfficeTalked {A : Type 0} (S : TextSteps A) (E : Endings A) (input old new : Option (List ℕ)) (before after : A) (result : Result (Option Last) TalkFault) : Type 0 where
+pub record OfficeTalked {A : Type 0} (S : TextSteps A) (E : Endings A) (input old new : Option (List ℕ)) (before after : A)
+    (result : Result (Option Last) TalkFault) : Type 0 where
   pub lines : List (List ℕ)
   pub texts : List (List ℕ)
   pub read : IfSome input (λ xs. EndsAt E after result lines (taken most_lines (lines_of xs)))

@@ -7,7 +7,7 @@ ghost use Rattle.live_office.specs.Ahead.{AreFirst, IsOneMore, asked_by, asked_i
 ghost use Rattle.live_office.specs.Together.{IsAskedAs};
 
 use crate::office_line::{OfficeLine, read_office_line};
-use crate::together::{AskedRow, Told, own_result};
+use crate::together::{AskedRow, RequestResult, own_result};
 use desk_lines::Line;
 use history_keeper::Keeper;
 use plain_words::{LineBytes, next_line};
@@ -21,7 +21,7 @@ const MOST_AHEAD: u32 = 64;
 /// What requests came to whose lines are not answered yet, the next one last.
 #[derive(Drop)]
 pub(crate) struct Ahead<K: Keeper, L: Opens> {
-    told: Vec<Told<K, L>>,
+    told: Vec<RequestResult<K, L>>,
 }
 
 impl<K: Keeper, L: Opens> Ahead<K, L> {
@@ -33,7 +33,7 @@ impl<K: Keeper, L: Opens> Ahead<K, L> {
     }
 
     /// These came to this, in their order.
-    pub(crate) fn of(told: Vec<Told<K, L>>) -> Ahead<K, L> {
+    pub(crate) fn of(told: Vec<RequestResult<K, L>>) -> Ahead<K, L> {
         let mut told = told;
         told.reverse();
         Ahead { told }
@@ -49,7 +49,8 @@ impl<K: Keeper, L: Opens> Ahead<K, L> {
         number: RequestNumber,
         request: &Request,
     ) -> Option<Result<Receipt, AskFault>>
-        ensures { IfSome result (IsAskedAs (admissible L.office L.began K.Keeper) number request.now) }
+        ensures { IfSome result
+            (IsAskedAs (admissible L.office L.began K.Keeper) number request.now) }
     {
         let is_next = match self.told.last() {
             Some(told) => told.is_of(number, request),
@@ -98,7 +99,8 @@ fn request_in(line: &[u8]) -> Option<(RequestNumber, Request)>
 impl AskedRow {
     // Adds the request that a line asks. False where it asks none, or memory is refused.
     fn add(&mut self, line: &[u8]) -> bool
-        ensures added { result ≡ true → IsOneMore (asked_in line.now) self.old.requests.items self.new.requests.items }
+        ensures added { result ≡ true
+            → IsOneMore (asked_in line.now) self.old.requests.items self.new.requests.items }
         ensures same { result ≡ false → self.new.requests.items ≡ self.old.requests.items }
     {
         match &request_in(line) {

@@ -1,8 +1,8 @@
 //! A connection over which a caller sends lines.
 
-ghost use Rattle.std.specs.Prelude.{◌≡◌, ◌≢◌, [], length, take, true, false, None, Ok, IfOk, OnErr};
-ghost use Rattle.std.specs.Io.{ReadsAtMost};
-ghost use Rattle.std.specs.Io.KnownBytes.{ReadConsumes};
+ghost use Rattle.std.specs.Prelude.{◌≡◌, ◌≢◌, [], length, take, true, false, None, Ok, IsErr, IfOk, OnErr};
+ghost use Rattle.std.specs.Io.{ReadsAtMost, WritesAtMost};
+ghost use Rattle.std.specs.Io.KnownBytes.{ReadConsumes, WriteAppends};
 ghost use Rattle.live_office.specs.Caller.{is_in_line};
 
 use crate::closing::Closing;
@@ -104,13 +104,15 @@ impl Connection {
 }
 
 /// What is sent to a caller. A write fails where a minute goes by with nothing read; once the office closes, a second in
-/// all is waited.
+/// all is waited. After a write that failed each further one fails, and waits for nothing: a buffer before it tries again what
+/// it holds.
 #[derive(Drop)]
 pub struct Answers<'a> {
     connection: Connection,
     closing: &'a Closing,
     is_hurried: bool,
     waited: u32,
+    has_failed: bool,
 }
 
 impl<'a> Answers<'a> {
@@ -121,6 +123,7 @@ impl<'a> Answers<'a> {
             closing,
             is_hurried: false,
             waited: 0,
+            has_failed: false,
         }
     }
 
@@ -140,10 +143,11 @@ impl<'a> Answers<'a> {
         }
         self.is_hurried
     }
-}
 
-impl Write for Answers<'_> {
-    fn write(&mut self, buf: &[u8]) -> io::Result<usize> {
+    // Writes, as soon as the caller reads.
+    fn write_in_time(&mut self, buf: &[u8]) -> io::Result<usize>
+        ensures { WritesAtMost result buf.now }
+    {
         'turns: for _ in 0..UNREAD_TURNS {
             self.hurry();
             match self.connection.write(buf) {
@@ -160,6 +164,22 @@ impl Write for Answers<'_> {
             }
         }
         Err(io::Error::from(ErrorKind::TimedOut))
+    }
+}
+
+impl Write for Answers<'_> {
+    fn write(&mut self, buf: &[u8]) -> io::Result<usize>
+        ensures bound { WritesAtMost result buf.now }
+        ensures bytes { WriteAppends None None result buf.now }
+        ensures failed { OnErr result (self.new.has_failed ≡ true) }
+        ensures fails { self.old.has_failed ≡ true → IsErr result }
+    {
+        if self.has_failed {
+            return Err(io::Error::from(ErrorKind::TimedOut));
+        }
+        let written = self.write_in_time(buf);
+        self.has_failed = written.is_err();
+        written
     }
 
     fn flush(&mut self) -> io::Result<()> {

@@ -13,8 +13,8 @@ ghost use Rattle.live_office.specs.Sitting.{sitting};
 use crate::door::Access;
 use crate::handler::{Handler, Last};
 use crate::office_answer::OfficeAnswer;
+use crate::office_handler::OfficeHandler;
 use crate::office_line::{OfficeLine, read_office_line};
-use crate::office_seat::OfficeSeat;
 use crate::shared::Shared;
 use desk_lines::{Answered, BadLine, Line};
 use history_keeper::Keeper;
@@ -28,7 +28,7 @@ use std::time::Clock;
 pub struct CallerSeat<'a, K: Keeper, L: Opens> {
     access: Access,
     was_read: bool,
-    office: OfficeSeat<'a, K, L>,
+    office: OfficeHandler<'a, K, L>,
 }
 
 impl<'a, K: Keeper, L: Opens> Model for CallerSeat<'a, K, L> {
@@ -64,11 +64,11 @@ fn is_permitted(access: Access, line: &[u8]) -> bool
     match read_office_line(line) {
         Ok(asked) => match access {
             Access::Session => is_session_line(&asked),
-            Access::Office => true,
+            Access::Operator => true,
             Access::Kept => is_kept_line(&asked),
         },
         Err(BadLine) => match access {
-            Access::Office => true,
+            Access::Operator => true,
             _ => false,
         },
     }
@@ -97,7 +97,7 @@ impl<'a, K: Keeper, L: Opens> CallerSeat<'a, K, L> {
         CallerSeat {
             access,
             was_read: false,
-            office: OfficeSeat::new(shared, seat),
+            office: OfficeHandler::new(shared, seat),
         }
     }
 
@@ -122,7 +122,7 @@ impl<'a, K: Keeper, L: Opens> Handler for CallerSeat<'a, K, L> {
     fn ask_ahead<T: Wait + Clock>(&mut self, rt: &T, bytes: &[u8], most: u32) {
         match self.access {
             Access::Kept => {}
-            Access::Session | Access::Office => self.office.ask_ahead(rt, bytes, most),
+            Access::Session | Access::Operator => self.office.ask_ahead(rt, bytes, most),
         }
     }
 
@@ -130,7 +130,7 @@ impl<'a, K: Keeper, L: Opens> Handler for CallerSeat<'a, K, L> {
         if !is_permitted(self.access, line) {
             return match self.access {
                 Access::Kept => Err(Last::Full),
-                Access::Session | Access::Office => refused_at_port(self.was_read),
+                Access::Session | Access::Operator => refused_at_port(self.was_read),
             };
         }
         match self.office.handle(rt, line) {

@@ -63,7 +63,8 @@ impl<'a, K: Keeper, L: Opens> DeskSeat<'a, K, L> {
 
     // Why a request is not answered. Where the store failed, for this request or another, the office closes.
     fn refused(&self, fault: AskFault) -> Answered
-        requires { (fault ≡ Store) ⊎ (fault ≡ Closed) → ∥ IsShut (admissible L.office L.began K.Keeper) ∥₁ }
+        requires { (fault ≡ Store) ⊎ (fault ≡ Closed)
+            → ∥ IsShut (admissible L.office L.began K.Keeper) ∥₁ }
         ensures { result ≡ Refused fault }
     {
         match fault {

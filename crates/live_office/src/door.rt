@@ -14,8 +14,8 @@ pub enum Access {
     /// Those of a session, and `site`. Every other one is answered `bad-line`, and if no line before it could be read, it
     /// is the last.
     Session,
-    /// Those, and the lines of the office.
-    Office,
+    /// All lines of an office.
+    Operator,
     /// `status`, `site`, `close` and `quit` alone: those of a place that is kept for them.
     Kept,
 }

@@ -36,7 +36,6 @@ pub trait Handler {
 
     /// Answers a line, or reports that it is the last, which changes nothing.
     fn handle<T: Wait + Clock>(&mut self, rt: &T, line: &[u8]) -> Result<OfficeAnswer, Last>
-        ensures { MatchResult result
-            (λ answer. handles self.old line.now (answer_text answer) self.new)
-            (λ last. ends self.old line.now last × (self.new ≡ self.old)) };
+        ensures { MatchResult result (λ answer. handles self.old line.now (answer_text answer)
+            self.new) (λ last. ends self.old line.now last × (self.new ≡ self.old)) };
 }

@@ -14,7 +14,7 @@ use crate::gauge::Gauge;
 use crate::shared::Shared;
 use crate::sparing::Sparing;
 use crate::together::Together;
-use crate::workers::{CLERK_THREADS, OPERATOR_THREADS, Office, work_all};
+use crate::workers::{CLERK_THREADS, OPERATOR_THREADS, OfficeDoors, work_all};
 use history_keeper::Keeper;
 use site_desk::{Desk, Opens, Seat, SiteBook};
 use std::alloc::Global;
@@ -51,7 +51,7 @@ fn staffed<
     L: Opens + Send + Sync,
 >(
     rt: &T,
-    office: &Office<'_, K, L, C, O>,
+    doors: &OfficeDoors<'_, K, L, C, O>,
     seat: Seat<L>,
     mut seats: Vec<Seat<L>>,
 ) -> (bool, Vec<Seat<L>>)
@@ -67,7 +67,7 @@ fn staffed<
                 vec_capacity seats) }
             ensures { result.0 ≡ true → parts_of result.1.items ≡ seat.parts }
         {
-            let all = work_all(scope, rt, office, seat, WORKERS, &mut seats);
+            let all = work_all(scope, rt, doors, seat, WORKERS, &mut seats);
             (all, seats)
         },
     )
@@ -133,12 +133,12 @@ fn at_desk<
         gauge,
         sparing,
     };
-    let office = Office {
+    let doors = OfficeDoors {
         shared: &shared,
         clerks,
         operators,
     };
-    let (all, seats) = staffed(rt, &office, seat, seats);
+    let (all, seats) = staffed(rt, &doors, seat, seats);
     if all {
         return Ok(whole_book(desk, seats));
     }

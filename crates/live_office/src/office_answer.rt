@@ -8,19 +8,27 @@ ghost use Rattle.plain_words.specs.Writing.{Writes};
 ghost use Rattle.delta_wire.specs.Grammar.{message_text};
 ghost use Rattle.live_office.specs.Sparing.{reserve_text};
 ghost use Rattle.live_office.specs.RecordLines.{event_line, row_line, share_line};
-ghost use Rattle.live_office.specs.Answers.{answer_text, ended_events, ended_rows, ended_shares, events_text, exported_text, found_text, import_fault_text, imported_text, known_text, listed_text, look_up_fault_text, next_fault_text, rows_text, shares_text, site_text, status_text};
+ghost use Rattle.live_office.specs.Answers.{answer_text, crowd_text, ended_events, ended_rows, ended_shares, events_text, exported_text, found_text, import_fault_text, imported_text, known_text, listed_text, look_up_fault_text, next_fault_text, rows_text, shares_text, site_text, status_text};
 
 use crate::importing::ImportFault;
-use crate::record_lines::{event_line, found_line, listed_line, share_line, standing_text};
+use crate::record_lines::{event_line, found_line, listed_line, share_line, site_status_text};
 use crate::sparing::{Spared, spared_line};
 use delta_wire::write_message;
 use desk_lines::{Answered, reply_line, take_fault_text, wire_fault_text};
 use history_keeper::{Found, Listed};
 use plain_words::{Text, WriteFault, numbered, put, put_number, word, write_bytes};
 use rights_lattice::Event;
-use site_desk::{LookUpFault, NextFault, SiteShare, Standing, Taken};
+use site_desk::{LookUpFault, NextFault, SiteShare, SiteStatus, Taken};
 use site_exchange::Message;
 use std::io::Write;
+
+/// How many callers are served, how many of them have a request that is being stored, and how many wait for the next store.
+#[derive(Clone, Copy, Debug, PartialEq, Eq, Drop)]
+pub struct Crowd {
+    pub callers: u64,
+    pub asking: u64,
+    pub waiting: u64,
+}
 
 /// What a line is answered.
 #[derive(Debug, Drop)]
@@ -57,15 +65,15 @@ pub enum OfficeAnswer {
     Shares {
         result: Result<Option<Vec<SiteShare>>, LookUpFault>,
     },
-    /// Where the book stands, how many callers are served, and how many entries are kept.
+    /// Where the book stands, what its callers do, and how many entries are kept.
     Status {
-        standing: Standing,
-        callers: u64,
+        site_status: SiteStatus,
+        crowd: Crowd,
         reserve: u64,
     },
     /// Which site it is, and how many it counts.
     Site {
-        standing: Standing,
+        site_status: SiteStatus,
     },
     /// Nothing yet: a message comes.
     Quiet,
@@ -288,7 +296,7 @@ fn write_shares<W: Write>(
 
 // Puts at the end how many entries are kept, if any are.
 fn put_reserve(text: &mut Text, reserve: u64)
-    requires { array_vec_len text.old ≤ 200 }
+    requires { array_vec_len text.old ≤ 220 }
     ensures items { text.new.items ≡ text.old.items ++ reserve_text reserve }
     ensures len { array_vec_len text.new ≤ array_vec_len text.old + 29 }
 {
@@ -299,23 +307,36 @@ fn put_reserve(text: &mut Text, reserve: u64)
     put_number(text, reserve);
 }
 
-fn status_line(standing: Standing, callers: u64, reserve: u64) -> Text
-    ensures { result.items ≡ status_text standing callers reserve }
+// Puts at the end what the callers do.
+fn put_crowd(text: &mut Text, crowd: Crowd)
+    requires { array_vec_len text.old ≤ 120 }
+    ensures items { text.new.items ≡ text.old.items ++ crowd_text crowd }
+    ensures len { array_vec_len text.new ≤ array_vec_len text.old + 86 }
 {
-    let mut text = standing_text(standing);
-    put(&mut text, b" callers ");
-    put_number(&mut text, callers);
+    put(text, b" callers ");
+    put_number(text, crowd.callers);
+    put(text, b" asking ");
+    put_number(text, crowd.asking);
+    put(text, b" waiting ");
+    put_number(text, crowd.waiting);
+}
+
+fn status_line(site_status: SiteStatus, crowd: Crowd, reserve: u64) -> Text
+    ensures { result.items ≡ status_text site_status crowd reserve }
+{
+    let mut text = site_status_text(site_status);
+    put_crowd(&mut text, crowd);
     put_reserve(&mut text, reserve);
     put(&mut text, b"\n");
     text
 }
 
-fn site_line(standing: Standing) -> Text
-    ensures { result.items ≡ site_text standing }
+fn site_line(site_status: SiteStatus) -> Text
+    ensures { result.items ≡ site_text site_status }
 {
-    let mut text = numbered(b"site ", standing.me.number());
+    let mut text = numbered(b"site ", site_status.me.number());
     put(&mut text, b" of ");
-    put_number(&mut text, standing.sites.count());
+    put_number(&mut text, site_status.sites.count());
     put(&mut text, b"\n");
     text
 }
@@ -334,11 +355,11 @@ pub fn write_answer<W: Write>(answer: &OfficeAnswer, out: &mut W) -> Result<(), 
         OfficeAnswer::Events { result } => write_events(result, out),
         OfficeAnswer::Shares { result } => write_shares(result, out),
         OfficeAnswer::Status {
-            standing,
-            callers,
+            site_status,
+            crowd,
             reserve,
-        } => write_bytes(status_line(*standing, *callers, *reserve).as_slice(), out),
-        OfficeAnswer::Site { standing } => write_bytes(site_line(*standing).as_slice(), out),
+        } => write_bytes(status_line(*site_status, *crowd, *reserve).as_slice(), out),
+        OfficeAnswer::Site { site_status } => write_bytes(site_line(*site_status).as_slice(), out),
         OfficeAnswer::Quiet => write_bytes(b"", out),
     }
 }

@@ -3,13 +3,13 @@
 ghost use Rattle.std.specs.Prelude.{◌≡◌, ◌+◌, ◌++◌, ◌≤◌};
 ghost use Rattle.arrayvec.specs.ArrayVec.{array_vec_len};
 ghost use Rattle.desk_lines.specs.Replies.{open_text};
-ghost use Rattle.live_office.specs.RecordLines.{event_line, found_line, listed_line, share_line, standing_text};
+ghost use Rattle.live_office.specs.RecordLines.{event_line, found_line, listed_line, share_line, site_status_text};
 
 use desk_lines::{reply_text, request_text};
 use plain_words::{Text, numbered, put, put_number, word};
 use request_ledger::{Reply, Request, RequestNumber};
 use rights_lattice::Event;
-use site_desk::{SiteShare, Standing};
+use site_desk::{SiteShare, SiteStatus};
 
 /// The line of a reply that was found, with its line break.
 pub fn found_line(place: u64, reply: Reply) -> Text
@@ -76,16 +76,16 @@ pub fn share_line(row: SiteShare) -> Text
 }
 
 /// The text that says which site it is, and how long its history is, without a line break.
-pub fn standing_text(standing: Standing) -> Text
-    ensures value { result.items ≡ standing_text standing }
+pub fn site_status_text(site_status: SiteStatus) -> Text
+    ensures value { result.items ≡ site_status_text site_status }
     ensures len { array_vec_len result ≤ 120 }
 {
-    let mut text = numbered(b"site ", standing.me.number());
+    let mut text = numbered(b"site ", site_status.me.number());
     put(&mut text, b" sites ");
-    put_number(&mut text, standing.sites.count());
+    put_number(&mut text, site_status.sites.count());
     put(&mut text, b" entries ");
-    put_number(&mut text, standing.entries as u64);
+    put_number(&mut text, site_status.entries as u64);
     put(&mut text, b" limit ");
-    put_number(&mut text, standing.limit.entries());
+    put_number(&mut text, site_status.limit.entries());
     text
 }

@@ -119,8 +119,8 @@ fn answer<T: Wait + Clock, R: Read + Drop, W: Write, K: Keeper, L: Opens>(
     reader: R,
     out: &mut W,
 ) -> (Result<Option<Last>, TalkFault>, Seat<L>)
-    ensures served { IsServed (admissible L.office L.began K.Keeper)
-        access shared.now.sparing (R.remaining reader) (W.contents out.old) (W.contents out.new) result.0 }
+    ensures served { IsServed (admissible L.office L.began K.Keeper) access shared.now.sparing
+        (R.remaining reader) (W.contents out.old) (W.contents out.new) result.0 }
     ensures parts { result.1.parts ≡ seat.parts }
 {
     let mut at = CallerSeat::new(shared, seat, access);

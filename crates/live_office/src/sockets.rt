@@ -16,7 +16,7 @@ use std::net::{Ipv4Addr, Net, SocketAddr, TcpListener, TcpStream};
 use std::os::fd::OwnedFd;
 use std::os::unix::net::{UnixListener, UnixStream};
 use std::rt::Files;
-use std::sync::Wait;
+use std::sync::{Mutex, Wait};
 use std::time::{Clock, Duration};
 use std::{io, thread};
 
@@ -25,6 +25,7 @@ use std::{io, thread};
 pub struct TcpDoor<'a> {
     alloc: Global,
     listener: TcpListener,
+    turn: Mutex<()>,
     closing: &'a Closing,
     places: &'a Places,
 }
@@ -35,6 +36,7 @@ pub struct TcpDoor<'a> {
 pub struct UnixDoor<'a> {
     alloc: Global,
     listener: UnixListener,
+    turn: Mutex<()>,
     closing: &'a Closing,
     places: &'a Places,
 }
@@ -70,6 +72,7 @@ impl<'a> TcpDoor<'a> {
             Ok(listener) => Ok(TcpDoor {
                 alloc,
                 listener,
+                turn: Mutex::new(()),
                 closing,
                 places,
             }),
@@ -77,7 +80,12 @@ impl<'a> TcpDoor<'a> {
         }
     }
 
-    fn accept(&self) -> io::Result<Connection> {
+    // Threads wait here one at a time, so that one alone looks each turn whether the office closes.
+    fn accept<T: Wait>(&self, rt: &T) -> io::Result<Connection> {
+        let _turn = self.turn.lock(rt);
+        if self.closing.is_closing() {
+            return Err(io::Error::from(io::ErrorKind::WouldBlock));
+        }
         let (stream, _) = self.listener.accept()?;
         Ok(Connection::from(stream))
     }
@@ -101,6 +109,7 @@ impl<'a> UnixDoor<'a> {
             Ok(listener) => Ok(UnixDoor {
                 alloc,
                 listener,
+                turn: Mutex::new(()),
                 closing,
                 places,
             }),
@@ -108,7 +117,12 @@ impl<'a> UnixDoor<'a> {
         }
     }
 
-    fn accept(&self) -> io::Result<Connection> {
+    // Threads wait here one at a time, so that one alone looks each turn whether the office closes.
+    fn accept<T: Wait>(&self, rt: &T) -> io::Result<Connection> {
+        let _turn = self.turn.lock(rt);
+        if self.closing.is_closing() {
+            return Err(io::Error::from(io::ErrorKind::WouldBlock));
+        }
         let (stream, _) = self.listener.accept()?;
         Ok(Connection::from(stream))
     }
@@ -150,7 +164,7 @@ fn access_at(is_kept: bool) -> Access
     if is_kept {
         Access::Kept
     } else {
-        Access::Office
+        Access::Operator
     }
 }
 
@@ -179,7 +193,7 @@ impl<'a> Door<Caller<'a>, BufWriter<Answers<'a>>> for TcpDoor<'a> {
             if self.closing.is_closing() {
                 break;
             }
-            let Some(connection) = connection(rt, self.accept()) else {
+            let Some(connection) = connection(rt, self.accept(rt)) else {
                 continue;
             };
             if let Some((reader, writer)) = self.placed(rt, connection) {
@@ -198,7 +212,7 @@ impl<'a> Door<Caller<'a>, BufWriter<Answers<'a>>> for UnixDoor<'a> {
             if self.closing.is_closing() {
                 break;
             }
-            let Some(connection) = connection(rt, self.accept()) else {
+            let Some(connection) = connection(rt, self.accept(rt)) else {
                 continue;
             };
             let place = self.places.take();

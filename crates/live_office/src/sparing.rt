@@ -1,8 +1,8 @@
 //! What an office does to spare its history, which takes so many entries and no more.
 
-ghost use Rattle.std.specs.Prelude.{◌≡◌, false, IfSome};
+ghost use Rattle.std.specs.Prelude.{◌≡◌, false, MatchOption};
 ghost use Rattle.live_office.specs.Admissible.{admissible};
-ghost use Rattle.live_office.specs.Sparing.{IsSpared, spared_text, uses_reserve};
+ghost use Rattle.live_office.specs.Sparing.{IsNotSpared, IsSpared, spared_text, uses_reserve};
 
 use history_keeper::Keeper;
 use plain_words::{Text, numbered, put, word};
@@ -55,8 +55,9 @@ pub(crate) fn spare<T: Wait, K: Keeper, L: Opens>(
     number: RequestNumber,
     request: &Request,
 ) -> Option<Spared>
-    ensures { IfSome result (IsSpared (admissible L.office L.began K.Keeper)
-        sparing number request.now) }
+    ensures { MatchOption result
+        (IsNotSpared (admissible L.office L.began K.Keeper) sparing number request.now)
+        (IsSpared (admissible L.office L.began K.Keeper) sparing number request.now) }
 {
     let Sparing { tells_low, reserve } = sparing;
     if reserve > 0 && !uses_reserve(request) && desk.is_reserved(rt, number, reserve) {

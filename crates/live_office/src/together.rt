@@ -27,14 +27,14 @@ const COST: u64 = 35;
 
 // What a request of a batch came to: its receipt, or None where the store failed.
 #[derive(Drop)]
-pub(crate) struct Told<K: Keeper, L: Opens> {
+pub(crate) struct RequestResult<K: Keeper, L: Opens> {
     receipt: Option<Receipt>,
     of: PhantomData<(K, L)>,
     ghost given: { ∥ IsGiven (admissible L.office L.began K.Keeper)
         receipt ∥₁ },
 }
 
-impl<K: Keeper, L: Opens> Told<K, L> {
+impl<K: Keeper, L: Opens> RequestResult<K, L> {
     pub(crate) fn has_failed(&self) -> bool {
         self.receipt.is_none()
     }
@@ -49,12 +49,12 @@ impl<K: Keeper, L: Opens> Told<K, L> {
 }
 
 // What was given for a request, for its caller; None for a refusal, since the caller asks again.
-fn told_of<K: Keeper, L: Opens>(given: &Given) -> Option<Told<K, L>>
+fn told_of<K: Keeper, L: Opens>(given: &Given) -> Option<RequestResult<K, L>>
     requires { StandsGiven L.office L.began (SiteInStep K.Keeper)
         given.now }
 {
     match given {
-        Ok((_, receipt)) => Some(Told {
+        Ok((_, receipt)) => Some(RequestResult {
             receipt: Some(*receipt),
             of: PhantomData,
         }),
@@ -63,10 +63,10 @@ fn told_of<K: Keeper, L: Opens>(given: &Given) -> Option<Told<K, L>>
 }
 
 // The same of a request that a failed store did not store.
-fn told_failed<K: Keeper, L: Opens>() -> Told<K, L>
+fn told_failed<K: Keeper, L: Opens>() -> RequestResult<K, L>
     requires { IsShut (admissible L.office L.began K.Keeper) }
 {
-    Told {
+    RequestResult {
         receipt: None,
         of: PhantomData,
     }
@@ -74,7 +74,7 @@ fn told_failed<K: Keeper, L: Opens>() -> Told<K, L>
 
 // What a caller is told of its own request; None where another asks it again.
 pub(crate) fn own_result<K: Keeper, L: Opens>(
-    told: Told<K, L>,
+    told: RequestResult<K, L>,
     number: RequestNumber,
     request: &Request,
 ) -> Option<Result<Receipt, AskFault>>
@@ -106,7 +106,7 @@ enum Word {
 #[derive(Drop)]
 struct Notice<K: Keeper, L: Opens> {
     word: Word,
-    told: Vec<Told<K, L>>,
+    told: Vec<RequestResult<K, L>>,
 }
 
 // Where one caller waits. Nobody else is woken there.
@@ -146,7 +146,7 @@ impl<K: Keeper, L: Opens> Slot<K, L> {
     }
 
     // Puts down what a request of the caller here came to. Where memory is refused for it, the caller asks again.
-    fn put<T: Wait>(&self, rt: &T, told: Told<K, L>) {
+    fn put<T: Wait>(&self, rt: &T, told: RequestResult<K, L>) {
         let _ = self.notice.lock(rt).told.push(told);
     }
 
@@ -163,7 +163,7 @@ impl<K: Keeper, L: Opens> Slot<K, L> {
     }
 
     // Takes what the requests of the caller here came to, and lets the slot go.
-    fn leave<T: Wait>(&self, rt: &T, alloc: Global) -> Vec<Told<K, L>> {
+    fn leave<T: Wait>(&self, rt: &T, alloc: Global) -> Vec<RequestResult<K, L>> {
         let mut notice = self.notice.lock(rt);
         notice.word = Word::Free;
         mem::replace(&mut notice.told, Vec::new(alloc))
@@ -186,7 +186,8 @@ impl AskedRow {
     }
 
     pub(crate) fn push(&mut self, asked: &[(RequestNumber, Request)]) -> Result<(), AllocError>
-        ensures pushed { OnOk result (self.new.requests.items ≡ self.old.requests.items ++ asked.now) }
+        ensures pushed { OnOk result
+            (self.new.requests.items ≡ self.old.requests.items ++ asked.now) }
         ensures same { OnErr result (self.new.requests.items ≡ self.old.requests.items) }
     {
         self.requests.extend_from_slice(asked)?;
@@ -259,6 +260,8 @@ enum Part {
 struct Queue {
     has_leader: bool,
     is_gathering: bool,
+    // How many callers the batch has that is being asked.
+    asking: usize,
     expected: usize,
     patience: Duration,
     batch: Batch,
@@ -269,6 +272,7 @@ impl Queue {
         Queue {
             has_leader: false,
             is_gathering: false,
+            asking: 0,
             expected: 0,
             patience: Duration::ZERO,
             batch: Batch::new(alloc),
@@ -281,6 +285,7 @@ impl Queue {
             return false;
         }
         self.has_leader = true;
+        self.asking = 1;
         true
     }
 
@@ -312,11 +317,13 @@ impl Queue {
     // The batch of all who wait.
     fn take_batch(&mut self, alloc: Global) -> Batch {
         self.is_gathering = false;
+        self.asking = self.batch.callers.len();
         mem::replace(&mut self.batch, Batch::new(alloc))
     }
 
     // So many callers were answered so many requests in this time. The slot of who leads next, if anybody waits.
     fn end_batch(&mut self, callers: usize, requests: usize, took: Duration) -> Option<usize> {
+        self.asking = 0;
         self.expected = callers.saturating_add(self.batch.callers.len());
         let cost = Duration::from_micros(COST.saturating_mul(requests as u64));
         self.patience = if took > cost {
@@ -362,6 +369,12 @@ impl<K: Keeper, L: Opens> Together<K, L> {
             slots,
             next_slot: AtomicU64::new(0),
         }
+    }
+
+    /// How many callers have requests in the batch that is being asked, and how many wait for the next.
+    pub fn asking_and_waiting<T: Wait>(&self, rt: &T) -> (u64, u64) {
+        let queue = self.queue.lock(rt);
+        (queue.asking as u64, queue.batch.callers.len() as u64)
     }
 
     fn say<T: Wait>(&self, rt: &T, slot: usize, word: Word) {
@@ -463,7 +476,7 @@ impl<K: Keeper, L: Opens> Together<K, L> {
         at: usize,
         slot: &Slot<K, L>,
         requests: &[(RequestNumber, Request)],
-    ) -> Vec<Told<K, L>>
+    ) -> Vec<RequestResult<K, L>>
         ensures { seat.new.parts ≡ seat.old.parts }
     {
         let part = self.queue.lock(rt).join(at, requests);
@@ -487,7 +500,7 @@ impl<K: Keeper, L: Opens> Together<K, L> {
         desk: &Desk<K, L>,
         seat: &mut Seat<L>,
         requests: &[(RequestNumber, Request)],
-    ) -> Vec<Told<K, L>>
+    ) -> Vec<RequestResult<K, L>>
         ensures { seat.new.parts ≡ seat.old.parts }
     {
         let at = (self.next_slot.fetch_add(1, Ordering::SeqCst) % SLOTS) as usize;

@@ -27,9 +27,9 @@ pub(crate) const CLERK_THREADS: u32 = CLERKS + 1;
 // The threads at the operators' door: two more, for places that are kept for `status` and `close`.
 pub(crate) const OPERATOR_THREADS: u32 = OPERATORS + 2;
 
-// An office: its doors, and what all callers share.
+// The doors of an office, and what all callers share.
 #[derive(Drop)]
-pub(crate) struct Office<'a, K: Keeper, L: Opens, C, O> {
+pub(crate) struct OfficeDoors<'a, K: Keeper, L: Opens, C, O> {
     pub(crate) shared: &'a Shared<'a, K, L>,
     pub(crate) clerks: &'a C,
     pub(crate) operators: &'a O,
@@ -69,13 +69,13 @@ fn work<
     O: Door<R, W>,
     K: Keeper,
     L: Opens,
->(rt: &T, office: &Office<'_, K, L, C, O>, seat: Seat<L>, number: u32) -> Seat<L>
+>(rt: &T, doors: &OfficeDoors<'_, K, L, C, O>, seat: Seat<L>, number: u32) -> Seat<L>
     ensures parts { result.parts ≡ seat.parts }
 {
     if number <= OPERATOR_THREADS {
-        work_at(rt, office.shared, seat, office.operators)
+        work_at(rt, doors.shared, seat, doors.operators)
     } else {
-        work_at(rt, office.shared, seat, office.clerks)
+        work_at(rt, doors.shared, seat, doors.clerks)
     }
 }
 
@@ -103,7 +103,7 @@ pub(crate) fn work_all<
 >(
     scope: &'s Scope<'s, E>,
     rt: &'s T,
-    office: &'s Office<'s, K, L, C, O>,
+    doors: &'s OfficeDoors<'s, K, L, C, O>,
     seat: Seat<L>,
     count: u32,
     seats: &mut Vec<Seat<L>>,
@@ -120,15 +120,15 @@ pub(crate) fn work_all<
     }
     let (rest, own) = seat.split();
     let begun = Begun(Snapshot::of(&own));
-    let thread = match scope.spawn_with(begun, move || work(rt, office, own, count)) {
+    let thread = match scope.spawn_with(begun, move || work(rt, doors, own, count)) {
         Ok(thread) => thread,
         Err(refused) => {
-            office.shared.closing.not_staffed(refused);
+            doors.shared.closing.not_staffed(refused);
             seats.push_reserved(rest);
             return false;
         }
     };
-    let all = work_all(scope, rt, office, rest, count - 1, seats);
+    let all = work_all(scope, rt, doors, rest, count - 1, seats);
     seats.push_reserved(thread.join(rt));
     all
 }

@@ -21,10 +21,12 @@ own : (X : Cells) (e : List ℕ) (i : ℕ) → matrix_of X e i i ≡ value_at X 
 own X e i = ap (λ b. cond b (value_at X e (Gave i i) + value_at X e (Back i)) (value_at X e (Gave i i))) (nat_eq_equiv.refl i)
 
 column : (X : Cells) (e : List ℕ) (i : ℕ) → sum_below max_sites (λ j. ceded_in X e j i) ≡ sum_others i (λ j. matrix_of X e j i)
-column X e i = sum_below_same max_sites _ _ (λ j l. ap (λ b. cond b 0 (value_at X e (Gave j i))) (nat_eq_equiv.symm j i) ∙ off_diagonal (nat_eq i j) (nat_eq j i) (value_at X e (Gave j j) + value_at X e (Back j)) (value_at X e (Gave j i)) (nat_eq_equiv.symm i j))
+column X e i = sum_below_same max_sites _ _ (λ j l. ap (λ b. cond b 0 (value_at X e (Gave j i))) (nat_eq_equiv.symm j i)
+    ∙ off_diagonal (nat_eq i j) (nat_eq j i) (value_at X e (Gave j j) + value_at X e (Back j)) (value_at X e (Gave j i)) (nat_eq_equiv.symm i j))
 
 row : (X : Cells) (e : List ℕ) (i : ℕ) → sum_below max_sites (λ j. ceded_in X e i j) ≡ sum_others i (λ j. matrix_of X e i j)
-row X e i = sum_below_same max_sites _ _ (λ j l. ap (λ b. cond b 0 (value_at X e (Gave i j))) (nat_eq_equiv.symm i j) ∙ off_diagonal (nat_eq j i) (nat_eq j i) (value_at X e (Gave i i) + value_at X e (Back i)) (value_at X e (Gave i j)) refl)
+row X e i = sum_below_same max_sites _ _ (λ j l. ap (λ b. cond b 0 (value_at X e (Gave i j))) (nat_eq_equiv.symm i j)
+    ∙ off_diagonal (nat_eq j i) (nat_eq j i) (value_at X e (Gave i i) + value_at X e (Back i)) (value_at X e (Gave i j)) refl)
 
 pub rights_are_local_rights : RightsAreLocalRights
 rights_are_local_rights X e i =

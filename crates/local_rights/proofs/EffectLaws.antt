@@ -30,14 +30,18 @@ rise false v w value h = omega arith
 pub raised : (X : Cells) (m : Valued) → Rises X (raise X m) m.event m.cell (m.value - value_at X m.event m.cell)
 raised X m = record { at = λ c. value_at-raise X m m.event c ∙ by_test c (same_cell c m.cell) refl }
   where
-    by_test : (c : Cell) (b : Bool) → same_cell c m.cell ≡ b → max (value_at X m.event c) (value_in m m.event c) ≡ value_at X m.event c + cond (same_cell c m.cell) (m.value - value_at X m.event m.cell) 0
+    by_test : (c : Cell) (b : Bool) → same_cell c m.cell ≡ b
+        → max (value_at X m.event c) (value_in m m.event c) ≡ value_at X m.event c + cond (same_cell c m.cell) (m.value - value_at X m.event m.cell) 0
     by_test c true t =
-        let is : value_in m m.event c ≡ m.value = value_in-tests m m.event c ∙ ap (λ b. cond (b && same_cell c m.cell) m.value 0) (same_event_self m.event) ∙ ap (λ b. cond b m.value 0) t in
+        let is : value_in m m.event c ≡ m.value = value_in-tests m m.event c ∙ ap (λ b. cond (b && same_cell c m.cell) m.value 0) (same_event_self m.event)
+        ∙ ap (λ b. cond b m.value 0) t in
         let here : value_at X m.event c ≡ value_at X m.event m.cell = ap (value_at X m.event) (same_cell_is c m.cell t) in
-        let more : cond (same_cell c m.cell) (m.value - value_at X m.event m.cell) 0 ≡ m.value - value_at X m.event m.cell = ap (λ b. cond b (m.value - value_at X m.event m.cell) 0) t in
+        let more : cond (same_cell c m.cell) (m.value - value_at X m.event m.cell) 0 ≡ m.value - value_at X m.event m.cell = ap
+        (λ b. cond b (m.value - value_at X m.event m.cell) 0) t in
         omega (arith, is, here, more)
     by_test c false f =
-        let is : value_in m m.event c ≡ 0 = value_in-tests m m.event c ∙ ap (λ b. cond (b && same_cell c m.cell) m.value 0) (same_event_self m.event) ∙ ap (λ b. cond b m.value 0) f in
+        let is : value_in m m.event c ≡ 0 = value_in-tests m m.event c ∙ ap (λ b. cond (b && same_cell c m.cell) m.value 0) (same_event_self m.event)
+        ∙ ap (λ b. cond b m.value 0) f in
         let more : cond (same_cell c m.cell) (m.value - value_at X m.event m.cell) 0 ≡ 0 = ap (λ b. cond b (m.value - value_at X m.event m.cell) 0) f in
         omega (arith, is, more)
 
@@ -60,7 +64,8 @@ one_below (suc n) t a h = elim (cases_eq n t) [
 ]
 
 -- the terms of the two sums, cell by cell
-got_more : (me by to j v more : ℕ) → to ≡ me → by ≢ me → cond (j == me) 0 (v + cond ((j == by) && (me == to)) more 0) ≡ cond (j == me) 0 v + cond (j == by) more 0
+got_more : (me by to j v more : ℕ) → to ≡ me → by ≢ me
+    → cond (j == me) 0 (v + cond ((j == by) && (me == to)) more 0) ≡ cond (j == me) 0 v + cond (j == by) more 0
 got_more me by to j v more h k = grind (arith, nat_tests)
 
 got_own : (me by to j v more : ℕ) → by ≡ me → cond (j == me) 0 (v + cond ((j == by) && (me == to)) more 0) ≡ cond (j == me) 0 v
@@ -69,7 +74,8 @@ got_own me by to j v more h = grind (arith, nat_tests)
 got_other : (me by to j v more : ℕ) → to ≢ me → cond (j == me) 0 (v + cond ((j == by) && (me == to)) more 0) ≡ cond (j == me) 0 v
 got_other me by to j v more h = grind (arith, nat_tests)
 
-gave_more : (me by to j v more : ℕ) → by ≡ me → to ≢ me → cond (me == j) 0 (v + cond ((me == by) && (j == to)) more 0) ≡ cond (me == j) 0 v + cond (j == to) more 0
+gave_more : (me by to j v more : ℕ) → by ≡ me → to ≢ me
+    → cond (me == j) 0 (v + cond ((me == by) && (j == to)) more 0) ≡ cond (me == j) 0 v + cond (j == to) more 0
 gave_more me by to j v more h k = grind (arith, nat_tests)
 
 gave_own : (me by to j v more : ℕ) → to ≡ me → cond (me == j) 0 (v + cond ((me == by) && (j == to)) more 0) ≡ cond (me == j) 0 v
@@ -128,9 +134,11 @@ loss-adds more = refl
 pub moves : (X Y : Cells) (e : List ℕ) (d : Cell) (n me more : ℕ) → Rises X Y e d more → IsCellOf n d → n ≤ max_sites → Moves X Y e me (effect_of d me) more
 moves X Y e (Used by) n me more rises of few =
     let got : sum_below max_sites (λ j. ceded_in Y e j me) ≡ sum_below max_sites (λ j. ceded_in X e j me) =
-    sum_below_same max_sites _ _ (λ j l. ap (cond (j == me) 0) (let same : value_at Y e (Gave j me) ≡ value_at X e (Gave j me) = omega (arith, rises.at (Gave j me)) in same)) in
+    sum_below_same max_sites _ _ (λ j l.
+    ap (cond (j == me) 0) (let same : value_at Y e (Gave j me) ≡ value_at X e (Gave j me) = omega (arith, rises.at (Gave j me)) in same)) in
     let gave : sum_below max_sites (λ j. ceded_in Y e me j) ≡ sum_below max_sites (λ j. ceded_in X e me j) =
-    sum_below_same max_sites _ _ (λ j l. ap (cond (me == j) 0) (let same : value_at Y e (Gave me j) ≡ value_at X e (Gave me j) = omega (arith, rises.at (Gave me j)) in same)) in
+    sum_below_same max_sites _ _ (λ j l.
+    ap (cond (me == j) 0) (let same : value_at Y e (Gave me j) ≡ value_at X e (Gave me j) = omega (arith, rises.at (Gave me j)) in same)) in
     let turned : cond (me == by) more 0 ≡ cond (by == me) more 0 = ap (λ b. cond b more 0) (nat_eq_equiv.symm me by) in
     record {
       gained_is = omega (arith, got, takes_gain (by == me) more, rises.at (Gave me me), rises.at (Back me));
@@ -138,9 +146,11 @@ moves X Y e (Used by) n me more rises of few =
     }
 moves X Y e (Back by) n me more rises of few =
     let got : sum_below max_sites (λ j. ceded_in Y e j me) ≡ sum_below max_sites (λ j. ceded_in X e j me) =
-    sum_below_same max_sites _ _ (λ j l. ap (cond (j == me) 0) (let same : value_at Y e (Gave j me) ≡ value_at X e (Gave j me) = omega (arith, rises.at (Gave j me)) in same)) in
+    sum_below_same max_sites _ _ (λ j l.
+    ap (cond (j == me) 0) (let same : value_at Y e (Gave j me) ≡ value_at X e (Gave j me) = omega (arith, rises.at (Gave j me)) in same)) in
     let gave : sum_below max_sites (λ j. ceded_in Y e me j) ≡ sum_below max_sites (λ j. ceded_in X e me j) =
-    sum_below_same max_sites _ _ (λ j l. ap (cond (me == j) 0) (let same : value_at Y e (Gave me j) ≡ value_at X e (Gave me j) = omega (arith, rises.at (Gave me j)) in same)) in
+    sum_below_same max_sites _ _ (λ j l.
+    ap (cond (me == j) 0) (let same : value_at Y e (Gave me j) ≡ value_at X e (Gave me j) = omega (arith, rises.at (Gave me j)) in same)) in
     let turned : cond (me == by) more 0 ≡ cond (by == me) more 0 = ap (λ b. cond b more 0) (nat_eq_equiv.symm me by) in
     record {
       gained_is = omega (arith, got, turned, adds_gain (by == me) more, rises.at (Gave me me), rises.at (Back me));
@@ -148,25 +158,39 @@ moves X Y e (Back by) n me more rises of few =
     }
 moves X Y e (Gave by to) n me more rises of few = by_sites (eqb_tells to me) (eqb_tells by me)
   where
-    got_each : (u : ℕ → ℕ) → ((j : ℕ) → cond (j == me) 0 (value_at X e (Gave j me) + cond ((j == by) && (me == to)) more 0) ≡ ceded_in X e j me + u j) → sum_below max_sites (λ j. ceded_in Y e j me) ≡ sum_below max_sites (λ j. ceded_in X e j me) + sum_below max_sites u
-    got_each u each = sum_below_same max_sites _ _ (λ j l. ap (cond (j == me) 0) (rises.at (Gave j me)) ∙ each j) ∙ sum_below-add max_sites (λ j. ceded_in X e j me) u
+    got_each : (u : ℕ → ℕ) → ((j : ℕ) → cond (j == me) 0 (value_at X e (Gave j me) + cond ((j == by) && (me == to)) more 0) ≡ ceded_in X e j me + u j)
+        → sum_below max_sites (λ j. ceded_in Y e j me) ≡ sum_below max_sites (λ j. ceded_in X e j me) + sum_below max_sites u
+    got_each u each = sum_below_same max_sites _ _ (λ j l. ap (cond (j == me) 0) (rises.at (Gave j me)) ∙ each j)
+        ∙ sum_below-add max_sites (λ j. ceded_in X e j me) u
 
-    gave_each : (u : ℕ → ℕ) → ((j : ℕ) → cond (me == j) 0 (value_at X e (Gave me j) + cond ((me == by) && (j == to)) more 0) ≡ ceded_in X e me j + u j) → sum_below max_sites (λ j. ceded_in Y e me j) ≡ sum_below max_sites (λ j. ceded_in X e me j) + sum_below max_sites u
-    gave_each u each = sum_below_same max_sites _ _ (λ j l. ap (cond (me == j) 0) (rises.at (Gave me j)) ∙ each j) ∙ sum_below-add max_sites (λ j. ceded_in X e me j) u
+    gave_each : (u : ℕ → ℕ) → ((j : ℕ) → cond (me == j) 0 (value_at X e (Gave me j) + cond ((me == by) && (j == to)) more 0) ≡ ceded_in X e me j + u j)
+        → sum_below max_sites (λ j. ceded_in Y e me j) ≡ sum_below max_sites (λ j. ceded_in X e me j) + sum_below max_sites u
+    gave_each u each = sum_below_same max_sites _ _ (λ j l. ap (cond (me == j) 0) (rises.at (Gave me j)) ∙ each j)
+        ∙ sum_below-add max_sites (λ j. ceded_in X e me j) u
 
-    got_none : ((j : ℕ) → cond (j == me) 0 (value_at X e (Gave j me) + cond ((j == by) && (me == to)) more 0) ≡ ceded_in X e j me) → sum_below max_sites (λ j. ceded_in Y e j me) ≡ sum_below max_sites (λ j. ceded_in X e j me)
+    got_none : ((j : ℕ) → cond (j == me) 0 (value_at X e (Gave j me) + cond ((j == by) && (me == to)) more 0) ≡ ceded_in X e j me)
+        → sum_below max_sites (λ j. ceded_in Y e j me) ≡ sum_below max_sites (λ j. ceded_in X e j me)
     got_none each = sum_below_same max_sites _ _ (λ j l. ap (cond (j == me) 0) (rises.at (Gave j me)) ∙ each j)
 
-    gave_none : ((j : ℕ) → cond (me == j) 0 (value_at X e (Gave me j) + cond ((me == by) && (j == to)) more 0) ≡ ceded_in X e me j) → sum_below max_sites (λ j. ceded_in Y e me j) ≡ sum_below max_sites (λ j. ceded_in X e me j)
+    gave_none : ((j : ℕ) → cond (me == j) 0 (value_at X e (Gave me j) + cond ((me == by) && (j == to)) more 0) ≡ ceded_in X e me j)
+        → sum_below max_sites (λ j. ceded_in Y e me j) ≡ sum_below max_sites (λ j. ceded_in X e me j)
     gave_none each = sum_below_same max_sites _ _ (λ j l. ap (cond (me == j) 0) (rises.at (Gave me j)) ∙ each j)
 
     effect : (b d : Bool) → (to == me) ≡ b → (by == me) ≡ d → effect_of (Gave by to) me ≡ cond b Adds (cond d Takes Leaves)
     effect b d p q = ap (λ x. cond x Adds (cond (by == me) Takes Leaves)) p ∙ ap (λ x. cond b Adds (cond x Takes Leaves)) q
 
-    by_sites : (((to == me) ≡ true) × (to ≡ me)) ⊎ (((to == me) ≡ false) × (to ≢ me)) → (((by == me) ≡ true) × (by ≡ me)) ⊎ (((by == me) ≡ false) × (by ≢ me)) → Moves X Y e me (effect_of (Gave by to) me) more
+    by_sites : (((to == me) ≡ true) × (to ≡ me)) ⊎ (((to == me) ≡ false) × (to ≢ me))
+        → (((by == me) ≡ true) × (by ≡ me)) ⊎ (((by == me) ≡ false) × (by ≢ me)) → Moves X Y e me (effect_of (Gave by to) me) more
     by_sites (inl p) (inl q) =
         subst (λ x. Moves X Y e me x more) (sym (effect true true p.0 q.0)) record {
-          gained_is = omega (arith, gain-adds more, own_more me by to more q.1 p.1, got_none (λ j. got_own me by to j (value_at X e (Gave j me)) more q.1), rises.at (Gave me me), rises.at (Back me));
+          gained_is = omega (
+            arith,
+            gain-adds more,
+            own_more me by to more q.1 p.1,
+            got_none (λ j. got_own me by to j (value_at X e (Gave j me)) more q.1),
+            rises.at (Gave me me),
+            rises.at (Back me),
+          );
           spent_is = omega (arith, loss-adds more, gave_none (λ j. gave_own me by to j (value_at X e (Gave me j)) more p.1), rises.at (Used me));
         }
     by_sites (inl p) (inr q) =
@@ -184,7 +208,14 @@ moves X Y e (Gave by to) n me more rises of few = by_sites (eqb_tells to me) (eq
         }
     by_sites (inr p) (inl q) =
         subst (λ x. Moves X Y e me x more) (sym (effect false true p.0 q.0)) record {
-          gained_is = omega (arith, takes_gain true more, own_to_others me by to more p.1, got_none (λ j. got_other me by to j (value_at X e (Gave j me)) more p.1), rises.at (Gave me me), rises.at (Back me));
+          gained_is = omega (
+            arith,
+            takes_gain true more,
+            own_to_others me by to more p.1,
+            got_none (λ j. got_other me by to j (value_at X e (Gave j me)) more p.1),
+            rises.at (Gave me me),
+            rises.at (Back me),
+          );
           spent_is = omega (
             arith,
             takes_loss true more,
@@ -195,18 +226,27 @@ moves X Y e (Gave by to) n me more rises of few = by_sites (eqb_tells to me) (eq
         }
     by_sites (inr p) (inr q) =
         subst (λ x. Moves X Y e me x more) (sym (effect false false p.0 q.0)) record {
-          gained_is = omega (arith, takes_gain false more, own_to_others me by to more p.1, got_none (λ j. got_other me by to j (value_at X e (Gave j me)) more p.1), rises.at (Gave me me), rises.at (Back me));
+          gained_is = omega (
+            arith,
+            takes_gain false more,
+            own_to_others me by to more p.1,
+            got_none (λ j. got_other me by to j (value_at X e (Gave j me)) more p.1),
+            rises.at (Gave me me),
+            rises.at (Back me),
+          );
           spent_is = omega (arith, takes_loss false more, gave_none (λ j. gave_other me by to j (value_at X e (Gave me j)) more q.1), rises.at (Used me));
         }
 
 -- what is left and what was spent are what was gained, once the cell has risen
-pub split_after : (X Y : Cells) (e : List ℕ) (me : ℕ) (effect : Effect) (more left : ℕ) → Moves X Y e me effect more → left + spent X e me ≡ gained X e me → HasRights Y e me → left_after effect left more + spent Y e me ≡ gained Y e me
+pub split_after : (X Y : Cells) (e : List ℕ) (me : ℕ) (effect : Effect) (more left : ℕ) → Moves X Y e me effect more → left + spent X e me ≡ gained X e me
+    → HasRights Y e me → left_after effect left more + spent Y e me ≡ gained Y e me
 split_after X Y e me Adds more left moved split has = omega (arith, moved.gained_is, moved.spent_is, split, has)
 split_after X Y e me Takes more left moved split has = omega (arith, moved.gained_is, moved.spent_is, split, has)
 split_after X Y e me Leaves more left moved split has = omega (arith, moved.gained_is, moved.spent_is, split, has)
 
 -- no more is taken than is left
-pub taken_is_left : (X Y : Cells) (e : List ℕ) (me : ℕ) (effect : Effect) (more left : ℕ) → Moves X Y e me effect more → left + spent X e me ≡ gained X e me → HasRights Y e me → effect ≡ Takes → more ≤ left
+pub taken_is_left : (X Y : Cells) (e : List ℕ) (me : ℕ) (effect : Effect) (more left : ℕ) → Moves X Y e me effect more
+    → left + spent X e me ≡ gained X e me → HasRights Y e me → effect ≡ Takes → more ≤ left
 taken_is_left X Y e me Adds more left moved split has is = cc
 taken_is_left X Y e me Takes more left moved split has is = omega (arith, moved.gained_is, moved.spent_is, split, has)
 taken_is_left X Y e me Leaves more left moved split has is = cc

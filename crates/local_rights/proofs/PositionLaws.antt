@@ -47,7 +47,8 @@ holds a b h = grind (arith, nat_tests)
 
 pub position_of_test : (sites : ℕ) (X : Cells) (e : List ℕ) → sites ≤ max_sites → IsWithin sites X → is_position X e ≡ true → IsPosition X e
 position_of_test sites X e few within test =
-    position_below sites X e within (λ i l. tested (spent X e i) (gained X e i) (each_of_all max_sites (λ j. nat_le (spent X e j) (gained X e j)) test i (omega (arith, l, few))))
+    position_below sites X e within
+    (λ i l. tested (spent X e i) (gained X e i) (each_of_all max_sites (λ j. nat_le (spent X e j) (gained X e j)) test i (omega (arith, l, few))))
 
 pub test_of_position : (X : Cells) (e : List ℕ) → IsPosition X e → is_position X e ≡ true
 test_of_position X e position = all_of_each max_sites (λ j. nat_le (spent X e j) (gained X e j)) (λ i l. holds (spent X e i) (gained X e i) (position i))
@@ -58,7 +59,8 @@ sold_within X e position =
     let all =
     balance max_sites (λ i. value_at X e (Gave i i) + value_at X e (Back i)) (λ i. value_at X e (Used i)) (λ i j. ceded_in X e i j) (λ i j. ceded_in X e j i)
     (λ i j l m. let same : ceded_in X e j i ≤ ceded_in X e j i = omega arith in same)
-    (λ i l. let split : sum_below max_sites (λ j. ceded_in X e i j) + value_at X e (Used i) ≤ value_at X e (Gave i i) + value_at X e (Back i) + sum_below max_sites (λ j. ceded_in X e j i) = omega (arith, position i) in split) in
+    (λ i l. let split : sum_below max_sites (λ j. ceded_in X e i j) + value_at X e (Used i) ≤ value_at X e (Gave i i) + value_at X e (Back i) + sum_below
+    max_sites (λ j. ceded_in X e j i) = omega (arith, position i) in split) in
     omega (arith, all, sum_below-add max_sites (λ i. value_at X e (Gave i i)) (λ i. value_at X e (Back i)))
 
 pub open_at : (X : Cells) (e : List ℕ) → IsPosition X e → open_seats_in X e ≡ Some (released_in X e + refunded_in X e - sold_in X e)
@@ -81,7 +83,8 @@ none_is_some h = cc
 pub open_seats_are_the_counters : OpenSeatsAreTheCounters
 open_seats_are_the_counters sites X e few within = by_test (is_position X e) refl
   where
-    by_test : (b : Bool) → is_position X e ≡ b → (IsSome (open_seats_in X e) ↔ IsPosition X e) × IfSome (open_seats_in X e) (λ seats. pos seats ≡ paper_value X e)
+    by_test : (b : Bool) → is_position X e ≡ b → (IsSome (open_seats_in X e) ↔ IsPosition X e)
+        × IfSome (open_seats_in X e) (λ seats. pos seats ≡ paper_value X e)
     by_test true t =
         let position = position_of_test sites X e few within t in
         let is = open_at X e position in (

@@ -26,11 +26,13 @@ or_zero true v h = refl
 or_zero false v h = h
 
 -- the sums over the sites below n are the sums over all sites
-pub got_by : (n m : ℕ) (X : Cells) (e : List ℕ) (i : ℕ) → IsWithin n X → n ≤ m → m ≤ max_sites → sum_below max_sites (λ j. ceded_in X e j i) ≡ sum_below m (λ j. ceded_in X e j i)
+pub got_by : (n m : ℕ) (X : Cells) (e : List ℕ) (i : ℕ) → IsWithin n X → n ≤ m → m ≤ max_sites
+    → sum_below max_sites (λ j. ceded_in X e j i) ≡ sum_below m (λ j. ceded_in X e j i)
 got_by n m X e i within le few =
     sum_below_more m max_sites (λ j. ceded_in X e j i) few (λ j l. or_zero (j == i) _ (outside n X e (Gave j i) within (λ h. omega (arith, h.0, l, le))))
 
-pub given_by : (n m : ℕ) (X : Cells) (e : List ℕ) (i : ℕ) → IsWithin n X → n ≤ m → m ≤ max_sites → sum_below max_sites (λ j. ceded_in X e i j) ≡ sum_below m (λ j. ceded_in X e i j)
+pub given_by : (n m : ℕ) (X : Cells) (e : List ℕ) (i : ℕ) → IsWithin n X → n ≤ m → m ≤ max_sites
+    → sum_below max_sites (λ j. ceded_in X e i j) ≡ sum_below m (λ j. ceded_in X e i j)
 given_by n m X e i within le few =
     sum_below_more m max_sites (λ j. ceded_in X e i j) few (λ j l. or_zero (i == j) _ (outside n X e (Gave i j) within (λ h. omega (arith, h.1, l, le))))
 

@@ -28,6 +28,11 @@ view_in X event = record {
   open_seats = open_seats_in X event;
 }
 
+-- these seats are told where the view is a position, and where they are told they are the counter's value
+pub record AreOpenSeats (X : Cells) (event : List ℕ) (seats : Option ℕ) : Type 0 where
+  pub position : IsSome seats ↔ IsPosition X event
+  pub value : IfSome seats (λ n. pos n ≡ paper_value X event)
+
 -- over any count of sites, the open seats are the counter's value where the view is a position, and none where it is not
 abbrev pub OpenSeatsAreTheCounters : Type 0
 OpenSeatsAreTheCounters = (sites : ℕ) (X : Cells) (event : List ℕ) → sites ≤ max_sites → IsWithin sites X

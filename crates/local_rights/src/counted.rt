@@ -1,13 +1,12 @@
 //! A state of rights, with the rights that one site has left kept beside it.
-ghost use Rattle.std.specs.Prelude.{◌≡◌, ℕ, ◌+◌, ◌^◌, ◌<◌, ◌≤◌, List, OnOk, IsOk, Some, None, pos, ◌==◌, if◌then◌else◌, IsSome};
+ghost use Rattle.std.specs.Prelude.{◌≡◌, ◌+◌, ◌^◌, ◌<◌, ◌≤◌, OnOk, IsOk, None, pos, ◌==◌, if◌then◌else◌};
 ghost use Rattle.std.specs.Map.{lookup};
 ghost use Rattle.indexmap.specs.IndexMap.{spare};
 ghost use Rattle.rights_lattice.specs.Cell.{same_event};
 ghost use Rattle.rights_lattice.specs.Cells.{greatest_value, value_at, all_zero, raise};
 ghost use Rattle.rights_lattice.specs.RightsView.{IsCellOf};
 ghost use Rattle.local_rights.specs.declared.effect.Effect.TheVariants.{Takes};
-ghost use Rattle.local_rights.specs.Counted.{left_in};
-ghost use Rattle.local_rights.specs.Effects.{left_after};
+ghost use Rattle.local_rights.specs.Counted.{left_in, HasKept, IsKeptAfter};
 ghost use Rattle.local_rights.specs.Rights.{HasRights, left_of, rights_of};
 
 use crate::effect::Effect;
@@ -151,10 +150,9 @@ fn keep(kept: &mut IndexMap<Event, u64>, event: Event, effect: Effect, more: u64
     requires room { lookup (same_event event) kept.old.entries ≡ None → 0 < spare kept.old }
     requires fits { left_in kept.old.entries event + more < 2 ^ 64 }
     requires takes { effect ≡ Takes → more ≤ left_in kept.old.entries event }
-    ensures left { (name : List ℕ) → lookup (same_event name) kept.new.entries
-        ≡ (if same_event event name then Some (left_after effect (left_in kept.old.entries event) more) else lookup (same_event name) kept.old.entries) }
+    ensures left { IsKeptAfter kept.old.entries event effect more kept.new.entries }
     ensures room { spare kept.old ≤ spare kept.new + 1 }
-    ensures known { IsSome (lookup (same_event event) kept.old.entries) → spare kept.old ≤ spare kept.new }
+    ensures known { HasKept kept.old.entries event → spare kept.old ≤ spare kept.new }
 {
     match kept.get_mut(&event) {
         Some(left) => *left = effect.apply(*left, more),

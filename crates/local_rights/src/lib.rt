@@ -9,6 +9,10 @@
 //! `laws::rights_are_a_bounded_counter` equates them with the local rights of SRDS 2015, plus what was taken back (our
 //! own), and `laws::open_seats_are_the_counters` equates open seats with the counter's value.
 //!
+//! A new sum over a view is a function beside `totals` (`rights.rt`, `specs/Rights.antt`) or `open_seats`
+//! (`position.rt`, `specs/OpenSeats.antt`). What an operation does to `Counted` is a variant of `Effect`, with its
+//! case in `specs/Effects.antt`.
+//!
 //! Lemmas for callers: `KeptLaws`, `PositionLaws`, `Sums`, `Within`.
 #![tactic(auto)]
 

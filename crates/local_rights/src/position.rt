@@ -1,7 +1,7 @@
 //! The seats that are open by a view.
-ghost use Rattle.std.specs.Prelude.{◌≡◌, ◌↔◌, IsSome, IfSome, IsTrue, pos};
-ghost use Rattle.local_rights.specs.OpenSeats.{open_seats_in};
-ghost use Rattle.local_rights.specs.Rights.{HasRights, IsPosition, paper_value};
+ghost use Rattle.std.specs.Prelude.{◌≡◌, ◌↔◌, IsTrue};
+ghost use Rattle.local_rights.specs.OpenSeats.{open_seats_in, AreOpenSeats};
+ghost use Rattle.local_rights.specs.Rights.{HasRights};
 
 use crate::rights::{gained_and_spent, totals};
 use rights_lattice::{Event, Rights, SiteId};
@@ -10,8 +10,7 @@ use rights_lattice::{Event, Rights, SiteId};
 /// where the view is no position, as after a forged delta: by it some site spent more than it gained.
 pub fn open_seats(rights: &Rights, event: Event) -> Option<u64>
     ensures open { result ≡ open_seats_in rights.now.cells event }
-    ensures position { IsSome result ↔ IsPosition rights.now.cells event }
-    ensures value { IfSome result (λ seats. pos seats ≡ paper_value rights.now.cells event) }
+    ensures seats { AreOpenSeats rights.now.cells event result }
 {
     let sites = rights.sites();
     for number in 0..sites.count() {

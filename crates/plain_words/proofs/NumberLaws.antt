@@ -27,7 +27,8 @@ not_digits word i lt h = false_from_ne_true _ (λ e. h (digit_at word i (own.to 
 
 pub none_at_byte : (low high : ℕ) (word : List ℕ) (i : ℕ) → i < length word → (IsInRange 48 57 (get_or word i 0) → ⊥) → None ≡ number_of low high word
 unfolding number_of
-none_at_byte low high word i lt h = none_when _ (digits_value 10 word) (and_left _ _ (and_left _ _ (and_right (starts_plainly word) _ (not_digits word i lt h))))
+none_at_byte low high word i lt h = none_when _ (digits_value 10 word)
+    (and_left _ _ (and_left _ _ (and_right (starts_plainly word) _ (not_digits word i lt h))))
 
 pub none_above : (low high : ℕ) (word : List ℕ) → high < digits_value 10 word → None ≡ number_of low high word
 unfolding number_of
@@ -41,7 +42,8 @@ pub none_below : (low high : ℕ) (word : List ℕ) → digits_value 10 word < l
 unfolding number_of
 none_below low high word h = none_when _ (digits_value 10 word) (and_left _ _ (and_right (is_numeral word) _ (lt-leb _ _ h)))
 
-pub some_within : (low high : ℕ) (word : List ℕ) → starts_plainly word ≡ true → AllDigits 10 word → low ≤ digits_value 10 word → digits_value 10 word ≤ high → Some (digits_value 10 word) ≡ number_of low high word
+pub some_within : (low high : ℕ) (word : List ℕ) → starts_plainly word ≡ true → AllDigits 10 word → low ≤ digits_value 10 word
+    → digits_value 10 word ≤ high → Some (digits_value 10 word) ≡ number_of low high word
 unfolding number_of
 some_within low high word s d l h =
     sym (cond-true _ (Some (digits_value 10 word)) None
@@ -70,8 +72,10 @@ number_found low high word n bound e =
 decimal_starts : (n : ℕ) → n < 2 ^ 64 → starts_plainly (decimal n) ≡ true
 decimal_starts n bound =
     let second : (not (eqb (get_or (decimal n) 0 0) 48) || eqb (length (decimal n)) 1) ≡ true = elim (cases_eq n 0) [
-      | inl z ↦ or_right (not (eqb (get_or (decimal n) 0 0) 48)) (eqb (length (decimal n)) 1) (eq-eqb _ 1 (ap length (ap decimal z ∙ decimal_digit 0 (omega arith))))
-      | inr more ↦ or_left (not (eqb (get_or (decimal n) 0 0) 48)) (eqb (length (decimal n)) 1) (not_from_false _ (ne_eqb _ _ (λ e. omega (arith, e, first_decimal n (omega arith) bound))))
+      | inl z ↦ or_right (not (eqb (get_or (decimal n) 0 0) 48)) (eqb (length (decimal n)) 1)
+          (eq-eqb _ 1 (ap length (ap decimal z ∙ decimal_digit 0 (omega arith))))
+      | inr more ↦ or_left (not (eqb (get_or (decimal n) 0 0) 48)) (eqb (length (decimal n)) 1)
+          (not_from_false _ (ne_eqb _ _ (λ e. omega (arith, e, first_decimal n (omega arith) bound))))
     ] in
     and_from _ _ (lt-ltb _ _ (decimal_nonempty n bound)) second
 
@@ -79,19 +83,24 @@ decimal_starts n bound =
 pub number_again : (low high n : ℕ) → high < 2 ^ 64 → low ≤ n → n ≤ high → number_of low high (decimal n) ≡ Some n
 number_again low high n bound l h =
     let v = digits_value-decimal own n (omega arith) in
-    sym (some_within low high (decimal n) (decimal_starts n (omega arith)) (own.to _ (digits_decimal own n (omega arith))) (omega (arith, v)) (omega (arith, v))) ∙ ap Some v
+    sym (some_within low high (decimal n) (decimal_starts n (omega arith)) (own.to _ (digits_decimal own n (omega arith))) (omega (arith, v))
+    (omega (arith, v))) ∙ ap Some v
 
 -- ---- as the first word
 
-pub number_at_found : (low high : ℕ) (words : List (List ℕ)) (x : ℕ × List (List ℕ)) → high < 2 ^ 64 → number_at low high words ≡ Some x → (words ≡ decimal x.0 ∷ x.1) × (low ≤ x.0) × (x.0 ≤ high)
+pub number_at_found : (low high : ℕ) (words : List (List ℕ)) (x : ℕ × List (List ℕ)) → high < 2 ^ 64 → number_at low high words ≡ Some x
+    → (words ≡ decimal x.0 ∷ x.1) × (low ≤ x.0) × (x.0 ≤ high)
 unfolding number_at
 number_at_found low high words x bound e =
     let a = bind_some (first_word words) (λ w. number_of low high w.0 >>= λ n. Some (n, w.1)) x e in
     let b = bind_some (number_of low high a.0.0) (λ n. Some (n, a.0.1)) x a.2 in
     let f = number_found low high a.0.0 b.0 bound b.1 in
     let same : (b.0, a.0.1) ≡ x = same_Some (b.0, a.0.1) x b.2 in
-    let n_is : b.0 ≡ x.0 = ap (λ (p : ℕ × List (List ℕ)). p.0) same in
-    (word_found words a.0 a.1 ∙ ap (λ (w : List ℕ). w ∷ a.0.1) f.0 ∙ ap (λ (p : ℕ × List (List ℕ)). decimal p.0 ∷ p.1) same, omega (arith, f.1, n_is), omega (arith, f.2, n_is))
+    let n_is : b.0 ≡ x.0 = ap (λ (p : ℕ × List (List ℕ)). p.0) same in (
+      word_found words a.0 a.1 ∙ ap (λ (w : List ℕ). w ∷ a.0.1) f.0 ∙ ap (λ (p : ℕ × List (List ℕ)). decimal p.0 ∷ p.1) same,
+      omega (arith, f.1, n_is),
+      omega (arith, f.2, n_is),
+    )
 
 pub number_at_again : (low high n : ℕ) (words : List (List ℕ)) → high < 2 ^ 64 → low ≤ n → n ≤ high → number_at low high (decimal n ∷ words) ≡ Some (n, words)
 unfolding number_at

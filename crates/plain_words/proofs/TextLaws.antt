@@ -9,7 +9,8 @@ use Rattle.plain_words.specs.Writing.{AppendsFront}
 use Rattle.plain_words.proofs.WriteLaws.{AppendsFront-after, AppendsFront-longer}
 
 -- the text of the first k items, and of one more
-texts_more : {A : Type 0} (f : A → List ℕ) (items : List A) (k : ℕ) (item : A) → k < length items → item ≡ get_or items k item → flat_map f (take k items) ++ f item ≡ flat_map f (take (k + 1) items)
+texts_more : {A : Type 0} (f : A → List ℕ) (items : List A) (k : ℕ) (item : A) → k < length items → item ≡ get_or items k item
+    → flat_map f (take k items) ++ f item ≡ flat_map f (take (k + 1) items)
 texts_more f items k item within e =
     flat_map_more f [] (take k items) item ∙ ap (flat_map f) (ap (λ x. take k items ++ x ∷ []) e ∙ sym (take_more items k item within))
 
@@ -17,7 +18,8 @@ texts_front : {A : Type 0} (f : A → List ℕ) (items : List A) (k : ℕ) → f
 texts_front f items k = ap (flat_map f) (sym (take-append-drop k items)) ∙ flat_map-append f (take k items) (drop k items)
 
 -- a front of the text of one item, after the texts of those before it
-pub texts_break_off : {A : Type 0} (a b c : Option (List ℕ)) (f : A → List ℕ) (items : List A) (k : ℕ) (item : A) → k < length items → item ≡ get_or items k item
+pub texts_break_off : {A : Type 0} (a b c : Option (List ℕ)) (f : A → List ℕ) (items : List A) (k : ℕ) (item : A) → k < length items
+    → item ≡ get_or items k item
     → Appends a b (flat_map f (take k items)) → AppendsFront b c (f item) → AppendsFront a c (flat_map f items)
 texts_break_off a b c f items k item within e before now =
     subst (AppendsFront a c) (ap (λ t. t ++ flat_map f (drop (k + 1) items)) (texts_more f items k item within e) ∙ sym (texts_front f items (k + 1)))
@@ -34,6 +36,7 @@ pub all_end : {X : Type 0} (P : X → Type 0) (xs : List X) (x : X) → AllByRec
 all_end P [] x h p = (p, tt)
 all_end P (y ∷ xs) x h p = (h.0, all_end P xs x h.1 p)
 
-pub all_more : {X : Type 0} (P : X → Type 0) (xs : List X) (k : ℕ) (x : X) → k < length xs → x ≡ get_or xs k x → AllByRecursion P (take k xs) → P x → AllByRecursion P (take (k + 1) xs)
+pub all_more : {X : Type 0} (P : X → Type 0) (xs : List X) (k : ℕ) (x : X) → k < length xs → x ≡ get_or xs k x → AllByRecursion P (take k xs) → P x
+    → AllByRecursion P (take (k + 1) xs)
 all_more P xs k x lt is h p =
     subst (AllByRecursion P) (ap (λ y. take k xs ++ y ∷ []) is ∙ sym (take_more xs k x lt)) (all_end P (take k xs) x h p)

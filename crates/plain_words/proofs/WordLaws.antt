@@ -26,7 +26,8 @@ pub is_nil-slice_split : (p : ℕ → Bool) (xs : List ℕ) → is_nil (slice_sp
 is_nil-slice_split p [] = refl
 is_nil-slice_split p (x ∷ xs) = is_nil_cond (p x) x (slice_split p xs)
 
-step_none : (x : ℕ) (xs : List ℕ) (i : ℕ) (b : Bool) (r : Option ℕ) (rest : List (List ℕ)) → (r ≡ None → rest ≡ xs ∷ []) → cond b (Some i) r ≡ None → cond b ([] ∷ rest) (onto_first x rest) ≡ (x ∷ xs) ∷ []
+step_none : (x : ℕ) (xs : List ℕ) (i : ℕ) (b : Bool) (r : Option ℕ) (rest : List (List ℕ)) → (r ≡ None → rest ≡ xs ∷ []) → cond b (Some i) r ≡ None
+    → cond b ([] ∷ rest) (onto_first x rest) ≡ (x ∷ xs) ∷ []
 step_none x xs i true r rest ih e = absurd cc
 step_none x xs i false r rest ih e = ap (onto_first x) (ih e)
 
@@ -37,7 +38,8 @@ split_from_none p (x ∷ xs) i e = step_none x xs i (p x) (position_from p (i + 
 abbrev CutsAt : (ℕ → Bool) → List ℕ → ℕ → Type 0
 CutsAt p xs m = slice_split p xs ≡ take m xs ∷ slice_split p (drop (suc m) xs)
 
-step_some : (p : ℕ → Bool) (x : ℕ) (xs : List ℕ) (i k : ℕ) (b : Bool) (r : Option ℕ) → (r ≡ Some k → (m : ℕ) × (k ≡ i + 1 + m) × CutsAt p xs m) → cond b (Some i) r ≡ Some k
+step_some : (p : ℕ → Bool) (x : ℕ) (xs : List ℕ) (i k : ℕ) (b : Bool) (r : Option ℕ) → (r ≡ Some k → (m : ℕ) × (k ≡ i + 1 + m) × CutsAt p xs m)
+    → cond b (Some i) r ≡ Some k
     → (m : ℕ) × (k ≡ i + m) × (cond b ([] ∷ slice_split p xs) (onto_first x (slice_split p xs)) ≡ take m (x ∷ xs) ∷ slice_split p (drop (suc m) (x ∷ xs)))
 step_some p x xs i k true r ih e = let same : i ≡ k = cc in (0, omega (arith, same), refl)
 step_some p x xs i k false r ih e = let w = ih e in (suc w.0, omega (arith, w.1), ap (onto_first x) w.2)
@@ -69,9 +71,11 @@ lacks_each p (b ∷ w) e = let parts = and_parts (not (p b)) (list_all (λ x. no
 pub lacks_all : (p : ℕ → Bool) (w : List ℕ) → list_all (λ b. not (p b)) w ≡ true → All (λ b. p b ≡ false) w
 lacks_all p w e = All-from_recursion (λ b. p b ≡ false) w (lacks_each p w e)
 
-pub split_join : (w : List ℕ) (ws : List (List ℕ)) → lacks_space w ≡ true → AllByRecursion (λ v. lacks_space v ≡ true) ws → slice_split is_space (join_with_byte 32 (w ∷ ws)) ≡ w ∷ ws
+pub split_join : (w : List ℕ) (ws : List (List ℕ)) → lacks_space w ≡ true → AllByRecursion (λ v. lacks_space v ≡ true) ws
+    → slice_split is_space (join_with_byte 32 (w ∷ ws)) ≡ w ∷ ws
 split_join w [] h hs = slice_split_none is_space w (lacks_all is_space w h)
-split_join w (v ∷ ws) h hs = slice_split_at is_space w 32 (join_with_byte 32 (v ∷ ws)) (lacks_all is_space w h) refl ∙ ap (λ (t : List (List ℕ)). w ∷ t) (split_join v ws hs.0 hs.1)
+split_join w (v ∷ ws) h hs = slice_split_at is_space w 32 (join_with_byte 32 (v ∷ ws)) (lacks_all is_space w h) refl
+    ∙ ap (λ (t : List (List ℕ)). w ∷ t) (split_join v ws hs.0 hs.1)
 
 pub digits_lack_space : (w : List ℕ) → AllDigits 10 w → lacks_space w ≡ true
 digits_lack_space [] h = refl
@@ -85,17 +89,20 @@ nil_from_none rest now view e = rw (← view, e) refl
 pub cons_from_some : (rest : Option (Bor (List ℕ))) (now : List (List ℕ)) (b : Bor (List ℕ)) → words_of rest ≡ now → rest ≡ Some b → false ≡ is_nil now
 cons_from_some rest now b view e = rw (← view, e) (sym (is_nil-slice_split is_space b.now))
 
-pub first_word_last : (rest : Option (Bor (List ℕ))) (now : List (List ℕ)) (b : Bor (List ℕ)) → words_of rest ≡ now → rest ≡ Some b → position is_space b.now ≡ None → Some (b.now, []) ≡ first_word now
+pub first_word_last : (rest : Option (Bor (List ℕ))) (now : List (List ℕ)) (b : Bor (List ℕ)) → words_of rest ≡ now → rest ≡ Some b
+    → position is_space b.now ≡ None → Some (b.now, []) ≡ first_word now
 first_word_last rest now b view e p = rw (← view, e, split_none is_space b.now p) refl
 
-pub first_word_cut : (rest : Option (Bor (List ℕ))) (now : List (List ℕ)) (b : Bor (List ℕ)) (k : ℕ) → words_of rest ≡ now → rest ≡ Some b → position is_space b.now ≡ Some k
+pub first_word_cut : (rest : Option (Bor (List ℕ))) (now : List (List ℕ)) (b : Bor (List ℕ)) (k : ℕ) → words_of rest ≡ now → rest ≡ Some b
+    → position is_space b.now ≡ Some k
     → Some (take k b.now, slice_split is_space (drop (k + 1) b.now)) ≡ first_word now
 first_word_cut rest now b k view e p = rw (← view, e, split_some is_space b.now k p) refl
 
 -- ---- one reader after another
 
 -- one test in a chain of tests of a word
-pub word_tested : {V : Type 0} (text : V → List ℕ) (w : List ℕ) (u v : V) (rest : Option V) → (rest ≡ Some v → w ≡ text v) → cond (bytes_eq w (text u)) (Some u) rest ≡ Some v → w ≡ text v
+pub word_tested : {V : Type 0} (text : V → List ℕ) (w : List ℕ) (u v : V) (rest : Option V) → (rest ≡ Some v → w ≡ text v)
+    → cond (bytes_eq w (text u)) (Some u) rest ≡ Some v → w ≡ text v
 word_tested text w u v rest next e = elim (cases_Bool (bytes_eq w (text u))) [
   | inl same ↦ let chosen : Some u ≡ Some v = rw same at e in (bytes_eq-Decides w (text u)).0 same ∙ ap text (same_Some u v chosen)
   | inr other ↦ let chosen : rest ≡ Some v = rw other at e in next chosen
@@ -107,7 +114,8 @@ bind_some None f y e = absurd cc
 bind_some (Some x) f y e = (x, refl, e)
 
 -- a word is taken where there is one
-pub one_taken : {A : Type 0} (text : A → List ℕ) (found : Option A) (old new : List (List ℕ)) → option_map (λ w. (text w, new)) found ≡ first_word old → IfNone found (new ≡ old) → new ≡ drop 1 old
+pub one_taken : {A : Type 0} (text : A → List ℕ) (found : Option A) (old new : List (List ℕ)) → option_map (λ w. (text w, new)) found ≡ first_word old
+    → IfNone found (new ≡ old) → new ≡ drop 1 old
 one_taken text None [] new first same = same
 one_taken text None (w ∷ ws) new first same = absurd cc
 one_taken text (Some a) [] new first same = absurd cc

@@ -9,6 +9,9 @@
 //! Guaranteed: reading is exact, each call returning what stands in the input or the fault that it has; after a failed
 //! write a prefix of the text is written, and nothing else.
 //!
+//! A new kind of word is a function over `Words` with its definition in `specs/Words.antt`; a text of several words
+//! is built in `text.rt`.
+//!
 //! Lemmas for callers: `LineLaws`, `NumberLaws`, `TextLaws`, `WordLaws`, `WriteLaws`.
 #![tactic(auto)]
 

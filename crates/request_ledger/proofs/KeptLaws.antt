@@ -12,7 +12,8 @@ first_of_two a b k r s h rest = λ i. cond (h i) (Some k) (rest i)
 -- the map's look-up
 pub lookup-kept : (number : ℕ) (es : KeptByNumber) → lookup (nat_eq number) es ≡ kept_under es number
 lookup-kept number [] = refl
-lookup-kept number (e ∷ es) = first_of_two (nat_eq number e.0) (nat_eq e.0 number) e.1 (lookup (nat_eq number) es) (kept_under es number) (nat_eq_equiv.symm number e.0) (lookup-kept number es)
+lookup-kept number (e ∷ es) = first_of_two (nat_eq number e.0) (nat_eq e.0 number) e.1 (lookup (nat_eq number) es) (kept_under es number)
+    (nat_eq_equiv.symm number e.0) (lookup-kept number es)
 
 -- the first of two, where there is one
 abbrev pub or_else : Option Kept → Option Kept → Option Kept
@@ -20,7 +21,8 @@ or_else None other = other
 or_else (Some k) other = Some k
 
 -- a number that is kept stays so; a new entry is kept under its own
-pub kept_under-push : (es : KeptByNumber) (n : ℕ) (k : Kept) (number : ℕ) → kept_under (es ++ (n, k) ∷ []) number ≡ or_else (kept_under es number) (cond (nat_eq n number) (Some k) None)
+pub kept_under-push : (es : KeptByNumber) (n : ℕ) (k : Kept) (number : ℕ)
+    → kept_under (es ++ (n, k) ∷ []) number ≡ or_else (kept_under es number) (cond (nat_eq n number) (Some k) None)
 kept_under-push [] n k number = refl
 kept_under-push (e ∷ es) n k number = by_test (nat_eq e.0 number) (kept_under-push es n k number)
   where

@@ -30,7 +30,8 @@ no_refund (Refund other part) Done sale seats h = cc
 no_refund (Refund other part) r sale seats h = refl
 no_refund q r sale seats h = cond_both (is_done r) none
 
-is_refund : (q : Request) (r : Reply) (refund : DoneRefund) (sale seats : ℕ) → refund_with q r ≡ Some refund → counted sale seats q r ≡ cond (nat_eq refund.sale sale) (unwrap_or refund.part seats) 0
+is_refund : (q : Request) (r : Reply) (refund : DoneRefund) (sale seats : ℕ) → refund_with q r ≡ Some refund
+    → counted sale seats q r ≡ cond (nat_eq refund.sale sale) (unwrap_or refund.part seats) 0
 is_refund (Refund s p) Done refund sale seats h =
     let same : record { sale = s; part = p } ≡ refund = cc in
     ap (λ (d : DoneRefund). cond (nat_eq d.sale sale) (unwrap_or d.part seats) 0) same
@@ -45,26 +46,30 @@ refund_sells_none q r other h = refl
 abbrev pub parts : KeptByNumber → ℕ → ℕ → ℕ
 parts es sale seats = sum_by (part_counted sale seats) es
 
-parts_push : (es : KeptByNumber) (n : ℕ) (k : Kept) (sale seats : ℕ) → parts (es ++ (n, k) ∷ []) sale seats ≡ parts es sale seats + counted sale seats k.request k.reply
+parts_push : (es : KeptByNumber) (n : ℕ) (k : Kept) (sale seats : ℕ)
+    → parts (es ++ (n, k) ∷ []) sale seats ≡ parts es sale seats + counted sale seats k.request k.reply
 parts_push es n k sale seats = sum_by_push (part_counted sale seats) es (n, k)
 
 seats_if_either : (o other : Option Kept) → (seats_if_kept (or_else o other) ≡ seats_if_kept o) ⊎ (seats_if_kept o ≡ None)
 seats_if_either None other = inr refl
 seats_if_either (Some k) other = inl refl
 
-pub seats_or_new : (es : KeptByNumber) (n : ℕ) (k : Kept) (number : ℕ) → (seats_under (es ++ (n, k) ∷ []) number ≡ seats_under es number) ⊎ (seats_under es number ≡ None)
+pub seats_or_new : (es : KeptByNumber) (n : ℕ) (k : Kept) (number : ℕ) → (seats_under (es ++ (n, k) ∷ []) number ≡ seats_under es number)
+    ⊎ (seats_under es number ≡ None)
 seats_or_new es n k number = elim (seats_if_either (kept_under es number) (cond (nat_eq n number) (Some k) None)) [
   | inl e ↦ inl (ap seats_if_kept (kept_under-push es n k number) ∙ e)
   | inr e ↦ inr e
 ]
 
-seats_if_no_sale : (o : Option Kept) (b : Bool) (k : Kept) → seats_in k.request k.reply ≡ None → seats_if_kept (or_else o (cond b (Some k) None)) ≡ seats_if_kept o
+seats_if_no_sale : (o : Option Kept) (b : Bool) (k : Kept) → seats_in k.request k.reply ≡ None
+    → seats_if_kept (or_else o (cond b (Some k) None)) ≡ seats_if_kept o
 seats_if_no_sale None true k h = h
 seats_if_no_sale None false k h = refl
 seats_if_no_sale (Some other) b k h = refl
 
 -- an entry that gives nothing back
-pub sums_stay : (es : KeptByNumber) (sums : List (ℕ × ℕ)) (n : ℕ) (k : Kept) → AreSums es sums → refund_with k.request k.reply ≡ None → AreSums (es ++ (n, k) ∷ []) sums
+pub sums_stay : (es : KeptByNumber) (sums : List (ℕ × ℕ)) (n : ℕ) (k : Kept) → AreSums es sums → refund_with k.request k.reply ≡ None
+    → AreSums (es ++ (n, k) ∷ []) sums
 sums_stay es sums n k are nothing =
     let same : (q seats : ℕ) → given_back (es ++ (n, k) ∷ []) q seats ≡ given_back es q seats =
     λ q seats. omega (arith, parts_push es n k q seats, no_refund k.request k.reply q seats nothing) in
@@ -106,15 +111,19 @@ raised_by true seats sum asked = refl
 raised_by false seats sum asked = omega arith
 
 -- a refund that is done gives back its part of the sale, or the rest
-pub sums_raised : (es : KeptByNumber) (sums raised : List (ℕ × ℕ)) (n : ℕ) (k : Kept) (refund : DoneRefund) (seats : ℕ) → AreSums es sums → refund_with k.request k.reply ≡ Some refund
+pub sums_raised : (es : KeptByNumber) (sums raised : List (ℕ × ℕ)) (n : ℕ) (k : Kept) (refund : DoneRefund) (seats : ℕ) → AreSums es sums
+    → refund_with k.request k.reply ≡ Some refund
     → seats_under es refund.sale ≡ Some seats → Fits refund.part seats (sum_under sums refund.sale)
-    → ((q : ℕ) → sum_under raised q ≡ cond (nat_eq refund.sale q) (with_part refund.part seats (sum_under sums refund.sale)) (sum_under sums q)) → AreSums (es ++ (n, k) ∷ []) raised
+    → ((q : ℕ) → sum_under raised q ≡ cond (nat_eq refund.sale q) (with_part refund.part seats (sum_under sums refund.sale)) (sum_under sums q))
+    → AreSums (es ++ (n, k) ∷ []) raised
 sums_raised es sums raised n k refund seats are is of fits at =
     let after = with_part refund.part seats (sum_under sums refund.sale) in
     let same : (q : ℕ) → seats_under (es ++ (n, k) ∷ []) q ≡ seats_under es q =
     λ q. ap seats_if_kept (kept_under-push es n k q) ∙ seats_if_no_sale (kept_under es q) (nat_eq n q) k (refund_sells_none k.request k.reply refund is) in
-    let given : (q s : ℕ) → given_back (es ++ (n, k) ∷ []) q s ≡ cond (nat_eq refund.sale q) (min s (parts es q s + unwrap_or refund.part s)) (given_back es q s) =
-    λ q s. ap (min s) (parts_push es n k q s ∙ ap (λ m. parts es q s + m) (is_refund k.request k.reply refund q s is)) ∙ sym (raised_by (nat_eq refund.sale q) s (parts es q s) (unwrap_or refund.part s)) in
+    let given : (q s : ℕ) → given_back (es ++ (n, k) ∷ []) q s ≡ cond (nat_eq refund.sale q) (min s (parts es q s + unwrap_or refund.part s))
+    (given_back es q s) =
+    λ q s. ap (min s) (parts_push es n k q s ∙ ap (λ m. parts es q s + m) (is_refund k.request k.reply refund q s is))
+    ∙ sym (raised_by (nat_eq refund.sale q) s (parts es q s) (unwrap_or refund.part s)) in
     let here : (q : ℕ) → nat_eq refund.sale q ≡ true → seats_under es q ≡ Some seats =
     λ q t. ap (seats_under es) (sym (eqb-true refund.sale q t)) ∙ of in
     let reached : after ≡ min seats (parts es refund.sale seats + unwrap_or refund.part seats) =
@@ -124,7 +133,8 @@ sums_raised es sums raised n k refund seats are is of fits at =
           (λ t.
           let some : Some seats ≡ Some s = sym (here q t) ∙ sym (same q) ∙ h in
           let count : seats ≡ s = cc in
-          reached ∙ ap (λ m. min seats (parts es m seats + unwrap_or refund.part seats)) (eqb-true refund.sale q t) ∙ ap (λ m. min m (parts es q m + unwrap_or refund.part m)) count)
+          reached ∙ ap (λ m. min seats (parts es m seats + unwrap_or refund.part seats)) (eqb-true refund.sale q t)
+          ∙ ap (λ m. min m (parts es q m + unwrap_or refund.part m)) count)
           (λ f. are.of_sales q s (sym (same q) ∙ h))
           ∙ sym (given q s);
       no_sum = λ q h. at q ∙ one_raised (nat_eq refund.sale q) after 0 (sum_under sums q) 0
@@ -140,10 +150,13 @@ sums_raised es sums raised n k refund seats are is of fits at =
 pub sums_with_none : (es : KeptByNumber) (sums : List (ℕ × ℕ)) (q : Request) (r : Reply) → AreSums es sums → refund_with q r ≡ None → AreSumsWith es q r sums
 sums_with_none es sums q r are nothing number place = sums_stay es sums number (record { place = place; request = q; reply = r }) are nothing
 
-pub sums_with_refund : (es : KeptByNumber) (sums raised : List (ℕ × ℕ)) (q : Request) (r : Reply) (refund : DoneRefund) (seats : ℕ) → AreSums es sums → refund_with q r ≡ Some refund → seats_under es refund.sale ≡ Some seats
+pub sums_with_refund : (es : KeptByNumber) (sums raised : List (ℕ × ℕ)) (q : Request) (r : Reply) (refund : DoneRefund) (seats : ℕ) → AreSums es sums
+    → refund_with q r ≡ Some refund → seats_under es refund.sale ≡ Some seats
     → Fits refund.part seats (sum_under sums refund.sale)
-    → ((n : ℕ) → sum_under raised n ≡ cond (nat_eq refund.sale n) (with_part refund.part seats (sum_under sums refund.sale)) (sum_under sums n)) → AreSumsWith es q r raised
-sums_with_refund es sums raised q r refund seats are is of fits at number place = sums_raised es sums raised number (record { place = place; request = q; reply = r }) refund seats are is of fits at
+    → ((n : ℕ) → sum_under raised n ≡ cond (nat_eq refund.sale n) (with_part refund.part seats (sum_under sums refund.sale)) (sum_under sums n))
+    → AreSumsWith es q r raised
+sums_with_refund es sums raised q r refund seats are is of fits at number place = sums_raised es sums raised number
+    (record { place = place; request = q; reply = r }) refund seats are is of fits at
 
 -- no more is given back of a sale than it has seats
 pub sum_within : (es : KeptByNumber) (sums : List (ℕ × ℕ)) (sale seats : ℕ) → AreSums es sums → seats_under es sale ≡ Some seats → sum_under sums sale ≤ seats
@@ -162,26 +175,32 @@ some_seats (Some k) es sale part h = of_sale k.request k.reply h
     of_sale q r h = absurd h
 
 -- and what is left of it
-fits_seats : (o : Option Kept) (es : KeptByNumber) (sale seats : ℕ) (part : Option ℕ) → FitsSale es sale part o → seats_if_kept o ≡ Some seats → Fits part seats (given_back es sale seats)
+fits_seats : (o : Option Kept) (es : KeptByNumber) (sale seats : ℕ) (part : Option ℕ) → FitsSale es sale part o → seats_if_kept o ≡ Some seats
+    → Fits part seats (given_back es sale seats)
 fits_seats None es sale seats part h of = absurd h
 fits_seats (Some k) es sale seats part h of = of_sale k.request k.reply h of
   where
-    of_sale : (q : Request) (r : Reply) → IsSomeAnd (sale_in es sale q r) (λ state. Fits part state.seats state.given_back) → seats_in q r ≡ Some seats → Fits part seats (given_back es sale seats)
+    of_sale : (q : Request) (r : Reply) → IsSomeAnd (sale_in es sale q r) (λ state. Fits part state.seats state.given_back) → seats_in q r ≡ Some seats
+        → Fits part seats (given_back es sale seats)
     of_sale (Sell event n) Done h of = let same : n ≡ seats = cc in subst (λ m. Fits part m (given_back es sale m)) same h
     of_sale q r h of = absurd h
 
-refund_fits : (es : KeptByNumber) (q : Request) (r : Reply) (refund : DoneRefund) → refund_with q r ≡ Some refund → IsRefundable es q r → FitsSale es refund.sale refund.part (kept_under es refund.sale)
+refund_fits : (es : KeptByNumber) (q : Request) (r : Reply) (refund : DoneRefund) → refund_with q r ≡ Some refund → IsRefundable es q r
+    → FitsSale es refund.sale refund.part (kept_under es refund.sale)
 refund_fits es (Refund sale part) Done refund is fits =
     let same : record { sale = sale; part = part } ≡ refund = cc in
     subst (λ (d : DoneRefund). FitsSale es d.sale d.part (kept_under es d.sale)) same fits
 refund_fits es q r refund is fits = cc
 
 -- a refund that may be done is of a sale
-pub refundable_is_sale : (es : KeptByNumber) (q : Request) (r : Reply) (refund : DoneRefund) → refund_with q r ≡ Some refund → IsRefundable es q r → IsSome (seats_under es refund.sale)
+pub refundable_is_sale : (es : KeptByNumber) (q : Request) (r : Reply) (refund : DoneRefund) → refund_with q r ≡ Some refund → IsRefundable es q r
+    → IsSome (seats_under es refund.sale)
 refundable_is_sale es q r refund is may = some_seats (kept_under es refund.sale) es refund.sale refund.part (refund_fits es q r refund is may)
 
 -- and gives back no more than is left of it
-pub refundable_fits : (es : KeptByNumber) (sums : List (ℕ × ℕ)) (q : Request) (r : Reply) (refund : DoneRefund) (seats : ℕ) → AreSums es sums → refund_with q r ≡ Some refund → IsRefundable es q r
+pub refundable_fits : (es : KeptByNumber) (sums : List (ℕ × ℕ)) (q : Request) (r : Reply) (refund : DoneRefund) (seats : ℕ) → AreSums es sums
+    → refund_with q r ≡ Some refund → IsRefundable es q r
     → seats_under es refund.sale ≡ Some seats → Fits refund.part seats (sum_under sums refund.sale)
 refundable_fits es sums q r refund seats are is may of =
-    subst (Fits refund.part seats) (sym (are.of_sales refund.sale seats of)) (fits_seats (kept_under es refund.sale) es refund.sale seats refund.part (refund_fits es q r refund is may) of)
+    subst (Fits refund.part seats) (sym (are.of_sales refund.sale seats of))
+    (fits_seats (kept_under es refund.sale) es refund.sale seats refund.part (refund_fits es q r refund is may) of)

@@ -1,5 +1,5 @@
 -- The sums of what was given back, by the sale's number, and what they have to be. (Our own.)
-use Rattle.std.specs.Prelude.{ℕ, ◌≡◌, nat_eq, List, [], ◌∷◌, ◌++◌, Option, Some, None, unwrap_or}
+use Rattle.std.specs.Prelude.{ℕ, ◌≡◌, ◌==◌, nat_eq, if◌then◌else◌, List, Option, Some, None, unwrap_or}
 use Rattle.std.specs.Map.{lookup}
 use Rattle.request_ledger.specs.declared.request.Request.{Request}
 use Rattle.request_ledger.specs.declared.request.Request.TheVariants.{Sell, Refund}
@@ -8,7 +8,7 @@ use Rattle.request_ledger.specs.declared.reply.Reply.TheVariants.{Done}
 use Rattle.request_ledger.specs.declared.reply.Kept.{Kept}
 use Rattle.request_ledger.specs.declared.reply.SaleState.{SaleState}
 use Rattle.request_ledger.specs.declared.ledger.DoneRefund.{DoneRefund}
-use Rattle.request_ledger.specs.Ledger.{KeptByNumber, kept_under, given_back}
+use Rattle.request_ledger.specs.Ledger.{KeptByNumber, kept_under, given_back, with_kept}
 
 -- the refund, where the request is one that was done
 abbrev pub refund_with : Request → Reply → Option DoneRefund
@@ -45,4 +45,8 @@ pub record AreSums (es : KeptByNumber) (sums : List (ℕ × ℕ)) : Type 0 where
 
 -- the same, once the request and its reply are kept too, under whichever number
 abbrev pub AreSumsWith : KeptByNumber → Request → Reply → List (ℕ × ℕ) → Type 0
-AreSumsWith es request reply sums = (number place : ℕ) → AreSums (es ++ (number, record { place = place; request = request; reply = reply }) ∷ []) sums
+AreSumsWith es request reply sums = (number place : ℕ) → AreSums (with_kept es number place request reply) sums
+
+-- the sum under this number is so many, and the others are as they were
+abbrev pub IsSumSet : List (ℕ × ℕ) → ℕ → ℕ → List (ℕ × ℕ) → Type 0
+IsSumSet old sale seats new = (number : ℕ) → sum_under new number ≡ (if sale == number then seats else sum_under old number)

@@ -1,5 +1,5 @@
 -- The ledger of a site: what was decided under each request number. (Our own.)
-use Rattle.std.specs.Prelude.{ℕ, ◌-◌, ◌≤◌, ◌==◌, min, if◌then◌else◌, List, [], ◌∷◌, Option, Some, None, IsSomeAnd, unwrap_or, refl}
+use Rattle.std.specs.Prelude.{ℕ, ◌-◌, ◌≤◌, ◌==◌, min, if◌then◌else◌, List, [], ◌∷◌, ◌++◌, Option, Some, None, IsSomeAnd, unwrap_or, refl}
 use Rattle.std.specs.List.{sum_by}
 use Rattle.std.specs.Coded.{Coded, code_by, coded_ℕ, coded_list, coded×}
 use Rattle.request_ledger.specs.contracts.reply.Kept as kept
@@ -14,6 +14,10 @@ use Rattle.request_ledger.specs.Requests.{is_done}
 -- the kept numbers, each with what is kept under it, in the order of keeping
 abbrev pub KeptByNumber : Type 0
 KeptByNumber = List (ℕ × Kept)
+
+-- with one number more, and what is kept under it
+abbrev pub with_kept : KeptByNumber → ℕ → ℕ → Request → Reply → KeptByNumber
+with_kept es number place request reply = es ++ (number, record { place = place; request = request; reply = reply }) ∷ []
 
 -- what is kept under a number
 abbrev pub kept_under : KeptByNumber → ℕ → Option Kept
@@ -64,4 +68,5 @@ pub record LedgerView : Type 0 where
   pub room : ℕ
 
 abbrev pub coded_ledger : Coded LedgerView
-coded_ledger = code_by (KeptByNumber × ℕ) (coded× (coded_list (coded× coded_ℕ kept.the_row.coded)) coded_ℕ) (λ l. (l.entries, l.room)) (λ p. record { entries = p.0; room = p.1 }) (λ _. refl)
+coded_ledger = code_by (KeptByNumber × ℕ) (coded× (coded_list (coded× coded_ℕ kept.the_row.coded)) coded_ℕ) (λ l. (l.entries, l.room))
+    (λ p. record { entries = p.0; room = p.1 }) (λ _. refl)

@@ -1,5 +1,5 @@
 -- The words of requests and of replies, each once. (Our own.)
-use Rattle.std.specs.Prelude.{ℕ, List, [], ◌∷◌, Option, Some, None, codes}
+use Rattle.std.specs.Prelude.{◌≡◌, ℕ, List, [], ◌∷◌, Option, Some, None, codes}
 use Rattle.std.specs.List.{find}
 use Rattle.std.specs.Str.{bytes_eq}
 use Rattle.request_ledger.specs.declared.verb.Verb.{Verb}
@@ -58,3 +58,7 @@ replies_with None = Done ∷ Known ∷ Unknown ∷ CellFull ∷ NoSale ∷ Refun
 -- the reply that has this word and this number
 unfoldable pub reply_of : List ℕ → Option ℕ → Option Reply
 reply_of word number = find (λ r. bytes_eq word (reply_word r)) (replies_with number)
+
+-- a reply that has this word and this number is what was found
+abbrev pub FindsEach : List ℕ → Option ℕ → Option Reply → Type 0
+FindsEach word number found = (r : Reply) → word ≡ reply_word r → number ≡ reply_number r → found ≡ Some r

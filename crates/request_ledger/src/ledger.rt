@@ -1,9 +1,9 @@
 //! What was decided under each request number, and what was given back of each sale.
-ghost use Rattle.std.specs.Prelude.{◌≡◌, ℕ, ◌+◌, ◌-◌, ◌≤◌, ◌==◌, unwrap_or, if◌then◌else◌, [], ◌∷◌, ◌++◌, map, length, nat_eq, None, Some, IsSome, OnOk, IsOk};
+ghost use Rattle.std.specs.Prelude.{◌≡◌, ◌+◌, ◌-◌, ◌≤◌, unwrap_or, [], map, length, nat_eq, None, Some, IsSome, OnOk, IsOk};
 ghost use Rattle.std.specs.List.{IsDistinct};
 ghost use Rattle.indexmap.specs.IndexMap.{spare};
-ghost use Rattle.request_ledger.specs.GivenBack.{refund_with, sale_with, seats_under, sum_under, AreSums, AreSumsWith};
-ghost use Rattle.request_ledger.specs.Ledger.{kept_under, sale_under, IsRefundable};
+ghost use Rattle.request_ledger.specs.GivenBack.{refund_with, sale_with, seats_under, sum_under, AreSums, AreSumsWith, IsSumSet};
+ghost use Rattle.request_ledger.specs.Ledger.{kept_under, sale_under, with_kept, IsRefundable};
 
 use crate::number::RequestNumber;
 use crate::reply::{Kept, Reply, SaleState};
@@ -87,7 +87,7 @@ impl Ledger {
         requires new { kept_under self.old.entries number ≡ None }
         requires room { 1 ≤ self.old.room }
         requires refund { IsRefundable self.old.entries request reply }
-        ensures entries { self.new.entries ≡ self.old.entries ++ (number, record { place = place; request = request; reply = reply }) ∷ [] }
+        ensures entries { self.new.entries ≡ with_kept self.old.entries number place request reply }
         ensures room { self.old.room ≤ self.new.room + 1 }
     {
         give_back(&self.kept, &mut self.given_back, &request, reply);
@@ -168,7 +168,7 @@ fn sum_of(sums: &IndexMap<RequestNumber, u64>, sale: RequestNumber) -> u64
 /// Sets what is given back of the sale.
 fn set_sum(sums: &mut IndexMap<RequestNumber, u64>, sale: RequestNumber, seats: u64)
     requires { 1 ≤ spare sums.old }
-    ensures sums { (number : ℕ) → sum_under sums.new.entries number ≡ (if sale == number then seats else sum_under sums.old.entries number) }
+    ensures sums { IsSumSet sums.old.entries sale seats sums.new.entries }
     ensures room { spare sums.old ≤ spare sums.new + 1 }
 {
     match sums.insert(sale, seats) {

@@ -10,6 +10,10 @@
 //!
 //! The table of words in `specs/Words.antt` is the one that lines, messages and columns cite.
 //!
+//! A new verb is a variant of `Verb` and of `Request`, with its word in `specs/Words.antt` and its ranges in
+//! `specs/Ranges.antt`; a new reply is a variant of `Reply` with its word. `book_core` decides it, `desk_lines` and
+//! `sql_records` write it.
+//!
 //! Lemmas for callers: `KeptLaws`, `SumLaws`, `WordLaws`.
 #![tactic(auto)]
 

@@ -1,9 +1,8 @@
 //! What a request was answered, and what is kept of it.
-ghost use Rattle.std.specs.Prelude.{◌≡◌, ◌≤◌, length, Some, IfSome};
+ghost use Rattle.std.specs.Prelude.{◌≡◌, ◌≤◌, length, IfSome};
 ghost use Rattle.std.specs.List.{find};
 ghost use Rattle.std.specs.Str.{bytes_eq};
-ghost use Rattle.request_ledger.specs.declared.reply.Reply.{Reply};
-ghost use Rattle.request_ledger.specs.Words.{reply_word, reply_number, reply_of};
+ghost use Rattle.request_ledger.specs.Words.{reply_word, reply_number, reply_of, FindsEach};
 
 use crate::request::Request;
 use rights_lattice::{Amount, Event};
@@ -79,7 +78,7 @@ impl Reply {
     #[tactic(auto, unfolding(crate::specs::Words::reply_of))]
     pub fn read(word: &[u8], number: Option<u64>) -> Option<Reply>
         ensures found { IfSome result (λ r. (word.now ≡ reply_word r) × (number ≡ reply_number r)) }
-        ensures only { (r : Reply) → word.now ≡ reply_word r → number ≡ reply_number r → result ≡ Some r }
+        ensures only { FindsEach word.now number result }
         ensures exact { result ≡ reply_of word.now number }
     {
         match number {

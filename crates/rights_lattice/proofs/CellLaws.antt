@@ -34,7 +34,8 @@ from_less_one-insert : (b : Bool) (p : ℕ) (o : Option ℕ) → from_less_one (
 from_less_one-insert true p o = refl
 from_less_one-insert false p o = refl
 
-value_at-insert : (X : Cells) (m : Valued) (e : List ℕ) (c : Cell) → value_at (finite.insert X (m.event, m.cell) (m.value - 1)) e c ≡ cond (is_of m e c) (m.value - 1 + 1) (value_at X e c)
+value_at-insert : (X : Cells) (m : Valued) (e : List ℕ) (c : Cell)
+    → value_at (finite.insert X (m.event, m.cell) (m.value - 1)) e c ≡ cond (is_of m e c) (m.value - 1 + 1) (value_at X e c)
 unfolding value_at
 value_at-insert X m e c = ap from_less_one (finite.get-insert key_cmp_total X (m.event, m.cell) (m.value - 1) (e, c)) ∙ from_less_one-insert (is_of m e c) _ _
 
@@ -84,18 +85,22 @@ less_not_equal Equal h = absurd h
 less_not_equal Greater h = absurd h
 
 -- a cell below all keys has no mark
-greatest-below : (q : Key) (es : List (Key × ℕ)) → T (entry.below_all key_cmp q es) → greatest (map (λ e. record { event = e.0.0; cell = e.0.1; value = e.1 + 1 }) es) q.0 q.1 ≡ 0
+greatest-below : (q : Key) (es : List (Key × ℕ)) → T (entry.below_all key_cmp q es)
+    → greatest (map (λ e. record { event = e.0.0; cell = e.0.1; value = e.1 + 1 }) es) q.0 q.1 ≡ 0
 greatest-below q [] h = refl
 greatest-below q (e ∷ es) h =
     let parts = both_true _ _ h in
     rw (less_not_equal (key_cmp q e.0) parts.0) (omega (arith, greatest-below q es parts.1))
 
-greatest-sorted : (q : Key) (es : List (Key × ℕ)) → T (entry.is_sorted key_cmp es) → greatest (map (λ e. record { event = e.0.0; cell = e.0.1; value = e.1 + 1 }) es) q.0 q.1 ≡ from_less_one (entry.find key_cmp q es)
+greatest-sorted : (q : Key) (es : List (Key × ℕ)) → T (entry.is_sorted key_cmp es)
+    → greatest (map (λ e. record { event = e.0.0; cell = e.0.1; value = e.1 + 1 }) es) q.0 q.1 ≡ from_less_one (entry.find key_cmp q es)
 greatest-sorted q [] h = refl
 greatest-sorted q (e ∷ es) h =
     let parts : T (entry.below_all key_cmp e.0 es) × T (entry.is_sorted key_cmp es) = both_true _ _ h in
     let rest = greatest-sorted q es parts.1 in
-    elim (eq_by_cmp key_cmp q e.0) as (λ b. eq_by_cmp key_cmp q e.0 ≡ b → max (cond b (e.1 + 1) 0) (greatest (map (λ e. record { event = e.0.0; cell = e.0.1; value = e.1 + 1 }) es) q.0 q.1) ≡ from_less_one (cond b (Some e.1) (entry.find key_cmp q es))) [
+    elim (eq_by_cmp key_cmp q e.0) as (λ b. eq_by_cmp key_cmp q e.0 ≡ b
+    → max (cond b (e.1 + 1) 0) (greatest (map (λ e. record { event = e.0.0; cell = e.0.1; value = e.1 + 1 }) es) q.0 q.1) ≡ from_less_one
+    (cond b (Some e.1) (entry.find key_cmp q es))) [
       | true ↦ λ t. let k : q ≡ e.0 = exact_keys _ _ (equal _ t) in
           let none = greatest-below q es (subst (λ (x : Key). T (entry.below_all key_cmp x es)) (sym k) parts.0) in omega arith
       | false ↦ λ t. omega arith

@@ -16,7 +16,8 @@ use Rattle.rights_lattice.proofs.CellLaws.{same_cells, greatest-marks_of, value_
 use Rattle.rights_lattice.proofs.MergeLaws.{as_test}
 use Rattle.rights_lattice.proofs.StateLaws.{same_names, knows-no_names, knows-with_name, contains-union}
 
-back : (ms : List Valued) → AreMarks ms → map (λ (e : Key × ℕ). let m : Valued = record { event = e.0.0; cell = e.0.1; value = e.1 + 1 } in m) (keyed_marks ms) ≡ ms
+back : (ms : List Valued) → AreMarks ms
+    → map (λ (e : Key × ℕ). let m : Valued = record { event = e.0.0; cell = e.0.1; value = e.1 + 1 } in m) (keyed_marks ms) ≡ ms
 back [] h = refl
 back (m ∷ ms) h =
     let v : m.value - 1 + 1 ≡ m.value = omega (arith, h.0) in
@@ -27,7 +28,8 @@ back (m ∷ ms) h =
 pub marks_of-cells_of : (ms : List Valued) → IsTrue (are_rising_marks ms) → AreMarks ms → marks_of (cells_of ms) ≡ ms
 unfolding marks_of
 marks_of-cells_of ms h k =
-    ap (λ (es : List (Key × ℕ)). map (λ (e : Key × ℕ). let m : Valued = record { event = e.0.0; cell = e.0.1; value = e.1 + 1 } in m) es) (finite.entries-from_sorted key_cmp (keyed_marks ms) (as_test _ h))
+    ap (λ (es : List (Key × ℕ)). map (λ (e : Key × ℕ). let m : Valued = record { event = e.0.0; cell = e.0.1; value = e.1 + 1 } in m) es)
+    (finite.entries-from_sorted key_cmp (keyed_marks ms) (as_test _ h))
     ∙ back ms k
 
 pub value_at-cells_of : (ms : List Valued) → IsTrue (are_rising_marks ms) → AreMarks ms → (e : List ℕ) (c : Cell) → value_at (cells_of ms) e c ≡ greatest ms e c
@@ -39,7 +41,8 @@ keys_back (n ∷ ns) = let rest = keys_back ns in λ i. n ∷ rest i
 
 pub names_in_order-names_of : (ns : List (List ℕ)) → IsTrue (are_rising_names ns) → names_in_order (names_of ns) ≡ ns
 names_in_order-names_of ns h =
-    ap (λ (es : List (List ℕ × Unit {0})). map (λ (e : List ℕ × Unit {0}). e.0) es) (finite.entries-from_sorted (slice_cmp nat_cmp) (keyed_names ns) (as_test _ h))
+    ap (λ (es : List (List ℕ × Unit {0})). map (λ (e : List ℕ × Unit {0}). e.0) es)
+    (finite.entries-from_sorted (slice_cmp nat_cmp) (keyed_names ns) (as_test _ h))
     ∙ keys_back ns
 
 pub knows-names_of : (ns : List (List ℕ)) → IsTrue (are_rising_names ns) → (n : List ℕ) → knows (names_of ns) n ≡ list_any (eq_by_cmp (slice_cmp nat_cmp) n) ns
@@ -66,7 +69,8 @@ drop_end (m ∷ ms) = drop_end ms
 pub merged_rises : (xs ys out : List Valued) → IsMerged xs ys out (length xs) (length ys) → IsTrue (are_rising_marks out)
 merged_rises xs ys out h = ap are_rising_marks (sym (append-nil out) ∙ ap (λ (l : List Valued). out ++ l) (sym (drop_end xs))) ∙ h.left_rises
 
-pub merged_cells : (xs ys out : List Valued) → IsTrue (are_rising_marks xs) → IsTrue (are_rising_marks ys) → AreMarks xs → AreMarks ys → IsMerged xs ys out (length xs) (length ys) → cells_of out ≡ cells.join (cells_of xs) (cells_of ys)
+pub merged_cells : (xs ys out : List Valued) → IsTrue (are_rising_marks xs) → IsTrue (are_rising_marks ys) → AreMarks xs → AreMarks ys
+    → IsMerged xs ys out (length xs) (length ys) → cells_of out ≡ cells.join (cells_of xs) (cells_of ys)
 merged_cells xs ys out xs_rise ys_rise xs_marks ys_marks h = same_cells _ _ (λ e c.
     let left : greatest (take (length xs) xs) e c ≡ greatest xs e c = ap (λ (l : List Valued). greatest l e c) (take_all (length xs) xs (omega arith)) in
     let right : greatest (take (length ys) ys) e c ≡ greatest ys e c = ap (λ (l : List Valued). greatest l e c) (take_all (length ys) ys (omega arith)) in
@@ -84,7 +88,8 @@ merged_cells xs ys out xs_rise ys_rise xs_marks ys_marks h = same_cells _ _ (λ 
 pub merged_names_rise : (xs ys out : List (List ℕ)) → IsMergedNames xs ys out (length xs) (length ys) → IsTrue (are_rising_names out)
 merged_names_rise xs ys out h = ap are_rising_names (sym (append-nil out) ∙ ap (λ (l : List (List ℕ)). out ++ l) (sym (drop_end xs))) ∙ h.left_rises
 
-pub merged_names : (xs ys out : List (List ℕ)) → IsTrue (are_rising_names xs) → IsTrue (are_rising_names ys) → IsMergedNames xs ys out (length xs) (length ys) → names_of out ≡ join_names (names_of xs) (names_of ys)
+pub merged_names : (xs ys out : List (List ℕ)) → IsTrue (are_rising_names xs) → IsTrue (are_rising_names ys)
+    → IsMergedNames xs ys out (length xs) (length ys) → names_of out ≡ join_names (names_of xs) (names_of ys)
 merged_names xs ys out xs_rise ys_rise h = same_names _ _ (λ n.
     knows-names_of out (merged_names_rise xs ys out h) n ∙ h.known n
     ∙ (λ k. has n (take_all (length xs) xs (omega arith) k) || has n (take_all (length ys) ys (omega arith) k))

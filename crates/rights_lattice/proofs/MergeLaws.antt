@@ -47,16 +47,19 @@ below_first x [] h = tt
 below_first x (g ∷ gs) h = h
 
 -- the taken list goes on into the rest of its own list, and into that of the other, whose first is above
-own_rest : (ms out : List Valued) (i : ℕ) (x : Valued) → i < length ms → x ≡ get_or ms i x → IsTrue (are_rising_marks (out ++ drop i ms)) → IsTrue (are_rising_marks ((out ++ x ∷ []) ++ drop (i + 1) ms))
+own_rest : (ms out : List Valued) (i : ℕ) (x : Valued) → i < length ms → x ≡ get_or ms i x → IsTrue (are_rising_marks (out ++ drop i ms))
+    → IsTrue (are_rising_marks ((out ++ x ∷ []) ++ drop (i + 1) ms))
 own_rest ms out i x lt is h = ap are_rising_marks (append_one out x (drop (i + 1) ms) ∙ ap (λ (l : List Valued). out ++ l) (sym (drop_here ms i x lt is))) ∙ h
 
-other_rest : (ms gs out : List Valued) (i : ℕ) (x : Valued) → i < length ms → x ≡ get_or ms i x → IsBelowFirst x gs → IsTrue (are_rising_marks (out ++ drop i ms)) → IsTrue (are_rising_marks (out ++ gs)) → IsTrue (are_rising_marks ((out ++ x ∷ []) ++ gs))
+other_rest : (ms gs out : List Valued) (i : ℕ) (x : Valued) → i < length ms → x ≡ get_or ms i x → IsBelowFirst x gs
+    → IsTrue (are_rising_marks (out ++ drop i ms)) → IsTrue (are_rising_marks (out ++ gs)) → IsTrue (are_rising_marks ((out ++ x ∷ []) ++ gs))
 other_rest ms gs out i x lt is below h g =
     ap are_rising_marks (append_one out x gs)
     ∙ as_true _ (rising_between key_cmp key_cmp_total entry_of out (drop (i + 1) ms) gs x
     (as_test _ (ap are_rising_marks (ap (λ (l : List Valued). out ++ l) (sym (drop_here ms i x lt is))) ∙ h)) (as_test _ g) (below_first x gs below))
 
-tied_rest : (ms out : List Valued) (i : ℕ) (x m : Valued) → i < length ms → x ≡ get_or ms i x → m.event ≡ x.event → m.cell ≡ x.cell → IsTrue (are_rising_marks (out ++ drop i ms)) → IsTrue (are_rising_marks ((out ++ m ∷ []) ++ drop (i + 1) ms))
+tied_rest : (ms out : List Valued) (i : ℕ) (x m : Valued) → i < length ms → x ≡ get_or ms i x → m.event ≡ x.event → m.cell ≡ x.cell
+    → IsTrue (are_rising_marks (out ++ drop i ms)) → IsTrue (are_rising_marks ((out ++ m ∷ []) ++ drop (i + 1) ms))
 tied_rest ms out i x m lt is p q h =
     ap are_rising_marks (append_one out m (drop (i + 1) ms))
     ∙ rising_tied key_cmp key_cmp_total entry_of out (drop (i + 1) ms) x m (λ k. (p k, q k))
@@ -104,10 +107,13 @@ rest_sorted [] gs h = h
 rest_sorted (m ∷ out) gs h = rest_sorted out gs (second _ _ h)
 
 -- a mark of ys between what is merged and the rest of xs is on a cell that xs lacks
-absent : (xs ys out : List Valued) (i j : ℕ) (y : Valued) → j < length ys → y ≡ get_or ys j y → IsBelowFirst y (drop i xs) → IsMerged xs ys out i j → greatest xs y.event y.cell ≡ 0
+absent : (xs ys out : List Valued) (i j : ℕ) (y : Valued) → j < length ys → y ≡ get_or ys j y → IsBelowFirst y (drop i xs) → IsMerged xs ys out i j
+    → greatest xs y.event y.cell ≡ 0
 absent xs ys out i j y lt is below h =
-    let before = none_before out (drop (j + 1) ys) y (as_test _ (ap are_rising_marks (ap (λ (l : List Valued). out ++ l) (sym (drop_here ys j y lt is))) ∙ h.right_rises)) in
-    let after = none_below (y.event, y.cell) (drop i xs) (below_rest key_cmp key_cmp_total entry_of y (drop i xs) (below_first y (drop i xs) below) (rest_sorted out (drop i xs) (as_test _ h.left_rises))) in
+    let before = none_before out (drop (j + 1) ys) y
+    (as_test _ (ap are_rising_marks (ap (λ (l : List Valued). out ++ l) (sym (drop_here ys j y lt is))) ∙ h.right_rises)) in
+    let after = none_below (y.event, y.cell) (drop i xs)
+    (below_rest key_cmp key_cmp_total entry_of y (drop i xs) (below_first y (drop i xs) below) (rest_sorted out (drop i xs) (as_test _ h.left_rises))) in
     let split : greatest xs y.event y.cell ≡ max (greatest (take i xs) y.event y.cell) (greatest (drop i xs) y.event y.cell)
     = ap (λ (l : List Valued). greatest l y.event y.cell) (sym (take-append-drop i xs)) ∙ greatest-append (take i xs) (drop i xs) y.event y.cell in
     omega (arith, before, after, split, h.greater y.event y.cell)
@@ -121,9 +127,18 @@ not_zero zero h = absurd (omega arith)
 not_zero (suc n) h = grind (arith, nat_tests)
 
 pub start : (xs ys : List Valued) → IsTrue (are_rising_marks xs) → IsTrue (are_rising_marks ys) → IsMerged xs ys [] 0 0
-start xs ys g h = record { left_within = omega arith; right_within = omega arith; left_rises = g; right_rises = h; positive = tt; greater = λ e c. refl; size = refl }
+start xs ys g h = record {
+  left_within = omega arith;
+  right_within = omega arith;
+  left_rises = g;
+  right_rises = h;
+  positive = tt;
+  greater = λ e c. refl;
+  size = refl;
+}
 
-pub take_left : (xs ys out : List Valued) (i j : ℕ) (x : Valued) → AreMarks xs → i < length xs → x ≡ get_or xs i x → IsBelowFirst x (drop j ys) → IsMerged xs ys out i j → IsMerged xs ys (out ++ x ∷ []) (i + 1) j
+pub take_left : (xs ys out : List Valued) (i j : ℕ) (x : Valued) → AreMarks xs → i < length xs → x ≡ get_or xs i x → IsBelowFirst x (drop j ys)
+    → IsMerged xs ys out i j → IsMerged xs ys (out ++ x ∷ []) (i + 1) j
 take_left xs ys out i j x marks lt is below h = record {
   left_within = omega arith;
   right_within = h.right_within;
@@ -134,7 +149,8 @@ take_left xs ys out i j x marks lt is below h = record {
   size = omega (arith, length_push out x, h.size);
 }
 
-pub take_right : (xs ys out : List Valued) (i j : ℕ) (y : Valued) → AreMarks ys → j < length ys → y ≡ get_or ys j y → IsBelowFirst y (drop i xs) → IsMerged xs ys out i j → IsMerged xs ys (out ++ y ∷ []) i (j + 1)
+pub take_right : (xs ys out : List Valued) (i j : ℕ) (y : Valued) → AreMarks ys → j < length ys → y ≡ get_or ys j y → IsBelowFirst y (drop i xs)
+    → IsMerged xs ys out i j → IsMerged xs ys (out ++ y ∷ []) i (j + 1)
 take_right xs ys out i j y marks lt is below h =
     let none = absent xs ys out i j y lt is below h in
     record {
@@ -144,7 +160,13 @@ take_right xs ys out i j y marks lt is below h =
       right_rises = own_rest ys out j y lt is h.right_rises;
       positive = AreMarks-end out y h.positive (positive_at ys j y lt is marks);
       greater = λ e c. omega (arith, greatest-append out (y ∷ []) e c, h.greater e c, greatest-take_more ys j y e c lt is);
-      size = omega (arith, length_push out y, h.size, count_by_more_yes (λ (m : Valued). greatest xs m.event m.cell == 0) ys j y lt (subst (λ (m : Valued). (greatest xs m.event m.cell == 0) ≡ true) is (is_zero _ none)));
+      size = omega (
+        arith,
+        length_push out y,
+        h.size,
+        count_by_more_yes (λ (m : Valued). greatest xs m.event m.cell == 0) ys j y lt
+            (subst (λ (m : Valued). (greatest xs m.event m.cell == 0) ≡ true) is (is_zero _ none)),
+      );
     }
 
 same_key : (x m : Valued) (e : List ℕ) (c : Cell) → m.event ≡ x.event → m.cell ≡ x.cell → value_in x e c ≡ cond (is_of m e c) x.value 0
@@ -154,10 +176,12 @@ cond_max : (b : Bool) (u v w : ℕ) → w ≡ max u v → cond b w 0 ≡ max (co
 cond_max true u v w h = h
 cond_max false u v w h = refl
 
-value_in-max : (x y m : Valued) (e : List ℕ) (c : Cell) → m.event ≡ x.event → m.cell ≡ x.cell → m.event ≡ y.event → m.cell ≡ y.cell → m.value ≡ max x.value y.value → value_in m e c ≡ max (value_in x e c) (value_in y e c)
+value_in-max : (x y m : Valued) (e : List ℕ) (c : Cell) → m.event ≡ x.event → m.cell ≡ x.cell → m.event ≡ y.event → m.cell ≡ y.cell
+    → m.value ≡ max x.value y.value → value_in m e c ≡ max (value_in x e c) (value_in y e c)
 value_in-max x y m e c p q r s v = cond_max (is_of m e c) x.value y.value m.value v ∙ (λ k. max (sym (same_key x m e c p q) k) (sym (same_key y m e c r s) k))
 
-pub take_both : (xs ys out : List Valued) (i j : ℕ) (x y m : Valued) → AreMarks xs → AreMarks ys → i < length xs → j < length ys → x ≡ get_or xs i x → y ≡ get_or ys j y
+pub take_both : (xs ys out : List Valued) (i j : ℕ) (x y m : Valued) → AreMarks xs → AreMarks ys → i < length xs → j < length ys → x ≡ get_or xs i x
+    → y ≡ get_or ys j y
     → key_cmp (x.event, x.cell) (y.event, y.cell) ≡ Equal → m.event ≡ x.event → m.cell ≡ x.cell → m.value ≡ max x.value y.value
     → IsMerged xs ys out i j → IsMerged xs ys (out ++ m ∷ []) (i + 1) (j + 1)
 take_both xs ys out i j x y m left_marks right_marks i_lt j_lt x_is y_is tie p q v h =
@@ -173,8 +197,21 @@ take_both xs ys out i j x y m left_marks right_marks i_lt j_lt x_is y_is tie p q
       left_rises = tied_rest xs out i x m i_lt x_is p q h.left_rises;
       right_rises = tied_rest ys out j y m j_lt y_is r s h.right_rises;
       positive = AreMarks-end out m h.positive (omega (arith, some, v));
-      greater = λ e c. omega (arith, greatest-append out (m ∷ []) e c, h.greater e c, greatest-take_more xs i x e c i_lt x_is, greatest-take_more ys j y e c j_lt y_is, value_in-max x y m e c p q r s v);
-      size = omega (arith, length_push out m, h.size, count_by_more_no (λ (m : Valued). greatest xs m.event m.cell == 0) ys j y j_lt (subst (λ (m : Valued). (greatest xs m.event m.cell == 0) ≡ false) y_is (not_zero _ (omega (arith, some, found_y)))));
+      greater = λ e c. omega (
+        arith,
+        greatest-append out (m ∷ []) e c,
+        h.greater e c,
+        greatest-take_more xs i x e c i_lt x_is,
+        greatest-take_more ys j y e c j_lt y_is,
+        value_in-max x y m e c p q r s v,
+      );
+      size = omega (
+        arith,
+        length_push out m,
+        h.size,
+        count_by_more_no (λ (m : Valued). greatest xs m.event m.cell == 0) ys j y j_lt
+            (subst (λ (m : Valued). (greatest xs m.event m.cell == 0) ≡ false) y_is (not_zero _ (omega (arith, some, found_y)))),
+      );
     }
 
 -- what comes first in the rest of the other list
@@ -184,7 +221,8 @@ past_end x [] (suc i) h = tt
 past_end x (m ∷ ms) zero h = absurd (omega arith)
 past_end x (m ∷ ms) (suc i) h = past_end x ms i (omega arith)
 
-pub not_yet : (x y : Valued) (ms : List Valued) (i : ℕ) → i < length ms → y ≡ get_or ms i y → key_cmp (x.event, x.cell) (y.event, y.cell) ≡ Less → IsBelowFirst x (drop i ms)
+pub not_yet : (x y : Valued) (ms : List Valued) (i : ℕ) → i < length ms → y ≡ get_or ms i y → key_cmp (x.event, x.cell) (y.event, y.cell) ≡ Less
+    → IsBelowFirst x (drop i ms)
 not_yet x y ms i lt is h = subst (IsBelowFirst x) (sym (drop_here ms i y lt is)) h
 
 pub turned : (x y : Valued) → key_cmp (x.event, x.cell) (y.event, y.cell) ≡ Greater → key_cmp (y.event, y.cell) (x.event, x.cell) ≡ Less

@@ -29,7 +29,8 @@ counted P m ms =
     let start : 0 + one (P m) + count_by P ms ≡ one (P m) + count_by P ms = omega arith in
     sum_by-append (λ x. one (P x)) (m ∷ []) ms ∙ start
 
-count_below : (q : Key) (P Q : Valued → Bool) (b : Bool) (es : List (Key × ℕ)) → DifferAt q P Q b → T (entry.below_all key_cmp q es) → count_by P (map mark_of es) ≡ count_by Q (map mark_of es)
+count_below : (q : Key) (P Q : Valued → Bool) (b : Bool) (es : List (Key × ℕ)) → DifferAt q P Q b → T (entry.below_all key_cmp q es)
+    → count_by P (map mark_of es) ≡ count_by Q (map mark_of es)
 unfolding mark_of
 count_below q P Q b [] d h = refl
 count_below q P Q b (e ∷ es) d h =
@@ -37,12 +38,14 @@ count_below q P Q b (e ∷ es) d h =
     let same : one (P (mark_of e)) ≡ one (Q (mark_of e)) = ap one (d.elsewhere (mark_of e) (less_not_equal _ parts.0)) in
     omega (arith, same, counted P (mark_of e) (map mark_of es), counted Q (mark_of e) (map mark_of es), count_below q P Q b es d parts.1)
 
-count_at : (q : Key) (P Q : Valued → Bool) (b : Bool) (es : List (Key × ℕ)) → DifferAt q P Q b → T (entry.is_sorted key_cmp es) → 1 ≤ greatest (map mark_of es) q.0 q.1 → count_by P (map mark_of es) ≡ count_by Q (map mark_of es) + cond b 1 0
+count_at : (q : Key) (P Q : Valued → Bool) (b : Bool) (es : List (Key × ℕ)) → DifferAt q P Q b → T (entry.is_sorted key_cmp es)
+    → 1 ≤ greatest (map mark_of es) q.0 q.1 → count_by P (map mark_of es) ≡ count_by Q (map mark_of es) + cond b 1 0
 unfolding mark_of
 count_at q P Q b [] d h some = absurd (omega arith)
 count_at q P Q b (e ∷ es) d h some =
     let parts : T (entry.below_all key_cmp e.0 es) × T (entry.is_sorted key_cmp es) = both_true _ _ h in
-    elim (is_of (mark_of e) q.0 q.1) as (λ t. is_of (mark_of e) q.0 q.1 ≡ t → count_by P (map mark_of (e ∷ es)) ≡ count_by Q (map mark_of (e ∷ es)) + cond b 1 0) [
+    elim (is_of (mark_of e) q.0 q.1) as (λ t. is_of (mark_of e) q.0 q.1 ≡ t
+    → count_by P (map mark_of (e ∷ es)) ≡ count_by Q (map mark_of (e ∷ es)) + cond b 1 0) [
       | true ↦ λ t.
           let key : q ≡ e.0 = of_same (mark_of e) q.0 q.1 t in
           let rest = count_below q P Q b es d (subst (λ (x : Key). T (entry.below_all key_cmp x es)) (sym key) parts.0) in
@@ -57,7 +60,8 @@ count_at q P Q b (e ∷ es) d h some =
     ] refl
 
 -- a raise to a cell of Y takes as much room as it takes from what is missing
-pub missing-raise : (X Y : Cells) (m : Valued) → 1 ≤ m.value → 1 ≤ value_at Y m.event m.cell → missing X Y ≡ missing (raise X m) Y + cond (value_at X m.event m.cell == 0) 1 0
+pub missing-raise : (X Y : Cells) (m : Valued) → 1 ≤ m.value → 1 ≤ value_at Y m.event m.cell
+    → missing X Y ≡ missing (raise X m) Y + cond (value_at X m.event m.cell == 0) 1 0
 unfolding marks_of mark_of
 missing-raise X Y m some here =
     let q : Key = (m.event, m.cell) in
@@ -105,6 +109,7 @@ pub length-marks_of-raise : (X : Cells) (m : Valued) → length (marks_of (raise
 unfolding raise
 length-marks_of-raise X m =
     let Y : Cells = finite.insert X (m.event, m.cell) (m.value - 1) in
-    let grown : finite.len Y ≡ cond (finite.contains_key X (m.event, m.cell)) (finite.len X) (finite.len X + 1) = finite.len-insert key_cmp_total X (m.event, m.cell) (m.value - 1) in
+    let grown : finite.len Y ≡ cond (finite.contains_key X (m.event, m.cell)) (finite.len X) (finite.len X + 1) = finite.len-insert key_cmp_total X
+    (m.event, m.cell) (m.value - 1) in
     let most = one_more (finite.contains_key X (m.event, m.cell)) (finite.len X) in
     either _ X Y (length (marks_of X) + 1) (omega arith) (omega (arith, grown, most, length-marks_of X, length-marks_of Y))

@@ -19,10 +19,12 @@ name_entry n = (n, tt)
 abbrev pub IsFirst : List ℕ → List (List ℕ) → Type 0
 IsFirst = BelowFirst (slice_cmp nat_cmp) nat_list_cmp_total name_entry
 
-own_rest : (ms out : List (List ℕ)) (i : ℕ) (x : List ℕ) → i < length ms → x ≡ get_or ms i x → IsTrue (are_rising_names (out ++ drop i ms)) → IsTrue (are_rising_names ((out ++ x ∷ []) ++ drop (i + 1) ms))
+own_rest : (ms out : List (List ℕ)) (i : ℕ) (x : List ℕ) → i < length ms → x ≡ get_or ms i x → IsTrue (are_rising_names (out ++ drop i ms))
+    → IsTrue (are_rising_names ((out ++ x ∷ []) ++ drop (i + 1) ms))
 own_rest ms out i x lt is h = ap are_rising_names (append_one out x (drop (i + 1) ms) ∙ ap (λ (l : List (List ℕ)). out ++ l) (sym (drop_here ms i x lt is))) ∙ h
 
-other_rest : (ms gs out : List (List ℕ)) (i : ℕ) (x : List ℕ) → i < length ms → x ≡ get_or ms i x → IsFirst x gs → IsTrue (are_rising_names (out ++ drop i ms)) → IsTrue (are_rising_names (out ++ gs)) → IsTrue (are_rising_names ((out ++ x ∷ []) ++ gs))
+other_rest : (ms gs out : List (List ℕ)) (i : ℕ) (x : List ℕ) → i < length ms → x ≡ get_or ms i x → IsFirst x gs
+    → IsTrue (are_rising_names (out ++ drop i ms)) → IsTrue (are_rising_names (out ++ gs)) → IsTrue (are_rising_names ((out ++ x ∷ []) ++ gs))
 other_rest ms gs out i x lt is below h g =
     ap are_rising_names (append_one out x gs)
     ∙ as_true _ (rising_between (slice_cmp nat_cmp) nat_list_cmp_total name_entry out (drop (i + 1) ms) gs x
@@ -30,9 +32,11 @@ other_rest ms gs out i x lt is below h g =
 
 has-append : (name : List ℕ) (ms ns : List (List ℕ)) → has name (ms ++ ns) ≡ (has name ms || has name ns)
 has-append name [] ns = refl
-has-append name (m ∷ ms) ns = ap (λ b. eq_by_cmp (slice_cmp nat_cmp) name m || b) (has-append name ms ns) ∙ sym (or_assoc (eq_by_cmp (slice_cmp nat_cmp) name m) (has name ms) (has name ns))
+has-append name (m ∷ ms) ns = ap (λ b. eq_by_cmp (slice_cmp nat_cmp) name m || b) (has-append name ms ns)
+    ∙ sym (or_assoc (eq_by_cmp (slice_cmp nat_cmp) name m) (has name ms) (has name ns))
 
-has-take_more : (name : List ℕ) (ms : List (List ℕ)) (i : ℕ) (x : List ℕ) → i < length ms → x ≡ get_or ms i x → has name (take (i + 1) ms) ≡ (has name (take i ms) || has name (x ∷ []))
+has-take_more : (name : List ℕ) (ms : List (List ℕ)) (i : ℕ) (x : List ℕ) → i < length ms → x ≡ get_or ms i x
+    → has name (take (i + 1) ms) ≡ (has name (take i ms) || has name (x ∷ []))
 has-take_more name ms i x lt is =
     ap (has name) (take_more ms i x lt ∙ ap (λ (y : List ℕ). take i ms ++ y ∷ []) (sym is)) ∙ has-append name (take i ms) (x ∷ [])
 
@@ -53,27 +57,32 @@ both_one false false false = refl
 pub start : (xs ys : List (List ℕ)) → IsTrue (are_rising_names xs) → IsTrue (are_rising_names ys) → IsMergedNames xs ys [] 0 0
 start xs ys g h = record { left_within = omega arith; right_within = omega arith; left_rises = g; right_rises = h; known = λ name. refl }
 
-pub take_left : (xs ys out : List (List ℕ)) (i j : ℕ) (x : List ℕ) → i < length xs → x ≡ get_or xs i x → IsFirst x (drop j ys) → IsMergedNames xs ys out i j → IsMergedNames xs ys (out ++ x ∷ []) (i + 1) j
+pub take_left : (xs ys out : List (List ℕ)) (i j : ℕ) (x : List ℕ) → i < length xs → x ≡ get_or xs i x → IsFirst x (drop j ys)
+    → IsMergedNames xs ys out i j → IsMergedNames xs ys (out ++ x ∷ []) (i + 1) j
 take_left xs ys out i j x lt is below h = record {
   left_within = omega arith;
   right_within = h.right_within;
   left_rises = own_rest xs out i x lt is h.left_rises;
   right_rises = other_rest xs (drop j ys) out i x lt is below h.left_rises h.right_rises;
   known = λ name. has-append name out (x ∷ []) ∙ ap (λ b. b || has name (x ∷ [])) (h.known name)
-      ∙ left_one (has name (take i xs)) (has name (take j ys)) (has name (x ∷ [])) ∙ ap (λ b. b || has name (take j ys)) (sym (has-take_more name xs i x lt is));
+      ∙ left_one (has name (take i xs)) (has name (take j ys)) (has name (x ∷ []))
+      ∙ ap (λ b. b || has name (take j ys)) (sym (has-take_more name xs i x lt is));
 }
 
-pub take_right : (xs ys out : List (List ℕ)) (i j : ℕ) (y : List ℕ) → j < length ys → y ≡ get_or ys j y → IsFirst y (drop i xs) → IsMergedNames xs ys out i j → IsMergedNames xs ys (out ++ y ∷ []) i (j + 1)
+pub take_right : (xs ys out : List (List ℕ)) (i j : ℕ) (y : List ℕ) → j < length ys → y ≡ get_or ys j y → IsFirst y (drop i xs)
+    → IsMergedNames xs ys out i j → IsMergedNames xs ys (out ++ y ∷ []) i (j + 1)
 take_right xs ys out i j y lt is below h = record {
   left_within = h.left_within;
   right_within = omega arith;
   left_rises = other_rest ys (drop i xs) out j y lt is below h.right_rises h.left_rises;
   right_rises = own_rest ys out j y lt is h.right_rises;
   known = λ name. has-append name out (y ∷ []) ∙ ap (λ b. b || has name (y ∷ [])) (h.known name)
-      ∙ or_assoc (has name (take i xs)) (has name (take j ys)) (has name (y ∷ [])) ∙ ap (λ b. has name (take i xs) || b) (sym (has-take_more name ys j y lt is));
+      ∙ or_assoc (has name (take i xs)) (has name (take j ys)) (has name (y ∷ []))
+      ∙ ap (λ b. has name (take i xs) || b) (sym (has-take_more name ys j y lt is));
 }
 
-pub take_both : (xs ys out : List (List ℕ)) (i j : ℕ) (x y : List ℕ) → i < length xs → j < length ys → x ≡ get_or xs i x → y ≡ get_or ys j y → slice_cmp nat_cmp x y ≡ Equal → IsMergedNames xs ys out i j → IsMergedNames xs ys (out ++ x ∷ []) (i + 1) (j + 1)
+pub take_both : (xs ys out : List (List ℕ)) (i j : ℕ) (x y : List ℕ) → i < length xs → j < length ys → x ≡ get_or xs i x → y ≡ get_or ys j y
+    → slice_cmp nat_cmp x y ≡ Equal → IsMergedNames xs ys out i j → IsMergedNames xs ys (out ++ x ∷ []) (i + 1) (j + 1)
 take_both xs ys out i j x y i_lt j_lt x_is y_is tie h =
     let same : x ≡ y = exact_bytes x y tie in
     let also : x ≡ get_or ys j x = subst (λ (z : List ℕ). z ≡ get_or ys j z) (sym same) y_is in

@@ -12,7 +12,8 @@ use Rattle.rights_lattice.proofs.CellLaws.{value_at-raise_all, value_at-raise, v
 pub value_at-marks : (ms : List Valued) (e : List ℕ) (c : Cell) → value_at (raise_all all_zero ms) e c ≡ greatest ms e c
 value_at-marks ms e c = omega (arith, value_at-raise_all all_zero ms e c, value_at-all_zero e c)
 
-pub greatest-take_more : (ms : List Valued) (i : ℕ) (m : Valued) (e : List ℕ) (c : Cell) → i < length ms → m ≡ get_or ms i m → greatest (take (i + 1) ms) e c ≡ max (greatest (take i ms) e c) (value_in m e c)
+pub greatest-take_more : (ms : List Valued) (i : ℕ) (m : Valued) (e : List ℕ) (c : Cell) → i < length ms → m ≡ get_or ms i m
+    → greatest (take (i + 1) ms) e c ≡ max (greatest (take i ms) e c) (value_in m e c)
 greatest-take_more ms i m e c h is =
     ap (λ (l : List Valued). greatest l e c) (take_more ms i m h) ∙ greatest-append (take i ms) (get_or ms i m ∷ []) e c
     ∙ subst (λ (x : Valued). max (greatest (take i ms) e c) (max (value_in x e c) 0) ≡ max (greatest (take i ms) e c) (value_in m e c)) is (omega arith)
@@ -28,7 +29,8 @@ same_place x m e c p q le =
     subst (λ b. value_in x e c ≤ cond b m.value 0) (sym at) (cond_le (is_of x e c) x.value m.value le)
 
 -- a mark that is not above what is there changes nothing
-pub greatest-at : (ms : List Valued) (i : ℕ) (m d : Valued) (e : List ℕ) (c : Cell) → i < length ms → m.event ≡ (get_or ms i d).event → m.cell ≡ (get_or ms i d).cell → m.value ≤ (get_or ms i d).value → value_in m e c ≤ greatest ms e c
+pub greatest-at : (ms : List Valued) (i : ℕ) (m d : Valued) (e : List ℕ) (c : Cell) → i < length ms → m.event ≡ (get_or ms i d).event
+    → m.cell ≡ (get_or ms i d).cell → m.value ≤ (get_or ms i d).value → value_in m e c ≤ greatest ms e c
 greatest-at [] i m d e c h p q le = absurd (omega arith)
 greatest-at (x ∷ ms) zero m d e c h p q le =
     let both : value_in m e c ≤ value_in x e c = same_place m x e c (sym p) (sym q) le in omega arith
@@ -37,13 +39,19 @@ greatest-at (x ∷ ms) (suc i) m d e c h p q le = omega (arith, greatest-at ms i
 -- each mark is at most the greatest of its cell
 pub member_value : (ms : List Valued) (i : ℕ) (m : Valued) → i < length ms → m ≡ get_or ms i m → m.value ≤ greatest ms m.event m.cell
 member_value ms i m h is =
-    omega (arith, greatest-at ms i m m m.event m.cell h (ap (λ (x : Valued). x.event) is) (ap (λ (x : Valued). x.cell) is) (let v = ap (λ (x : Valued). x.value) is in omega arith), value_in-same m m.event m.cell refl refl)
+    omega (
+      arith,
+      greatest-at ms i m m m.event m.cell h (ap (λ (x : Valued). x.event) is) (ap (λ (x : Valued). x.cell) is)
+          (let v = ap (λ (x : Valued). x.value) is in omega arith),
+      value_in-same m m.event m.cell refl refl,
+    )
 
 raise_all-push : (X : Cells) (ms : List Valued) (m : Valued) → raise_all X (ms ++ m ∷ []) ≡ raise (raise_all X ms) m
 raise_all-push X [] m = refl
 raise_all-push X (x ∷ ms) m = raise_all-push (raise X x) ms m
 
-pub raise_all-take_more : (X : Cells) (ms : List Valued) (i : ℕ) (m : Valued) → i < length ms → m ≡ get_or ms i m → raise_all X (take (i + 1) ms) ≡ raise (raise_all X (take i ms)) m
+pub raise_all-take_more : (X : Cells) (ms : List Valued) (i : ℕ) (m : Valued) → i < length ms → m ≡ get_or ms i m
+    → raise_all X (take (i + 1) ms) ≡ raise (raise_all X (take i ms)) m
 raise_all-take_more X ms i m h is =
     ap (raise_all X) (take_more ms i m h) ∙ raise_all-push X (take i ms) (get_or ms i m) ∙ ap (raise (raise_all X (take i ms))) (sym is)
 

@@ -37,13 +37,16 @@ module _ {A K X : Type 0} (R : K → K → Ordering) (o : IsTotalOrder R) (f : A
   below_rest x [] b h = tt
   below_rest x (g ∷ gs) b h = both _ _ (subst (λ r. T (is_lt r)) (sym b) tt) (below_less (f x).0 (f g).0 (map f gs) b (first _ _ h))
 
-  below_between : (k : K) (es fs gs : List A) (x : A) → T (entry.below_all R k (map f (es ++ x ∷ fs))) → T (entry.below_all R k (map f (es ++ gs))) → T (entry.below_all R k (map f (es ++ x ∷ gs)))
+  below_between : (k : K) (es fs gs : List A) (x : A) → T (entry.below_all R k (map f (es ++ x ∷ fs))) → T (entry.below_all R k (map f (es ++ gs)))
+      → T (entry.below_all R k (map f (es ++ x ∷ gs)))
   below_between k [] fs gs x h g = both _ _ (first _ _ h) g
   below_between k (e ∷ es) fs gs x h g = both _ _ (first _ _ h) (below_between k es fs gs x (second _ _ h) (second _ _ g))
 
-  pub rising_between : (es fs gs : List A) (x : A) → T (entry.is_sorted R (map f (es ++ x ∷ fs))) → T (entry.is_sorted R (map f (es ++ gs))) → BelowFirst x gs → T (entry.is_sorted R (map f (es ++ x ∷ gs)))
+  pub rising_between : (es fs gs : List A) (x : A) → T (entry.is_sorted R (map f (es ++ x ∷ fs))) → T (entry.is_sorted R (map f (es ++ gs)))
+      → BelowFirst x gs → T (entry.is_sorted R (map f (es ++ x ∷ gs)))
   rising_between [] fs gs x h g b = both _ _ (below_rest x gs b g) g
-  rising_between (e ∷ es) fs gs x h g b = both _ _ (below_between (f e).0 es fs gs x (first _ _ h) (first _ _ g)) (rising_between es fs gs x (second _ _ h) (second _ _ g) b)
+  rising_between (e ∷ es) fs gs x h g b = both _ _ (below_between (f e).0 es fs gs x (first _ _ h) (first _ _ g))
+      (rising_between es fs gs x (second _ _ h) (second _ _ g) b)
 
   below_tied : (k : K) (es fs : List A) (x m : A) → (f m).0 ≡ (f x).0 → entry.below_all R k (map f (es ++ m ∷ fs)) ≡ entry.below_all R k (map f (es ++ x ∷ fs))
   below_tied k [] fs x m p = ap (λ q. is_lt (R k q) && entry.below_all R k (map f fs)) p

@@ -78,7 +78,8 @@ pub value_in-tests : (m : Valued) (e : List ℕ) (c : Cell) → value_in m e c �
 value_in-tests m e c = ap (λ b. cond b m.value 0) (is_of-tests m e c)
 
 -- marks that are each at or below a state's cells
-pub greatest_le : (X : Cells) (ms : List Valued) (e : List ℕ) (c : Cell) → list_all (λ m. nat_le m.value (value_at X m.event m.cell)) ms ≡ true → greatest ms e c ≤ value_at X e c
+pub greatest_le : (X : Cells) (ms : List Valued) (e : List ℕ) (c : Cell) → list_all (λ m. nat_le m.value (value_at X m.event m.cell)) ms ≡ true
+    → greatest ms e c ≤ value_at X e c
 greatest_le X [] e c h = omega arith
 greatest_le X (m ∷ ms) e c h =
     let parts = and_parts (nat_le m.value (value_at X m.event m.cell)) (list_all (λ m. nat_le m.value (value_at X m.event m.cell)) ms) h in
@@ -88,7 +89,8 @@ greatest_le X (m ∷ ms) e c h =
     by_test false q le = omega arith
     by_test true q le = subst (λ (k : Key). m.value ≤ value_at X k.0 k.1) (sym (of_same m e c q)) le
 
-known : (N : Names) (ns : List (List ℕ)) (n : List ℕ) → list_all (λ name. knows N name) ns ≡ true → list_any (eq_by_cmp (slice_cmp nat_cmp) n) ns ≡ true → knows N n ≡ true
+known : (N : Names) (ns : List (List ℕ)) (n : List ℕ) → list_all (λ name. knows N name) ns ≡ true → list_any (eq_by_cmp (slice_cmp nat_cmp) n) ns ≡ true
+    → knows N n ≡ true
 known N [] n all any = cc
 known N (m ∷ ns) n all any =
     let parts = and_parts (knows N m) (list_all (λ name. knows N name) ns) all in
@@ -106,21 +108,25 @@ one_le false b f = omega arith
 -- where a delta passes the test, it is at or below the state
 pub within_at_or_below : (D X : State) → is_within D X ≡ true → AtOrBelow D X
 within_at_or_below D X h (Name n) =
-    let parts = and_parts (list_all (λ name. knows X.names name) (names_in_order D.names)) (list_all (λ m. nat_le m.value (value_at X.cells m.event m.cell)) (marks_of D.cells)) h in
+    let parts = and_parts (list_all (λ name. knows X.names name) (names_in_order D.names))
+    (list_all (λ m. nat_le m.value (value_at X.cells m.event m.cell)) (marks_of D.cells)) h in
     one_le (knows D.names n) (knows X.names n) (λ k. known X.names (names_in_order D.names) n parts.0 (sym (finite.contains_key-keys D.names n) ∙ k))
 within_at_or_below D X h (At e c) =
-    let parts = and_parts (list_all (λ name. knows X.names name) (names_in_order D.names)) (list_all (λ m. nat_le m.value (value_at X.cells m.event m.cell)) (marks_of D.cells)) h in
+    let parts = and_parts (list_all (λ name. knows X.names name) (names_in_order D.names))
+    (list_all (λ m. nat_le m.value (value_at X.cells m.event m.cell)) (marks_of D.cells)) h in
     omega (arith, greatest_le X.cells (marks_of D.cells) e c parts.1, greatest-marks_of D.cells e c)
 
 -- marks of which each says at most what a state has
-marks_within : (X : Cells) (ms : List Valued) → ((e : List ℕ) (c : Cell) → greatest ms e c ≤ value_at X e c) → list_all (λ m. nat_le m.value (value_at X m.event m.cell)) ms ≡ true
+marks_within : (X : Cells) (ms : List Valued) → ((e : List ℕ) (c : Cell) → greatest ms e c ≤ value_at X e c)
+    → list_all (λ m. nat_le m.value (value_at X m.event m.cell)) ms ≡ true
 marks_within X [] h = refl
 marks_within X (m ∷ ms) h =
     and_from (nat_le m.value (value_at X m.event m.cell)) (list_all (λ m. nat_le m.value (value_at X m.event m.cell)) ms)
     (le-leb m.value (value_at X m.event m.cell) (omega (arith, h m.event m.cell, value_in-same m m.event m.cell refl refl)))
     (marks_within X ms (λ e c. omega (arith, h e c)))
 
-names_within : (N : Names) (ns : List (List ℕ)) → ((n : List ℕ) → list_any (eq_by_cmp (slice_cmp nat_cmp) n) ns ≡ true → knows N n ≡ true) → list_all (λ name. knows N name) ns ≡ true
+names_within : (N : Names) (ns : List (List ℕ)) → ((n : List ℕ) → list_any (eq_by_cmp (slice_cmp nat_cmp) n) ns ≡ true → knows N n ≡ true)
+    → list_all (λ name. knows N name) ns ≡ true
 names_within N [] h = refl
 names_within N (m ∷ ns) h =
     and_from (knows N m) (list_all (λ name. knows N name) ns)
@@ -135,7 +141,8 @@ le_one false b h t = cc
 -- a delta at or below a state passes the test
 pub at_or_below_within : (D X : State) → AtOrBelow D X → is_within D X ≡ true
 at_or_below_within D X h =
-    and_from (list_all (λ name. knows X.names name) (names_in_order D.names)) (list_all (λ m. nat_le m.value (value_at X.cells m.event m.cell)) (marks_of D.cells))
+    and_from (list_all (λ name. knows X.names name) (names_in_order D.names))
+    (list_all (λ m. nat_le m.value (value_at X.cells m.event m.cell)) (marks_of D.cells))
     (names_within X.names (names_in_order D.names) (λ n t. le_one (knows D.names n) (knows X.names n) (h (Name n)) (finite.contains_key-keys D.names n ∙ t)))
     (marks_within X.cells (marks_of D.cells) (λ e c. omega (arith, h (At e c), greatest-marks_of D.cells e c)))
 

@@ -71,8 +71,10 @@ looked_up (e ∷ es) q h = by_test (same_spot q e.0) refl (looked_up es q h.1)
         omega (arith, here, rest)
 
 -- the look-up is the cell's value
-pub value_at-lookup : (n : ℕ) (es : List (Key × ℕ)) (e : List ℕ) (c : Cell) → AreSpots n es → value_at (cells_in es) e c ≡ unwrap_or (lookup (key_eq (e, c)) es) 0
-value_at-lookup n es e c h = value_at-marks (marks_in es) e c ∙ looked_up es (e, c) h.once ∙ ap (λ (eq : Key → Key → Bool). unwrap_or (lookup (eq (e, c)) es) 0) (sym key_eq_is)
+pub value_at-lookup : (n : ℕ) (es : List (Key × ℕ)) (e : List ℕ) (c : Cell) → AreSpots n es
+    → value_at (cells_in es) e c ≡ unwrap_or (lookup (key_eq (e, c)) es) 0
+value_at-lookup n es e c h = value_at-marks (marks_in es) e c ∙ looked_up es (e, c) h.once
+    ∙ ap (λ (eq : Key → Key → Bool). unwrap_or (lookup (eq (e, c)) es) 0) (sym key_eq_is)
 
 pub value_at-absent : (n : ℕ) (es : List (Key × ℕ)) (e : List ℕ) (c : Cell) → AreSpots n es → lookup (key_eq (e, c)) es ≡ None → value_at (cells_in es) e c ≡ 0
 value_at-absent n es e c h none = value_at-lookup n es e c h ∙ ap (λ o. unwrap_or o 0) none
@@ -98,17 +100,27 @@ greatest-set (x ∷ es) m v e c h = by_test (same_spot (m.event, m.cell) x.0) re
     raised false true old v w rest p q = cc
 
     by_test : (b : Bool) → same_spot (m.event, m.cell) x.0 ≡ b → cond b (Some x.1) (lookup (same_spot (m.event, m.cell)) es) ≡ Some v
-        → (lookup (same_spot (m.event, m.cell)) es ≡ Some v → greatest (marks_in (set_value (same_spot (m.event, m.cell)) es (max m.value v))) e c ≡ max (greatest (marks_in es) e c) (value_in m e c))
-        → greatest (marks_in (cond b ((x.0, max m.value v) ∷ es) (x ∷ set_value (same_spot (m.event, m.cell)) es (max m.value v)))) e c ≡ max (greatest (marks_in (x ∷ es)) e c) (value_in m e c)
+        → (lookup (same_spot (m.event, m.cell)) es ≡ Some v
+        → greatest (marks_in (set_value (same_spot (m.event, m.cell)) es (max m.value v))) e c ≡ max (greatest (marks_in es) e c) (value_in m e c))
+        → greatest (marks_in (cond b ((x.0, max m.value v) ∷ es) (x ∷ set_value (same_spot (m.event, m.cell)) es (max m.value v)))) e c ≡ max
+        (greatest (marks_in (x ∷ es)) e c) (value_in m e c)
     by_test true t found rest =
-        let same : is_of m e c ≡ is_of (mark_of x) e c = ap (λ (k : Key). is_of (record { event = k.0; cell = k.1; value = m.value }) e c) (same_spot_is (m.event, m.cell) x.0 t) in
+        let same : is_of m e c ≡ is_of (mark_of x) e c = ap (λ (k : Key). is_of (record { event = k.0; cell = k.1; value = m.value }) e c)
+        (same_spot_is (m.event, m.cell) x.0 t) in
         let old : x.1 ≡ v = ap (λ o. unwrap_or o 0) found in
         raised (is_of m e c) (is_of (mark_of x) e c) x.1 v m.value (greatest (marks_in es) e c) same old
     by_test false f found rest = omega (arith, rest found)
 
-pub cells_in-set : (es : List (Key × ℕ)) (m : Valued) (v : ℕ) → lookup (same_spot (m.event, m.cell)) es ≡ Some v → cells_in (set_value (same_spot (m.event, m.cell)) es (max m.value v)) ≡ raise (cells_in es) m
+pub cells_in-set : (es : List (Key × ℕ)) (m : Valued) (v : ℕ) → lookup (same_spot (m.event, m.cell)) es ≡ Some v
+    → cells_in (set_value (same_spot (m.event, m.cell)) es (max m.value v)) ≡ raise (cells_in es) m
 cells_in-set es m v h = same_cells _ _ (λ e c.
-    omega (arith, value_at-marks (marks_in (set_value (same_spot (m.event, m.cell)) es (max m.value v))) e c, greatest-set es m v e c h, value_at-raise (cells_in es) m e c, value_at-marks (marks_in es) e c))
+    omega (
+      arith,
+      value_at-marks (marks_in (set_value (same_spot (m.event, m.cell)) es (max m.value v))) e c,
+      greatest-set es m v e c h,
+      value_at-raise (cells_in es) m e c,
+      value_at-marks (marks_in es) e c,
+    ))
 
 -- what is kept after a write
 tail_of : (n : ℕ) (e : Key × ℕ) (es : List (Key × ℕ)) → All (IsValued n) (e ∷ es) → All (IsValued n) es
@@ -121,7 +133,8 @@ first_and n e es p h (suc k) d lt = h k d (omega (arith, lt))
 pub valued-push : (n : ℕ) (es : List (Key × ℕ)) (x : Key × ℕ) → All (IsValued n) es → IsValued n x → All (IsValued n) (es ++ x ∷ [])
 valued-push n es x h p = All-append (IsValued n) es (x ∷ []) h (first_and n x [] p (λ k d lt. absurd (omega (arith, lt))))
 
-pub valued-set : (n : ℕ) (es : List (Key × ℕ)) (test : Key → Bool) (w : ℕ) → All (IsValued n) es → 1 ≤ w → w ≤ greatest_value → All (IsValued n) (set_value test es w)
+pub valued-set : (n : ℕ) (es : List (Key × ℕ)) (test : Key → Bool) (w : ℕ) → All (IsValued n) es → 1 ≤ w → w ≤ greatest_value
+    → All (IsValued n) (set_value test es w)
 valued-set n [] test w h low high = h
 valued-set n (e ∷ es) test w h low high = by_test (test e.0) (valued-set n es test w (tail_of n e es h) low high)
   where
@@ -172,21 +185,25 @@ pub record IsRaised (n : ℕ) (es fs : List (Key × ℕ)) (m : Valued) : Type 0 
   pub kept : AreSpots n fs
   pub raised : cells_in fs ≡ raise (cells_in es) m
 
-pub written : (n : ℕ) (es fs : List (Key × ℕ)) (m : Valued) (old w : ℕ) → AreSpots n es → 1 ≤ m.value → m.value ≤ greatest_value → lookup (key_eq (m.event, m.cell)) es ≡ Some old → w ≡ max m.value old
+pub written : (n : ℕ) (es fs : List (Key × ℕ)) (m : Valued) (old w : ℕ) → AreSpots n es → 1 ≤ m.value → m.value ≤ greatest_value
+    → lookup (key_eq (m.event, m.cell)) es ≡ Some old → w ≡ max m.value old
     → fs ≡ set_value (key_eq (m.event, m.cell)) es w → keys_of fs ≡ keys_of es → IsRaised n es fs m
 written n es fs m old w h low high found is fs_is keys =
     let same : fs ≡ set_value (same_spot (m.event, m.cell)) es (max m.value old) = fs_is ∙ (λ i. set_value (key_eq_is i (m.event, m.cell)) es (is i)) in
-    let at : lookup (same_spot (m.event, m.cell)) es ≡ Some old = subst (λ (eq : Key → Key → Bool). lookup (eq (m.event, m.cell)) es ≡ Some old) key_eq_is found in
+    let at : lookup (same_spot (m.event, m.cell)) es ≡ Some old = subst (λ (eq : Key → Key → Bool). lookup (eq (m.event, m.cell)) es ≡ Some old) key_eq_is
+    found in
     let before : old ≤ greatest_value = subst (λ o. unwrap_or o 0 ≤ greatest_value) found (found_at_most n es (key_eq (m.event, m.cell)) h) in
     record {
       kept = record {
-        valued = subst (All (IsValued n)) (sym same) (valued-set n es (same_spot (m.event, m.cell)) (max m.value old) h.valued (omega (arith, low)) (omega (arith, high, before)));
+        valued = subst (All (IsValued n)) (sym same)
+            (valued-set n es (same_spot (m.event, m.cell)) (max m.value old) h.valued (omega (arith, low)) (omega (arith, high, before)));
         once = subst (IsDistinct same_spot) (sym keys) h.once;
       };
       raised = ap cells_in same ∙ cells_in-set es m old at;
     }
 
-pub added : (n : ℕ) (es fs : List (Key × ℕ)) (m : Valued) → AreSpots n es → 1 ≤ m.value → m.value ≤ greatest_value → IsCellOf n m.cell → fs ≡ es ++ ((m.event, m.cell), m.value) ∷ [] → IsDistinct key_eq (keys_of fs) → IsRaised n es fs m
+pub added : (n : ℕ) (es fs : List (Key × ℕ)) (m : Valued) → AreSpots n es → 1 ≤ m.value → m.value ≤ greatest_value → IsCellOf n m.cell
+    → fs ≡ es ++ ((m.event, m.cell), m.value) ∷ [] → IsDistinct key_eq (keys_of fs) → IsRaised n es fs m
 added n es fs m h low high of fs_is once = record {
   kept = record {
     valued = subst (All (IsValued n)) (sym fs_is) (valued-push n es ((m.event, m.cell), m.value) h.valued (low, high, of));
@@ -196,14 +213,17 @@ added n es fs m h low high of fs_is once = record {
 }
 
 -- a spot that is not there is 0, so that there is room for it
-pub room_for : (n room : ℕ) (es : List (Key × ℕ)) (m d : Valued) (v : RightsView) → AreSpots n es → lookup (key_eq (m.event, m.cell)) es ≡ None → (let r : RightsView = record { sites = n; cells = cells_in es; room = room } in r) ≡ v → m ≡ d
+pub room_for : (n room : ℕ) (es : List (Key × ℕ)) (m d : Valued) (v : RightsView) → AreSpots n es → lookup (key_eq (m.event, m.cell)) es ≡ None
+    → (let r : RightsView = record { sites = n; cells = cells_in es; room = room } in r) ≡ v → m ≡ d
     → (value_at v.cells d.event d.cell ≡ 0 → 0 < v.room) → (value_at v.cells d.event d.cell ≡ 0) × (0 < room)
 room_for n room es m d v h none view_is mark_is some =
-    let zero_at : value_at v.cells d.event d.cell ≡ 0 = subst (λ (x : Valued). value_at v.cells x.event x.cell ≡ 0) mark_is (subst (λ (r : RightsView). value_at r.cells m.event m.cell ≡ 0) view_is (value_at-absent n es m.event m.cell h none)) in
+    let zero_at : value_at v.cells d.event d.cell ≡ 0 = subst (λ (x : Valued). value_at v.cells x.event x.cell ≡ 0) mark_is
+    (subst (λ (r : RightsView). value_at r.cells m.event m.cell ≡ 0) view_is (value_at-absent n es m.event m.cell h none)) in
     (zero_at, subst (λ (r : RightsView). 0 < r.room) (sym view_is) (some zero_at))
 
 -- a test of every entry, but those of cells that are passed over, says the order of the others
-pub all_below : (skip : Cell → Bool) (Y : Cells) (es : List (Key × ℕ)) (e : List ℕ) (c : Cell) → list_all (λ x. skip x.0.1 || nat_le x.1 (value_at Y x.0.0 x.0.1)) es ≡ true → skip c ≡ false → greatest (marks_in es) e c ≤ value_at Y e c
+pub all_below : (skip : Cell → Bool) (Y : Cells) (es : List (Key × ℕ)) (e : List ℕ) (c : Cell)
+    → list_all (λ x. skip x.0.1 || nat_le x.1 (value_at Y x.0.0 x.0.1)) es ≡ true → skip c ≡ false → greatest (marks_in es) e c ≤ value_at Y e c
 all_below skip Y [] e c h own = omega arith
 all_below skip Y (x ∷ es) e c h own =
     let parts = and_parts (skip x.0.1 || nat_le x.1 (value_at Y x.0.0 x.0.1)) (list_all (λ x. skip x.0.1 || nat_le x.1 (value_at Y x.0.0 x.0.1)) es) h in
@@ -221,7 +241,9 @@ all_below skip Y (x ∷ es) e c h own =
         subst (λ (k : Key). x.1 ≤ value_at Y k.0 k.1) (sym same) (leb-true _ _ (unskipped (skip x.0.1) (nat_le x.1 (value_at Y x.0.0 x.0.1)) mine p))
     by_test false t p = omega arith
 
-pub below_all : (skip : Cell → Bool) (Y : Cells) (es : List (Key × ℕ)) → ((e : List ℕ) (c : Cell) → skip c ≡ false → greatest (marks_in es) e c ≤ value_at Y e c) → list_all (λ x. skip x.0.1 || nat_le x.1 (value_at Y x.0.0 x.0.1)) es ≡ true
+pub below_all : (skip : Cell → Bool) (Y : Cells) (es : List (Key × ℕ))
+    → ((e : List ℕ) (c : Cell) → skip c ≡ false → greatest (marks_in es) e c ≤ value_at Y e c)
+    → list_all (λ x. skip x.0.1 || nat_le x.1 (value_at Y x.0.0 x.0.1)) es ≡ true
 below_all skip Y [] h = refl
 below_all skip Y (x ∷ es) h = and_from _ _ (by_test (skip x.0.1) refl) (below_all skip Y es (λ e c own. omega (arith, h e c own)))
   where
@@ -233,13 +255,17 @@ below_all skip Y (x ∷ es) h = and_from _ _ (by_test (skip x.0.1) refl) (below_
 pub record IsFirst (n : ℕ) (X Y : Cells) (x : Key × ℕ) (rest : List (Key × ℕ)) : Type 0 where
   pub valued : All (IsValued n) rest
   pub below : (e : List ℕ) (c : Cell) → greatest (marks_in rest) e c ≤ value_at Y e c
-  pub rises : (e : List ℕ) (c : Cell) → max (value_at (raise X (mark_of x)) e c) (greatest (marks_in rest) e c) ≡ max (value_at X e c) (greatest (marks_in (x ∷ rest)) e c)
+  pub rises : (e : List ℕ) (c : Cell)
+      → max (value_at (raise X (mark_of x)) e c) (greatest (marks_in rest) e c) ≡ max (value_at X e c) (greatest (marks_in (x ∷ rest)) e c)
   pub room : missing X Y ≡ missing (raise X (mark_of x)) Y + cond (value_at X x.0.0 x.0.1 == 0) 1 0
 
-pub first_of : (n : ℕ) (X Y : Cells) (x : Key × ℕ) (es rest : List (Key × ℕ)) → es ≡ x ∷ rest → All (IsValued n) es → ((e : List ℕ) (c : Cell) → greatest (marks_in es) e c ≤ value_at Y e c) → IsFirst n X Y x rest
+pub first_of : (n : ℕ) (X Y : Cells) (x : Key × ℕ) (es rest : List (Key × ℕ)) → es ≡ x ∷ rest → All (IsValued n) es
+    → ((e : List ℕ) (c : Cell) → greatest (marks_in es) e c ≤ value_at Y e c) → IsFirst n X Y x rest
 first_of n X Y x es rest is valued below =
     let all : All (IsValued n) (x ∷ rest) = subst (All (IsValued n)) is valued in
-    let le : (e : List ℕ) (c : Cell) → greatest (marks_in (x ∷ rest)) e c ≤ value_at Y e c = subst (λ (l : List (Key × ℕ)). (e : List ℕ) (c : Cell) → greatest (marks_in l) e c ≤ value_at Y e c) is below in
+    let le : (e : List ℕ) (c : Cell)
+    → greatest (marks_in (x ∷ rest)) e c ≤ value_at Y e c = subst (λ (l : List (Key × ℕ)). (e : List ℕ) (c : Cell)
+    → greatest (marks_in l) e c ≤ value_at Y e c) is below in
     let some : 1 ≤ x.1 = (all 0 x (omega arith)).0 in
     record {
       valued = tail_of n x rest all;

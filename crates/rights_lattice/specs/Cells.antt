@@ -40,7 +40,8 @@ pub record Valued : Type 0 where
   pub value : ℕ
 
 abbrev pub coded_valued : Coded Valued
-coded_valued = code_by (Key × ℕ) (coded× (coded× (coded_list coded_ℕ) coded_cell) coded_ℕ) (λ m. ((m.event, m.cell), m.value)) (λ p. record { event = p.0.0; cell = p.0.1; value = p.1 }) (λ _. refl)
+coded_valued = code_by (Key × ℕ) (coded× (coded× (coded_list coded_ℕ) coded_cell) coded_ℕ) (λ m. ((m.event, m.cell), m.value))
+    (λ p. record { event = p.0.0; cell = p.0.1; value = p.1 }) (λ _. refl)
 
 abbrev pub from_less_one : Option ℕ → ℕ
 from_less_one None = 0

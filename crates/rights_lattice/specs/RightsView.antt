@@ -13,7 +13,8 @@ pub record RightsView : Type 0 where
   pub room : ℕ
 
 abbrev pub coded_rights : Coded RightsView
-coded_rights = code_by ((ℕ × Cells) × ℕ) (coded× (coded× coded_ℕ coded_cells) coded_ℕ) (λ r. ((r.sites, r.cells), r.room)) (λ p. record { sites = p.0.0; cells = p.0.1; room = p.1 }) (λ _. refl)
+coded_rights = code_by ((ℕ × Cells) × ℕ) (coded× (coded× coded_ℕ coded_cells) coded_ℕ) (λ r. ((r.sites, r.cells), r.room))
+    (λ p. record { sites = p.0.0; cells = p.0.1; room = p.1 }) (λ _. refl)
 
 -- the cell names sites below the count only
 abbrev pub IsCellOf : ℕ → Cell → Type 0

@@ -8,7 +8,7 @@ use Rattle.std.specs.Coded.{Coded, code_by, coded_ℕ, coded_list, coded×}
 use Rattle.std.specs.FinMap as finite
 use base.Stored.{coded_unit}
 use Rattle.rights_lattice.specs.declared.cell.Cell.{Cell}
-use Rattle.rights_lattice.specs.Cells.{Cells, coded_cells, value_at, all_zero, marks_of}
+use Rattle.rights_lattice.specs.Cells.{Cells, Valued, coded_cells, value_at, all_zero, marks_of}
 use Rattle.rights_lattice.specs.Cells as cells
 
 -- a set of event names, as a map to nothing, since its names are read in order
@@ -46,7 +46,8 @@ pub record State : Type 0 where
   pub names : Names
 
 abbrev pub coded_state : Coded State
-coded_state = code_by (Cells × Names) (coded× coded_cells (finite.code (coded_list coded_ℕ) coded_unit)) (λ s. (s.cells, s.names)) (λ p. record { cells = p.0; names = p.1 }) (λ _. refl)
+coded_state = code_by (Cells × Names) (coded× coded_cells (finite.code (coded_list coded_ℕ) coded_unit)) (λ s. (s.cells, s.names))
+    (λ p. record { cells = p.0; names = p.1 }) (λ _. refl)
 
 -- nothing is known, and every cell is 0
 abbrev pub bottom : State
@@ -70,6 +71,14 @@ at X (At event cell) = value_at X.cells event cell
 abbrev pub AtOrBelow : State → State → Type 0
 AtOrBelow X Y = (s : Spot) → at X s ≤ at Y s
 
--- the same, as a test of a delta's own marks and names
+-- whether all of the names are known
+abbrev pub knows_all : Names → List (List ℕ) → Bool
+knows_all N names = list_all (λ name. knows N name) names
+
+-- whether no mark is above the value of its cell
+abbrev pub reaches_all : Cells → List Valued → Bool
+reaches_all X marks = list_all (λ m. nat_le m.value (value_at X m.event m.cell)) marks
+
+-- the same as the order, as a test of a delta's own marks and names
 abbrev pub is_within : State → State → Bool
-is_within D X = list_all (λ name. knows X.names name) (names_in_order D.names) && list_all (λ m. nat_le m.value (value_at X.cells m.event m.cell)) (marks_of D.cells)
+is_within D X = knows_all X.names (names_in_order D.names) && reaches_all X.cells (marks_of D.cells)

@@ -12,6 +12,9 @@
 //! The matrix is that of an escrow bounded counter (Balegas et al., SRDS 2015); order and join are those of
 //! state-based replicated data (INRIA RR-7506). What a site takes back in refunds is our own.
 //!
+//! A new kind of cell is a variant of `Cell` with its owner (`cell.rt`, `specs/Cell.antt`), its place in
+//! `specs/CellOrder.antt` and its sum in `specs/Sums.antt`; `delta_wire` then needs a line for it.
+//!
 //! Lemmas for callers: `CellLaws`, `EventLaws`, `MarkLaws`, `MergeLaws`, `MissingLaws`, `OrLaws`, `RightsLaws`,
 //! `SpotLaws`, `StateLaws`, `TableLaws`, `TestLaws`.
 #![tactic(auto)]

@@ -1,8 +1,8 @@
 //! The order of marks, and the merge of two rising lists in one walk over both.
-ghost use Rattle.std.specs.Prelude.{◌≡◌, ℕ, ◌+◌, ◌≤◌, ◌<◌, List, [], ◌∷◌, ◌++◌, length, IfOk, IsTrue};
+ghost use Rattle.std.specs.Prelude.{◌≡◌, ℕ, List, [], ◌∷◌, ◌++◌, length, IfOk, IsTrue};
 ghost use Rattle.rights_lattice.specs.Cells.{key_cmp, Valued};
 ghost use Rattle.rights_lattice.specs.Marks.{are_rising_marks, are_rising_names, AreMarks};
-ghost use Rattle.rights_lattice.specs.Merging.{IsMerged, IsMergedNames};
+ghost use Rattle.rights_lattice.specs.Merging.{HasNext, IsFurther, IsMerged, IsMergedNames, IsMergeOf, IsMergeOfNames};
 
 use crate::event::Event;
 use crate::mark::Mark;
@@ -26,14 +26,10 @@ struct Next {
 
 // The next mark of the merge of `a` from `left` on and `b` from `right` on.
 fn next_of(a: &[Mark], left: usize, b: &[Mark], right: usize) -> Next
-    requires left_within { left ≤ length a.now }
-    requires right_within { right ≤ length b.now }
-    requires more { left + right < length a.now + length b.now }
+    requires has_next { HasNext (length a.now) (length b.now) left right }
     requires left_marks { AreMarks a.now }
     requires right_marks { AreMarks b.now }
-    ensures left { left ≤ result.left }
-    ensures right { right ≤ result.right }
-    ensures further { left + right < result.left + result.right }
+    ensures further { IsFurther left right result.left result.right }
     ensures merged { (out : List Valued)
         → IsMerged a.now b.now out left right
         → IsMerged a.now b.now (out ++ result.mark ∷ []) result.left result.right }
@@ -83,7 +79,7 @@ pub fn merge_marks(alloc: Global, a: &[Mark], b: &[Mark]) -> Result<Vec<Mark>, A
     requires right_marks { AreMarks b.now }
     requires left_rises { IsTrue (are_rising_marks a.now) }
     requires right_rises { IsTrue (are_rising_marks b.now) }
-    ensures merged { IfOk result (λ marks. IsMerged a.now b.now marks.items (length a.now) (length b.now)) }
+    ensures merged { IfOk result (λ marks. IsMergeOf a.now b.now marks.items) }
 {
     let mut merged = Vec::new(alloc);
     let mut left = 0;
@@ -107,12 +103,8 @@ struct NextName {
 
 // The next name of the merge of `a` from `left` on and `b` from `right` on.
 fn next_name_of(a: &[Event], left: usize, b: &[Event], right: usize) -> NextName
-    requires left_within { left ≤ length a.now }
-    requires right_within { right ≤ length b.now }
-    requires more { left + right < length a.now + length b.now }
-    ensures left { left ≤ result.left }
-    ensures right { right ≤ result.right }
-    ensures further { left + right < result.left + result.right }
+    requires has_next { HasNext (length a.now) (length b.now) left right }
+    ensures further { IsFurther left right result.left result.right }
     ensures merged { (out : List (List ℕ))
         → IsMergedNames a.now b.now out left right
         → IsMergedNames a.now b.now (out ++ result.name ∷ []) result.left result.right }
@@ -156,7 +148,7 @@ fn next_name_of(a: &[Event], left: usize, b: &[Event], right: usize) -> NextName
 pub fn merge_names(alloc: Global, a: &[Event], b: &[Event]) -> Result<Vec<Event>, AllocError>
     requires left_rises { IsTrue (are_rising_names a.now) }
     requires right_rises { IsTrue (are_rising_names b.now) }
-    ensures merged { IfOk result (λ names. IsMergedNames a.now b.now names.items (length a.now) (length b.now)) }
+    ensures merged { IfOk result (λ names. IsMergeOfNames a.now b.now names.items) }
 {
     let mut merged = Vec::new(alloc);
     let mut left = 0;

@@ -1,9 +1,8 @@
 //! The state of rights.
-ghost use Rattle.std.specs.Prelude.{◌≡◌, ◌+◌, ◌<◌, ◌≤◌, ◌↔◌, ◌==◌, ◌||◌, not, nat_le, IsTrue, IsOk, OnOk, IfOk, if◌then◌else◌};
+ghost use Rattle.std.specs.Prelude.{◌≡◌, ◌+◌, ◌<◌, ◌≤◌, ◌↔◌, ◌==◌, IsTrue, IsOk, OnOk, IfOk, if◌then◌else◌};
 ghost use Rattle.rights_lattice.specs.Cells.{greatest_value, value_at, all_zero, raise, join, AtOrBelow, RowAtOrBelow};
-ghost use Rattle.std.specs.List.{list_all};
-ghost use Rattle.rights_lattice.specs.Cell.{owner_of};
 ghost use Rattle.rights_lattice.specs.RightsView.{IsCellOf, IsWithin, missing};
+ghost use Rattle.rights_lattice.specs.Spots.{are_at_most, are_at_most_in_row};
 
 use crate::cell::{Cell, owner};
 use crate::event::Event;
@@ -163,14 +162,14 @@ impl Rights {
 
 // Whether each value is at most what the other state has there.
 fn are_at_most(values: &IndexMap<(Event, Cell), u64>, other: &Rights) -> bool
-    ensures { result ≡ list_all (λ e. nat_le e.1 (value_at other.now.cells e.0.0 e.0.1)) values.now.entries }
+    ensures { result ≡ are_at_most other.now.cells values.now.entries }
 {
     values.iter().all(|((event, cell), value)| *value <= other.get(*event, *cell))
 }
 
 // The same of the cells of a site's row.
 fn are_at_most_in_row(values: &IndexMap<(Event, Cell), u64>, site: SiteId, other: &Rights) -> bool
-    ensures { result ≡ list_all (λ e. not (owner_of e.0.1 == site) || nat_le e.1 (value_at other.now.cells e.0.0 e.0.1)) values.now.entries }
+    ensures { result ≡ are_at_most_in_row other.now.cells site values.now.entries }
 {
     values.iter().all(|((event, cell), value)| {
         owner(*cell) != site || *value <= other.get(*event, *cell)

@@ -30,7 +30,8 @@ subsequence_push (x ∷ xs) [] z h = absurd h
 subsequence_push (x ∷ xs) (y ∷ ys) z (inl h) = inl (h.0, subsequence_push xs ys z h.1)
 subsequence_push (x ∷ xs) (y ∷ ys) z (inr h) = inr (subsequence_push (x ∷ xs) ys z h)
 
-pub all_zip_push : {A B : Type 0} (R : A → B → Type 0) (xs : List A) (ys : List B) (x : A) (y : B) → AllZip R xs ys → R x y → AllZip R (xs ++ x ∷ []) (ys ++ y ∷ [])
+pub all_zip_push : {A B : Type 0} (R : A → B → Type 0) (xs : List A) (ys : List B) (x : A) (y : B) → AllZip R xs ys → R x y
+    → AllZip R (xs ++ x ∷ []) (ys ++ y ∷ [])
 all_zip_push R [] [] x y h r = (r, tt)
 all_zip_push R [] (b ∷ bs) x y h r = absurd h
 all_zip_push R (a ∷ rest) [] x y h r = absurd h
@@ -49,7 +50,8 @@ none_met : (Holds Refuses : Message → Type 0) (came : List Message) → AreHel
 none_met Holds Refuses came = record { got = []; more_came = sym (append-nil came); each = All-nil (IsHeldOrRefused Holds Refuses) }
 
 -- one message more came
-abbrev one_more_met : (Holds Refuses : Message → Type 0) (came came1 came2 : List Message) (m : Message) → AreHeldOrRefused Holds Refuses came came1 → IsHeldOrRefused Holds Refuses m → came2 ≡ came1 ++ m ∷ [] → AreHeldOrRefused Holds Refuses came came2
+abbrev one_more_met : (Holds Refuses : Message → Type 0) (came came1 came2 : List Message) (m : Message) → AreHeldOrRefused Holds Refuses came came1
+    → IsHeldOrRefused Holds Refuses m → came2 ≡ came1 ++ m ∷ [] → AreHeldOrRefused Holds Refuses came came2
 one_more_met Holds Refuses came came1 came2 m h met p = record {
   got = h.got ++ m ∷ [];
   more_came = one_more came h.got came1 came2 m h.more_came p;
@@ -58,10 +60,20 @@ one_more_met Holds Refuses came came1 came2 m h met p = record {
 
 pub nothing_came : (Holds Refuses : Message → Type 0) (came sent : List Message) → Acknowledges Holds Refuses came sent 0 came sent
 nothing_came Holds Refuses came sent =
-    record { met = none_met Holds Refuses came; taken = []; put = []; more_sent = sym (append-nil sent); among = tt; held = All-nil Holds; due = tt; counted = omega (arith) }
+    record {
+      met = none_met Holds Refuses came;
+      taken = [];
+      put = [];
+      more_sent = sym (append-nil sent);
+      among = tt;
+      held = All-nil Holds;
+      due = tt;
+      counted = omega (arith);
+    }
 
 -- a message came that is held, and its acknowledgement was sent
-pub sent_for : (Holds Refuses : Message → Type 0) (came sent came1 sent1 came2 sent2 : List Message) (refused : ℕ) (m a : Message) → Acknowledges Holds Refuses came sent refused came1 sent1
+pub sent_for : (Holds Refuses : Message → Type 0) (came sent came1 sent1 came2 sent2 : List Message) (refused : ℕ) (m a : Message)
+    → Acknowledges Holds Refuses came sent refused came1 sent1
     → Some a ≡ ack_for m → Holds m → came2 ≡ came1 ++ m ∷ [] → sent2 ≡ sent1 ++ a ∷ [] → Acknowledges Holds Refuses came sent refused came2 sent2
 sent_for Holds Refuses came sent came1 sent1 came2 sent2 refused m a h is holds p q = record {
   met = one_more_met Holds Refuses came came1 came2 m h.met (inl holds) p;
@@ -75,8 +87,10 @@ sent_for Holds Refuses came sent came1 sent1 came2 sent2 refused m a h is holds 
 }
 
 -- a message came that is held or refused, and nothing was sent for it
-pub came_more : (Holds Refuses : Message → Type 0) (came sent came1 sent1 came2 sent2 : List Message) (refused refused2 : ℕ) (m : Message) → Acknowledges Holds Refuses came sent refused came1 sent1
-    → IsHeldOrRefused Holds Refuses m → came2 ≡ came1 ++ m ∷ [] → sent2 ≡ sent1 → refused2 ≤ refused + 1 → Acknowledges Holds Refuses came sent refused2 came2 sent2
+pub came_more : (Holds Refuses : Message → Type 0) (came sent came1 sent1 came2 sent2 : List Message) (refused refused2 : ℕ) (m : Message)
+    → Acknowledges Holds Refuses came sent refused came1 sent1
+    → IsHeldOrRefused Holds Refuses m → came2 ≡ came1 ++ m ∷ [] → sent2 ≡ sent1 → refused2 ≤ refused + 1
+    → Acknowledges Holds Refuses came sent refused2 came2 sent2
 came_more Holds Refuses came sent came1 sent1 came2 sent2 refused refused2 m h met p q r = record {
   met = one_more_met Holds Refuses came came1 came2 m h.met met p;
   taken = h.taken;
@@ -89,11 +103,19 @@ came_more Holds Refuses came sent came1 sent1 came2 sent2 refused refused2 m h m
 }
 
 -- the acknowledgement was sent, or it came back
-pub sent_or_back : (Holds Refuses : Message → Type 0) (came sent came1 came2 : List Message) (tx tx2 : End) (refused : ℕ) (m a : Message) (result : Result (Unit {0}) Message) → Acknowledges Holds Refuses came sent refused came1 tx.messages
-    → Some a ≡ ack_for m → Holds m → came2 ≡ came1 ++ m ∷ [] → MatchResult result (λ _. tx2 ≡ end_of tx.link (tx.messages ++ a ∷ [])) (λ back. (back ≡ a) × (tx2 ≡ tx))
+pub sent_or_back : (Holds Refuses : Message → Type 0) (came sent came1 came2 : List Message) (tx tx2 : End) (refused : ℕ) (m a : Message)
+    (result : Result (Unit {0}) Message) → Acknowledges Holds Refuses came sent refused came1 tx.messages
+    → Some a ≡ ack_for m → Holds m → came2 ≡ came1 ++ m ∷ []
+    → MatchResult result (λ _. tx2 ≡ end_of tx.link (tx.messages ++ a ∷ [])) (λ back. (back ≡ a) × (tx2 ≡ tx))
     → (tx2.link ≡ tx.link) × Acknowledges Holds Refuses came sent refused came2 tx2.messages
-sent_or_back Holds Refuses came sent came1 came2 tx tx2 refused m a (Ok done) h is holds p q = (ap (λ e. e.link) q, sent_for Holds Refuses came sent came1 tx.messages came2 tx2.messages refused m a h is holds p (ap (λ e. e.messages) q))
-sent_or_back Holds Refuses came sent came1 came2 tx tx2 refused m a (Err back) h is holds p q = (ap (λ e. e.link) q.1, came_more Holds Refuses came sent came1 tx.messages came2 tx2.messages refused refused m h (inl holds) p (ap (λ e. e.messages) q.1) (omega (arith)))
+sent_or_back Holds Refuses came sent came1 came2 tx tx2 refused m a (Ok done) h is holds p q
+    = (ap (λ e. e.link) q, sent_for Holds Refuses came sent came1 tx.messages came2 tx2.messages refused m a h is holds p (ap (λ e. e.messages) q))
+sent_or_back Holds Refuses came sent came1 came2 tx tx2 refused m a (Err back) h is holds p q
+    = (
+      ap (λ e. e.link) q.1,
+      came_more Holds Refuses came sent came1 tx.messages came2 tx2.messages refused refused m h (inl holds) p
+          (ap (λ e. e.messages) q.1) (omega (arith)),
+    )
 
 -- what holds of what is there, if anything is
 pub if_some : {X : Type 0} (P : Option X → Type 0) (o : Option X) → P o → IfSome o (λ x. P (Some x))
@@ -102,7 +124,8 @@ if_some P (Some x) h = h
 
 -- nothing more was sent
 sent_nothing : (Gives : ℕ → Message → Type 0) (to most : ℕ) (sent : List Message) → SentTo Gives to most sent sent
-sent_nothing Gives to most sent = record { put = []; more_sent = sym (append-nil sent); for_it = All-nil (λ m. receiver m ≡ to); given = All-nil (Gives to); few = omega (arith) }
+sent_nothing Gives to most sent = record
+    { put = []; more_sent = sym (append-nil sent); for_it = All-nil (λ m. receiver m ≡ to); given = All-nil (Gives to); few = omega (arith) }
 
 sent_then : (Gives : ℕ → Message → Type 0) (to m n : ℕ) (a b c : List Message) → SentTo Gives to m a b → SentTo Gives to n b c → SentTo Gives to (m + n) a c
 sent_then Gives to m n a b c h k = record {
@@ -127,7 +150,8 @@ pub none_sent : (Gives : ℕ → Message → Type 0) (most : ℕ) (xs : List Out
 none_sent Gives most [] = tt
 none_sent Gives most (x ∷ xs) = (not_sent Gives most x, none_sent Gives most xs)
 
-pub all_then : (Gives : ℕ → Message → Type 0) (m n : ℕ) (xs ys zs : List Outgoing) → AllZip (SentMore Gives m) xs ys → AllZip (SentMore Gives n) ys zs → AllZip (SentMore Gives (m + n)) xs zs
+pub all_then : (Gives : ℕ → Message → Type 0) (m n : ℕ) (xs ys zs : List Outgoing) → AllZip (SentMore Gives m) xs ys → AllZip (SentMore Gives n) ys zs
+    → AllZip (SentMore Gives (m + n)) xs zs
 all_then Gives m n [] [] [] h k = tt
 all_then Gives m n [] [] (z ∷ zs) h k = absurd k
 all_then Gives m n [] (y ∷ ys) zs h k = absurd h
@@ -142,7 +166,8 @@ FirstSent Gives (suc k) [] ys = ys ≡ []
 FirstSent Gives (suc k) (x ∷ xs) [] = ⊥
 FirstSent Gives (suc k) (x ∷ xs) (y ∷ ys) = SentMore Gives 1 x y × FirstSent Gives k xs ys
 
-one_more_sent : (Gives : ℕ → Message → Type 0) (k : ℕ) (xs ys : List Outgoing) (x y : Outgoing) → k < length xs → FirstSent Gives k xs ys → x ≡ get_or ys k x → SentMore Gives 1 x y → FirstSent Gives (suc k) xs (set ys k y)
+one_more_sent : (Gives : ℕ → Message → Type 0) (k : ℕ) (xs ys : List Outgoing) (x y : Outgoing) → k < length xs → FirstSent Gives k xs ys
+    → x ≡ get_or ys k x → SentMore Gives 1 x y → FirstSent Gives (suc k) xs (set ys k y)
 one_more_sent Gives k [] ys x y lt h is s = absurd (omega (arith, lt))
 one_more_sent Gives zero (z ∷ xs) ys x y lt h is s =
     subst (λ l. FirstSent Gives (suc zero) (z ∷ xs) (set l zero y)) (sym h) (subst (λ a. SentMore Gives 1 a y) (is ∙ ap (λ l. get_or l zero x) h) s, refl)
@@ -150,7 +175,8 @@ one_more_sent Gives (suc k) (z ∷ xs) [] x y lt h is s = absurd h
 one_more_sent Gives (suc k) (z ∷ xs) (w ∷ ys) x y lt h is s = (h.0, one_more_sent Gives k xs ys x y (omega (arith, lt)) h.1 is s)
 
 -- one of the links was sent on
-pub next_sent : (Gives : ℕ → Message → Type 0) (k : ℕ) (xs ys : List Outgoing) (x y : Outgoing) → k < length xs → FirstSent Gives k xs ys → x ≡ get_or ys k x → SentMore Gives 1 x y → FirstSent Gives (k + 1) xs (set ys k y)
+pub next_sent : (Gives : ℕ → Message → Type 0) (k : ℕ) (xs ys : List Outgoing) (x y : Outgoing) → k < length xs → FirstSent Gives k xs ys
+    → x ≡ get_or ys k x → SentMore Gives 1 x y → FirstSent Gives (k + 1) xs (set ys k y)
 next_sent Gives k xs ys x y lt h is s =
     let next : suc k ≡ k + 1 = omega (arith) in
     subst (λ n. FirstSent Gives n xs (set ys k y)) next (one_more_sent Gives k xs ys x y lt h is s)
@@ -163,7 +189,8 @@ all_sent Gives zero (x ∷ xs) ys le h = absurd (omega (arith, le))
 all_sent Gives (suc k) (x ∷ xs) [] le h = absurd h
 all_sent Gives (suc k) (x ∷ xs) (y ∷ ys) le h = (h.0, all_sent Gives k xs ys (omega (arith, le)) h.1)
 
-pub sent_from : (Gives : ℕ → Message → Type 0) (most : ℕ) (xs ys : List Outgoing) (es : List OutgoingEnd) → AllZip (SentMore Gives most) xs ys → AllZip IsEndOf ys es → AllZip (Sent Gives most) xs es
+pub sent_from : (Gives : ℕ → Message → Type 0) (most : ℕ) (xs ys : List Outgoing) (es : List OutgoingEnd) → AllZip (SentMore Gives most) xs ys
+    → AllZip IsEndOf ys es → AllZip (Sent Gives most) xs es
 sent_from Gives most [] [] [] h k = tt
 sent_from Gives most [] [] (e ∷ es) h k = absurd k
 sent_from Gives most [] (y ∷ ys) es h k = absurd h
@@ -179,14 +206,17 @@ sent_from Gives most (x ∷ xs) (y ∷ ys) (e ∷ es) h k = (ended x y e h.0 k.0
     }
 
 -- the same by other names
-told : (Holds Refuses : Message → Type 0) (came sent : List Message) (n n2 : ℕ) (rx rx2 tx tx2 : End) → n2 ≡ n → rx2 ≡ rx → tx2 ≡ tx → Acknowledges Holds Refuses came sent n rx.messages tx.messages → Acknowledges Holds Refuses came sent n2 rx2.messages tx2.messages
+told : (Holds Refuses : Message → Type 0) (came sent : List Message) (n n2 : ℕ) (rx rx2 tx tx2 : End) → n2 ≡ n → rx2 ≡ rx → tx2 ≡ tx
+    → Acknowledges Holds Refuses came sent n rx.messages tx.messages → Acknowledges Holds Refuses came sent n2 rx2.messages tx2.messages
 told Holds Refuses came sent n n2 rx rx2 tx tx2 a b c h =
     subst (λ (m : ℕ). Acknowledges Holds Refuses came sent m rx2.messages tx2.messages) (sym a)
     (subst (λ (r : End). Acknowledges Holds Refuses came sent n r.messages tx2.messages) (sym b)
     (subst (λ (t : End). Acknowledges Holds Refuses came sent n rx.messages t.messages) (sym c) h))
 
-pub exchanged : (Holds Refuses : Message → Type 0) (Gives : ℕ → Message → Type 0) (rounds : ℕ) (ps : List Peer) (os : List OutgoingEnd) (is : List IncomingEnd) (es : List PeerEnd)
-    → AllZip (Sent Gives rounds) (map outgoing ps) os → AllZip (Received Holds Refuses) (map incoming ps) is → AllZip HasSent os es → AllZip HasReceived is es → AllZip (Exchanged Holds Refuses Gives rounds) ps es
+pub exchanged : (Holds Refuses : Message → Type 0) (Gives : ℕ → Message → Type 0) (rounds : ℕ) (ps : List Peer) (os : List OutgoingEnd)
+    (is : List IncomingEnd) (es : List PeerEnd)
+    → AllZip (Sent Gives rounds) (map outgoing ps) os → AllZip (Received Holds Refuses) (map incoming ps) is → AllZip HasSent os es
+    → AllZip HasReceived is es → AllZip (Exchanged Holds Refuses Gives rounds) ps es
 exchanged Holds Refuses Gives rounds [] [] [] [] s r hs hr = tt
 exchanged Holds Refuses Gives rounds [] [] [] (e ∷ es) s r hs hr = absurd hs
 exchanged Holds Refuses Gives rounds [] [] (i ∷ is) es s r hs hr = absurd r
@@ -194,9 +224,11 @@ exchanged Holds Refuses Gives rounds [] (o ∷ os) is es s r hs hr = absurd s
 exchanged Holds Refuses Gives rounds (p ∷ ps) [] is es s r hs hr = absurd s
 exchanged Holds Refuses Gives rounds (p ∷ ps) (o ∷ os) [] es s r hs hr = absurd r
 exchanged Holds Refuses Gives rounds (p ∷ ps) (o ∷ os) (i ∷ is) [] s r hs hr = absurd hs
-exchanged Holds Refuses Gives rounds (p ∷ ps) (o ∷ os) (i ∷ is) (e ∷ es) s r hs hr = (one p o i e s.0 r.0 hs.0 hr.0, exchanged Holds Refuses Gives rounds ps os is es s.1 r.1 hs.1 hr.1)
+exchanged Holds Refuses Gives rounds (p ∷ ps) (o ∷ os) (i ∷ is) (e ∷ es) s r hs hr
+    = (one p o i e s.0 r.0 hs.0 hr.0, exchanged Holds Refuses Gives rounds ps os is es s.1 r.1 hs.1 hr.1)
   where
-    one : (p : Peer) (o : OutgoingEnd) (i : IncomingEnd) (e : PeerEnd) → Sent Gives rounds (outgoing p) o → Received Holds Refuses (incoming p) i → HasSent o e → HasReceived i e → Exchanged Holds Refuses Gives rounds p e
+    one : (p : Peer) (o : OutgoingEnd) (i : IncomingEnd) (e : PeerEnd) → Sent Gives rounds (outgoing p) o → Received Holds Refuses (incoming p) i
+        → HasSent o e → HasReceived i e → Exchanged Holds Refuses Gives rounds p e
     one p o i e s r hs hr = record {
       to = hs.to ∙ s.to;
       delta_tx = ap (λ t. t.link) hs.delta_tx ∙ s.link;
@@ -210,7 +242,8 @@ exchanged Holds Refuses Gives rounds (p ∷ ps) (o ∷ os) (i ∷ is) (e ∷ es)
     }
 
 -- the same, with nothing said of what is held, refused and given
-pub any_held : (Holds Refuses : Message → Type 0) (Gives : ℕ → Message → Type 0) (rounds : ℕ) (ps : List Peer) (es : List PeerEnd) → AllZip (Exchanged Holds Refuses Gives rounds) ps es → AllZip (Exchanged AnyMessage AnyMessage AnyGiven rounds) ps es
+pub any_held : (Holds Refuses : Message → Type 0) (Gives : ℕ → Message → Type 0) (rounds : ℕ) (ps : List Peer) (es : List PeerEnd)
+    → AllZip (Exchanged Holds Refuses Gives rounds) ps es → AllZip (Exchanged AnyMessage AnyMessage AnyGiven rounds) ps es
 any_held Holds Refuses Gives rounds [] [] h = h
 any_held Holds Refuses Gives rounds [] (e ∷ es) h = h
 any_held Holds Refuses Gives rounds (p ∷ ps) [] h = h
@@ -243,55 +276,80 @@ any_held Holds Refuses Gives rounds (p ∷ ps) (e ∷ es) h = (less p e h.0, any
       acks_counted = h.acks_counted;
       acknowledged =
           let a = h.acknowledged in
-          record { met = any_met _ _ a.met; taken = a.taken; put = a.put; more_sent = a.more_sent; among = a.among; held = all_any a.taken a.held; due = a.due; counted = a.counted };
+          record {
+            met = any_met _ _ a.met;
+            taken = a.taken;
+            put = a.put;
+            more_sent = a.more_sent;
+            among = a.among;
+            held = all_any a.taken a.held;
+            due = a.due;
+            counted = a.counted;
+          };
     }
 
 -- the same by other names
-pub exchanged_as : (n rounds : ℕ) (ps qs : List Peer) (es fs : List PeerEnd) → n ≡ rounds → ps ≡ qs → fs ≡ es → AllZip (Exchanged AnyMessage AnyMessage AnyGiven n) ps es → AllZip (Exchanged AnyMessage AnyMessage AnyGiven rounds) qs fs
-exchanged_as n rounds ps qs es fs same of by h = subst (λ l. AllZip (Exchanged AnyMessage AnyMessage AnyGiven rounds) qs l) (sym by) (subst (λ l. AllZip (Exchanged AnyMessage AnyMessage AnyGiven rounds) l es) of (subst (λ m. AllZip (Exchanged AnyMessage AnyMessage AnyGiven m) ps es) same h))
+pub exchanged_as : (n rounds : ℕ) (ps qs : List Peer) (es fs : List PeerEnd) → n ≡ rounds → ps ≡ qs → fs ≡ es
+    → AllZip (Exchanged AnyMessage AnyMessage AnyGiven n) ps es → AllZip (Exchanged AnyMessage AnyMessage AnyGiven rounds) qs fs
+exchanged_as n rounds ps qs es fs same of by h = subst (λ l. AllZip (Exchanged AnyMessage AnyMessage AnyGiven rounds) qs l) (sym by)
+    (subst (λ l. AllZip (Exchanged AnyMessage AnyMessage AnyGiven rounds) l es) of
+    (subst (λ m. AllZip (Exchanged AnyMessage AnyMessage AnyGiven m) ps es) same h))
 
 -- one pair more at the ends of two lists
-pub paired : {A B : Type 0} (R : A → B → Type 0) (xs xs' : List A) (ys ys' : List B) (x : A) (y : B) → xs ≡ xs' ++ x ∷ [] → ys ≡ ys' ++ y ∷ [] → AllZip R xs' ys' → R x y → AllZip R xs ys
+pub paired : {A B : Type 0} (R : A → B → Type 0) (xs xs' : List A) (ys ys' : List B) (x : A) (y : B) → xs ≡ xs' ++ x ∷ [] → ys ≡ ys' ++ y ∷ []
+    → AllZip R xs' ys' → R x y → AllZip R xs ys
 paired R xs xs' ys ys' x y p q h r = subst (λ l. AllZip R l ys) (sym p) (subst (λ l. AllZip R (xs' ++ x ∷ []) l) (sym q) (all_zip_push R xs' ys' x y h r))
 
 -- the ends are of the links of what was handed in
-pub same_links : (rounds : ℕ) (ps : List Peer) (es : List PeerEnd) → AllZip (Exchanged AnyMessage AnyMessage AnyGiven rounds) ps es → map linkage_left es ≡ map linkage_of ps
+pub same_links : (rounds : ℕ) (ps : List Peer) (es : List PeerEnd) → AllZip (Exchanged AnyMessage AnyMessage AnyGiven rounds) ps es
+    → map linkage_left es ≡ map linkage_of ps
 same_links rounds [] [] h = refl
 same_links rounds [] (e ∷ es) h = absurd h
 same_links rounds (p ∷ ps) [] h = absurd h
-same_links rounds (p ∷ ps) (e ∷ es) h = λ i. record { delta_tx = h.0.delta_tx i; ack_tx = h.0.ack_tx i; delta_rx = h.0.delta_rx i; ack_rx = h.0.ack_rx i } ∷ same_links rounds ps es h.1 i
+same_links rounds (p ∷ ps) (e ∷ es) h = λ i. record { delta_tx = h.0.delta_tx i; ack_tx = h.0.ack_tx i; delta_rx = h.0.delta_rx i; ack_rx = h.0.ack_rx i }
+    ∷ same_links rounds ps es h.1 i
 
 -- each site's ends are of its links
-pub rows_linked : {A B : Type 0} (rounds : ℕ) (peers : A → List Peer) (ends : B → List PeerEnd) (xs : List A) (ys : List B) → AllZip (λ x y. AllZip (Exchanged AnyMessage AnyMessage AnyGiven rounds) (peers x) (ends y)) xs ys → map (λ y. map linkage_left (ends y)) ys ≡ map (λ x. map linkage_of (peers x)) xs
+pub rows_linked : {A B : Type 0} (rounds : ℕ) (peers : A → List Peer) (ends : B → List PeerEnd) (xs : List A) (ys : List B)
+    → AllZip (λ x y. AllZip (Exchanged AnyMessage AnyMessage AnyGiven rounds) (peers x) (ends y)) xs ys
+    → map (λ y. map linkage_left (ends y)) ys ≡ map (λ x. map linkage_of (peers x)) xs
 rows_linked rounds peers ends [] [] h = refl
 rows_linked rounds peers ends [] (y ∷ ys) h = absurd h
 rows_linked rounds peers ends (x ∷ xs) [] h = absurd h
 rows_linked rounds peers ends (x ∷ xs) (y ∷ ys) h = λ i. same_links rounds (peers x) (ends y) h.0 i ∷ rows_linked rounds peers ends xs ys h.1 i
 
-same_names : (rounds : ℕ) (ps : List Peer) (es : List PeerEnd) → AllZip (Exchanged AnyMessage AnyMessage AnyGiven rounds) ps es → map (λ e. e.to) es ≡ map (λ p. p.to) ps
+same_names : (rounds : ℕ) (ps : List Peer) (es : List PeerEnd) → AllZip (Exchanged AnyMessage AnyMessage AnyGiven rounds) ps es
+    → map (λ e. e.to) es ≡ map (λ p. p.to) ps
 same_names rounds [] [] h = refl
 same_names rounds [] (e ∷ es) h = absurd h
 same_names rounds (p ∷ ps) [] h = absurd h
 same_names rounds (p ∷ ps) (e ∷ es) h = λ i. h.0.to i ∷ same_names rounds ps es h.1 i
 
 -- and has the names that were handed in
-pub rows_named : {A B : Type 0} (rounds : ℕ) (peers : A → List Peer) (ends : B → List PeerEnd) (xs : List A) (ys : List B) → AllZip (λ x y. AllZip (Exchanged AnyMessage AnyMessage AnyGiven rounds) (peers x) (ends y)) xs ys → map (λ y. map (λ e. e.to) (ends y)) ys ≡ map (λ x. map (λ p. p.to) (peers x)) xs
+pub rows_named : {A B : Type 0} (rounds : ℕ) (peers : A → List Peer) (ends : B → List PeerEnd) (xs : List A) (ys : List B)
+    → AllZip (λ x y. AllZip (Exchanged AnyMessage AnyMessage AnyGiven rounds) (peers x) (ends y)) xs ys
+    → map (λ y. map (λ e. e.to) (ends y)) ys ≡ map (λ x. map (λ p. p.to) (peers x)) xs
 rows_named rounds peers ends [] [] h = refl
 rows_named rounds peers ends [] (y ∷ ys) h = absurd h
 rows_named rounds peers ends (x ∷ xs) [] h = absurd h
 rows_named rounds peers ends (x ∷ xs) (y ∷ ys) h = λ i. same_names rounds (peers x) (ends y) h.0 i ∷ rows_named rounds peers ends xs ys h.1 i
 
-left_of_new : (rounds : ℕ) (ps : List Peer) (es : List PeerEnd) → All IsNewPeer ps → AllZip (Exchanged AnyMessage AnyMessage AnyGiven rounds) ps es → All (IsLeftOfNew rounds) es
+left_of_new : (rounds : ℕ) (ps : List Peer) (es : List PeerEnd) → All IsNewPeer ps → AllZip (Exchanged AnyMessage AnyMessage AnyGiven rounds) ps es
+    → All (IsLeftOfNew rounds) es
 left_of_new rounds [] [] n h = All-nil (IsLeftOfNew rounds)
 left_of_new rounds [] (e ∷ es) n h = absurd h
 left_of_new rounds (p ∷ ps) [] n h = absurd h
-left_of_new rounds (p ∷ ps) (e ∷ es) n h = All-cons (IsLeftOfNew rounds) e es (p, All-head IsNewPeer p ps n, h.0) (left_of_new rounds ps es (All-tail IsNewPeer p ps n) h.1)
+left_of_new rounds (p ∷ ps) (e ∷ es) n h = All-cons (IsLeftOfNew rounds) e es (p, All-head IsNewPeer p ps n, h.0)
+    (left_of_new rounds ps es (All-tail IsNewPeer p ps n) h.1)
 
 -- and each was left by an exchange of new links
-pub rows_left : {A B : Type 0} (rounds : ℕ) (peers : A → List Peer) (ends : B → List PeerEnd) (xs : List A) (ys : List B) → All (λ x. All IsNewPeer (peers x)) xs → AllZip (λ x y. AllZip (Exchanged AnyMessage AnyMessage AnyGiven rounds) (peers x) (ends y)) xs ys → All (λ row. All (IsLeftOfNew rounds) row) (map ends ys)
+pub rows_left : {A B : Type 0} (rounds : ℕ) (peers : A → List Peer) (ends : B → List PeerEnd) (xs : List A) (ys : List B)
+    → All (λ x. All IsNewPeer (peers x)) xs → AllZip (λ x y. AllZip (Exchanged AnyMessage AnyMessage AnyGiven rounds) (peers x) (ends y)) xs ys
+    → All (λ row. All (IsLeftOfNew rounds) row) (map ends ys)
 rows_left rounds peers ends [] [] n h = All-nil (λ row. All (IsLeftOfNew rounds) row)
 rows_left rounds peers ends [] (y ∷ ys) n h = absurd h
 rows_left rounds peers ends (x ∷ xs) [] n h = absurd h
 rows_left rounds peers ends (x ∷ xs) (y ∷ ys) n h =
-    All-cons (λ row. All (IsLeftOfNew rounds) row) (ends y) (map ends ys) (left_of_new rounds (peers x) (ends y) (All-head (λ x. All IsNewPeer (peers x)) x xs n) h.0)
+    All-cons (λ row. All (IsLeftOfNew rounds) row) (ends y) (map ends ys)
+    (left_of_new rounds (peers x) (ends y) (All-head (λ x. All IsNewPeer (peers x)) x xs n) h.0)
     (rows_left rounds peers ends xs ys (All-tail (λ x. All IsNewPeer (peers x)) x xs n) h.1)

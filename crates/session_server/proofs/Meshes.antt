@@ -32,11 +32,14 @@ came_more before after own had has here c g =
     }
 
 -- the same of lists of whatever has peers
-pub came_begun : {R : Type 0} (items : R → List Peer) (rows : List R) (own : List Peer) → rows ≡ [] → own ≡ [] → CameTo [] (map (λ r. map linkage_of (items r)) rows) (map linkage_of own)
-came_begun items rows own e o = subst (λ l. CameTo [] (map (λ r. map linkage_of (items r)) l) (map linkage_of own)) (sym e) (subst (λ l. CameTo [] [] (map linkage_of l)) (sym o) nobody_came)
+pub came_begun : {R : Type 0} (items : R → List Peer) (rows : List R) (own : List Peer) → rows ≡ [] → own ≡ []
+    → CameTo [] (map (λ r. map linkage_of (items r)) rows) (map linkage_of own)
+came_begun items rows own e o = subst (λ l. CameTo [] (map (λ r. map linkage_of (items r)) l) (map linkage_of own)) (sym e)
+    (subst (λ l. CameTo [] [] (map linkage_of l)) (sym o) nobody_came)
 
 pub came_then : {R : Type 0} (items : R → List Peer) (befores : List R) (before : R) (afters afters' : List R) (after : R) (own own' : List Peer) (here : Peer)
-    → CameTo (map (λ r. map linkage_of (items r)) befores) (map (λ r. map linkage_of (items r)) afters) (map linkage_of own) → GotPeer (items before) (items after) here → afters' ≡ afters ++ after ∷ [] → own' ≡ own ++ here ∷ []
+    → CameTo (map (λ r. map linkage_of (items r)) befores) (map (λ r. map linkage_of (items r)) afters) (map linkage_of own)
+    → GotPeer (items before) (items after) here → afters' ≡ afters ++ after ∷ [] → own' ≡ own ++ here ∷ []
     → CameTo (map (λ r. map linkage_of (items r)) (befores ++ before ∷ [])) (map (λ r. map linkage_of (items r)) afters') (map linkage_of own')
 came_then {R} items befores before afters afters' after own own' here c g e o =
     let row : R → List Linkage = λ r. map linkage_of (items r) in
@@ -46,12 +49,14 @@ came_then {R} items befores before afters afters' after own own' here c g e o =
     (subst (λ l. CameTo (map row befores ++ row before ∷ []) (map row afters ++ row after ∷ []) l) (sym (mapped_push linkage_of own' own here o)) more))
 
 -- through the links of those that got a peer nothing went
-pub new_then : {R : Type 0} (items : R → List Peer) (befores : List R) (before : R) (afters afters' : List R) (after : R) (here : Peer) → (All (λ r. All IsNewPeer (items r)) befores → All (λ r. All IsNewPeer (items r)) afters) → GotPeer (items before) (items after) here
+pub new_then : {R : Type 0} (items : R → List Peer) (befores : List R) (before : R) (afters afters' : List R) (after : R) (here : Peer)
+    → (All (λ r. All IsNewPeer (items r)) befores → All (λ r. All IsNewPeer (items r)) afters) → GotPeer (items before) (items after) here
     → afters' ≡ afters ++ after ∷ [] → All (λ r. All IsNewPeer (items r)) (befores ++ before ∷ []) → All (λ r. All IsNewPeer (items r)) afters'
 new_then items befores before afters afters' after here so g e h =
     let split = All-pushed (λ r. All IsNewPeer (items r)) befores before h in
     All-same (λ r. All IsNewPeer (items r)) afters' (afters ++ after ∷ []) e
-    (All-push (λ r. All IsNewPeer (items r)) afters after (so split.0) (All-same IsNewPeer (items after) (items before ++ g.0 ∷ []) g.1 (All-push IsNewPeer (items before) g.0 split.1 g.3)))
+    (All-push (λ r. All IsNewPeer (items r)) afters after (so split.0)
+    (All-same IsNewPeer (items after) (items before ++ g.0 ∷ []) g.1 (All-push IsNewPeer (items before) g.0 split.1 g.3)))
 
 pub mesh_with : (before after : List (List Linkage)) (own : List Linkage) → IsMesh before → CameTo before after own → IsMesh (after ++ own ∷ [])
 mesh_with before after own m c =
@@ -71,18 +76,26 @@ pub record Undone (rows : List (List Linkage)) (last : List Linkage) : Type 0 wh
 pub undone : (rows : List (List Linkage)) (last : List Linkage) → IsMesh (rows ++ last ∷ []) → Undone rows last
 undone rows last m = by_came m.came m.in_turn m.joined m.rows_are
   where
-    by_came : (came : List (List (Linkage × Linkage))) → AreInTurn came → All (λ pairs. All AreJoined pairs) came → rows ++ last ∷ [] ≡ rows_of came → Undone rows last
+    by_came : (came : List (List (Linkage × Linkage))) → AreInTurn came → All (λ pairs. All AreJoined pairs) came → rows ++ last ∷ [] ≡ rows_of came
+        → Undone rows last
     by_came [] t j e = absurd (omega (arith, ap length e, length_push rows last))
     by_came (c ∷ earlier) t j e =
         let same = same_from_push rows (each_with (rows_of earlier) (map (λ p. p.0) c)) last (map (λ p. p.1) c) e in
         record {
           before = rows_of earlier;
           mesh = record { came = earlier; in_turn = t.1; joined = All-tail (λ pairs. All AreJoined pairs) c earlier j; rows_are = refl };
-          came = record { came = c; count = t.0 ∙ sym (length_rows earlier); joined = All-head (λ pairs. All AreJoined pairs) c earlier j; after_is = same.0; own_is = same.1 };
+          came = record {
+            came = c;
+            count = t.0 ∙ sym (length_rows earlier);
+            joined = All-head (λ pairs. All AreJoined pairs) c earlier j;
+            after_is = same.0;
+            own_is = same.1;
+          };
         }
 
 -- the last element of a list whose image ends so
-last_of : {X Y : Type 0} (f : X → Y) (xs : List X) (ys : List Y) (y : Y) → map f xs ≡ ys ++ y ∷ [] → (front : List X) × (one : X) × (xs ≡ front ++ one ∷ []) × (f one ≡ y)
+last_of : {X Y : Type 0} (f : X → Y) (xs : List X) (ys : List Y) (y : Y) → map f xs ≡ ys ++ y ∷ []
+    → (front : List X) × (one : X) × (xs ≡ front ++ one ∷ []) × (f one ≡ y)
 last_of f [] ys y e = absurd (omega (arith, ap length e, length_push ys y))
 last_of f (x ∷ []) [] y e = ([], x, refl, (let same = e in cc))
 last_of f (x ∷ []) (b ∷ ys) y e = absurd (omega (arith, ap length e, length_push ys y))
@@ -93,12 +106,15 @@ last_of f (x ∷ z ∷ xs) (b ∷ ys) y e =
     (x ∷ l.0, l.1, ap (λ t. x ∷ t) l.2, l.3)
 
 -- the last ends of the rows before are of one link each with an end of the last site
-pub last_joined : {R : Type 0} (items : R → List PeerEnd) (before : List (List Linkage)) (rows : List R) (last : List PeerEnd) → CameTo before (map (λ r. map linkage_left (items r)) rows) (map linkage_left last)
+pub last_joined : {R : Type 0} (items : R → List PeerEnd) (before : List (List Linkage)) (rows : List R) (last : List PeerEnd)
+    → CameTo before (map (λ r. map linkage_left (items r)) rows) (map linkage_left last)
     → AllZip (λ r other. EndsJoined (items r) other) rows last
 last_joined {R} items before rows last c = by_came before rows last c.came c.count c.joined c.after_is c.own_is
   where
-    by_came : (before : List (List Linkage)) (rows : List R) (last : List PeerEnd) (came : List (Linkage × Linkage)) → length came ≡ length before → All AreJoined came
-        → map (λ r. map linkage_left (items r)) rows ≡ each_with before (map (λ p. p.0) came) → map linkage_left last ≡ map (λ p. p.1) came → AllZip (λ r other. EndsJoined (items r) other) rows last
+    by_came : (before : List (List Linkage)) (rows : List R) (last : List PeerEnd) (came : List (Linkage × Linkage)) → length came ≡ length before
+        → All AreJoined came
+        → map (λ r. map linkage_left (items r)) rows ≡ each_with before (map (λ p. p.0) came) → map linkage_left last ≡ map (λ p. p.1) came
+        → AllZip (λ r other. EndsJoined (items r) other) rows last
     by_came [] [] [] came n j e s = tt
     by_came [] [] (o ∷ last) [] n j e s = absurd (omega (arith, ap length s))
     by_came [] rows last (p ∷ came) n j e s = absurd (omega (arith, n))
@@ -112,15 +128,18 @@ last_joined {R} items before rows last c = by_came before rows last c.came c.cou
         let one : linkage_left o ≡ p.1 = let same = s in cc in
         let others : map linkage_left last ≡ map (λ p. p.1) came = let same = s in cc in
         let l = last_of linkage_left (items r) b p.0 row in
-        let is : (linkage_left l.1, linkage_left o) ≡ p = λ i. (l.3 i, one i) in
-        ((l.0, l.1, l.2, subst AreJoined (sym is) (All-head AreJoined p came j)), by_came before rows last came (omega (arith, n)) (All-tail AreJoined p came j) rest others)
+        let is : (linkage_left l.1, linkage_left o) ≡ p = λ i. (l.3 i, one i) in (
+          (l.0, l.1, l.2, subst AreJoined (sym is) (All-head AreJoined p came j)),
+          by_came before rows last came (omega (arith, n)) (All-tail AreJoined p came j) rest others,
+        )
 
 pub came_to_each : (before after : List (List Linkage)) (own : List Linkage) → CameTo before after own → length after ≡ length own
 came_to_each before after own c =
     ap length c.after_is ∙ length_each before (map (λ p. p.0) c.came) ∙ sym c.count ∙ sym (ap length c.own_is ∙ length-map c.came (λ p. p.1))
 
 -- what is left of the rows is the mesh of the sites before
-pub left_before : (before : List (List Linkage)) (rows fronts : List (List PeerEnd)) (last : List Linkage) (others : List PeerEnd) (told : List _) → CameTo before (map (map linkage_left) rows) last → IsSettledWith rows others fronts told
+pub left_before : (before : List (List Linkage)) (rows fronts : List (List PeerEnd)) (last : List Linkage) (others : List PeerEnd) (told : List _)
+    → CameTo before (map (map linkage_left) rows) last → IsSettledWith rows others fronts told
     → map (map linkage_left) fronts ≡ before
 left_before before rows fronts last others told c s =
     let firsts = map (λ (p : PeerEnd × PeerEnd). p.0) s.came in
@@ -130,10 +149,12 @@ left_before before rows fronts last others told c s =
     (sym (each_map linkage_left fronts firsts) ∙ ap (map (map linkage_left)) (sym s.rows_are) ∙ c.after_is)
 
 -- one more site before got a peer of this number
-pub named_more : {R : Type 0} (names : R → List ℕ) (me : ℕ) (befores : List R) (before : R) (afters afters' : List R) (after : R) → map names afters ≡ each_with (map names befores) (map (λ r. me) befores) → names after ≡ names before ++ me ∷ [] → afters' ≡ afters ++ after ∷ []
+pub named_more : {R : Type 0} (names : R → List ℕ) (me : ℕ) (befores : List R) (before : R) (afters afters' : List R) (after : R)
+    → map names afters ≡ each_with (map names befores) (map (λ r. me) befores) → names after ≡ names before ++ me ∷ [] → afters' ≡ afters ++ after ∷ []
     → map names afters' ≡ each_with (map names (befores ++ before ∷ [])) (map (λ r. me) (befores ++ before ∷ []))
 named_more names me befores before afters afters' after is has e =
-    each_more (map names (befores ++ before ∷ [])) (map names befores) (names before) (map (λ r. me) (befores ++ before ∷ [])) (map (λ r. me) befores) me (map names afters') (map names afters)
+    each_more (map names (befores ++ before ∷ [])) (map names befores) (names before) (map (λ r. me) (befores ++ before ∷ [])) (map (λ r. me) befores) me
+    (map names afters') (map names afters)
     (length-map befores (λ r. me) ∙ sym (length-map befores names)) (map-append names befores (before ∷ [])) (map-append (λ r. me) befores (before ∷ []))
     (mapped_push names afters' afters after e ∙ ap (λ row. map names afters ++ row ∷ []) has) is
 
@@ -146,11 +167,14 @@ others_push : {X : Type 0} (xs : List X) (y : X) → others_of (xs ++ y ∷ []) 
 others_push [] y = refl
 others_push (x ∷ xs) y =
     ap (λ l. (xs ++ y ∷ []) ∷ map (λ row. x ∷ row) l) (others_push xs y)
-    ∙ ap (λ l. (xs ++ y ∷ []) ∷ l) (map-append (λ row. x ∷ row) (each_with (others_of xs) (map (λ z. y) xs)) (xs ∷ []) ∙ ap (λ l. l ++ (x ∷ xs) ∷ []) (each_under x (others_of xs) (map (λ z. y) xs)))
+    ∙ ap (λ l. (xs ++ y ∷ []) ∷ l) (map-append (λ row. x ∷ row) (each_with (others_of xs) (map (λ z. y) xs)) (xs ∷ [])
+    ∙ ap (λ l. l ++ (x ∷ xs) ∷ []) (each_under x (others_of xs) (map (λ z. y) xs)))
 
 -- each row has the numbers of the others
-pub named_then : {R : Type 0} (names : R → List ℕ) (number : R → ℕ) (befores afters all : List R) (own : R) (me : ℕ) → map names befores ≡ others_of (map number befores) → map number afters ≡ map number befores
-    → map names afters ≡ each_with (map names befores) (map (λ r. me) befores) → names own ≡ map number befores → number own ≡ me → all ≡ afters ++ own ∷ [] → map names all ≡ others_of (map number all)
+pub named_then : {R : Type 0} (names : R → List ℕ) (number : R → ℕ) (befores afters all : List R) (own : R) (me : ℕ)
+    → map names befores ≡ others_of (map number befores) → map number afters ≡ map number befores
+    → map names afters ≡ each_with (map names befores) (map (λ r. me) befores) → names own ≡ map number befores → number own ≡ me
+    → all ≡ afters ++ own ∷ [] → map names all ≡ others_of (map number all)
 named_then {R} names number befores afters all own me had same has mine is e =
     let numbers = map number befores in
     mapped_push names all afters own e

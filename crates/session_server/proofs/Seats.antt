@@ -25,25 +25,36 @@ use Rattle.session_server.specs.Served.{Served}
 use Rattle.session_server.specs.Session.{Answers, Talked}
 use Rattle.session_server.proofs.Sessions.{chain_keeps, talked_less}
 
-raised : (opening place : ℕ) (old new : Held) (fresh : Bool) → new ≡ held old.parts (if fresh then old.count + 1 else old.count) → (fresh ≡ true → opening + old.count ≤ place) → IsRaisedAt opening place old new
+raised : (opening place : ℕ) (old new : Held) (fresh : Bool) → new ≡ held old.parts (if fresh then old.count + 1 else old.count)
+    → (fresh ≡ true → opening + old.count ≤ place) → IsRaisedAt opening place old new
 raised opening place old new true is at = inr (is, at refl)
 raised opening place old new false is at = inl is
 
 -- a desk answered the request, and gave its receipt
-pub asked : (opening : ℕ) (old new : Seated) (number : ℕ) (request : Request) (answer : Answer) (receipt : Receipt) (seat : Held) → new ≡ with_receipt old seat receipt
-    → receipt ≡ record { number = number; request = request; reply = answer.reply; place = answer.place } → seat ≡ held old.seat.parts (if answer.fresh then old.seat.count + 1 else old.seat.count)
+pub asked : (opening : ℕ) (old new : Seated) (number : ℕ) (request : Request) (answer : Answer) (receipt : Receipt) (seat : Held)
+    → new ≡ with_receipt old seat receipt
+    → receipt ≡ record { number = number; request = request; reply = answer.reply; place = answer.place }
+    → seat ≡ held old.seat.parts (if answer.fresh then old.seat.count + 1 else old.seat.count)
     → (answer.fresh ≡ true → opening + old.seat.count ≤ answer.place) → SeatStep opening old (Ask number request) (Kept answer.reply) new
 asked opening old new number request answer receipt seat is is_receipt is_seat place =
     (answer.place, seat, is ∙ ap (with_receipt old seat) is_receipt, raised opening answer.place old.seat seat answer.fresh is_seat place)
 
 -- one receipt more, or one look more, that the desk may tell
-pub receipt_told : (t : Telling) (old new : Seated) (receipt : Receipt) → new.receipts ≡ old.receipts ++ receipt ∷ [] → new.looks ≡ old.looks → t.receipts receipt → MayBeTold t old → MayBeTold t new
+pub receipt_told : (t : Telling) (old new : Seated) (receipt : Receipt) → new.receipts ≡ old.receipts ++ receipt ∷ [] → new.looks ≡ old.looks
+    → t.receipts receipt → MayBeTold t old → MayBeTold t new
 receipt_told t old new receipt more same is told =
-    record { receipts = subst (All t.receipts) (sym more) (All-push t.receipts old.receipts receipt told.receipts is); looks = subst (All t.shows) (sym same) told.looks }
+    record {
+      receipts = subst (All t.receipts) (sym more) (All-push t.receipts old.receipts receipt told.receipts is);
+      looks = subst (All t.shows) (sym same) told.looks;
+    }
 
-pub look_told : (t : Telling) (old new : Seated) (seen : Seen) → new.receipts ≡ old.receipts → new.looks ≡ old.looks ++ seen ∷ [] → t.shows seen → MayBeTold t old → MayBeTold t new
+pub look_told : (t : Telling) (old new : Seated) (seen : Seen) → new.receipts ≡ old.receipts → new.looks ≡ old.looks ++ seen ∷ [] → t.shows seen
+    → MayBeTold t old → MayBeTold t new
 look_told t old new seen same more is told =
-    record { receipts = subst (All t.receipts) (sym same) told.receipts; looks = subst (All t.shows) (sym more) (All-push t.shows old.looks seen told.looks is) }
+    record {
+      receipts = subst (All t.receipts) (sym same) told.receipts;
+      looks = subst (All t.shows) (sym more) (All-push t.shows old.looks seen told.looks is);
+    }
 
 still_told : (t : Telling) (old new : Seated) → new.receipts ≡ old.receipts → new.looks ≡ old.looks → MayBeTold t old → MayBeTold t new
 still_told t old new same still told = record { receipts = subst (All t.receipts) (sym same) told.receipts; looks = subst (All t.shows) (sym still) told.looks }
@@ -63,13 +74,18 @@ both_if_err P Q (Ok x) h k = tt
 both_if_err P Q (Err fault) h k = (h, k)
 
 -- a request came to this, and its receipt, if it has one, was kept
-pub asked_at_desk : (t : Telling) (opening : ℕ) (old new : Seated) (number : ℕ) (request : Request) (came : Result (Answer × Receipt) AskFault) (answered : Answered)
-    → MatchResult came (λ r. answered ≡ Kept r.0.reply) (λ fault. answered ≡ Refused fault) → MatchResult came (λ r. new.receipts ≡ old.receipts ++ r.1 ∷ []) (λ _. new.receipts ≡ old.receipts) → new.looks ≡ old.looks
-    → IfOk came (λ r. r.1 ≡ record { number = number; request = request; reply = r.0.reply; place = r.0.place }) → IfOk came (λ r. new.seat ≡ held old.seat.parts (if r.0.fresh then old.seat.count + 1 else old.seat.count))
-    → OnErr came (new.seat ≡ old.seat) → IfOk came (λ r. r.0.fresh ≡ true → opening + old.seat.count ≤ r.0.place) → IfOk came (λ r. t.receipts r.1) → IfErr came (t.refuses number request)
+pub asked_at_desk : (t : Telling) (opening : ℕ) (old new : Seated) (number : ℕ) (request : Request) (came : Result (Answer × Receipt) AskFault)
+    (answered : Answered)
+    → MatchResult came (λ r. answered ≡ Kept r.0.reply) (λ fault. answered ≡ Refused fault)
+    → MatchResult came (λ r. new.receipts ≡ old.receipts ++ r.1 ∷ []) (λ _. new.receipts ≡ old.receipts) → new.looks ≡ old.looks
+    → IfOk came (λ r. r.1 ≡ record { number = number; request = request; reply = r.0.reply; place = r.0.place })
+    → IfOk came (λ r. new.seat ≡ held old.seat.parts (if r.0.fresh then old.seat.count + 1 else old.seat.count))
+    → OnErr came (new.seat ≡ old.seat) → IfOk came (λ r. r.0.fresh ≡ true → opening + old.seat.count ≤ r.0.place) → IfOk came (λ r. t.receipts r.1)
+    → IfErr came (t.refuses number request)
     → DeskStep t opening old (Ask number request) answered new
 asked_at_desk t opening old new number request (Ok r) answered is more same receipt seat still place holds refused = record {
-  step = subst (λ a. SeatStep opening old (Ask number request) a new) (sym is) (asked opening old new number request r.0 r.1 new.seat (λ i. seated new.seat (more i) (same i)) receipt seat place);
+  step = subst (λ a. SeatStep opening old (Ask number request) a new) (sym is)
+      (asked opening old new number request r.0 r.1 new.seat (λ i. seated new.seat (more i) (same i)) receipt seat place);
   why = subst (λ a. WhyRefused t (Ask number request) a) (sym is) tt;
   told = receipt_told t old new r.1 more same holds;
 }
@@ -80,7 +96,8 @@ asked_at_desk t opening old new number request (Err fault) answered is more same
 }
 
 -- a look showed nothing
-pub left_nothing : (t : Telling) (opening : ℕ) (old new : Seated) (event : List ℕ) (answered : Answered) → ShowsNothing answered → new ≡ old → WhyNotShown t event answered → (MayBeTold t old → MayBeTold t new)
+pub left_nothing : (t : Telling) (opening : ℕ) (old new : Seated) (event : List ℕ) (answered : Answered) → ShowsNothing answered → new ≡ old
+    → WhyNotShown t event answered → (MayBeTold t old → MayBeTold t new)
     → DeskStep t opening old (Left event) answered new
 left_nothing t opening old new event NotKnown none is why told = record { step = is; why = why; told = told }
 left_nothing t opening old new event (Refused fault) none is why told = record { step = (none, is); why = why; told = told }
@@ -89,7 +106,8 @@ left_nothing t opening old new event (LeftIs left) none is why told = absurd non
 left_nothing t opening old new event (TotalsAre totals) none is why told = absurd none
 left_nothing t opening old new event Unread none is why told = absurd none
 
-pub totals_nothing : (t : Telling) (opening : ℕ) (old new : Seated) (event : List ℕ) (answered : Answered) → ShowsNothing answered → new ≡ old → WhyNotShown t event answered → (MayBeTold t old → MayBeTold t new)
+pub totals_nothing : (t : Telling) (opening : ℕ) (old new : Seated) (event : List ℕ) (answered : Answered) → ShowsNothing answered → new ≡ old
+    → WhyNotShown t event answered → (MayBeTold t old → MayBeTold t new)
     → DeskStep t opening old (Totals event) answered new
 totals_nothing t opening old new event NotKnown none is why told = record { step = is; why = why; told = told }
 totals_nothing t opening old new event (Refused fault) none is why told = record { step = (none, is); why = why; told = told }
@@ -99,15 +117,20 @@ totals_nothing t opening old new event (TotalsAre totals) none is why told = abs
 totals_nothing t opening old new event Unread none is why told = absurd none
 
 -- a session at a desk is one of a seat
-pub of_desk : (t : Telling) (opening : ℕ) (input old new : Option (List ℕ)) (before after : Seated) (result : Result Ended TalkFault) → Talked (DeskStep t opening) input old new before after result → Talked (SeatStep opening) input old new before after result
-of_desk t opening input old new before after result talked = talked_less (DeskStep t opening) (SeatStep opening) (λ a line x b h. h.step) input old new before after result talked
+pub of_desk : (t : Telling) (opening : ℕ) (input old new : Option (List ℕ)) (before after : Seated) (result : Result Ended TalkFault)
+    → Talked (DeskStep t opening) input old new before after result → Talked (SeatStep opening) input old new before after result
+of_desk t opening input old new before after result talked = talked_less (DeskStep t opening) (SeatStep opening) (λ a line x b h. h.step) input old new
+    before after result talked
 
 -- a seat that had been given nothing answered it, and what it was given is this
-pub served_by : (opening : ℕ) (a b c a_now b_now : Option (List ℕ)) (before after : Seated) (seat : Held) (receipts : List Receipt) (looks : List Seen) (result : Result Ended TalkFault)
-    → Talked (SeatStep opening) a b c before after result → before ≡ seated seat [] [] → a_now ≡ a → b_now ≡ b → receipts ≡ after.receipts → looks ≡ after.looks → Served a_now b_now c result receipts looks
+pub served_by : (opening : ℕ) (a b c a_now b_now : Option (List ℕ)) (before after : Seated) (seat : Held) (receipts : List Receipt) (looks : List Seen)
+    (result : Result Ended TalkFault)
+    → Talked (SeatStep opening) a b c before after result → before ≡ seated seat [] [] → a_now ≡ a → b_now ≡ b → receipts ≡ after.receipts
+    → looks ≡ after.looks → Served a_now b_now c result receipts looks
 served_by opening a b c a_now b_now before after seat receipts looks result talked is is_a is_b is_receipts is_looks =
     let with_none = subst (λ (s : Seated). Talked (SeatStep opening) a b c s after result) is talked in
-    subst (λ (y : (Option (List ℕ) × Option (List ℕ)) × (List Receipt × List Seen)). Served y.0.0 y.0.1 c result y.1.0 y.1.1) (λ i. ((sym is_a i, sym is_b i), (sym is_receipts i, sym is_looks i))) (opening, seat, after.seat, with_none)
+    subst (λ (y : (Option (List ℕ) × Option (List ℕ)) × (List Receipt × List Seen)). Served y.0.0 y.0.1 c result y.1.0 y.1.1)
+    (λ i. ((sym is_a i, sym is_b i), (sym is_receipts i, sym is_looks i))) (opening, seat, after.seat, with_none)
 
 -- the seat is as it was, and what it was given too
 abbrev IsStill : Seated → Seated → Type 0
@@ -115,7 +138,8 @@ IsStill old new = (new.seat ≡ old.seat) × (new.receipts ≡ old.receipts)
 
 -- it was given a receipt
 abbrev IsGiven : ℕ → Seated → Seated → Type 0
-IsGiven opening old new = (place : ℕ) × (seat : Held) × (receipt : Receipt) × (new ≡ with_receipt old seat receipt) × (receipt.place ≡ place) × IsRaisedAt opening place old.seat seat
+IsGiven opening old new = (place : ℕ) × (seat : Held) × (receipt : Receipt) × (new ≡ with_receipt old seat receipt) × (receipt.place ≡ place)
+    × IsRaisedAt opening place old.seat seat
 
 still : (old new : Seated) → new ≡ old → IsStill old new
 still old new is = (ap (λ (s : Seated). s.seat) is, ap (λ (s : Seated). s.receipts) is)
@@ -123,8 +147,10 @@ still old new is = (ap (λ (s : Seated). s.seat) is, ap (λ (s : Seated). s.rece
 looked : (opening : ℕ) (event : List ℕ) (old : Seated) (seen : Seen) (new : Seated) → IsLookAt opening event old seen new → IsStill old new
 looked opening event old seen new h = (ap (λ (s : Seated). s.seat) h.0, ap (λ (s : Seated). s.receipts) h.0)
 
-stepped : (opening : ℕ) (old : Seated) (line : Line) (answered : Answered) (new : Seated) → SeatStep opening old line answered new → IsStill old new ⊎ IsGiven opening old new
-stepped opening old (Ask number request) (Kept reply) new h = inr (h.0, h.1, record { number = number; request = request; reply = reply; place = h.0 }, h.2, refl, h.3)
+stepped : (opening : ℕ) (old : Seated) (line : Line) (answered : Answered) (new : Seated) → SeatStep opening old line answered new
+    → IsStill old new ⊎ IsGiven opening old new
+stepped opening old (Ask number request) (Kept reply) new h = inr
+    (h.0, h.1, record { number = number; request = request; reply = reply; place = h.0 }, h.2, refl, h.3)
 stepped opening old (Ask number request) (LeftIs left) new h = absurd h
 stepped opening old (Ask number request) (TotalsAre totals) new h = absurd h
 stepped opening old (Ask number request) NotKnown new h = absurd h
@@ -149,7 +175,8 @@ stepped opening old Quit NotKnown new h = inl (still old new h)
 stepped opening old Quit (Refused fault) new h = absurd h
 stepped opening old Quit Unread new h = absurd h
 
-answered : (opening : ℕ) (old : Seated) (o : Option Line) (given : Answered) (new : Seated) → Answers (SeatStep opening) old o given new → IsStill old new ⊎ IsGiven opening old new
+answered : (opening : ℕ) (old : Seated) (o : Option Line) (given : Answered) (new : Seated) → Answers (SeatStep opening) old o given new
+    → IsStill old new ⊎ IsGiven opening old new
 answered opening old (Some (Ask number request)) given new h = stepped opening old (Ask number request) given new h
 answered opening old (Some (Left event)) given new h = stepped opening old (Left event) given new h
 answered opening old (Some (Totals event)) given new h = stepped opening old (Totals event) given new h
@@ -158,14 +185,16 @@ answered opening old None given new h = inl (still old new h.1)
 
 -- ---- what a session leaves of the seat's parts and its share
 
-raised_share : (opening place : ℕ) (old new : Held) → IsRaisedAt opening place old new → (new.parts ≡ old.parts) × (new.count ≤ old.count + cond (nat_le opening place) 1 0)
+raised_share : (opening place : ℕ) (old new : Held) → IsRaisedAt opening place old new
+    → (new.parts ≡ old.parts) × (new.count ≤ old.count + cond (nat_le opening place) 1 0)
 raised_share opening place old new (inl is) = let n = ap (λ (h : Held). h.count) is in (ap (λ (h : Held). h.parts) is, omega (arith, n))
 raised_share opening place old new (inr is) =
     let n = ap (λ (h : Held). h.count) is.0 in
     let low : opening ≤ place = omega (arith, is.1) in
     (ap (λ (h : Held). h.parts) is.0, rw (le-leb opening place low) (omega (arith, n)))
 
-given_push : (opening : ℕ) (receipts : List Receipt) (r : Receipt) → given_since opening (receipts ++ r ∷ []) ≡ given_since opening receipts + cond (nat_le opening r.place) 1 0
+given_push : (opening : ℕ) (receipts : List Receipt) (r : Receipt)
+    → given_since opening (receipts ++ r ∷ []) ≡ given_since opening receipts + cond (nat_le opening r.place) 1 0
 given_push opening receipts r = sum_by_push (λ x. cond (nat_le opening x.place) 1 0) receipts r
 
 -- it has its parts, and no more was entered for it than it was given receipts of entries from the first place on
@@ -187,21 +216,29 @@ holds_given opening first old new is h =
     let given = ap (λ (s : Seated). given_since opening s.receipts) is.3 ∙ given_push opening old.receipts is.2 in
     record { parts = ap (λ (s : Seated). s.seat.parts) is.3 ∙ raised.0 ∙ h.parts; share = omega (arith, h.share, raised.1, seat, given, at) }
 
-holds_on : (opening : ℕ) (first old : Seated) (o : Option Line) (given : Answered) (new : Seated) → Answers (SeatStep opening) old o given new → Holds opening first old → Holds opening first new
-holds_on opening first old o given new step h = elim (answered opening old o given new step) [ inl is ↦ holds_still opening first old new is h | inr is ↦ holds_given opening first old new is h ]
+holds_on : (opening : ℕ) (first old : Seated) (o : Option Line) (given : Answered) (new : Seated) → Answers (SeatStep opening) old o given new
+    → Holds opening first old → Holds opening first new
+holds_on opening first old o given new step h = elim (answered opening old o given new step) [
+  | inl is ↦ holds_still opening first old new is h
+  | inr is ↦ holds_given opening first old new is h
+]
 
-talked_holds : (opening : ℕ) (input old new : Option (List ℕ)) (before after : Seated) (result : Result Ended TalkFault) → Talked (SeatStep opening) input old new before after result → Holds opening before after
+talked_holds : (opening : ℕ) (input old new : Option (List ℕ)) (before after : Seated) (result : Result Ended TalkFault)
+    → Talked (SeatStep opening) input old new before after result → Holds opening before after
 talked_holds opening input old new before after result t =
-    chain_keeps (SeatStep opening) (Holds opening before) (holds_on opening before) before t.lines t.answers after t.chain (record { parts = refl; share = omega arith })
+    chain_keeps (SeatStep opening) (Holds opening before) (holds_on opening before) before t.lines t.answers after t.chain
+    (record { parts = refl; share = omega arith })
 
 -- a seat that answered a session has the parts that it had
-pub talked_parts : (opening : ℕ) (input old new : Option (List ℕ)) (before after : Seated) (result : Result Ended TalkFault) (first last : Held) → Talked (SeatStep opening) input old new before after result
+pub talked_parts : (opening : ℕ) (input old new : Option (List ℕ)) (before after : Seated) (result : Result Ended TalkFault) (first last : Held)
+    → Talked (SeatStep opening) input old new before after result
     → before ≡ seated first [] [] → last ≡ after.seat → last.parts ≡ first.parts
 talked_parts opening input old new before after result first last t is is_last =
     ap (λ (h : Held). h.parts) is_last ∙ (talked_holds opening input old new before after result t).parts ∙ ap (λ (s : Seated). s.seat.parts) is
 
 -- and no more was entered for it than it was given receipts
-pub talked_share : (opening : ℕ) (input old new : Option (List ℕ)) (before after : Seated) (result : Result Ended TalkFault) (first last : Held) (receipts : List Receipt) → Talked (SeatStep opening) input old new before after result
+pub talked_share : (opening : ℕ) (input old new : Option (List ℕ)) (before after : Seated) (result : Result Ended TalkFault) (first last : Held)
+    (receipts : List Receipt) → Talked (SeatStep opening) input old new before after result
     → before ≡ seated first [] [] → last ≡ after.seat → receipts ≡ after.receipts → last.count ≤ first.count + given_since opening receipts
 talked_share opening input old new before after result first last receipts t is is_last is_receipts =
     let share = (talked_holds opening input old new before after result t).share in
@@ -212,8 +249,10 @@ talked_share opening input old new before after result first last receipts t is 
     omega (arith, share, seat, none, left, given)
 
 -- where one seat more came back, with the parts of the one that was handed in
-pub parts_more : {E S : Type 0} (P : E → Type 0) (f : S → Held) (ends earlier : List E) (end : E) (seats before old : List Held) (seat : Held) (sessions rest : List S) (s : S)
-    → ends ≡ earlier ++ end ∷ [] → seats ≡ before ++ seat ∷ [] → sessions ≡ rest ++ s ∷ [] → (All P earlier → parts_of before ≡ parts_of old + parts_of (map f rest)) → seat.parts ≡ (f s).parts
+pub parts_more : {E S : Type 0} (P : E → Type 0) (f : S → Held) (ends earlier : List E) (end : E) (seats before old : List Held) (seat : Held)
+    (sessions rest : List S) (s : S)
+    → ends ≡ earlier ++ end ∷ [] → seats ≡ before ++ seat ∷ [] → sessions ≡ rest ++ s ∷ []
+    → (All P earlier → parts_of before ≡ parts_of old + parts_of (map f rest)) → seat.parts ≡ (f s).parts
     → All P ends → parts_of seats ≡ parts_of old + parts_of (map f sessions)
 parts_more P f ends earlier end seats before old seat sessions rest s is_ends is_seats is_sessions so same all =
     let among = so (All-pop P ends earlier (Some end) is_ends all).0 in
@@ -227,8 +266,10 @@ one_lacks P ends earlier end is_ends none all = absurd (none (All-pop P ends ear
 
 -- ---- as many came back as have their writer
 
-pub seats_more : {E S : Type 0} (has : E → Bool) (ends earlier old_ends : List E) (end : E) (seats before old : List S) (seat : S) → ends ≡ earlier ++ end ∷ [] → seats ≡ before ++ seat ∷ []
-    → length before + count_by has old_ends ≡ length old + count_by has earlier → has end ≡ true → length seats + count_by has old_ends ≡ length old + count_by has ends
+pub seats_more : {E S : Type 0} (has : E → Bool) (ends earlier old_ends : List E) (end : E) (seats before old : List S) (seat : S)
+    → ends ≡ earlier ++ end ∷ [] → seats ≡ before ++ seat ∷ []
+    → length before + count_by has old_ends ≡ length old + count_by has earlier → has end ≡ true
+    → length seats + count_by has old_ends ≡ length old + count_by has ends
 seats_more has ends earlier old_ends end seats before old seat is_ends is_seats so told_yes =
     let behind = ap length is_seats ∙ length-append before (seat ∷ []) in
     let told = ap (count_by has) is_ends ∙ sum_by_push (λ x. cond (has x) 1 0) earlier end in
@@ -250,23 +291,29 @@ flat_push f earlier end = flat_map-append f earlier (end ∷ []) ∙ ap (λ l. f
 receipts_push : {E : Type 0} (opening : ℕ) (f : E → List Receipt) (ends earlier : List E) (end : E) → ends ≡ earlier ++ end ∷ []
     → given_since opening (flat_map f ends) ≡ given_since opening (flat_map f earlier) + given_since opening (f end)
 receipts_push opening f ends earlier end is =
-    ap (λ l. given_since opening (flat_map f l)) is ∙ ap (given_since opening) (flat_push f earlier end) ∙ sum_by-append (λ r. cond (nat_le opening r.place) 1 0) (flat_map f earlier) (f end)
+    ap (λ l. given_since opening (flat_map f l)) is ∙ ap (given_since opening) (flat_push f earlier end)
+    ∙ sum_by-append (λ r. cond (nat_le opening r.place) 1 0) (flat_map f earlier) (f end)
 
 -- where one seat more came back, with no more entered for it than its session was given receipts
-pub shares_more : {E S : Type 0} (opening : ℕ) (f : E → List Receipt) (g : S → Held) (ends earlier old_ends : List E) (end : E) (seats before old : List Held) (seat : Held) (sessions rest : List S) (s : S)
+pub shares_more : {E S : Type 0} (opening : ℕ) (f : E → List Receipt) (g : S → Held) (ends earlier old_ends : List E) (end : E)
+    (seats before old : List Held) (seat : Held) (sessions rest : List S) (s : S)
     → ends ≡ earlier ++ end ∷ [] → seats ≡ before ++ seat ∷ [] → sessions ≡ rest ++ s ∷ []
-    → shares_of before + given_since opening (flat_map f old_ends) ≤ shares_of old + shares_of (map g rest) + given_since opening (flat_map f earlier) → seat.count ≤ (g s).count + given_since opening (f end)
+    → shares_of before + given_since opening (flat_map f old_ends) ≤ shares_of old + shares_of (map g rest) + given_since opening (flat_map f earlier)
+    → seat.count ≤ (g s).count + given_since opening (f end)
     → shares_of seats + given_since opening (flat_map f old_ends) ≤ shares_of old + shares_of (map g sessions) + given_since opening (flat_map f ends)
 shares_more opening f g ends earlier old_ends end seats before old seat sessions rest s is_ends is_seats is_sessions so share =
     let behind = ap shares_of is_seats ∙ sum_by_push (λ (h : Held). h.count) before seat in
-    let handed = ap (λ l. shares_of (map g l)) is_sessions ∙ ap shares_of (map-append g rest (s ∷ [])) ∙ sum_by_push (λ (h : Held). h.count) (map g rest) (g s) in
+    let handed = ap (λ l. shares_of (map g l)) is_sessions ∙ ap shares_of (map-append g rest (s ∷ []))
+    ∙ sum_by_push (λ (h : Held). h.count) (map g rest) (g s) in
     omega (arith, so, share, behind, handed, receipts_push opening f ends earlier end is_ends)
 
 -- where it did not
-pub shares_lack : {E S : Type 0} (opening : ℕ) (f : E → List Receipt) (g : S → Held) (ends earlier old_ends : List E) (end : E) (seats old : List Held) (sessions rest : List S) (s : S)
+pub shares_lack : {E S : Type 0} (opening : ℕ) (f : E → List Receipt) (g : S → Held) (ends earlier old_ends : List E) (end : E) (seats old : List Held)
+    (sessions rest : List S) (s : S)
     → ends ≡ earlier ++ end ∷ [] → sessions ≡ rest ++ s ∷ []
     → shares_of seats + given_since opening (flat_map f old_ends) ≤ shares_of old + shares_of (map g rest) + given_since opening (flat_map f earlier)
     → shares_of seats + given_since opening (flat_map f old_ends) ≤ shares_of old + shares_of (map g sessions) + given_since opening (flat_map f ends)
 shares_lack opening f g ends earlier old_ends end seats old sessions rest s is_ends is_sessions so =
-    let handed = ap (λ l. shares_of (map g l)) is_sessions ∙ ap shares_of (map-append g rest (s ∷ [])) ∙ sum_by_push (λ (h : Held). h.count) (map g rest) (g s) in
+    let handed = ap (λ l. shares_of (map g l)) is_sessions ∙ ap shares_of (map-append g rest (s ∷ []))
+    ∙ sum_by_push (λ (h : Held). h.count) (map g rest) (g s) in
     omega (arith, so, handed, receipts_push opening f ends earlier end is_ends)

@@ -2,12 +2,13 @@
 use Rattle.std.specs.Prelude.{◌≡◌, ℕ, ◌+◌, ◌≤◌, false, All, List, [], ◌∷◌, ◌++◌, length, Some, Ok, Err, ◌⊎◌}
 use Rattle.std.specs.List.{AllZip}
 use Rattle.book_core.specs.declared.entry.Entry.{Entry}
-use Rattle.book_core.specs.Decision.{Office}
+use Rattle.book_core.specs.Decision.{SiteConfig}
 use Rattle.site_exchange.specs.declared.message.Message.{Message}
 use Rattle.site_exchange.specs.declared.message.TakeFault.{TakeFault}
 use Rattle.site_exchange.specs.Exchange.{ack_for, receiver}
-use Rattle.site_desk.specs.Moments.{AtOneMoment, HoldsDelta, Sends, Takes}
-use Rattle.site_desk.specs.SiteView.{SiteView}
+use Rattle.site_desk.specs.Calls.{Keeping}
+use Rattle.site_desk.specs.Moments.{AtOneMoment, HoldsDelta, Opening, Sends, Takes}
+use Rattle.site_desk.specs.SiteView.{SiteInStep, SiteView}
 use Rattle.session_server.specs.declared.peer.Peer.{Peer}
 use Rattle.session_server.specs.declared.peer.PeerEnd.{PeerEnd}
 use Rattle.session_server.specs.declared.sending.Outgoing.{Outgoing}
@@ -51,15 +52,15 @@ abbrev pub AnyGiven : ℕ → Message → Type 0
 AnyGiven to message = Unit {0}
 
 -- some open book that may stand at the desk has the delta that the message brings, if it brings one
-abbrev pub held_at_desk : {K : Type 0} → Office → List Entry → (SiteView K → Type 0) → Message → Type 0
+abbrev pub held_at_desk : {K : Type 0} → SiteConfig → List Entry → (SiteView K → Type 0) → Message → Type 0
 held_at_desk office began InStep message = AtOneMoment office began InStep (HoldsDelta message)
 
 -- some book that may stand at the desk refuses the message, or might want memory for it
-abbrev pub refused_at_desk : {K : Type 0} → Office → List Entry → (SiteView K → Type 0) → (K → ℕ) → Message → Type 0
+abbrev pub refused_at_desk : {K : Type 0} → SiteConfig → List Entry → (SiteView K → Type 0) → (K → ℕ) → Message → Type 0
 refused_at_desk office began InStep failed message = (fault : TakeFault) × AtOneMoment office began InStep (Takes failed message (Err fault))
 
 -- some open book that may stand at the desk has this message due to that peer
-abbrev pub given_at_desk : {K : Type 0} → Office → List Entry → (SiteView K → Type 0) → ℕ → Message → Type 0
+abbrev pub given_at_desk : {K : Type 0} → SiteConfig → List Entry → (SiteView K → Type 0) → ℕ → Message → Type 0
 given_at_desk office began InStep to message = AtOneMoment office began InStep (Sends to (Ok (Some message)))
 
 -- Since there were these messages, no more than so many were sent, each of them to this site, and given for it.
@@ -82,6 +83,17 @@ pub record Exchanged (Holds Refuses : Message → Type 0) (Gives : ℕ → Messa
   pub acks_met : AreHeldOrRefused Holds Refuses peer.ack_rx.messages end.ack_rx.messages
   pub acks_counted : length peer.ack_rx.messages + end.acks_refused ≤ length end.ack_rx.messages
   pub acknowledged : Acknowledges Holds Refuses peer.delta_rx.messages peer.ack_tx.messages end.deltas_refused end.delta_rx.messages end.ack_tx.messages
+
+-- the ends are those of the links to these peers, one by one
+abbrev pub AreExchanged : ℕ → List Peer → List PeerEnd → Type 0
+AreExchanged rounds peers ends = AllZip (Exchanged AnyMessage AnyMessage AnyGiven rounds) peers ends
+
+-- the same, where a desk over such a keeper, of such a count, held, refused and gave what went through them
+abbrev pub AreExchangedAt : {K : Type 0} → Keeping K → Opening → ℕ → List Peer → List PeerEnd → Type 0
+AreExchangedAt k l rounds peers ends =
+    let in_step = SiteInStep k in
+    AllZip (Exchanged (held_at_desk l.office l.began in_step) (refused_at_desk l.office l.began in_step k.failed) (given_at_desk l.office l.began in_step)
+    rounds) peers ends
 
 -- what goes to a peer, and what comes from it
 abbrev pub outgoing : Peer → Outgoing
@@ -114,7 +126,8 @@ pub record Received (Holds Refuses : Message → Type 0) (before : Incoming) (af
   pub ack_rx : after.ack_rx.link ≡ before.ack_rx.link
   pub acks_met : AreHeldOrRefused Holds Refuses before.ack_rx.messages after.ack_rx.messages
   pub acks_counted : length before.ack_rx.messages + after.acks_refused ≤ length after.ack_rx.messages
-  pub acknowledged : Acknowledges Holds Refuses before.delta_rx.messages before.ack_tx.messages after.deltas_refused after.delta_rx.messages after.ack_tx.messages
+  pub acknowledged : Acknowledges Holds Refuses before.delta_rx.messages before.ack_tx.messages after.deltas_refused after.delta_rx.messages
+      after.ack_tx.messages
 
 -- the part of a peer's end that was sent on, and the part that was received on
 pub record HasSent (out : OutgoingEnd) (end : PeerEnd) : Type 0 where

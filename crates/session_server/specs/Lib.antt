@@ -7,3 +7,4 @@ pub mod SeatStep
 pub mod Served
 pub mod Session
 pub mod Settled
+pub mod Visited

@@ -1,5 +1,5 @@
 -- Sites of which each is linked with each other. (Our own.)
-use Rattle.std.specs.Prelude.{◌≡◌, All, List, [], ◌∷◌, ◌++◌, length, map}
+use Rattle.std.specs.Prelude.{◌≡◌, ℕ, All, List, [], ◌∷◌, ◌++◌, length, map}
 use Rattle.link_queue.specs.End.{LinkId}
 use Rattle.session_server.specs.declared.peer.Peer.{Peer}
 use Rattle.session_server.specs.declared.peer.PeerEnd.{PeerEnd}
@@ -10,7 +10,8 @@ each_with [] xs = []
 each_with (row ∷ rows) [] = row ∷ rows
 each_with (row ∷ rows) (x ∷ xs) = (row ++ x ∷ []) ∷ each_with rows xs
 
--- Where sites come one by one, the last one with a pair for each before it: the first of a pair goes to the site before, the second stays with the one that came. So each site has a row of one for each other site, in their order. The last one to come stands first here.
+-- Where sites come one by one, the last one with a pair for each before it: the first of a pair goes to the site before, the second stays with the
+-- one that came. So each site has a row of one for each other site, in their order. The last one to come stands first here.
 abbrev pub rows_of : {X : Type 0} → List (List (X × X)) → List (List X)
 rows_of [] = []
 rows_of (came ∷ earlier) = each_with (rows_of earlier) (map (λ p. p.0) came) ++ map (λ p. p.1) came ∷ []
@@ -37,6 +38,10 @@ linkage_of peer = record { delta_tx = peer.delta_tx.link; ack_tx = peer.ack_tx.l
 
 abbrev pub linkage_left : PeerEnd → Linkage
 linkage_left end = record { delta_tx = end.delta_tx.link; ack_tx = end.ack_tx.link; delta_rx = end.delta_rx.link; ack_rx = end.ack_rx.link }
+
+-- the numbers of the sites that these peers are
+abbrev pub peers_of : List Peer → List ℕ
+peers_of peers = map (λ p. p.to) peers
 
 -- two sites' ends for each other are of the same links: where one sends, the other receives
 abbrev pub AreJoined : Linkage × Linkage → Type 0

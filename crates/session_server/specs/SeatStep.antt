@@ -1,17 +1,17 @@
 -- How a seat at a desk answers the lines of a session, and what it was given. (Our own.)
-use Rattle.std.specs.Prelude.{◌≡◌, ◌⊎◌, ⊤, ℕ, ◌+◌, ◌≤◌, List, [], ◌∷◌, ◌++◌, All, true, Ok, Err}
+use Rattle.std.specs.Prelude.{◌≡◌, ◌⊎◌, ⊤, ℕ, ◌+◌, ◌≤◌, List, [], ◌∷◌, ◌++◌, length, All, true, Ok, Err}
 use Rattle.request_ledger.specs.declared.request.Request.{Request}
 use Rattle.book_core.specs.declared.entry.Entry.{Entry}
-use Rattle.book_core.specs.Decision.{Office}
+use Rattle.book_core.specs.Decision.{SiteConfig}
 use Rattle.site_desk.specs.declared.answer.Seen.{Seen}
 use Rattle.site_desk.specs.declared.fault.AskFault.{AskFault}
 use Rattle.site_desk.specs.declared.fault.AskFault.TheVariants as ask
 use Rattle.site_desk.specs.declared.fault.LookFault.{LookFault}
-use Rattle.site_desk.specs.declared.fault.LookFault.TheVariants as look
 use Rattle.site_desk.specs.declared.receipt.Receipt.{Receipt}
-use Rattle.site_desk.specs.Moments.{AtOneMoment, HoldsReceipt, Looks, Replies}
+use Rattle.site_desk.specs.Calls.{Keeping}
+use Rattle.site_desk.specs.Moments.{AtOneMoment, HoldsReceipt, Looks, Opening, Replies}
 use Rattle.site_desk.specs.Seats.{Held, held}
-use Rattle.site_desk.specs.SiteView.{SiteView}
+use Rattle.site_desk.specs.SiteView.{SiteInStep, SiteView}
 use Rattle.desk_lines.specs.declared.line.Line.{Line}
 use Rattle.desk_lines.specs.declared.line.Line.TheVariants.{Ask, Left, Totals as TotalsOf, Quit}
 use Rattle.desk_lines.specs.declared.answered.Answered.{Answered}
@@ -47,10 +47,13 @@ RefusesLook ask.Closed = ⊤
 RefusesLook ask.Memory = ⊤
 RefusesLook fault = ⊥
 
--- A step of a seat, at a desk whose history had this length when its count began. A kept reply is that of the one receipt that is added, which has the line's number and request; what is left, and totals, are those of the one look that is added, at the line's event; every other answer adds none. The last line asks nothing.
+-- A step of a seat, at a desk whose history had this length when its count began. A kept reply is that of the one receipt that is added, which has
+-- the line's number and request; what is left, and totals, are those of the one look that is added, at the line's event; every other answer adds
+-- none. The last line asks nothing.
 abbrev pub SeatStep : ℕ → Seated → Line → Answered → Seated → Type 0
 SeatStep opening old (Ask number request) (Kept reply) new =
-    (place : ℕ) × (seat : Held) × (new ≡ with_receipt old seat (record { number = number; request = request; reply = reply; place = place })) × IsRaisedAt opening place old.seat seat
+    (place : ℕ) × (seat : Held) × (new ≡ with_receipt old seat (record { number = number; request = request; reply = reply; place = place }))
+    × IsRaisedAt opening place old.seat seat
 SeatStep opening old (Left event) (LeftIs left) new = (seen : Seen) × IsLookAt opening event old seen new × (seen.left ≡ left)
 SeatStep opening old (TotalsOf event) (TotalsAre totals) new = (seen : Seen) × IsLookAt opening event old seen new × (seen.totals ≡ totals)
 SeatStep opening old (Ask number request) (Refused fault) new = new ≡ old
@@ -75,13 +78,18 @@ pub record Telling : Type 1 where
   pub shows : Seen → Type 0
 
 -- what it may tell as a book that may stand under its lock; where it tells `store`, one that may is closed
-abbrev pub told_at : {K : Type 0} → Office → List Entry → (K → ℕ) → (SiteView K → Type 0) → Telling
+abbrev pub told_at : {K : Type 0} → SiteConfig → List Entry → (K → ℕ) → (SiteView K → Type 0) → Telling
 told_at office began failed InStep = record {
-  refuses = λ number request fault. AtOneMoment office began InStep (Replies failed number request (Err fault)) × (fault ≡ ask.Store → AtOneMoment office began InStep (λ site. site.closed ≡ true));
+  refuses = λ number request fault. AtOneMoment office began InStep (Replies failed number request (Err fault))
+      × (fault ≡ ask.Store → AtOneMoment office began InStep (λ site. site.closed ≡ true));
   hides = λ event fault. AtOneMoment office began InStep (Looks event (Err fault));
   receipts = λ receipt. AtOneMoment office began InStep (HoldsReceipt receipt);
   shows = λ seen. AtOneMoment office began InStep (Looks seen.event (Ok seen));
 }
+
+-- the same of a desk over such a keeper, of such a count
+abbrev pub desk_tells : {K : Type 0} → Keeping K → Opening → Telling
+desk_tells k l = told_at l.office l.began k.failed (SiteInStep k)
 
 -- each receipt and each look that the seat was given is one that its desk may tell
 pub record MayBeTold (t : Telling) (s : Seated) : Type 0 where
@@ -106,3 +114,7 @@ pub record DeskStep (t : Telling) (opening : ℕ) (old : Seated) (line : Line) (
   pub step : SeatStep opening old line answered new
   pub why : WhyRefused t line answered
   pub told : MayBeTold t old → MayBeTold t new
+
+-- a step of a seat at a desk over such a keeper, of such a count
+abbrev pub StepsAt : {K : Type 0} → Keeping K → Opening → Seated → Line → Answered → Seated → Type 0
+StepsAt k l = DeskStep (desk_tells k l) (length l.began)

@@ -37,7 +37,8 @@ Answers S before None answered after = (answered ≡ Unread) × (after ≡ befor
 -- the lines were given these answers, in order, one step after another
 abbrev pub Chain : {A : Type 0} → Steps A → A → List (List ℕ) → List Answered → A → Type 0
 Chain S before [] [] after = after ≡ before
-Chain {A} S before (line ∷ lines) (answered ∷ answers) after = (mid : A) × Answers S before (session_line_of line) answered mid × Chain S mid lines answers after
+Chain {A} S before (line ∷ lines) (answered ∷ answers) after = (mid : A) × Answers S before (session_line_of line) answered mid
+    × Chain S mid lines answers after
 Chain S before [] (answered ∷ answers) after = ⊥
 Chain S before (line ∷ lines) [] after = ⊥
 
@@ -66,16 +67,21 @@ pub record Replied {A : Type 0} (S : Steps A) (input rest : Option (List ℕ)) (
   pub step : Answers S before (session_line_of line) answered after
 
 -- one line of a session, or how it ends there
-abbrev pub NextTalked : {A : Type 0} → Steps A → Option (List ℕ) → Option (List ℕ) → Option (List ℕ) → Option (List ℕ) → A → A → Result (Option Ended) TalkFault → Type 0
+abbrev pub NextTalked : {A : Type 0} → Steps A → Option (List ℕ) → Option (List ℕ) → Option (List ℕ) → Option (List ℕ) → A → A
+    → Result (Option Ended) TalkFault → Type 0
 NextTalked S input rest old new before after (Ok None) = (r : Replied S input rest before after) × Appends old new (reply_line r.answered)
-NextTalked S input rest old new before after (Ok (Some ended.Quit)) = (line : List ℕ) × IsRead input rest line × (session_line_of line ≡ Some Quit) × Keeps old new × (after ≡ before)
-NextTalked S input rest old new before after (Ok (Some ended.EndOfInput)) = Between input rest (λ xs ys. (lines_of xs ≡ []) × (lines_of ys ≡ [])) × Keeps old new × (after ≡ before)
+NextTalked S input rest old new before after (Ok (Some ended.Quit)) = (line : List ℕ) × IsRead input rest line × (session_line_of line ≡ Some Quit)
+    × Keeps old new × (after ≡ before)
+NextTalked S input rest old new before after (Ok (Some ended.EndOfInput)) = Between input rest (λ xs ys. (lines_of xs ≡ []) × (lines_of ys ≡ []))
+    × Keeps old new × (after ≡ before)
 NextTalked S input rest old new before after (Err fault.Read) = Keeps old new × (after ≡ before)
-NextTalked S input rest old new before after (Err fault.LineTooLong) = Between input rest (λ xs ys. BeginsTooLong (lines_of xs)) × Keeps old new × (after ≡ before) × ((line : List ℕ) × GivesUp input rest line)
+NextTalked S input rest old new before after (Err fault.LineTooLong) = Between input rest (λ xs ys. BeginsTooLong (lines_of xs)) × Keeps old new
+    × (after ≡ before) × ((line : List ℕ) × GivesUp input rest line)
 NextTalked S input rest old new before after (Err fault.Write) = (r : Replied S input rest before after) × AppendsFront old new (reply_line r.answered)
 NextTalked S input rest old new before after (Err _) = ⊥
 
--- Of the lines that are taken from the input these were answered, where a session ends so: all of them, behind which the input ends as the fault says; those before `quit`; or the first of them.
+-- Of the lines that are taken from the input these were answered, where a session ends so: all of them, behind which the input ends as the fault
+-- says; those before `quit`; or the first of them.
 abbrev pub EndsAt : Result Ended TalkFault → List (List ℕ) → TakenLines → Type 0
 EndsAt (Ok ended.EndOfInput) lines t = t ≡ record { lines = lines; end = AtEnd }
 EndsAt (Ok ended.Quit) lines t = (quit : List ℕ) × (more : List (List ℕ)) × (session_line_of quit ≡ Some Quit) × (t.lines ≡ lines ++ quit ∷ more)

@@ -8,6 +8,7 @@ use Rattle.session_server.specs.declared.settling.Through.{Through}
 use Rattle.session_server.specs.declared.settling.Went.{Went}
 use Rattle.session_server.specs.declared.site.LinkEnd.{LinkEnd}
 use Rattle.session_server.specs.Exchanged.{AnyGiven, AnyMessage, Exchanged}
+use Rattle.session_server.specs.LinkNames.{link_name_of, link_names}
 use Rattle.session_server.specs.Mesh.{AreInTurn, AreJoined, IsNewPeer, each_with, linkage_left, others_of, rows_of}
 
 -- what was put and got is what the two ends tell, what was refused is told by the site that receives
@@ -43,7 +44,8 @@ pub record IsSettledWith (rows : List (List PeerEnd)) (last : List PeerEnd) (fro
   pub in_order : All WentInOrder came
   pub told_are : told ≡ map both_went came
 
--- For each site, and each other: what went there, as the ends that the two have for each other tell it. What came out of each link is a prefix of what was put into it.
+-- For each site, and each other: what went there, as the ends that the two have for each other tell it. What came out of each link is a prefix of
+-- what was put into it.
 pub record AreSettled (ends : List (List PeerEnd)) (told : List (List Went)) : Type 0 where
   pub came : List (List (PeerEnd × PeerEnd))
   pub in_turn : AreInTurn came
@@ -88,7 +90,8 @@ pub record AreAcknowledged (sites : List ℕ) (links : List LinkEnd) : Type 0 wh
 abbrev pub IsLeftOfNew : ℕ → PeerEnd → Type 0
 IsLeftOfNew rounds end = (peer : Peer) × IsNewPeer peer × Exchanged AnyMessage AnyMessage AnyGiven rounds peer end
 
--- The links between these sites, each told of as its two ends tell it, which the exchanges of two sites for so many rounds left, each for the other by its number. What came out of each is a prefix of what was put into it.
+-- The links between these sites, each told of as its two ends tell it, which the exchanges of two sites for so many rounds left, each for the other
+-- by its number. What came out of each is a prefix of what was put into it.
 pub record AreLinksTold (rounds : ℕ) (sites : List ℕ) (links : List LinkEnd) : Type 0 where
   pub came : List (List (PeerEnd × PeerEnd))
   pub count : length came ≡ length sites
@@ -97,3 +100,12 @@ pub record AreLinksTold (rounds : ℕ) (sites : List ℕ) (links : List LinkEnd)
   pub named : map (map (λ e. e.to)) (rows_of came) ≡ others_of sites
   pub in_order : All (λ pairs. All WentInOrder pairs) came
   pub links_are : links ≡ link_ends sites (rows_of (map (map both_went) came))
+
+-- What is told of the links between these sites, once exchanges for so many rounds are over: there is each of them, what its two ends tell, no
+-- more refused than got, no more got than put, no more put than there were rounds, and no more acknowledged than got and not refused.
+pub record AreLinksLeft (rounds : ℕ) (sites : List ℕ) (links : List LinkEnd) : Type 0 where
+  pub names : map link_name_of links ≡ link_names sites
+  pub told : AreLinksTold rounds sites links
+  pub counted : All IsCounted links
+  pub within : All (λ link. link.put ≤ rounds) links
+  pub acknowledged : AreAcknowledged sites links

@@ -2,8 +2,7 @@
 
 ghost use Rattle.std.specs.Prelude.{◌≡◌, ◌≤◌, [], map, vec_len, vec_capacity, IfOk};
 ghost use Rattle.std.specs.List.{AllZip};
-ghost use Rattle.session_server.specs.Exchanged.{Exchanged, HasReceived, HasSent, Received, Sent, given_at_desk, held_at_desk, incoming, outgoing, refused_at_desk};
-ghost use Rattle.site_desk.specs.SiteView.{SiteInStep};
+ghost use Rattle.session_server.specs.Exchanged.{AreExchangedAt, Exchanged, HasReceived, HasSent, Received, Sent, incoming, outgoing};
 
 use crate::peer::{Peer, PeerEnd};
 use crate::receiving::{Incoming, IncomingEnd, receive_from};
@@ -81,7 +80,8 @@ fn split(mut peers: Vec<Peer>, outs: &mut Vec<Outgoing>, ins: &mut Vec<Incoming>
     ensures outs { outs.new.items ≡ map outgoing peers.items }
     ensures ins { ins.new.items ≡ map incoming peers.items }
     ensures room { (vec_len outs.new ≡ vec_len peers) × (vec_len ins.new ≡ vec_len peers)
-        × (vec_capacity outs.new ≡ vec_capacity outs.old) × (vec_capacity ins.new ≡ vec_capacity ins.old) }
+        × (vec_capacity outs.new ≡ vec_capacity outs.old)
+        × (vec_capacity ins.new ≡ vec_capacity ins.old) }
 {
     let Some(
         Peer {
@@ -160,11 +160,8 @@ pub fn exchange_all<T: Threads + Wait + Sync, K: Keeper + Send, L: Opens + Send 
     peers: Vec<Peer>,
     rounds: u64,
 ) -> Result<Vec<PeerEnd>, ExchangeFault>
-    ensures { IfOk result (λ r. AllZip (Exchanged
-        (held_at_desk L.office L.began (SiteInStep K.Keeper))
-        (refused_at_desk L.office L.began (SiteInStep K.Keeper) K.failed)
-        (given_at_desk L.office L.began (SiteInStep K.Keeper))
-        rounds) peers.items r.items) }
+    ensures { IfOk result
+        (λ r. AreExchangedAt K.Keeper L.Opens rounds peers.items r.items) }
 {
     exchange(rt, alloc, &DeskReplica { alloc, desk }, peers, rounds)
 }
@@ -215,7 +212,8 @@ fn in_threads<R: Threads + Wait + Sync, S: Replica + Sync>(
             requires { (vec_len outs ≤ vec_capacity out_ends) × (vec_len ins ≤ vec_capacity in_ends)
                 × (out_ends.items ≡ []) × (in_ends.items ≡ []) }
             ensures { IfOk result (λ r. AllZip (Sent S.gives rounds) outs.items r.0.items
-                × AllZip (Received S.holds S.refuses) ins.items r.1.items × (vec_len r.0 ≡ vec_len outs) × (vec_len r.1 ≡ vec_len ins)) }
+                × AllZip (Received S.holds S.refuses) ins.items r.1.items
+                × (vec_len r.0 ≡ vec_len outs) × (vec_len r.1 ≡ vec_len ins)) }
         { run(scope, rt, replica, outs, out_ends, ins, in_ends, rounds) },
     )
 }

@@ -1,6 +1,6 @@
 //! Sessions: lines in, reply lines out, one by one or each in a thread of its own; and sites that run at once.
 //!
-//! `talk` answers the lines of a reader by an `Answerer`: `AtBook` (the book of a site) or `AtDesk` (a seat at a
+//! `talk` answers the lines of a reader by an `Answerer`: `BookAnswerer` (the book of a site) or `SeatAnswerer` (a seat at a
 //! desk). `serve_all` gives each session a thread. `exchange_all` sends and receives over links. `run_all` runs
 //! several sites, each with its sessions and its links to all others. `listen` takes connections of this machine.
 //!
@@ -9,12 +9,14 @@
 //! got is a prefix of what was put, and each site's book extends the history that was handed in. Who answers whom
 //! first, and that a call which waits returns, is not proved.
 //!
+//! What answers lines is another `Answerer`. A new line of sessions is a case of both answerers and of
+//! `specs/BookStep.antt` and `SeatStep.antt`, and of the seat in `live_office`.
+//!
 //! Lemmas for callers: `Books`, `Sessions`, `Sites`.
 #![tactic(auto)]
 
 mod answerer;
-mod at_book;
-mod at_desk;
+mod book_answerer;
 mod exchange;
 mod fault;
 mod link_ends;
@@ -24,6 +26,7 @@ mod peer;
 mod receiving;
 mod replica;
 mod run;
+mod seat_answerer;
 mod seating;
 mod sending;
 mod serve;
@@ -35,12 +38,12 @@ mod talk_over;
 mod threads;
 
 pub use answerer::Answerer;
-pub use at_book::AtBook;
-pub use at_desk::AtDesk;
+pub use book_answerer::BookAnswerer;
 pub use exchange::{ExchangeFault, exchange_all};
 pub use fault::{Ended, TalkFault};
 pub use peer::{Peer, PeerEnd};
 pub use run::run_all;
+pub use seat_answerer::SeatAnswerer;
 pub use serve::serve_all;
 pub use session::{Session, SessionEnd};
 pub use site::{LinkEnd, Site, SiteEnd, Visit};

@@ -1,7 +1,7 @@
 //! The links between all sites of a process.
 
 ghost use Rattle.std.specs.Prelude.{◌≡◌, ◌++◌, ◌∷◌, [], ◌<◌, All, IfOk, map};
-ghost use Rattle.session_server.specs.Mesh.{AreJoined, CameTo, GotPeer, IsMesh, IsNewPeer, each_with, linkage_of, others_of};
+ghost use Rattle.session_server.specs.Mesh.{AreJoined, CameTo, GotPeer, IsMesh, IsNewPeer, each_with, linkage_of, others_of, peers_of};
 
 use crate::peer::Peer;
 use crate::site::Site;
@@ -63,7 +63,7 @@ pub(crate) fn link_all<K: Keeper + Drop, R: Read + Drop, W: Write + Drop>(
     ensures mesh { IfOk result
         (λ linked. IsMesh (map (λ l. map linkage_of l.peers.items) linked.items)) }
     ensures new { IfOk result (λ linked. All (λ l. All IsNewPeer l.peers.items) linked.items) }
-    ensures named { IfOk result (λ linked. map (λ l. map (λ p. p.to) l.peers.items) linked.items
+    ensures named { IfOk result (λ linked. map (λ l. peers_of l.peers.items) linked.items
         ≡ others_of (map (λ l. l.site.book.book.office.me) linked.items)) }
 {
     let mut linked: Vec<LinkedSite<K, R, W>> = Vec::new(alloc);
@@ -83,14 +83,14 @@ fn with_site<K: Keeper + Drop, R: Read + Drop, W: Write + Drop>(
     requires capacity { 0 < capacity }
     requires mesh { IsMesh (map (λ l. map linkage_of l.peers.items) earlier.items) }
     requires new { All (λ l. All IsNewPeer l.peers.items) earlier.items }
-    requires named { map (λ l. map (λ p. p.to) l.peers.items) earlier.items
+    requires named { map (λ l. peers_of l.peers.items) earlier.items
         ≡ others_of (map (λ l. l.site.book.book.office.me) earlier.items) }
     ensures sites { IfOk result
         (λ linked. map (λ l. l.site) linked.items ≡ map (λ l. l.site) earlier.items ++ site ∷ []) }
     ensures mesh { IfOk result
         (λ linked. IsMesh (map (λ l. map linkage_of l.peers.items) linked.items)) }
     ensures new { IfOk result (λ linked. All (λ l. All IsNewPeer l.peers.items) linked.items) }
-    ensures named { IfOk result (λ linked. map (λ l. map (λ p. p.to) l.peers.items) linked.items
+    ensures named { IfOk result (λ linked. map (λ l. peers_of l.peers.items) linked.items
         ≡ others_of (map (λ l. l.site.book.book.office.me) linked.items)) }
 {
     let (mut linked, peers) = linked_with(alloc, capacity, site.book.book().me(), earlier)?;
@@ -110,9 +110,9 @@ fn linked_with<K: Keeper + Drop, R: Read + Drop, W: Write + Drop>(
         (λ r. map (λ l. l.site) r.0.items ≡ map (λ l. l.site) earlier.items) }
     ensures came { IfOk result (λ r. CameTo (map (λ l. map linkage_of l.peers.items) earlier.items)
         (map (λ l. map linkage_of l.peers.items) r.0.items) (map linkage_of r.1.items)) }
-    ensures named { IfOk result (λ r. (map (λ l. map (λ p. p.to) l.peers.items) r.0.items
-        ≡ each_with (map (λ l. map (λ p. p.to) l.peers.items) earlier.items) (map (λ l. me) earlier.items))
-        × (map (λ p. p.to) r.1.items ≡ map (λ l. l.site.book.book.office.me) earlier.items)) }
+    ensures named { IfOk result (λ r. (map (λ l. peers_of l.peers.items) r.0.items
+        ≡ each_with (map (λ l. peers_of l.peers.items) earlier.items) (map (λ l. me) earlier.items))
+        × (peers_of r.1.items ≡ map (λ l. l.site.book.book.office.me) earlier.items)) }
     ensures new { IfOk result
         (λ r. All IsNewPeer r.1.items × (All (λ l. All IsNewPeer l.peers.items) earlier.items
         → All (λ l. All IsNewPeer l.peers.items) r.0.items)) }
@@ -137,8 +137,8 @@ fn link_with<K: Keeper + Drop, R: Read + Drop, W: Write + Drop>(
     requires { 0 < capacity }
     ensures site { IfOk result (λ r. r.0.site ≡ other.site) }
     ensures peers { IfOk result (λ r. GotPeer other.peers.items r.0.peers.items r.1) }
-    ensures named { IfOk result (λ r. (map (λ p. p.to) r.0.peers.items ≡ map
-        (λ p. p.to) other.peers.items ++ me ∷ []) × (r.1.to ≡ other.site.book.book.office.me)) }
+    ensures named { IfOk result (λ r. (peers_of r.0.peers.items
+        ≡ peers_of other.peers.items ++ me ∷ []) × (r.1.to ≡ other.site.book.book.office.me)) }
 {
     let LinkedSite { site, mut peers } = other;
     let (there, here) = pair(alloc, capacity, site.book.book().me(), me)?;

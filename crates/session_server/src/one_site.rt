@@ -1,13 +1,12 @@
 //! One site, in the thread that it was given.
 
-ghost use Rattle.std.specs.Prelude.{◌≡◌, ◌≢◌, ◌<◌, ◌≤◌, ◌+◌, All, IfErr, IfOk, IsSome, map, vec_len, length};
-ghost use Rattle.std.specs.List.{AllZip, flat_map};
+ghost use Rattle.std.specs.Prelude.{◌≡◌, ◌≢◌, ◌<◌, ◌+◌, IfErr, IfOk, vec_len, length};
 ghost use Rattle.site_desk.specs.declared.finish.FinishFault.TheVariants.{SeatsOut};
 ghost use Rattle.site_desk.specs.Moments.{IsLater};
 ghost use Rattle.site_desk.specs.Seats.{parts_of, shares_of};
-ghost use Rattle.site_desk.specs.SiteView.{SiteInStep};
-ghost use Rattle.session_server.specs.Exchanged.{AnyGiven, AnyMessage, Exchanged, given_at_desk, held_at_desk, refused_at_desk};
-ghost use Rattle.session_server.specs.Finished.{IsCompared, IsLeftOf, given_since};
+ghost use Rattle.session_server.specs.Exchanged.{AreExchangedAt};
+ghost use Rattle.session_server.specs.Finished.{IsCompared};
+ghost use Rattle.session_server.specs.Visited.{AreServed, HasRun, looks_of, receipts_of};
 
 use crate::exchange::{ExchangeFault, exchange_all};
 use crate::links::LinkedSite;
@@ -48,17 +47,8 @@ pub(crate) fn run_site<
     rounds: u64,
     gate: &G,
 ) -> Result<Left<K, R, W>, ExchangeFault>
-    ensures ids { IfOk result
-        (λ left. map (λ e. e.id) left.1.items ≡ map (λ v. v.id) linked.site.sessions.items) }
-    ensures readers { IfOk result (λ left. map (λ e. e.reader_began.value) left.1.items
-        ≡ map (λ v. v.reader) linked.site.sessions.items) }
-    ensures writers { IfOk result (λ left. map (λ e. e.writer_began.value) left.1.items
-        ≡ map (λ v. v.writer) linked.site.sessions.items) }
-    ensures left { IfOk result (λ left. IsLeftOf linked.site.book.book left.0.book
-        (All (λ e. IsSome e.writer) left.1.items)
-        (flat_map (λ e. e.receipts.items) left.1.items) (flat_map (λ e. e.seen.items) left.1.items) left.2.0) }
-    ensures peers { IfOk result (λ left. AllZip (Exchanged AnyMessage AnyMessage AnyGiven rounds)
-        linked.peers.items left.2.1.items) }
+    ensures { IfOk result (HasRun rounds
+        linked.site.book.book linked.site.sessions.items linked.peers.items) }
 {
     let LinkedSite { site, peers } = linked;
     let Some(parts) = (site.sessions.len() as u64).checked_add(1) else {
@@ -89,17 +79,8 @@ fn at_desk<
     requires enough { vec_len site.sessions < blank.parts }
     requires began { L.began ≡ site.book.book.history }
     requires office { L.office ≡ site.book.book.office }
-    ensures ids { IfOk result
-        (λ left. map (λ e. e.id) left.1.items ≡ map (λ v. v.id) site.sessions.items) }
-    ensures readers { IfOk result (λ left.
-        map (λ e. e.reader_began.value) left.1.items ≡ map (λ v. v.reader) site.sessions.items) }
-    ensures writers { IfOk result (λ left.
-        map (λ e. e.writer_began.value) left.1.items ≡ map (λ v. v.writer) site.sessions.items) }
-    ensures left { IfOk result (λ left. IsLeftOf site.book.book left.0.book
-        (All (λ e. IsSome e.writer) left.1.items)
-        (flat_map (λ e. e.receipts.items) left.1.items) (flat_map (λ e. e.seen.items) left.1.items) left.2.0) }
-    ensures peers { IfOk result (λ left.
-        AllZip (Exchanged AnyMessage AnyMessage AnyGiven rounds) peers.items left.2.1.items) }
+    ensures { IfOk result
+        (HasRun rounds site.book.book site.sessions.items peers.items) }
 {
     let Site { book, sessions } = site;
     let (desk, seat) = Desk::<K, L>::new(book, blank);
@@ -119,8 +100,9 @@ fn finished<K: Keeper + Drop, R: Read + Drop, W: Write + Drop, L: Opens>(
     seat: Seat<L>,
     sessions: &Vec<SessionEnd<R, W>>,
 ) -> Result<(SiteBook<K>, Result<(), FinishFault>), AllocError>
-    ensures compared { IfOk result (λ r. IsCompared (length L.began) (shares_of seats.items + seat.count) r.0.book
-        (flat_map (λ e. e.receipts.items) sessions.now.items) (flat_map (λ e. e.seen.items) sessions.now.items) r.1) }
+    ensures compared { IfOk result (λ r. IsCompared (length L.began)
+        (shares_of seats.items + seat.count) r.0.book
+        (receipts_of sessions.now.items) (looks_of sessions.now.items) r.1) }
     ensures whole { parts_of seats.items + seat.parts ≡ L.parts
         → IfOk result (λ r. IfErr r.1 (λ fault. fault ≢ SeatsOut)) }
     ensures later { IfOk result (λ r. IsLater L.office L.began r.0.book) }
@@ -156,11 +138,8 @@ struct Begun<R: Read + Drop, W: Write + Drop, L: Opens> {
 impl<R: Read + Drop, W: Write + Drop, L: Opens> Promise<
     Result<(Vec<SessionEnd<R, W>>, Vec<Seat<L>>), AllocError>,
 > for Begun<R, W, L> {
-    ghost kept_by = { λ p r. IfOk r (λ s. (map (λ e. e.id) s.0.items ≡ map (λ s. s.id) p.sessions.value.items)
-        × (map (λ e. e.reader_began.value) s.0.items ≡ map (λ s. s.reader) p.sessions.value.items)
-        × (map (λ e. e.writer_began.value) s.0.items ≡ map (λ s. s.writer) p.sessions.value.items)
-        × (All (λ e. IsSome e.writer) s.0.items → parts_of s.1.items ≡ parts_of (map (λ s. s.seat) p.sessions.value.items))
-        × (shares_of s.1.items ≤ shares_of (map (λ s. s.seat) p.sessions.value.items) + given_since (length L.began) (flat_map (λ e. e.receipts.items) s.0.items))) };
+    ghost kept_by = { λ p r. IfOk r
+        (λ s. AreServed (length L.began) p.sessions.value.items s.0.items s.1.items) };
 }
 
 // The sessions in a thread beside the exchange.
@@ -186,21 +165,10 @@ fn at_once<
     ),
     ExchangeFault,
 >
-    ensures ids { IfOk result
-        (λ r. IfOk r.0 (λ s. map (λ e. e.id) s.0.items ≡ map (λ s. s.id) sessions.items)) }
-    ensures readers { IfOk result (λ r. IfOk r.0
-        (λ s. map (λ e. e.reader_began.value) s.0.items ≡ map (λ s. s.reader) sessions.items)) }
-    ensures writers { IfOk result (λ r. IfOk r.0
-        (λ s. map (λ e. e.writer_began.value) s.0.items ≡ map (λ s. s.writer) sessions.items)) }
-    ensures parts { IfOk result (λ r. IfOk r.0 (λ s. All (λ e. IsSome e.writer) s.0.items
-        → parts_of s.1.items ≡ parts_of (map (λ s. s.seat) sessions.items))) }
-    ensures shares { IfOk result (λ r. IfOk r.0 (λ s. shares_of s.1.items
-        ≤ shares_of (map (λ s. s.seat) sessions.items) + given_since (length L.began) (flat_map (λ e. e.receipts.items) s.0.items))) }
-    ensures peers { IfOk result (λ r. IfOk r.1 (λ ends. AllZip (Exchanged
-        (held_at_desk L.office L.began (SiteInStep K.Keeper))
-        (refused_at_desk L.office L.began (SiteInStep K.Keeper) K.failed)
-        (given_at_desk L.office L.began (SiteInStep K.Keeper))
-        rounds) peers.items ends.items)) }
+    ensures served { IfOk result (λ r. IfOk r.0
+        (λ s. AreServed (length L.began) sessions.items s.0.items s.1.items)) }
+    ensures peers { IfOk result (λ r. IfOk r.1
+        (λ ends. AreExchangedAt K.Keeper L.Opens rounds peers.items ends.items)) }
 {
     let begun = Begun {
         sessions: Snapshot::of(&sessions),
@@ -219,9 +187,8 @@ fn told<R: Read + Drop, W: Write + Drop>(
     alloc: Global,
     sessions: &Vec<SessionEnd<R, W>>,
 ) -> Result<(Vec<Receipt>, Vec<Seen>), AllocError>
-    ensures receipts { IfOk result
-        (λ r. r.0.items ≡ flat_map (λ e. e.receipts.items) sessions.now.items) }
-    ensures looks { IfOk result (λ r. r.1.items ≡ flat_map (λ e. e.seen.items) sessions.now.items) }
+    ensures receipts { IfOk result (λ r. r.0.items ≡ receipts_of sessions.now.items) }
+    ensures looks { IfOk result (λ r. r.1.items ≡ looks_of sessions.now.items) }
 {
     let mut receipts = Vec::new(alloc);
     let mut seen = Vec::new(alloc);

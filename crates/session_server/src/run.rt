@@ -1,11 +1,9 @@
 //! All sites of a process at once.
 
-ghost use Rattle.std.specs.Prelude.{◌≡◌, ◌<◌, ◌≤◌, [], All, IfOk, IsSome, map, vec_len, vec_capacity};
-ghost use Rattle.std.specs.List.{AllZip, flat_map};
-ghost use Rattle.session_server.specs.Exchanged.{AnyGiven, AnyMessage, Exchanged};
-ghost use Rattle.session_server.specs.Finished.{IsLeftOf};
-ghost use Rattle.session_server.specs.LinkNames.{link_names, link_name_of};
-ghost use Rattle.session_server.specs.Settled.{AreAcknowledged, AreLinksTold, IsCounted};
+ghost use Rattle.std.specs.Prelude.{◌≡◌, ◌<◌, ◌≤◌, [], IfOk, map, vec_len, vec_capacity};
+ghost use Rattle.std.specs.List.{AllZip};
+ghost use Rattle.session_server.specs.Settled.{AreLinksLeft};
+ghost use Rattle.session_server.specs.Visited.{HasRun, IsSiteLeft, visit_ended};
 
 use crate::exchange::ExchangeFault;
 use crate::link_ends::{link_ends, numbers};
@@ -32,13 +30,8 @@ struct SiteOf<K: Keeper + Drop, R: Read + Drop, W: Write + Drop> {
 impl<K: Keeper + Drop, R: Read + Drop, W: Write + Drop> Promise<
     Result<Left<K, R, W>, ExchangeFault>,
 > for SiteOf<K, R, W> {
-    ghost kept_by = { λ p r. IfOk r (λ left. (map (λ e. e.id) left.1.items ≡ map (λ v. v.id) p.linked.value.site.sessions.items)
-        × (map (λ e. e.reader_began.value) left.1.items ≡ map (λ v. v.reader) p.linked.value.site.sessions.items)
-        × (map (λ e. e.writer_began.value) left.1.items ≡ map (λ v. v.writer) p.linked.value.site.sessions.items)
-        × IsLeftOf p.linked.value.site.book.book left.0.book
-        (All (λ e. IsSome e.writer) left.1.items)
-        (flat_map (λ e. e.receipts.items) left.1.items) (flat_map (λ e. e.seen.items) left.1.items) left.2.0
-        × AllZip (Exchanged AnyMessage AnyMessage AnyGiven p.rounds) p.linked.value.peers.items left.2.1.items) };
+    ghost kept_by = { λ p r. IfOk r (HasRun p.rounds p.linked.value.site.book.book
+        p.linked.value.site.sessions.items p.linked.value.peers.items) };
 }
 
 /// Runs all sites at once, each in a thread of its own, with a thread for each of its sessions and with links to all
@@ -72,36 +65,21 @@ pub fn run_all<
     gate: &G,
 ) -> Result<(Vec<SiteEnd<K, R, W>>, Vec<LinkEnd>), ExchangeFault>
     requires { 0 < capacity }
-    ensures ids { IfOk result (λ r. map (λ e. map (λ x. x.id) e.sessions.items) r.0.items
-        ≡ map (λ s. map (λ v. v.id) s.sessions.items) sites.items) }
-    ensures readers { IfOk result (λ r. map (λ e. map (λ x. x.reader_began.value) e.sessions.items)
-        r.0.items ≡ map (λ s. map (λ v. v.reader) s.sessions.items) sites.items) }
-    ensures writers { IfOk result (λ r. map (λ e. map (λ x. x.writer_began.value) e.sessions.items)
-        r.0.items ≡ map (λ s. map (λ v. v.writer) s.sessions.items) sites.items) }
-    ensures left { IfOk result (λ r. AllZip (λ site end. IsLeftOf site.book.book end.book.book
-        (All (λ x. IsSome x.writer) end.sessions.items)
-        (flat_map (λ x. x.receipts.items) end.sessions.items) (flat_map (λ x. x.seen.items) end.sessions.items) end.finished) sites.items r.0.items) }
-    ensures links { IfOk result (λ r.
-        map link_name_of r.1.items ≡ link_names (map (λ s. s.book.book.office.me) sites.items)) }
-    ensures told { IfOk result
-        (λ r. AreLinksTold rounds (map (λ s. s.book.book.office.me) sites.items) r.1.items) }
-    ensures counted { IfOk result (λ r. All IsCounted r.1.items) }
-    ensures within { IfOk result (λ r. All (λ link. link.put ≤ rounds) r.1.items) }
-    ensures acknowledged { IfOk result
-        (λ r. AreAcknowledged (map (λ s. s.book.book.office.me) sites.items) r.1.items) }
+    ensures visits { IfOk result (λ r. map (λ e. map visit_ended e.sessions.items) r.0.items
+        ≡ map (λ s. s.sessions.items) sites.items) }
+    ensures left { IfOk result (λ r. AllZip (λ site end.
+        IsSiteLeft site.book.book end.book.book end.sessions.items end.finished)
+        sites.items r.0.items) }
+    ensures links { IfOk result
+        (λ r. AreLinksLeft rounds (map (λ s. s.book.book.office.me) sites.items) r.1.items) }
 {
     let ids = numbers(alloc, &sites)?;
     let linked = link_all(alloc, sites, capacity)?;
     let mut jobs = Vec::with_capacity(alloc, linked.len())?;
     begun(linked, rounds, &mut jobs);
     let run = |one: LinkedSite<K, R, W>| -> Result<Left<K, R, W>, ExchangeFault>
-        ensures { IfOk result (λ left. (map (λ e. e.id) left.1.items ≡ map (λ v. v.id) one.site.sessions.items)
-            × (map (λ e. e.reader_began.value) left.1.items ≡ map (λ v. v.reader) one.site.sessions.items)
-            × (map (λ e. e.writer_began.value) left.1.items ≡ map (λ v. v.writer) one.site.sessions.items)
-            × IsLeftOf one.site.book.book left.0.book
-            (All (λ e. IsSome e.writer) left.1.items)
-            (flat_map (λ e. e.receipts.items) left.1.items) (flat_map (λ e. e.seen.items) left.1.items) left.2.0
-            × AllZip (Exchanged AnyMessage AnyMessage AnyGiven rounds) one.peers.items left.2.1.items) }
+        ensures { IfOk result
+            (HasRun rounds one.site.book.book one.site.sessions.items one.peers.items) }
     { run_site(rt, alloc, one, rounds, gate) };
     let done = work_all(rt, alloc, jobs, &run)?;
     let mut ends = Vec::with_capacity(alloc, done.len())?;
@@ -148,7 +126,8 @@ fn gathered<K: Keeper + Drop, R: Read + Drop, W: Write + Drop>(
         × (end.sessions ≡ left.1) × (end.finished ≡ left.2.0)) done.items ends.new.items }
     ensures peers { AllZip (λ left with. with ≡ left.2.1) done.items peers.new.items }
     ensures room { (vec_len ends.new ≡ vec_len done) × (vec_len peers.new ≡ vec_len done)
-        × (vec_capacity ends.new ≡ vec_capacity ends.old) × (vec_capacity peers.new ≡ vec_capacity peers.old) }
+        × (vec_capacity ends.new ≡ vec_capacity ends.old)
+        × (vec_capacity peers.new ≡ vec_capacity peers.old) }
 {
     let Some((book, sessions, (finished, with))) = done.pop() else {
         return;

@@ -2,6 +2,7 @@
 
 ghost use Rattle.std.specs.Prelude.{◌≡◌, ◌<◌, ◌≤◌, ◌+◌, ◌++◌, IfOk, map, vec_len, vec_capacity};
 ghost use Rattle.site_desk.specs.Seats.{parts_of, shares_of};
+ghost use Rattle.session_server.specs.Visited.{seats_of, visit_of};
 
 use crate::session::Session;
 use crate::site::Visit;
@@ -16,15 +17,9 @@ pub(crate) fn seated<R: Read + Drop, W: Write + Drop, L: Opens>(
     seat: Seat<L>,
 ) -> Result<(Vec<Session<R, W, L>>, Seat<L>), AllocError>
     requires { vec_len visits < seat.parts }
-    ensures ids { IfOk result (λ r. map (λ s. s.id) r.0.items ≡ map (λ v. v.id) visits.items) }
-    ensures readers { IfOk result
-        (λ r. map (λ s. s.reader) r.0.items ≡ map (λ v. v.reader) visits.items) }
-    ensures writers { IfOk result
-        (λ r. map (λ s. s.writer) r.0.items ≡ map (λ v. v.writer) visits.items) }
-    ensures parts { IfOk result
-        (λ r. parts_of (map (λ s. s.seat) r.0.items) + r.1.parts ≡ seat.parts) }
-    ensures shares { IfOk result
-        (λ r. shares_of (map (λ s. s.seat) r.0.items) + r.1.count ≡ seat.count) }
+    ensures visits { IfOk result (λ r. map visit_of r.0.items ≡ visits.items) }
+    ensures parts { IfOk result (λ r. parts_of (seats_of r.0.items) + r.1.parts ≡ seat.parts) }
+    ensures shares { IfOk result (λ r. shares_of (seats_of r.0.items) + r.1.count ≡ seat.count) }
 {
     let mut sessions = Vec::with_capacity(alloc, visits.len())?;
     let seat = seat_from(visits, seat, &mut sessions);
@@ -39,16 +34,12 @@ fn seat_from<R: Read + Drop, W: Write + Drop, L: Opens>(
 ) -> Seat<L>
     requires parts { vec_len visits < seat.parts }
     requires room { vec_len sessions.old + vec_len visits ≤ vec_capacity sessions.old }
-    ensures ids { map (λ s. s.id) sessions.new.items
-        ≡ map (λ s. s.id) sessions.old.items ++ map (λ v. v.id) visits.items }
-    ensures readers { map (λ s. s.reader) sessions.new.items
-        ≡ map (λ s. s.reader) sessions.old.items ++ map (λ v. v.reader) visits.items }
-    ensures writers { map (λ s. s.writer) sessions.new.items
-        ≡ map (λ s. s.writer) sessions.old.items ++ map (λ v. v.writer) visits.items }
-    ensures parts { parts_of (map (λ s. s.seat) sessions.new.items) + result.parts
-        ≡ parts_of (map (λ s. s.seat) sessions.old.items) + seat.parts }
-    ensures shares { shares_of (map (λ s. s.seat) sessions.new.items) + result.count
-        ≡ shares_of (map (λ s. s.seat) sessions.old.items) + seat.count }
+    ensures visits { map visit_of sessions.new.items
+        ≡ map visit_of sessions.old.items ++ visits.items }
+    ensures parts { parts_of (seats_of sessions.new.items) + result.parts
+        ≡ parts_of (seats_of sessions.old.items) + seat.parts }
+    ensures shares { shares_of (seats_of sessions.new.items) + result.count
+        ≡ shares_of (seats_of sessions.old.items) + seat.count }
     ensures room { (vec_len sessions.new ≡ vec_len sessions.old + vec_len visits)
         × (vec_capacity sessions.new ≡ vec_capacity sessions.old) }
 {

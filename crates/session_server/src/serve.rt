@@ -1,12 +1,12 @@
 //! Sessions in threads.
 
-ghost use Rattle.std.specs.Prelude.{◌≡◌, [], ◌≤◌, ◌+◌, ◌++◌, All, IsSome, None, true, is_some, count_by, length, map, vec_len, vec_capacity, IfOk};
-ghost use Rattle.std.specs.List.{flat_map};
+ghost use Rattle.std.specs.Prelude.{◌≡◌, [], ◌≤◌, ◌+◌, ◌++◌, None, true, is_some, count_by, length, map, vec_len, vec_capacity, IfOk};
 ghost use Rattle.site_desk.specs.Seats.{parts_of, shares_of};
 ghost use Rattle.session_server.specs.Finished.{given_since};
+ghost use Rattle.session_server.specs.Visited.{AllServed, AreServed, receipts_of, seats_of, visit_ended, visit_of};
 
-use crate::at_desk::AtDesk;
 use crate::fault::TalkFault;
+use crate::seat_answerer::SeatAnswerer;
 use crate::session::{Session, SessionEnd};
 use crate::talk_over::talk;
 use history_keeper::Keeper;
@@ -26,9 +26,7 @@ fn serve<T: Wait, R: Read + Drop, W: Write + Drop, K: Keeper, L: Opens, G: Gate>
     gate: &G,
     session: Session<R, W, L>,
 ) -> (SessionEnd<R, W>, Seat<L>)
-    ensures id { result.0.id ≡ session.id }
-    ensures began { (result.0.reader_began.value ≡ session.reader)
-        × (result.0.writer_began.value ≡ session.writer) }
+    ensures visit { visit_ended result.0 ≡ visit_of session }
     ensures writer { is_some result.0.writer ≡ true }
     ensures parts { result.1.parts ≡ session.seat.parts }
     ensures share { result.1.count
@@ -42,7 +40,7 @@ fn serve<T: Wait, R: Read + Drop, W: Write + Drop, K: Keeper, L: Opens, G: Gate>
     } = session;
     let reader_began = Snapshot::of(&reader);
     let writer_began = Snapshot::of(&writer);
-    let mut at = AtDesk::new(alloc, desk, gate, id, seat);
+    let mut at = SeatAnswerer::new(alloc, desk, gate, id, seat);
     let ended = talk(rt, alloc, reader, &mut writer, &mut at);
     let (seat, receipts, seen) = at.into_parts();
     (
@@ -67,8 +65,8 @@ struct Begun<R: Read + Drop, W: Write + Drop, L: Opens> {
 
 impl<R: Read + Drop, W: Write + Drop, L: Opens> Promise<(SessionEnd<R, W>, Seat<L>)>
     for Begun<R, W, L> {
-    ghost kept_by = { λ p r. (r.0.id ≡ p.session.value.id) × (r.0.reader_began.value ≡ p.session.value.reader)
-        × (r.0.writer_began.value ≡ p.session.value.writer) × (is_some r.0.writer ≡ true) × (r.1.parts ≡ p.session.value.seat.parts)
+    ghost kept_by = { λ p r. (visit_ended r.0 ≡ visit_of p.session.value)
+        × (is_some r.0.writer ≡ true) × (r.1.parts ≡ p.session.value.seat.parts)
         × (r.1.count ≤ p.session.value.seat.count + given_since (length L.began) r.0.receipts.items) };
 }
 
@@ -94,20 +92,19 @@ fn serve_from<
 )
     requires ends { vec_len ends.old + vec_len sessions ≤ vec_capacity ends.old }
     requires seats { vec_len seats.old + vec_len sessions ≤ vec_capacity seats.old }
-    ensures ids { map (λ e. e.id) ends.new.items
-        ≡ map (λ e. e.id) ends.old.items ++ map (λ s. s.id) sessions.items }
-    ensures readers { map (λ e. e.reader_began.value) ends.new.items
-        ≡ map (λ e. e.reader_began.value) ends.old.items ++ map (λ s. s.reader) sessions.items }
-    ensures writers { map (λ e. e.writer_began.value) ends.new.items
-        ≡ map (λ e. e.writer_began.value) ends.old.items ++ map (λ s. s.writer) sessions.items }
-    ensures parts { All (λ e. IsSome e.writer) ends.new.items → parts_of seats.new.items
-        ≡ parts_of seats.old.items + parts_of (map (λ s. s.seat) sessions.items) }
+    ensures visits { map visit_ended ends.new.items
+        ≡ map visit_ended ends.old.items ++ map visit_of sessions.items }
+    ensures parts { AllServed ends.new.items → parts_of seats.new.items
+        ≡ parts_of seats.old.items + parts_of (seats_of sessions.items) }
     ensures seats { length seats.new.items + count_by (λ e. is_some e.writer) ends.old.items
         ≡ length seats.old.items + count_by (λ e. is_some e.writer) ends.new.items }
-    ensures shares { shares_of seats.new.items + given_since (length L.began) (flat_map (λ e. e.receipts.items) ends.old.items)
-        ≤ shares_of seats.old.items + shares_of (map (λ s. s.seat) sessions.items) + given_since (length L.began) (flat_map (λ e. e.receipts.items) ends.new.items) }
-    ensures room { (vec_len ends.new ≡ vec_len ends.old + vec_len sessions) × (vec_capacity ends.new ≡ vec_capacity ends.old)
-        × (vec_len seats.new ≤ vec_len seats.old + vec_len sessions) × (vec_capacity seats.new ≡ vec_capacity seats.old) }
+    ensures shares { let given = given_since (length L.began) in shares_of seats.new.items
+        + given (receipts_of ends.old.items) ≤ shares_of seats.old.items
+        + shares_of (seats_of sessions.items) + given (receipts_of ends.new.items) }
+    ensures room { (vec_len ends.new ≡ vec_len ends.old + vec_len sessions)
+        × (vec_capacity ends.new ≡ vec_capacity ends.old) }
+    ensures seats_room { (vec_len seats.new ≤ vec_len seats.old + vec_len sessions)
+        × (vec_capacity seats.new ≡ vec_capacity seats.old) }
 {
     let Some(session) = sessions.pop() else {
         return;
@@ -174,18 +171,8 @@ pub fn serve_all<
     desk: &Desk<K, L>,
     gate: &G,
 ) -> Result<(Vec<SessionEnd<R, W>>, Vec<Seat<L>>), AllocError>
-    ensures ids { IfOk result (λ r. map (λ e. e.id) r.0.items ≡ map (λ s. s.id) sessions.items) }
-    ensures readers { IfOk result
-        (λ r. map (λ e. e.reader_began.value) r.0.items ≡ map (λ s. s.reader) sessions.items) }
-    ensures writers { IfOk result
-        (λ r. map (λ e. e.writer_began.value) r.0.items ≡ map (λ s. s.writer) sessions.items) }
-    ensures parts { IfOk result (λ r. All (λ e. IsSome e.writer) r.0.items
-        → parts_of r.1.items ≡ parts_of (map (λ s. s.seat) sessions.items)) }
-    ensures seats { IfOk result
-        (λ r. length r.1.items ≡ count_by (λ e. is_some e.writer) r.0.items) }
-    ensures shares { IfOk result
-        (λ r. shares_of r.1.items ≤ shares_of (map (λ s. s.seat) sessions.items) + given_since
-        (length L.began) (flat_map (λ e. e.receipts.items) r.0.items)) }
+    ensures { IfOk result
+        (λ r. AreServed (length L.began) sessions.items r.0.items r.1.items) }
 {
     let mut ends = Vec::with_capacity(alloc, sessions.len())?;
     let mut seats = Vec::with_capacity(alloc, sessions.len())?;
@@ -196,12 +183,7 @@ pub fn serve_all<
             requires { (vec_len ends + vec_len sessions ≤ vec_capacity ends)
                 × (vec_len seats + vec_len sessions ≤ vec_capacity seats)
                 × (ends.items ≡ []) × (seats.items ≡ []) }
-            ensures { (map (λ e. e.id) result.0.items ≡ map (λ s. s.id) sessions.items)
-                × (map (λ e. e.reader_began.value) result.0.items ≡ map (λ s. s.reader) sessions.items)
-                × (map (λ e. e.writer_began.value) result.0.items ≡ map (λ s. s.writer) sessions.items)
-                × (All (λ e. IsSome e.writer) result.0.items → parts_of result.1.items ≡ parts_of (map (λ s. s.seat) sessions.items))
-                × (length result.1.items ≡ count_by (λ e. is_some e.writer) result.0.items)
-                × (shares_of result.1.items ≤ shares_of (map (λ s. s.seat) sessions.items) + given_since (length L.began) (flat_map (λ e. e.receipts.items) result.0.items)) }
+            ensures { AreServed (length L.began) sessions.items result.0.items result.1.items }
         {
             serve_from(
                 scope, rt, alloc, desk, gate, sessions, &mut ends, &mut seats,

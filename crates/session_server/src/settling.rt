@@ -59,7 +59,8 @@ fn settle_last(
     ensures settled { IsSettledWith (map (λ row. row.items) ends.items)
         last.items (map (λ row. row.items) fronts.new.items) pairs.new.items }
     ensures room { (vec_len fronts.new ≡ vec_len ends) × (vec_len pairs.new ≡ vec_len ends)
-        × (vec_capacity fronts.new ≡ vec_capacity fronts.old) × (vec_capacity pairs.new ≡ vec_capacity pairs.old) }
+        × (vec_capacity fronts.new ≡ vec_capacity fronts.old)
+        × (vec_capacity pairs.new ≡ vec_capacity pairs.old) }
 {
     let Some(mut row) = ends.pop() else {
         return;
@@ -107,7 +108,8 @@ fn with_last(
 ) -> Result<Vec<Vec<Went>>, AllocError>
     requires len { vec_len told ≡ vec_len pairs }
     ensures { IfOk result (λ rows. map (λ row. row.items) rows.items
-        ≡ each_with (map (λ row. row.items) told.items) (map (λ pair. pair.0) pairs.items) ++ map (λ pair. pair.1) pairs.items ∷ []) }
+        ≡ each_with (map (λ row. row.items) told.items) (map (λ pair. pair.0) pairs.items)
+        ++ map (λ pair. pair.1) pairs.items ∷ []) }
 {
     let mut rows = Vec::new(alloc);
     let mut last = Vec::new(alloc);

@@ -70,7 +70,8 @@ pub(crate) fn work_all<
         thread::scope_env(),
         rt,
         move |scope| -> Result<Vec<(A, B, C)>, ExchangeFault>
-            requires { (vec_len jobs ≤ vec_capacity done) × (done.items ≡ []) × ((job : J) → F.pre work.now job)
+            requires { (vec_len jobs ≤ vec_capacity done) × (done.items ≡ [])
+                × ((job : J) → F.pre work.now job)
                 × All (λ j. (left : _) → F.post work.now j.0 left → P.kept_by j.1 left) jobs.items }
             ensures { IfOk result
                 (λ done. AllZip (λ j one. P.kept_by j.1 (Ok one)) jobs.items done.items) }

@@ -12,7 +12,8 @@ pub none_acknowledged : (peer len : ℕ) → get_or zeros peer 0 ≤ len
 none_acknowledged peer len = omega (arith, none_at max_sites peer)
 
 -- and never more than there is
-pub raised_within : (acked : List ℕ) (by n len : ℕ) → ((peer : ℕ) → get_or acked peer 0 ≤ len) → n ≤ len → (peer : ℕ) → get_or (set acked by (max (get_or acked by 0) n)) peer 0 ≤ len
+pub raised_within : (acked : List ℕ) (by n len : ℕ) → ((peer : ℕ) → get_or acked peer 0 ≤ len) → n ≤ len → (peer : ℕ)
+    → get_or (set acked by (max (get_or acked by 0) n)) peer 0 ≤ len
 raised_within [] by n len within le peer = omega arith
 raised_within (x ∷ xs) zero n len within le zero = let first : x ≤ len = within 0 in omega (arith, first, le)
 raised_within (x ∷ xs) zero n len within le (suc peer) = within (suc peer)
@@ -24,6 +25,7 @@ grown_by None h = omega arith
 grown_by (Some entry) h = omega (arith, length-append h (entry ∷ []))
 
 -- a history that an input was entered in, or that stayed as it was, is as long as before or longer
-pub no_shorter : {A F : Type 0} (came : Result A F) (entry : Option Entry) (old new : List Entry) → OnOk came (new ≡ extended entry old) → OnErr came (new ≡ old) → length old ≤ length new
+pub no_shorter : {A F : Type 0} (came : Result A F) (entry : Option Entry) (old new : List Entry) → OnOk came (new ≡ extended entry old)
+    → OnErr came (new ≡ old) → length old ≤ length new
 no_shorter (Ok a) entry old new entered same = omega (arith, grown_by entry old, ap length entered)
 no_shorter (Err f) entry old new entered same = omega (arith, ap length same)

@@ -53,7 +53,8 @@ same_place : (c d : Cell) → IsCellOf max_sites c → IsCellOf max_sites d → 
 same_place c d p q e = sym (cell_at-offset_of max_sites c p) ∙ ap (cell_at max_sites) e ∙ cell_at-offset_of max_sites d q
 
 -- the cell that is raised, and every other
-pub raised : (table now : List ℕ) (place value : ℕ) (cell other : Cell) → length table ≡ 4224 → place ≡ offset_of max_sites cell → now ≡ set table place (max (get_or table place 0) value)
+pub raised : (table now : List ℕ) (place value : ℕ) (cell other : Cell) → length table ≡ 4224 → place ≡ offset_of max_sites cell
+    → now ≡ set table place (max (get_or table place 0) value)
     → IsCellOf max_sites cell → IsCellOf max_sites other → value_in_table now other ≡ max (value_in_table table other) (cond (same_cell other cell) value 0)
 raised table now place value cell other len at is p q =
     elim (same_cell other cell) as (λ b. same_cell other cell ≡ b → value_in_table now other ≡ max (value_in_table table other) (cond b value 0)) [
@@ -83,14 +84,16 @@ here m event cell is = value_in-tests m event cell ∙ ap (λ b. cond (b && same
 
 pub elsewhere : (m : Valued) (event : List ℕ) (cell : Cell) → m.event ≢ event → value_in m event cell ≡ 0
 elsewhere m event cell apart =
-    value_in-tests m event cell ∙ ap (λ b. cond (b && same_cell cell m.cell) m.value 0) (false_from_ne_true (same_event event m.event) (λ t. apart (sym (same_event_is event m.event t))))
+    value_in-tests m event cell ∙ ap (λ b. cond (b && same_cell cell m.cell) m.value 0)
+    (false_from_ne_true (same_event event m.event) (λ t. apart (sym (same_event_is event m.event t))))
 
 pub all_sites : (n : ℕ) → n ≡ site_numbers → n ≡ max_sites
 unfolding max_sites
 all_sites n is = is
 
 -- what a mark that is raised says
-pub said : (m : Valued) (event : List ℕ) (cell d : Cell) (value : ℕ) → d ≡ m.cell → value ≡ m.value → m.event ≡ event → cond (same_cell cell d) value 0 ≡ value_in m event cell
+pub said : (m : Valued) (event : List ℕ) (cell d : Cell) (value : ℕ) → d ≡ m.cell → value ≡ m.value → m.event ≡ event
+    → cond (same_cell cell d) value 0 ≡ value_in m event cell
 said m event cell d value p q is = (λ i. cond (same_cell cell (p i)) (q i) 0) ∙ sym (here m event cell is)
 
 pub other_name : (event name : List ℕ) (b : Bool) → b ≡ same_event name event → b ≡ false → name ≢ event

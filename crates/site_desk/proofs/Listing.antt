@@ -13,7 +13,9 @@ use Rattle.history_keeper.specs.Lookups.{listed_in, listing, names_event}
 use Rattle.site_desk.specs.Looks.{row_at, row_of, with_row}
 
 -- what one entry more adds
-pub listed_push : (h : List Entry) (entry : Entry) (event : List ℕ) → listed_in (h ++ entry ∷ []) event ≡ listed_in h event ++ map listing (filter (λ (a : ℕ × Kept). names_event event a.1.request) (asked_from (length h) (entry ∷ [])))
+pub listed_push : (h : List Entry) (entry : Entry) (event : List ℕ)
+    → listed_in (h ++ entry ∷ []) event ≡ listed_in h event ++ map listing
+    (filter (λ (a : ℕ × Kept). names_event event a.1.request) (asked_from (length h) (entry ∷ [])))
 listed_push h entry event =
     let names : ℕ × Kept → Bool = λ a. names_event event a.1.request in
     ap (λ (asks : List (ℕ × Kept)). map listing (filter names asks)) (asked-push h entry)
@@ -31,7 +33,8 @@ all_before (x ∷ h) zero entry is = refl
 all_before (x ∷ h) (suc k) entry is = ap suc (all_before h k entry is)
 
 listed_entry : (h : List Entry) (k : ℕ) (entry : Entry) (event : List ℕ) → slice_get h k ≡ Some entry
-    → listed_in (take (suc k) h) event ≡ listed_in (take k h) event ++ map listing (filter (λ (a : ℕ × Kept). names_event event a.1.request) (asked_from k (entry ∷ [])))
+    → listed_in (take (suc k) h) event ≡ listed_in (take k h) event ++ map listing
+    (filter (λ (a : ℕ × Kept). names_event event a.1.request) (asked_from k (entry ∷ [])))
 listed_entry h k entry event is =
     let names : ℕ × Kept → Bool = λ a. names_event event a.1.request in
     ap (λ (l : List Entry). listed_in l event) (next_entry h k entry is) ∙ listed_push (take k h) entry event
@@ -44,7 +47,8 @@ if_named xs false a = append-nil xs
 
 row_of_entry : (xs : List Listed) (k : ℕ) (entry : Entry) (event : List ℕ)
     → xs ++ map listing (filter (λ (a : ℕ × Kept). names_event event a.1.request) (asked_from k (entry ∷ []))) ≡ with_row (row_of k event (Some entry)) xs
-row_of_entry xs k (Asked number request reply delta) event = if_named xs (names_event event request) (number, record { place = k; request = request; reply = reply })
+row_of_entry xs k (Asked number request reply delta) event = if_named xs (names_event event request)
+    (number, record { place = k; request = request; reply = reply })
 row_of_entry xs k (Joined peer delta) event = append-nil xs
 row_of_entry xs k (Grown sites) event = append-nil xs
 

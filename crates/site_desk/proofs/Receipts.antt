@@ -14,7 +14,7 @@ use Rattle.request_ledger.specs.Ledger.{kept_under}
 use Rattle.request_ledger.specs.Requests.{same_request}
 use Rattle.book_core.specs.declared.entry.Entry.{Entry}
 use Rattle.book_core.specs.declared.entry.Entry.TheVariants.{Asked, Joined, Grown}
-use Rattle.book_core.specs.Decision.{Decision, Again, Reused, Full, Fresh, Office, decision, decision_if, delta_for, entry_if, reply_to}
+use Rattle.book_core.specs.Decision.{Decision, Again, Reused, Full, Fresh, SiteConfig, decision, decision_if, delta_for, entry_if, reply_to}
 use Rattle.book_core.specs.History.{asked_from, kept}
 use Rattle.site_exchange.specs.Taking.{extended}
 use Rattle.site_desk.specs.declared.answer.Answer.{Answer}
@@ -56,37 +56,46 @@ there_if : (b : Bool) (place n : ℕ) (request : Request) (reply : Reply) (delta
     → (kept_under (asked_from (place + 1) h) number ≡ Some k → IsThere (place + 1) h number k) → IsThere place (Asked n request reply delta ∷ h) number k
 there_if true place n request reply delta h number k same is later =
     let first : record { place = place; request = request; reply = reply } ≡ k = cc in
-    subst (IsThere place (Asked n request reply delta ∷ h) number) first (0, omega arith, delta, ap (λ m. Some (Asked m request reply delta)) (eqb-true n number same))
+    subst (IsThere place (Asked n request reply delta ∷ h) number) first
+    (0, omega arith, delta, ap (λ m. Some (Asked m request reply delta)) (eqb-true n number same))
 there_if false place n request reply delta h number k same is later = behind place h (Asked n request reply delta) number k (later is)
 
 there : (place : ℕ) (h : List Entry) (number : ℕ) (k : Kept) → kept_under (asked_from place h) number ≡ Some k → IsThere place h number k
 there place [] number k is = cc
 there place (Joined peer delta ∷ h) number k is = behind place h (Joined peer delta) number k (there (place + 1) h number k is)
 there place (Grown sites ∷ h) number k is = behind place h (Grown sites) number k (there (place + 1) h number k is)
-there place (Asked n request reply delta ∷ h) number k is = there_if (nat_eq n number) place n request reply delta h number k refl is (there (place + 1) h number k)
+there place (Asked n request reply delta ∷ h) number k is = there_if (nat_eq n number) place n request reply delta h number k refl is
+    (there (place + 1) h number k)
 
 -- a kept reply stands where it is kept
-stands_again : (history : List Entry) (number : ℕ) (request : Request) (k : Kept) (a : Answer) → kept history number ≡ Some k → same_request k.request request ≡ true
+stands_again : (history : List Entry) (number : ℕ) (request : Request) (k : Kept) (a : Answer) → kept history number ≡ Some k
+    → same_request k.request request ≡ true
     → a ≡ record { reply = k.reply; place = k.place; fresh = false } → StandsIn history (receipt_of number request a)
 stands_again history number request k a found same is =
     let w = there 0 history number k found in
     let at : w.0 ≡ k.place = omega (arith, w.1) in
-    subst (λ (x : Answer). StandsIn history (receipt_of number request x)) (sym is)
-    (w.2, subst (λ p. slice_get history p ≡ Some (Asked number request k.reply w.2)) at (w.3 ∙ ap (λ r. Some (Asked number r k.reply w.2)) (is_request k.request request same)))
+    subst (λ (x : Answer). StandsIn history (receipt_of number request x)) (sym is) (
+      w.2,
+      subst (λ p. slice_get history p ≡ Some (Asked number request k.reply w.2)) at
+          (w.3 ∙ ap (λ r. Some (Asked number r k.reply w.2)) (is_request k.request request same)),
+    )
 
 last_of : (h : List Entry) (entry : Entry) → slice_get (h ++ entry ∷ []) (length h) ≡ Some entry
 last_of [] entry = refl
 last_of (e ∷ h) entry = last_of h entry
 
-pub stands_then : (d : Decision) (office : Office) (old new : List Entry) (number : ℕ) (request : Request) (a : Answer) → decision office old number request ≡ d
+pub stands_then : (d : Decision) (office : SiteConfig) (old new : List Entry) (number : ℕ) (request : Request) (a : Answer)
+    → decision office old number request ≡ d
     → IsAnswer d (length old) a → new ≡ extended (entry_if d office old number request) old → StandsIn new (receipt_of number request a)
 stands_then (Fresh reply) office old new number request a what is now =
     let delta = delta_for office old request reply in
     subst (λ (x : Answer). StandsIn new (receipt_of number request x)) (sym is)
     (delta, ap (λ h. slice_get h (length old)) now ∙ last_of old (Asked number request reply delta))
-stands_then (Again place reply) office old new number request a what is now = subst (λ h. StandsIn h (receipt_of number request a)) (sym now) (by_kept (kept old number) refl what)
+stands_then (Again place reply) office old new number request a what is now = subst (λ h. StandsIn h (receipt_of number request a)) (sym now)
+    (by_kept (kept old number) refl what)
   where
-    by_same : (k : Kept) (b : Bool) → kept old number ≡ Some k → same_request k.request request ≡ b → cond b (Again k.place k.reply) (Reused k.place) ≡ Again place reply → StandsIn old (receipt_of number request a)
+    by_same : (k : Kept) (b : Bool) → kept old number ≡ Some k → same_request k.request request ≡ b
+        → cond b (Again k.place k.reply) (Reused k.place) ≡ Again place reply → StandsIn old (receipt_of number request a)
     by_same k true found same what =
         let where_kept : k.place ≡ place = cc in
         let as_kept : k.reply ≡ reply = cc in

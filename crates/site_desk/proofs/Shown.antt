@@ -31,7 +31,8 @@ not_none (y ∷ ys) zero lt none = cc
 not_none (y ∷ ys) (suc k) lt none = not_none ys k (omega (arith, lt)) none
 
 -- one element more of which the fact holds
-pub all_more : {X : Type 0} (P : X → Type 0) (xs : List X) (n : ℕ) (x : X) → All P (take n xs) → n < length xs → x ≡ get_or xs n x → P x → All P (take (n + 1) xs)
+pub all_more : {X : Type 0} (P : X → Type 0) (xs : List X) (n : ℕ) (x : X) → All P (take n xs) → n < length xs → x ≡ get_or xs n x → P x
+    → All P (take (n + 1) xs)
 all_more P xs n x before lt is holds = All-more P xs n x lt before (subst P is holds)
 
 -- all elements, once there is none left
@@ -42,8 +43,10 @@ take_next : {X : Type 0} (xs : List X) (k : ℕ) (x : X) → slice_get xs k ≡ 
 take_next xs k x is = take_more xs k x (slice_get_within xs k x is) ∙ ap (λ y. take k xs ++ y ∷ []) (get_or_from_slice_get xs k x x is)
 
 -- one entry more raises the cells to its marks
-pub shows_more : (h : List Entry) (k : ℕ) (entry : Entry) (marks : List Valued) (old new event : List ℕ) → slice_get h k ≡ Some entry → marks ≡ marks_of (delta_of entry).cells
-    → Shows old (state_of (take k h)).cells event → ((cell : Cell) → IsCellOf max_sites cell → value_in_table new cell ≡ max (value_in_table old cell) (greatest marks event cell))
+pub shows_more : (h : List Entry) (k : ℕ) (entry : Entry) (marks : List Valued) (old new event : List ℕ) → slice_get h k ≡ Some entry
+    → marks ≡ marks_of (delta_of entry).cells
+    → Shows old (state_of (take k h)).cells event
+    → ((cell : Cell) → IsCellOf max_sites cell → value_in_table new cell ≡ max (value_in_table old cell) (greatest marks event cell))
     → Shows new (state_of (take (k + 1) h)).cells event
 shows_more h k entry marks old new event is all before raised cell of =
     raised cell of
@@ -60,7 +63,8 @@ knows_more h k entry event is =
     ∙ contains-union (state_of (take k h)).names (delta_of entry).names event
 
 -- a look through the names of an entry's delta
-pub any_of : (found : Bool) (names : List (List ℕ)) (delta : State) (entry : Entry) (event : List ℕ) → found ≡ list_any (same_event event) names → names ≡ names_in_order delta.names → delta ≡ delta_of entry
+pub any_of : (found : Bool) (names : List (List ℕ)) (delta : State) (entry : Entry) (event : List ℕ) → found ≡ list_any (same_event event) names
+    → names ≡ names_in_order delta.names → delta ≡ delta_of entry
     → found ≡ knows (delta_of entry).names event
 any_of found names delta entry event is all of =
     is ∙ ap (list_any (same_event event)) all ∙ any_in_order event delta.names ∙ ap (λ (d : State). knows d.names event) of
@@ -69,9 +73,11 @@ pub same_number : (a b : ℕ) (same : Bool) → same ≡ (a == b) → same ≡ t
 same_number a b same is t = let e : (a == b) ≡ true = sym is ∙ t in grind (arith, nat_tests)
 
 -- the entry at the receipt's place has its number and its request, and what is left to compare are the replies
-pub stands : (h : List Entry) (r : Receipt) (number : ℕ) (request : Request) (reply : Reply) (delta : State) (same : Bool) → slice_get h r.place ≡ Some (Asked number request reply delta)
+pub stands : (h : List Entry) (r : Receipt) (number : ℕ) (request : Request) (reply : Reply) (delta : State) (same : Bool)
+    → slice_get h r.place ≡ Some (Asked number request reply delta)
     → number ≡ r.number → request ≡ r.request → (IsTrue same ↔ (reply ≡ r.reply)) → IsTrue same ↔ StandsIn h r
 stands h r number request reply delta same at p q both = (
   (λ t. (delta, at ∙ (λ i. Some (Asked (p i) (q i) (both.0 t i) delta)))),
-  (λ s. let found : Some (Asked number request reply delta) ≡ Some (Asked r.number r.request r.reply s.0) = sym at ∙ s.1 in let u : reply ≡ r.reply = cc in both.1 u),
+  (λ s. let found : Some (Asked number request reply delta) ≡ Some (Asked r.number r.request r.reply s.0) = sym at
+      ∙ s.1 in let u : reply ≡ r.reply = cc in both.1 u),
 )

@@ -4,7 +4,7 @@ use Rattle.book_core.specs.declared.entry.Entry.{Entry}
 use Rattle.book_core.specs.Decision as decided
 use Rattle.book_core.specs.declared.plan.GrowFault.{GrowFault}
 use Rattle.book_core.specs.declared.plan.GrowFault.TheVariants as grow_fault
-use Rattle.book_core.specs.Decision.{Decision, Office, sites_of}
+use Rattle.book_core.specs.Decision.{Decision, SiteConfig, sites_of}
 use Rattle.book_core.specs.Growing as grow
 use Rattle.book_core.specs.Growing.{GrowDecision}
 use Rattle.book_core.specs.Plans.{IsFresh}
@@ -71,5 +71,5 @@ IsNextFault closed peer due next_fault.NoSite = (closed ≡ false) × (peer ≡ 
 IsNextFault closed peer due next_fault.Memory = (closed ≡ false) × (peer ≡ true) × IsSome due
 
 -- the site is another one of those that the book counts so far
-abbrev pub is_peer : Office → List Entry → ℕ → Bool
+abbrev pub is_peer : SiteConfig → List Entry → ℕ → Bool
 is_peer office history to = nat_lt to (sites_of office history) && not (to == office.me)

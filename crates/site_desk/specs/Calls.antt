@@ -28,7 +28,8 @@ Keeping K = Ghosts K
 
 -- A call that may add an entry: it made what is due, or it left the site as it was and, where the store failed, closed. Of an open site
 -- a crash leaves the history and nothing else; of one whose store failed, the history with the entry or without.
-pub record SiteCall {K T F : Type 0} (k : Keeping K) (old new : SiteView K) (entry : Option Entry) (due : SitePart) (closed store : F) (result : Result T F) : Type 0 where
+pub record SiteCall {K T F : Type 0} (k : Keeping K) (old new : SiteView K) (entry : Option Entry) (due : SitePart) (closed store : F)
+    (result : Result T F) : Type 0 where
   pub office : new.book.office ≡ old.book.office
   pub made : OnOk result (site_of new ≡ due)
   pub unchanged : OnErr result (site_of new ≡ site_of old)
@@ -57,7 +58,8 @@ answer_in (Err fault) = Err fault
 -- several requests, one after another: each is answered by the history that those before it left, and all new entries are stored at once,
 -- before any is answered; where nothing is new the keeper is left alone. Where the store failed nothing is entered, and a crash leaves the
 -- history or all that they would have made of it.
-pub record AskAllCall {K : Type 0} (k : Keeping K) (old new : SiteView K) (requests : List (ℕ × Request)) (result : Result (List (Result Answer AskFault)) AskFault) : Type 0 where
+pub record AskAllCall {K : Type 0} (k : Keeping K) (old new : SiteView K) (requests : List (ℕ × Request))
+    (result : Result (List (Result Answer AskFault)) AskFault) : Type 0 where
   pub office : new.book.office ≡ old.book.office
   pub acked : new.acked ≡ old.acked
   pub answered : IfOk result (λ answers. AreAnswered old.book.office old.book.history requests answers new.book.history)
@@ -88,9 +90,11 @@ fresh_given given = fresh_in (map answer_in given)
 
 -- a message: the verdict on it is answered, with the acknowledgement that is due; what brings nothing new and what is refused change nothing
 pub record TakeCall {K : Type 0} (k : Keeping K) (old new : SiteView K) (message : Message) (result : Result Taken TakeFault) : Type 0 where
-  pub call : SiteCall k old new (entry_of_take old.book.office old.book.history message) (site_after (verdict_in old.book message) message (site_of old)) take.Closed take.Store result
+  pub call : SiteCall k old new (entry_of_take old.book.office old.book.history message) (site_after (verdict_in old.book message) message (site_of old))
+      take.Closed take.Store result
   pub taken : IfOk result (IsTaken (verdict_in old.book message) (ack_for message))
-  pub fault : IfErr result (IsTakeFault old.closed (verdict_in old.book message) (MayTake (verdict_in old.book message) (site_of old) message) (k.failed old.keeper) (k.failed new.keeper))
+  pub fault : IfErr result (IsTakeFault old.closed (verdict_in old.book message) (MayTake (verdict_in old.book message) (site_of old) message)
+      (k.failed old.keeper) (k.failed new.keeper))
   pub still : verdict_in old.book message ≢ Joins → new.book ≡ old.book
   pub again : OnOk result (verdict_in old.book message ≢ Joins → new.keeper ≡ old.keeper)
   pub known : verdict_in old.book message ≡ NothingNew → new ≡ old

@@ -3,7 +3,7 @@ use Rattle.std.specs.Prelude.{◌≡◌, ◌≢◌, ℕ, ◌≤◌, true, List, 
 use Rattle.rights_lattice.specs.State.{State, knows}
 use Rattle.book_core.specs.declared.entry.Entry.{Entry}
 use Rattle.book_core.specs.declared.entry.Entry.TheVariants.{Asked}
-use Rattle.book_core.specs.Decision.{Office}
+use Rattle.book_core.specs.Decision.{SiteConfig}
 use Rattle.book_core.specs.History.{state_of}
 use Rattle.request_ledger.specs.declared.request.Request.{Request}
 use Rattle.site_desk.specs.declared.answer.Answer.{Answer}
@@ -32,16 +32,17 @@ abbrev pub StandsIn : List Entry → Receipt → Type 0
 StandsIn history receipt = (delta : State) × (slice_get history receipt.place ≡ Some (Asked receipt.number receipt.request receipt.reply delta))
 
 -- the history has the first entries that a look names, they name its event, and the look shows what they say of it
-pub record WasSeen (office : Office) (history : List Entry) (seen : Seen) : Type 0 where
+pub record WasSeen (office : SiteConfig) (history : List Entry) (seen : Seen) : Type 0 where
   pub within : seen.at ≤ length history
   pub named : knows (state_of (take seen.at history)).names seen.event ≡ true
   pub shown : IsSeenAt office history seen.event seen
 
 -- the first fault, where so many requests were newly entered and the shares add up to so many
-abbrev pub FindsFirst : Office → List Entry → ℕ → ℕ → List Receipt → List Seen → FinishFault → Type 0
+abbrev pub FindsFirst : SiteConfig → List Entry → ℕ → ℕ → List Receipt → List Seen → FinishFault → Type 0
 FindsFirst office history total shares receipts looks SeatsOut = shares ≢ total
 FindsFirst office history total shares receipts looks (Stranger k) = (shares ≡ total) × FirstNot (StandsIn history) receipts k
-FindsFirst office history total shares receipts looks (StrangerSeen k) = (shares ≡ total) × All (StandsIn history) receipts × FirstNot (WasSeen office history) looks k
+FindsFirst office history total shares receipts looks (StrangerSeen k) = (shares ≡ total) × All (StandsIn history) receipts
+    × FirstNot (WasSeen office history) looks k
 
 -- the book that comes back, with a fault or without one
 abbrev pub handed_back : {K : Type 0} → Result (SiteView K) (SiteView K × FinishFault) → SiteView K

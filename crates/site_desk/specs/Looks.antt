@@ -3,7 +3,7 @@ use Rattle.std.specs.Prelude.{◌≡◌, Bool, true, false, ℕ, List, [], ◌�
 use Rattle.local_rights.specs.OpenSeats.{view_in}
 use Rattle.book_core.specs.declared.entry.Entry.{Entry}
 use Rattle.book_core.specs.declared.entry.Entry.TheVariants.{Asked}
-use Rattle.book_core.specs.Decision.{Office, own_left}
+use Rattle.book_core.specs.Decision.{SiteConfig, own_left}
 use Rattle.book_core.specs.History.{state_of}
 use Rattle.history_keeper.specs.declared.lookup.Listed.{Listed}
 use Rattle.history_keeper.specs.Lookups.{names_event}
@@ -17,7 +17,7 @@ IsLookFault closed known look_fault.Closed = closed ≡ true
 IsLookFault closed known look_fault.Unknown = (closed ≡ false) × (known ≡ false)
 
 -- what a look shows of an event, by the first entries of a history
-pub record IsSeenAt (office : Office) (history : List Entry) (asked : List ℕ) (seen : Seen) : Type 0 where
+pub record IsSeenAt (office : SiteConfig) (history : List Entry) (asked : List ℕ) (seen : Seen) : Type 0 where
   pub event : seen.event ≡ asked
   pub left : seen.left ≡ own_left office (take seen.at history) asked
   pub totals : seen.totals ≡ view_in (state_of (take seen.at history)).cells asked

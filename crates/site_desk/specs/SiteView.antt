@@ -27,7 +27,8 @@ coded_view {K} keeper =
 
 -- an open book's keeper has not failed and, where it is trusted, keeps the history, which is what a stop leaves; a closed one's
 -- has failed once; closed or not, no peer has acknowledged more than there is, and own rights are not negative
-pub record IsInStep (closed : Bool) (failed : ℕ) (is_trusted : Type 0) (kept : List Entry) (may_leave : Option (List Entry) → Type 0) (acked : List ℕ) (book : BookView) : Type 0 where
+pub record IsInStep (closed : Bool) (failed : ℕ) (is_trusted : Type 0) (kept : List Entry) (may_leave : Option (List Entry) → Type 0) (acked : List ℕ)
+    (book : BookView) : Type 0 where
   pub sound : closed ≡ false → failed ≡ 0
   pub broken : closed ≡ true → failed ≡ 1
   pub same : closed ≡ false → is_trusted → book.history ≡ kept

@@ -40,7 +40,8 @@ pub record Appends {K : Type 0} (k : Keeping K) (old new : K) (before after : Li
   pub trusted : k.is_trusted new → k.is_trusted old
 
 -- at an open book an entry, if any, was stored and then entered, or the store failed and nothing was entered
-pub record Enters {K T F : Type 0} (k : Keeping K) (book book_now : BookView) (keeper keeper_now : K) (entry : Option Entry) (store : F) (result : Result T F) : Type 0 where
+pub record Enters {K T F : Type 0} (k : Keeping K) (book book_now : BookView) (keeper keeper_now : K) (entry : Option Entry) (store : F)
+    (result : Result T F) : Type 0 where
   pub office : book_now.office ≡ book.office
   pub entered : OnOk result (book_now.history ≡ extended entry book.history)
   pub unchanged : OnErr result (book_now.history ≡ book.history)
@@ -51,7 +52,8 @@ pub record Enters {K T F : Type 0} (k : Keeping K) (book book_now : BookView) (k
   pub trusted : k.is_trusted keeper_now → k.is_trusted keeper
 
 -- at an open book several requests were answered in turn, and all that is new was stored at once; or nothing was entered
-pub record EntersAll {K : Type 0} (k : Keeping K) (book book_now : BookView) (keeper keeper_now : K) (requests : List (ℕ × Request)) (result : Result (List (Result Answer AskFault)) AskFault) : Type 0 where
+pub record EntersAll {K : Type 0} (k : Keeping K) (book book_now : BookView) (keeper keeper_now : K) (requests : List (ℕ × Request))
+    (result : Result (List (Result Answer AskFault)) AskFault) : Type 0 where
   pub office : book_now.office ≡ book.office
   pub answered : IfOk result (λ answers. AreAnswered book.office book.history requests answers book_now.history)
   pub unchanged : OnErr result (book_now.history ≡ book.history)

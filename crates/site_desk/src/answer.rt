@@ -47,7 +47,7 @@ pub struct SiteShare {
 
 /// Which site a book is of, and how long its history is.
 #[derive(Clone, Copy, PartialEq, Eq, Debug)]
-pub struct Standing {
+pub struct SiteStatus {
     pub me: SiteId,
     /// How many sites it counts.
     pub sites: Sites,

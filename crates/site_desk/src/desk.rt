@@ -6,15 +6,15 @@ ghost use Rattle.site_desk.specs.Answers.{ack_of};
 ghost use Rattle.site_desk.specs.Calls.{fresh_given};
 ghost use Rattle.site_desk.specs.Count.{asked_since};
 ghost use Rattle.site_desk.specs.Finish.{FindsFirst, HasItsReceipt, StandsIn, WasSeen, handed_back, receipt_of};
-ghost use Rattle.site_desk.specs.Moments.{AsksAtDesk, AtOneMoment, Events, Finds, HoldsDelta, HoldsReceipt, IsAtDesk, IsReserved, IsShortage, IsStanding, Lists, Looks, Replies, Sends, Shares, StandsGiven, Takes};
+ghost use Rattle.site_desk.specs.Moments.{AsksAtDesk, Events, Finds, HoldsDelta, HoldsReceipt, IsClosed, IsReserved, IsShortage, IsSiteAt, IsSiteStatus, Lists, Looks, Replies, Sends, Shares, SomeSiteAt, StandsGiven, Takes};
 ghost use Rattle.site_desk.specs.Seats.{held, parts_of, shares_of};
-ghost use Rattle.site_desk.specs.SiteView.{SiteInStep, SiteView};
+ghost use Rattle.site_desk.specs.SiteView.{SiteInStep};
 
-use crate::answer::{Answer, Seen, SiteShare, Standing, Taken};
+use crate::answer::{Answer, Seen, SiteShare, SiteStatus, Taken};
+use crate::desk_state::DeskState;
 use crate::fault::{AskFault, LookFault, LookUpFault, NextFault};
 use crate::finish::FinishFault;
 use crate::gate::{Gate, Place};
-use crate::locked::Locked;
 use crate::receipt::Receipt;
 use crate::seat::{Opens, Seat};
 use crate::site_book::SiteBook;
@@ -33,7 +33,7 @@ use std::sync::{Mutex, Wait};
 /// this site, that goes on from the one that the desk began with: which one it was, only who holds the lock sees.
 #[derive(Drop)]
 pub struct Desk<K: Keeper, L: Opens> {
-    lock: Mutex<Locked<K, L>>,
+    lock: Mutex<DeskState<K, L>>,
 }
 
 impl<K: Keeper, L: Opens> Desk<K, L> {
@@ -46,8 +46,8 @@ impl<K: Keeper, L: Opens> Desk<K, L> {
         requires office { L.office ≡ book.book.office }
         ensures { result.1 ≡ held blank.parts 0 }
     {
-        let (locked, seat) = Locked::new(book, blank);
-        let lock = Mutex::new(locked);
+        let (desk_state, seat) = DeskState::new(book, blank);
+        let lock = Mutex::new(desk_state);
         (Desk { lock }, seat)
     }
 
@@ -71,14 +71,15 @@ impl<K: Keeper, L: Opens> Desk<K, L> {
         ensures kept { OnErr result (seat.new ≡ seat.old) }
         ensures place { IfOk result (λ r. r.0.fresh ≡ true → length L.began + seat.old.count ≤
             r.0.place) }
-        ensures answered { AtOneMoment L.office L.began (SiteInStep K.Keeper) (Replies K.failed number request.now result) }
-        ensures stands { IfOk result (λ r. AtOneMoment L.office L.began (SiteInStep K.Keeper) (HoldsReceipt r.1)) }
-        ensures shut { result ≡ Err AskFault.Store → AtOneMoment L.office L.began (SiteInStep K.Keeper) (λ (s : SiteView K). s.closed ≡ true) }
+        ensures answered { SomeSiteAt K.Keeper L.Opens
+            (Replies K.failed number request.now result) }
+        ensures stands { IfOk result (λ r. SomeSiteAt K.Keeper L.Opens (HoldsReceipt r.1)) }
+        ensures shut { result ≡ Err AskFault.Store → SomeSiteAt K.Keeper L.Opens IsClosed }
     {
-        let mut locked = self.lock.lock(rt);
-        let site = locked.site();
+        let mut desk_state = self.lock.lock(rt);
+        let site = desk_state.site();
         gate.pass(rt, Place::Inside { site });
-        locked.ask(alloc, seat, number, request)
+        desk_state.ask(alloc, seat, number, request)
     }
 
     /// Answers several requests, one after another, as `ask` would, and stores all new entries by one sync, before any is
@@ -93,15 +94,15 @@ impl<K: Keeper, L: Opens> Desk<K, L> {
         seat: &mut Seat<L>,
         requests: &[(RequestNumber, Request)],
     ) -> Result<Vec<Result<(Answer, Receipt), AskFault>>, AskFault>
-        ensures asked { AsksAtDesk K.Keeper
-            L.office L.began (SiteInStep K.Keeper)
+        ensures asked { AsksAtDesk K.Keeper L.office L.began (SiteInStep K.Keeper)
             requests.now result }
         ensures receipts { IfOk result (λ given. AllZip HasItsReceipt requests.now given.items) }
         ensures share { IfOk result (λ given. seat.new
             ≡ held seat.old.parts (seat.old.count + fresh_given given.items)) }
         ensures kept { OnErr result (seat.new ≡ seat.old) }
-        ensures stands { IfOk result (λ given. All (StandsGiven L.office L.began (SiteInStep K.Keeper)) given.items) }
-        ensures shut { result ≡ Err AskFault.Store → AtOneMoment L.office L.began (SiteInStep K.Keeper) (λ (s : SiteView K). s.closed ≡ true) }
+        ensures stands { IfOk result (λ given.
+            All (StandsGiven L.office L.began (SiteInStep K.Keeper)) given.items) }
+        ensures shut { result ≡ Err AskFault.Store → SomeSiteAt K.Keeper L.Opens IsClosed }
     {
         self.lock.lock(rt).ask_all(rt, alloc, seat, requests)
     }
@@ -113,7 +114,7 @@ impl<K: Keeper, L: Opens> Desk<K, L> {
     pub fn look<R: Wait>(&self, rt: &R, seat: &Seat<L>, event: Event) -> Result<Seen, LookFault>
         ensures event { IfOk result (λ seen. seen.event ≡ event) }
         ensures at { IfOk result (λ seen. length L.began + seat.now.count ≤ seen.at) }
-        ensures seen { AtOneMoment L.office L.began (SiteInStep K.Keeper) (Looks event result) }
+        ensures seen { SomeSiteAt K.Keeper L.Opens (Looks event result) }
     {
         self.look_when(rt, seat.count(), None, event)
     }
@@ -128,7 +129,7 @@ impl<K: Keeper, L: Opens> Desk<K, L> {
     ) -> Result<Seen, LookFault>
         ensures event { IfOk result (λ seen. seen.event ≡ event) }
         ensures past { IfOk result (λ seen. IfSome place (λ p. p < seen.at)) }
-        ensures seen { AtOneMoment L.office L.began (SiteInStep K.Keeper) (Looks event result) }
+        ensures seen { SomeSiteAt K.Keeper L.Opens (Looks event result) }
     {
         self.look_when(rt, 0, place, event)
     }
@@ -144,12 +145,12 @@ impl<K: Keeper, L: Opens> Desk<K, L> {
         ensures event { IfOk result (λ seen. seen.event ≡ event) }
         ensures own { IfOk result (λ seen. length L.began + count ≤ seen.at) }
         ensures past { IfOk result (λ seen. IfSome place (λ p. p < seen.at)) }
-        ensures seen { AtOneMoment L.office L.began (SiteInStep K.Keeper) (Looks event result) }
+        ensures seen { SomeSiteAt K.Keeper L.Opens (Looks event result) }
     {
         for _ in rt.forever() {
-            let locked = self.lock.lock(rt);
-            if locked.shows(count) && locked.is_past(place) {
-                return locked.look(event);
+            let desk_state = self.lock.lock(rt);
+            if desk_state.shows(count) && desk_state.is_past(place) {
+                return desk_state.look(event);
             }
         }
         unreachable!()
@@ -159,7 +160,7 @@ impl<K: Keeper, L: Opens> Desk<K, L> {
     ///
     /// `Closed` where the book is closed, since what it could not store may be found when it is started again.
     pub fn find<R: Wait>(&self, rt: &R, number: RequestNumber) -> Result<Option<Found>, LookUpFault>
-        ensures found { AtOneMoment L.office L.began (SiteInStep K.Keeper) (Finds number result) }
+        ensures found { SomeSiteAt K.Keeper L.Opens (Finds number result) }
     {
         self.lock.lock(rt).find(number)
     }
@@ -173,7 +174,7 @@ impl<K: Keeper, L: Opens> Desk<K, L> {
         alloc: Global,
         event: Event,
     ) -> Result<Vec<Listed>, LookUpFault>
-        ensures listed { AtOneMoment L.office L.began (SiteInStep K.Keeper) (Lists event result) }
+        ensures listed { SomeSiteAt K.Keeper L.Opens (Lists event result) }
     {
         self.lock.lock(rt).list(alloc, event)
     }
@@ -182,7 +183,7 @@ impl<K: Keeper, L: Opens> Desk<K, L> {
     ///
     /// `Closed` as for `find`, and `Memory`.
     pub fn events<R: Wait>(&self, rt: &R, alloc: Global) -> Result<Vec<Event>, LookUpFault>
-        ensures events { AtOneMoment L.office L.began (SiteInStep K.Keeper) (Events result) }
+        ensures events { SomeSiteAt K.Keeper L.Opens (Events result) }
     {
         self.lock.lock(rt).events(alloc)
     }
@@ -197,7 +198,7 @@ impl<K: Keeper, L: Opens> Desk<K, L> {
         alloc: Global,
         event: Event,
     ) -> Result<Option<Vec<SiteShare>>, LookUpFault>
-        ensures shares { AtOneMoment L.office L.began (SiteInStep K.Keeper) (Shares event result) }
+        ensures shares { SomeSiteAt K.Keeper L.Opens (Shares event result) }
     {
         self.lock.lock(rt).shares(alloc, event)
     }
@@ -205,24 +206,25 @@ impl<K: Keeper, L: Opens> Desk<K, L> {
     /// What is left of the event, if the request is under a new number and asks for more than that: `ask` would keep `Short`.
     /// Nothing is asked, entered or stored, and a closed book tells none.
     pub fn shortage<R: Wait>(&self, rt: &R, number: RequestNumber, request: &Request) -> Option<u64>
-        ensures shortage { AtOneMoment L.office L.began (SiteInStep K.Keeper) (IsShortage number request.now result) }
+        ensures shortage { SomeSiteAt K.Keeper L.Opens (IsShortage number request.now result) }
     {
         self.lock.lock(rt).shortage(number, request)
     }
 
     /// Whether the number is new, and of the limit of entries no more than `reserve` are free. Of a closed book it is false.
     pub fn is_reserved<R: Wait>(&self, rt: &R, number: RequestNumber, reserve: u64) -> bool
-        ensures reserved { result ≡ true → AtOneMoment L.office L.began (SiteInStep K.Keeper) (IsReserved number reserve) }
-        ensures free { result ≡ false → AtOneMoment L.office L.began (SiteInStep K.Keeper) (λ site. IsReserved number reserve site → ⊥) }
+        ensures reserved { result ≡ true → SomeSiteAt K.Keeper L.Opens (IsReserved number reserve) }
+        ensures free { result ≡ false → SomeSiteAt K.Keeper L.Opens
+            (λ site. IsReserved number reserve site → ⊥) }
     {
         self.lock.lock(rt).is_reserved(number, reserve)
     }
 
     /// Which site it is, and how long its history is, also where the book is closed.
-    pub fn standing<R: Wait>(&self, rt: &R) -> Standing
-        ensures standing { AtOneMoment L.office L.began (SiteInStep K.Keeper) (IsStanding result) }
+    pub fn site_status<R: Wait>(&self, rt: &R) -> SiteStatus
+        ensures site_status { SomeSiteAt K.Keeper L.Opens (IsSiteStatus result) }
     {
-        self.lock.lock(rt).standing()
+        self.lock.lock(rt).site_status()
     }
 
     /// Takes a peer's message as the book does, with its errors. The acknowledgement that is given is the one for the
@@ -231,9 +233,9 @@ impl<K: Keeper, L: Opens> Desk<K, L> {
     #[tactic(auto, using(crate::proofs::Sent::ack_taken))]
     pub fn take<R: Wait>(&self, rt: &R, message: Message) -> Result<Taken, TakeFault>
         ensures ack { IfOk result (λ taken. ack_of taken ≡ ack_for message) }
-        ensures taken { AtOneMoment L.office L.began (SiteInStep K.Keeper) (Takes K.failed message result) }
-        ensures held { IfOk result (λ _. AtOneMoment L.office L.began (SiteInStep K.Keeper) (HoldsDelta message)) }
-        ensures shut { result ≡ Err TakeFault.Store → AtOneMoment L.office L.began (SiteInStep K.Keeper) (λ (s : SiteView K). s.closed ≡ true) }
+        ensures taken { SomeSiteAt K.Keeper L.Opens (Takes K.failed message result) }
+        ensures held { IfOk result (λ _. SomeSiteAt K.Keeper L.Opens (HoldsDelta message)) }
+        ensures shut { result ≡ Err TakeFault.Store → SomeSiteAt K.Keeper L.Opens IsClosed }
     {
         self.lock.lock(rt).take(message)
     }
@@ -247,7 +249,7 @@ impl<K: Keeper, L: Opens> Desk<K, L> {
         to: SiteId,
     ) -> Result<Option<Message>, NextFault>
         ensures to { IfOk result (λ message. IfSome message (λ m. receiver m ≡ to)) }
-        ensures due { AtOneMoment L.office L.began (SiteInStep K.Keeper) (Sends to result) }
+        ensures due { SomeSiteAt K.Keeper L.Opens (Sends to result) }
     {
         self.lock.lock(rt).next(alloc, to)
     }
@@ -277,7 +279,7 @@ impl<K: Keeper, L: Opens> Desk<K, L> {
             FinishFault.SeatsOut) }
 
         // What the book kept, whenever the lock was free.
-        ensures at_desk { IsAtDesk L.office L.began (SiteInStep K.Keeper) (handed_back result) }
+        ensures at_desk { IsSiteAt K.Keeper L.Opens (handed_back result) }
     {
         self.lock.into_inner().finish(seats, receipts, looks)
     }

@@ -10,12 +10,16 @@
 //! history, and consistent with its store; which one it was, no contract says. Several requests, asked together, made
 //! another such book of one (`Moments.AsksAtDesk`). `finish` returns the first receipt or look that the history does not
 //! hold.
+//!
+//! A new call is a method of `SiteBook` with a relation (`specs/Calls.antt`), one of `DeskState` with that relation,
+//! one of `Desk` with the same at one moment (`specs/Moments.antt`), and a case of `Call` in `site_runs`.
 #![tactic(auto)]
 
 mod answer;
 mod asking;
 mod asking_all;
 mod desk;
+mod desk_state;
 mod event_cells;
 mod fault;
 mod finish;
@@ -23,7 +27,6 @@ mod gate;
 mod given;
 mod growing;
 mod joining;
-mod locked;
 mod looking_up;
 mod receipt;
 mod seat;
@@ -31,7 +34,7 @@ mod site_book;
 mod storing;
 mod walk;
 
-pub use answer::{Answer, Seen, SiteShare, Standing, Taken};
+pub use answer::{Answer, Seen, SiteShare, SiteStatus, Taken};
 pub use desk::Desk;
 pub use fault::{AskFault, LookFault, LookUpFault, NextFault};
 pub use finish::FinishFault;

@@ -11,11 +11,11 @@ use std::sync::ledger::{Ledger, Share};
 /// A desk lives in a function over a type with this bound. A caller passes `Brand`, and picks all three.
 pub trait Opens: Ledger {
     ghost use Rattle.book_core.specs.declared.entry.Entry.{Entry as Entered};
-    ghost use Rattle.book_core.specs.Decision.{Office};
+    ghost use Rattle.book_core.specs.Decision.{SiteConfig};
 
     ghost began: { List Entered };
 
-    ghost office: { Office };
+    ghost office: { SiteConfig };
 }
 
 impl Opens for Brand {

@@ -8,7 +8,7 @@ use Rattle.book_core.proofs.Histories.{get_push}
 use Rattle.delta_buffer.specs.Pending.{PendingView, IsPendingOf}
 use Rattle.delta_buffer.proofs.PendingLaws.{none_pending, still_pending}
 use Rattle.site_exchange.specs.Taking.{extended}
-use Rattle.site_exchange.specs.Pendings.{ArePending, BeginAtAcked, ExchangeView, IsPendingIn, KeepAdded, IsCaughtUp}
+use Rattle.site_exchange.specs.Pendings.{ArePending, BeginAtAcked, ExchangeView, IsPendingIn, KeepAdded, KeepsExchange, IsCaughtUp, StayPending}
 
 -- nothing was added behind what a peer has acknowledged
 abbrev pub nothing_behind : ℕ → PendingView
@@ -28,24 +28,29 @@ pending_more acked ps h peer le old p found = elim (get_push ps (nothing_behind 
 ]
 
 -- an element of a list in which one was set
-pub at_set : {A : Type 0} (xs : List A) (i k : ℕ) (new a : A) → slice_get (set xs i new) k ≡ Some a → ((k ≡ i) × (new ≡ a)) ⊎ ((k ≢ i) × (slice_get xs k ≡ Some a))
+pub at_set : {A : Type 0} (xs : List A) (i k : ℕ) (new a : A) → slice_get (set xs i new) k ≡ Some a
+    → ((k ≡ i) × (new ≡ a)) ⊎ ((k ≢ i) × (slice_get xs k ≡ Some a))
 at_set [] i k new a found = cc
 at_set (x ∷ xs) zero zero new a found = inl (refl, cc)
 at_set (x ∷ xs) zero (suc k) new a found = inr ((λ e. cc), found)
 at_set (x ∷ xs) (suc i) zero new a found = inr ((λ e. cc), found)
-at_set (x ∷ xs) (suc i) (suc k) new a found = elim (at_set xs i k new a found) [ inl p ↦ inl (ap suc p.0, p.1) | inr p ↦ inr ((λ e. p.0 (omega (arith, e))), p.1) ]
+at_set (x ∷ xs) (suc i) (suc k) new a found = elim (at_set xs i k new a found)
+    [ inl p ↦ inl (ap suc p.0, p.1) | inr p ↦ inr ((λ e. p.0 (omega (arith, e))), p.1) ]
 
-pub begins_set : (acked : List ℕ) (ps : List PendingView) (i : ℕ) (new : PendingView) → BeginAtAcked acked ps → new.from ≡ get_or acked i 0 → BeginAtAcked acked (set ps i new)
+pub begins_set : (acked : List ℕ) (ps : List PendingView) (i : ℕ) (new : PendingView) → BeginAtAcked acked ps → new.from ≡ get_or acked i 0
+    → BeginAtAcked acked (set ps i new)
 begins_set acked ps i new begins from peer p found = elim (at_set ps i peer new p found) [
   | inl here ↦ ap (λ (v : PendingView). v.from) (sym here.1) ∙ from ∙ ap (λ k. get_or acked k 0) (sym here.0)
   | inr there ↦ begins peer p there.1
 ]
 
-pub pending_set : (h : List Entry) (ps : List PendingView) (i peer : ℕ) (new : PendingView) → IsPendingOf h new → IsPendingIn h ps peer → IsPendingIn h (set ps i new) peer
+pub pending_set : (h : List Entry) (ps : List PendingView) (i peer : ℕ) (new : PendingView) → IsPendingOf h new → IsPendingIn h ps peer
+    → IsPendingIn h (set ps i new) peer
 pending_set h ps i peer new is old p found = elim (at_set ps i peer new p found) [ inl here ↦ subst (IsPendingOf h) here.1 is | inr there ↦ old p there.1 ]
 
 -- with the number raised at a place, and what is pending there begun anew there
-pub begins_raised : (acked : List ℕ) (ps : List PendingView) (i n : ℕ) (new : PendingView) → i < length acked → BeginAtAcked acked ps → new.from ≡ n → BeginAtAcked (set acked i n) (set ps i new)
+pub begins_raised : (acked : List ℕ) (ps : List PendingView) (i n : ℕ) (new : PendingView) → i < length acked → BeginAtAcked acked ps → new.from ≡ n
+    → BeginAtAcked (set acked i n) (set ps i new)
 begins_raised acked ps i n new l begins from peer p found = elim (at_set ps i peer new p found) [
   | inl here ↦ ap (λ (v : PendingView). v.from) (sym here.1) ∙ from ∙ sym (ap (λ k. get_or (set acked i n) k 0) here.0 ∙ get_or-set_same acked i n 0 l)
   | inr there ↦ begins peer p there.1 ∙ sym (get_or-set_other acked i peer n 0 there.0)
@@ -89,6 +94,13 @@ added_then ps qs rs first then peer p found =
     (new.0, new.1, omega (arith, old.2, new.2))
 
 -- what is pending of a history is pending of it with more behind it
+-- an exchange `e`, seen as `old`, of which the pending deltas alone changed
+pub keeps_opened : (h : List Entry) (e old : ExchangeView) (ps : List PendingView) → e ≡ old → StayPending h e.acked e.pendings ps → KeepAdded e.pendings ps
+    → KeepsExchange h old (record { sites = e.sites; acked = e.acked; pendings = ps })
+keeps_opened h e old ps same stay added =
+    subst (λ (was : ExchangeView). KeepsExchange h was (record { sites = e.sites; acked = e.acked; pendings = ps })) same
+    (record { sites = refl; acked = refl; pending = stay; added = added })
+
 pub pending_grown : (h more : List Entry) (e : ExchangeView) → ArePending h e → ArePending (h ++ more) e
 pending_grown h more e are peer p found = still_pending h more p (are peer p found)
 
@@ -97,6 +109,7 @@ pending_extended None h e are = are
 pending_extended (Some entry) h e are = pending_grown h (entry ∷ []) e are
 
 -- what is pending at a place reaches as far as the one that was set there
-pub reached_set : {A E : Type 0} (r : Result A E) (h : List Entry) (ps : List PendingView) (i : ℕ) (old new : PendingView) → slice_get ps i ≡ Some old → OnOk r (new.upto ≡ length h) → OnOk r (IsCaughtUp h (set ps i new) i)
+pub reached_set : {A E : Type 0} (r : Result A E) (h : List Entry) (ps : List PendingView) (i : ℕ) (old new : PendingView) → slice_get ps i ≡ Some old
+    → OnOk r (new.upto ≡ length h) → OnOk r (IsCaughtUp h (set ps i new) i)
 reached_set (Ok a) h ps i old new there is = (new, set_there ps i old new there, is)
 reached_set (Err e) h ps i old new there is = tt

@@ -1,5 +1,5 @@
 -- A site after it was asked, grew, took a message, or started anew. (Our own.)
-use Rattle.std.specs.Prelude.{◌≡◌, ◌⊎◌, ◌<◌, max, Bool, if◌then◌else◌, List, [], ◌∷◌, ◌++◌, set, get_or, Option, Some, None}
+use Rattle.std.specs.Prelude.{◌≡◌, ◌⊎◌, ℕ, ◌<◌, max, Bool, if◌then◌else◌, List, [], ◌∷◌, ◌++◌, set, get_or, Option, Some, None}
 use Rattle.book_core.specs.declared.entry.Entry.{Entry}
 use Rattle.site_exchange.specs.declared.message.Message.{Message}
 use Rattle.site_exchange.specs.declared.message.Message.TheVariants.{Delta, Ack}
@@ -14,9 +14,13 @@ extended (Some entry) h = h ++ entry ∷ []
 abbrev pub with_entry : Option Entry → SitePart → SitePart
 with_entry entry site = record { history = extended entry site.history; acked = site.acked }
 
+-- what peers have acknowledged, once this one acknowledges so many entries: the greater of the old number and this
+abbrev pub acked_upto : List ℕ → ℕ → ℕ → List ℕ
+acked_upto acked peer upto = set acked peer (max (get_or acked peer 0) upto)
+
 -- the site with this acknowledgement taken
 abbrev pub with_ack : Message → SitePart → SitePart
-with_ack (Ack by to upto) site = record { history = site.history; acked = set site.acked by (max (get_or site.acked by 0) upto) }
+with_ack (Ack by to upto) site = record { history = site.history; acked = acked_upto site.acked by upto }
 with_ack (Delta by to upto delta) site = site
 
 -- the site after it took a message

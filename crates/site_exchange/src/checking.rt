@@ -1,6 +1,6 @@
 //! What is looked at in a message, and what it is answered.
-ghost use Rattle.std.specs.Prelude.{◌≡◌, Some, None, MatchResult};
-ghost use Rattle.site_exchange.specs.Exchange.{ack_for, check, IsDeltaMessage};
+ghost use Rattle.std.specs.Prelude.{◌≡◌, Some};
+ghost use Rattle.site_exchange.specs.Exchange.{ack_for, check, ChecksTo, IsDeltaMessage};
 
 use crate::message::{CheckFault, Message};
 use book_core::Book;
@@ -8,7 +8,7 @@ use book_core::Book;
 /// Whether a message is looked at: it is to this book, from another site that the book counts, and acknowledges no more
 /// than there is. What a delta holds is not read.
 pub fn check(book: &Book, message: &Message) -> Result<(), CheckFault>
-    ensures { MatchResult result (λ _. check book.now.office book.now.history message.now ≡ None) (λ fault. check book.now.office book.now.history message.now ≡ Some fault) }
+    ensures { ChecksTo (check book.now.office book.now.history message.now) result }
 {
     let (by, to) = match message {
         Message::Delta { by, to, .. } => (*by, *to),

@@ -1,11 +1,11 @@
 //! What each peer has acknowledged, what is pending for it, and the message that is due to it.
-ghost use Rattle.std.specs.Prelude.{◌≡◌, ◌≢◌, ◌<◌, ◌≤◌, [], ℕ, List, max, set, get_or, length, IfOk, IsSome, None, OnOk, OnErr};
+ghost use Rattle.std.specs.Prelude.{◌≡◌, ◌≢◌, ◌<◌, ◌≤◌, [], ℕ, List, get_or, length, IfOk, IsSome, None, OnOk, OnErr};
 ghost use Rattle.book_core.specs.declared.entry.Entry.{Entry as Entered};
 ghost use Rattle.book_core.specs.Decision.{sites_of};
-ghost use Rattle.book_core.specs.History.{interval};
-ghost use Rattle.delta_buffer.specs.Pending.{IsPendingOf};
-ghost use Rattle.site_exchange.specs.Exchange.{next, zeros};
-ghost use Rattle.site_exchange.specs.Pendings.{BeginAtAcked, IsCaughtUp, IsPendingIn, KeepAdded};
+ghost use Rattle.delta_buffer.specs.Pending.{IsPendingOf, since};
+ghost use Rattle.site_exchange.specs.Exchange.{zeros};
+ghost use Rattle.site_exchange.specs.Pendings.{due_to, BeginAtAcked, FollowAcked, IsCaughtUp, IsInStep, IsPastAcked, IsPendingIn, KeepAdded, KeepsExchange, KeepsPendings, StayAtAcked, StayPending};
+ghost use Rattle.site_exchange.specs.Taking.{acked_upto};
 
 use crate::message::Message;
 use crate::upto::Upto;
@@ -83,9 +83,9 @@ impl Exchange {
         requires within { upto ≤ length book.now.history }
         requires pending { IsPendingIn book.now.history self.old.pendings peer }
         ensures sites { self.new.sites ≡ self.old.sites }
-        ensures acked { OnOk result (self.new.acked ≡ set self.old.acked peer (max (get_or self.old.acked peer 0) upto)) }
-        ensures pending { OnOk result ((other : ℕ) → IsPendingIn book.now.history self.old.pendings other → IsPendingIn book.now.history self.new.pendings other) }
-        ensures added { OnOk result (KeepAdded self.old.pendings self.new.pendings) }
+        ensures acked { OnOk result (self.new.acked ≡ acked_upto self.old.acked peer upto) }
+        ensures kept { OnOk result
+            (KeepsPendings book.now.history self.old.pendings self.new.pendings) }
         ensures still { upto ≤ get_or self.old.acked peer 0 → self.new ≡ self.old }
         ensures unchanged { OnErr result (self.new ≡ self.old) }
         // It wants memory only where it raises the number.
@@ -114,16 +114,13 @@ impl Exchange {
     ) -> Result<Option<Message>, AllocError>
         requires site { to < sites_of book.now.office book.now.history }
         requires other { to ≢ book.now.office.me }
-        requires acked { get_or self.old.acked to 0 ≤ length book.now.history }
-        requires pending { IsPendingIn book.now.history self.old.pendings to }
-        ensures message { IfOk result (λ message. message ≡ next book.now.office.me (record { history = book.now.history; acked = self.old.acked }) to) }
-        ensures memory { OnErr result (IsSome (next book.now.office.me (record { history = book.now.history; acked = self.old.acked }) to)) }
-        ensures sites { self.new.sites ≡ self.old.sites }
-        ensures acked { self.new.acked ≡ self.old.acked }
-        ensures still { next book.now.office.me (record { history = book.now.history; acked = self.old.acked }) to ≡ None → self.new ≡ self.old }
-        ensures pending { (peer : ℕ) → get_or self.old.acked peer 0 ≤ length book.now.history → IsPendingIn book.now.history self.old.pendings peer → IsPendingIn book.now.history self.new.pendings peer }
-        ensures added { KeepAdded self.old.pendings self.new.pendings }
-        ensures reached { IfOk result (λ message. IsSome message → IsCaughtUp book.now.history self.new.pendings to) }
+        requires in_step { IsInStep book.now.history self.old to }
+        ensures message { IfOk result (λ message. message ≡ due_to book.now self.old to) }
+        ensures memory { OnErr result (IsSome (due_to book.now self.old to)) }
+        ensures still { due_to book.now self.old to ≡ None → self.new ≡ self.old }
+        ensures kept { KeepsExchange book.now.history self.old self.new }
+        ensures reached { IfOk result (λ message. IsSome message
+            → IsCaughtUp book.now.history self.new.pendings to) }
     {
         let len = book.len();
         if self.acked(to) as usize == len {
@@ -156,11 +153,11 @@ fn forget(
 ) -> Result<(), AllocError>
     requires within { n ≤ length book.now.history }
     requires pending { IsPendingIn book.now.history pendings.old.items place }
-    ensures begins { (acked : List ℕ) → place < length acked → BeginAtAcked acked pendings.old.items → OnOk result (BeginAtAcked (set acked place (max (get_or acked place 0) n)) pendings.new.items) }
-    ensures pending { OnOk result ((peer : ℕ) → IsPendingIn book.now.history pendings.old.items peer → IsPendingIn book.now.history pendings.new.items peer) }
-    ensures added { OnOk result (KeepAdded pendings.old.items pendings.new.items) }
+    ensures begins { OnOk result (FollowAcked place n pendings.old.items pendings.new.items) }
+    ensures kept { OnOk result
+        (KeepsPendings book.now.history pendings.old.items pendings.new.items) }
     ensures unchanged { OnErr result (pendings.new.items ≡ pendings.old.items) }
-    ensures memory { (acked : List ℕ) → BeginAtAcked acked pendings.old.items → OnErr result (get_or acked place 0 < n) }
+    ensures memory { OnErr result (IsPastAcked place n pendings.old.items) }
 {
     if place >= pendings.len() {
         return Ok(());
@@ -179,8 +176,9 @@ fn reach(
 ) -> Result<(), AllocError>
     requires { place < length acked.now }
     ensures reached { OnOk result (place < length pendings.new.items) }
-    ensures begins { BeginAtAcked acked.now pendings.old.items → BeginAtAcked acked.now pendings.new.items }
-    ensures pending { (h : List Entered) (peer : ℕ) → get_or acked.now peer 0 ≤ length h → IsPendingIn h pendings.old.items peer → IsPendingIn h pendings.new.items peer }
+    ensures begins { StayAtAcked acked.now pendings.old.items pendings.new.items }
+    ensures pending { (h : List Entered)
+        → StayPending h acked.now pendings.old.items pendings.new.items }
     ensures added { KeepAdded pendings.old.items pendings.new.items }
 {
     for peer in pendings.len()..place + 1 {
@@ -198,10 +196,11 @@ fn due(
 ) -> Result<Delta, AllocError>
     requires there { place < length pendings.old.items }
     requires pending { IsPendingIn book.now.history pendings.old.items place }
-    ensures delta { (acked : List ℕ) → BeginAtAcked acked pendings.old.items → IfOk result (λ delta. delta ≡ interval book.now.history (get_or acked place 0) (length book.now.history)) }
-    ensures begins { (acked : List ℕ) → BeginAtAcked acked pendings.old.items → BeginAtAcked acked pendings.new.items }
-    ensures pending { (peer : ℕ) → IsPendingIn book.now.history pendings.old.items peer → IsPendingIn book.now.history pendings.new.items peer }
-    ensures added { KeepAdded pendings.old.items pendings.new.items }
+    ensures delta { (acked : List ℕ) → BeginAtAcked acked pendings.old.items
+        → IfOk result (λ delta. delta ≡ since book.now.history (get_or acked place 0)) }
+    ensures begins { (acked : List ℕ)
+        → StayAtAcked acked pendings.old.items pendings.new.items }
+    ensures kept { KeepsPendings book.now.history pendings.old.items pendings.new.items }
     ensures reached { OnOk result (IsCaughtUp book.now.history pendings.new.items place) }
 {
     caught_up(alloc, &mut pendings[place], book)
@@ -210,7 +209,7 @@ fn due(
 // What is pending, with all entries of the history added.
 fn caught_up(alloc: Global, pending: &mut Pending, book: &Book) -> Result<Delta, AllocError>
     requires { IsPendingOf book.now.history pending.old }
-    ensures delta { IfOk result (λ delta. delta ≡ interval book.now.history pending.old.from (length book.now.history)) }
+    ensures delta { IfOk result (λ delta. delta ≡ since book.now.history pending.old.from) }
     ensures from { pending.new.from ≡ pending.old.from }
     ensures pending { IsPendingOf book.now.history pending.new }
     ensures added { pending.old.upto ≤ pending.new.upto }

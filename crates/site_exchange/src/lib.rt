@@ -8,6 +8,9 @@
 //! it has acknowledged all; an acknowledged length never decreases; the first refusal in a fixed order is returned. A
 //! message is believed to be of the site that it names: that it is, is a premise.
 //!
+//! A new message is a variant of `Message`, with its case in `check`, `specs/Exchange.antt` and `Taking.antt`, and a
+//! text in `delta_wire`. A new reason to refuse one is a variant of `CheckFault`, in its place of the order.
+//!
 //! Lemmas for callers: `Counts`, `ExchangeLaws`, `Verdicts`.
 #![tactic(auto)]
 

@@ -25,11 +25,15 @@ found_in (z ∷ xs) y (suc i) x found = elim (found_in xs y i x found) [
   | inr p ↦ inr (ap suc p.0, p.1)
 ]
 
-runs_wider : {K : Type 0} (k : Keeping K) (calls : List (CallAt K)) (begin s : Sites K) (site : SiteView K) → Runs k calls begin s → Runs k calls (with_site begin site) (with_site s site)
+runs_wider : {K : Type 0} (k : Keeping K) (calls : List (CallAt K)) (begin s : Sites K) (site : SiteView K) → Runs k calls begin s
+    → Runs k calls (with_site begin site) (with_site s site)
 runs_wider k [] begin s site runs = ap (λ t. with_site t site) runs
 runs_wider {K} k (c ∷ calls) begin s site runs =
     let same : with_site (moved begin c) site ≡ moved (with_site begin site) c =
-    λ j. record { books = sym (set-append_left begin.books (site ∷ []) c.site c.after (slice_get_within begin.books c.site runs.0 runs.1)) j; given = (moved begin c).given } in (
+    λ j. record {
+      books = sym (set-append_left begin.books (site ∷ []) c.site c.after (slice_get_within begin.books c.site runs.0 runs.1)) j;
+      given = (moved begin c).given;
+    } in (
       runs.0,
       found_left begin.books (site ∷ []) c.site runs.0 runs.1,
       runs.2,
@@ -40,7 +44,8 @@ same_length : {K : Type 0} (k : Keeping K) (calls : List (CallAt K)) (begin s : 
 same_length {K} k [] begin s runs = ap (λ (t : Sites K). length t.books) runs
 same_length k (c ∷ calls) begin s runs = same_length k calls (moved begin c) s runs.3 ∙ length-set begin.books c.site c.after
 
-new_wider : {K : Type 0} (k : Keeping K) (begin : Sites K) (site : SiteView K) → AreNew k begin → IsNew k (length begin.books) site → AreNew k (with_site begin site)
+new_wider : {K : Type 0} (k : Keeping K) (begin : Sites K) (site : SiteView K) → AreNew k begin → IsNew k (length begin.books) site
+    → AreNew k (with_site begin site)
 new_wider {K} k begin site are new = record {
   few = omega (arith, new.own, new.few, length-append begin.books (site ∷ []));
   each = λ i x found. by_place i x (found_in begin.books site i x found);
@@ -52,5 +57,9 @@ new_wider {K} k begin site are new = record {
     by_place i x (inr p) = subst (λ (y : SiteView K). IsNew k i y) p.1 (subst (λ n. IsNew k n site) (sym p.0) new)
 
 pub adds_on : {K : Type 0} (k : Keeping K) (s : Sites K) (site : SiteView K) → IsRun k s → IsNew k (length s.books) site → IsRun k (with_site s site)
-adds_on k s site run new =
-    (with_site run.0 site, new_wider k run.0 site run.1 (subst (λ n. IsNew k n site) (same_length k run.2 run.0 s run.3) new), run.2, runs_wider k run.2 run.0 s site run.3)
+adds_on k s site run new = (
+  with_site run.0 site,
+  new_wider k run.0 site run.1 (subst (λ n. IsNew k n site) (same_length k run.2 run.0 s run.3) new),
+  run.2,
+  runs_wider k run.2 run.0 s site run.3,
+)

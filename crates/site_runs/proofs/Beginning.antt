@@ -16,9 +16,16 @@ abbrev pub padded : {K : Type 0} → (SiteView K → ℕ) → ℕ → List (Site
 padded f d books = map f books ++ replicate (max_sites - length books) d
 
 length-padded : {K : Type 0} (f : SiteView K → ℕ) (d : ℕ) (books : List (SiteView K)) → length books ≤ max_sites → length (padded f d books) ≡ max_sites
-length-padded f d books few = omega (arith, few, length-append (map f books) (replicate (max_sites - length books) d), length-map books f, length-replicate (max_sites - length books) d)
+length-padded f d books few = omega (
+  arith,
+  few,
+  length-append (map f books) (replicate (max_sites - length books) d),
+  length-map books f,
+  length-replicate (max_sites - length books) d,
+)
 
-read : {K : Type 0} (f : SiteView K → ℕ) (books : List (SiteView K)) (pad : List ℕ) (i : ℕ) (x : SiteView K) → slice_get books i ≡ Some x → get_or (map f books ++ pad) i 0 ≡ f x
+read : {K : Type 0} (f : SiteView K → ℕ) (books : List (SiteView K)) (pad : List ℕ) (i : ℕ) (x : SiteView K) → slice_get books i ≡ Some x
+    → get_or (map f books ++ pad) i 0 ≡ f x
 read f [] pad i x found = cc
 read f (b ∷ books) pad zero x found = let same : b ≡ x = cc in ap f same
 read f (b ∷ books) pad (suc i) x found = read f books pad i x found
@@ -52,7 +59,8 @@ counts_of books = padded count_in max_sites books
 
 pub are_begun : {K : Type 0} (k : Keeping K) (s : Sites K) → AreNew k s → AreBegun (limits_of s.books) (counts_of s.books)
 are_begun {K} k s are =
-    let each : length (counts_of s.books) ≡ length (limits_of s.books) = length-padded count_in max_sites s.books are.few ∙ sym (length-padded limit_in 0 s.books are.few) in
+    let each : length (counts_of s.books) ≡ length (limits_of s.books) = length-padded count_in max_sites s.books are.few
+    ∙ sym (length-padded limit_in 0 s.books are.few) in
     record {
       each = each;
       own = λ i l. own_at i (omega (arith, l, length-padded limit_in 0 s.books are.few)) (cases_lt (length s.books) i);
@@ -60,7 +68,12 @@ are_begun {K} k s are =
     }
   where
     own_there : (i : ℕ) → i < max_sites → (x : SiteView K) × (slice_get s.books i ≡ Some x) → i < get_or (counts_of s.books) i 0
-    own_there i l found = omega (arith, (are.each i found.0 found.1).own, read count_in s.books (replicate (max_sites - length s.books) max_sites) i found.0 found.1)
+    own_there i l found = omega (
+      arith,
+      (are.each i found.0 found.1).own,
+      read count_in s.books (replicate (max_sites - length s.books) max_sites) i
+          found.0 found.1,
+    )
 
     own_at : (i : ℕ) → i < max_sites → (length s.books < i) ⊎ (i ≤ length s.books) → i < get_or (counts_of s.books) i 0
     own_at i l c = elim (cases_lt i (length s.books)) [
@@ -69,9 +82,15 @@ are_begun {K} k s are =
     ]
 
     few_there : (i : ℕ) → (x : SiteView K) × (slice_get s.books i ≡ Some x) → get_or (counts_of s.books) i 0 ≤ max_sites
-    few_there i found = omega (arith, (are.each i found.0 found.1).few, read count_in s.books (replicate (max_sites - length s.books) max_sites) i found.0 found.1)
+    few_there i found = omega (
+      arith,
+      (are.each i found.0 found.1).few,
+      read count_in s.books (replicate (max_sites - length s.books) max_sites) i found.0
+          found.1,
+    )
 
-    few_at : (i : ℕ) → (length s.books < i) ⊎ (i ≤ length s.books) → (max_sites < i) ⊎ (i ≤ max_sites) → get_or (counts_of s.books) i 0 ≤ length (limits_of s.books)
+    few_at : (i : ℕ) → (length s.books < i) ⊎ (i ≤ length s.books) → (max_sites < i) ⊎ (i ≤ max_sites)
+        → get_or (counts_of s.books) i 0 ≤ length (limits_of s.books)
     few_at i c d = elim (cases_lt i (length s.books)) [
       | inl b ↦ omega (arith, few_there i (there s.books i b), length-padded limit_in 0 s.books are.few)
       | inr p ↦ elim (cases_lt i max_sites) [
@@ -86,7 +105,8 @@ shows_begun {K} k s are =
     record {
       few = are.few;
       count = length-replicate (length (limits_of s.books)) no_site ∙ whole;
-      site = λ i x found. empty_at (length (limits_of s.books)) i ∙ sym (λ j. record { history = (are.each i x found).history j; acked = (are.each i x found).acked j });
+      site = λ i x found. empty_at (length (limits_of s.books)) i
+          ∙ sym (λ j. record { history = (are.each i x found).history j; acked = (are.each i x found).acked j });
       office = λ i x found j. record {
         me = sym (are.each i x found).me j;
         sites = read count_in s.books (replicate (max_sites - length s.books) max_sites) i x found j;

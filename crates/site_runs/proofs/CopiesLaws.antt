@@ -15,14 +15,21 @@ use Rattle.site_runs.proofs.Sums as sums
 
 -- a store that shows what another shows of it
 abbrev seen_by : {K L : Type 0} → Keeping L → (K → L) → Keeping K
-seen_by k store = record { failed = λ x. k.failed (store x); is_trusted = λ x. k.is_trusted (store x); kept = λ x. k.kept (store x); may_leave = λ x. k.may_leave (store x); is_of = λ x. k.is_of (store x) }
+seen_by k store = record {
+  failed = λ x. k.failed (store x);
+  is_trusted = λ x. k.is_trusted (store x);
+  kept = λ x. k.kept (store x);
+  may_leave = λ x. k.may_leave (store x);
+  is_of = λ x. k.is_of (store x);
+}
 
 on_ok : {T F : Type 0} {P Q : Type 0} (result : Result T F) → (P → Q) → OnOk result P → OnOk result Q
 on_ok (Ok x) f p = f p
 on_ok (Err e) f p = tt
 
 module _ {K L : Type 0} (k : Keeping L) (store : K → L) (old new : SiteView K) where
-  site_call : {T F : Type 0} (entry : Option Entry) (due : SitePart) (closed fault : F) (result : Result T F) → SiteCall (seen_by k store) old new entry due closed fault result → SiteCall k (over store old) (over store new) entry due closed fault result
+  site_call : {T F : Type 0} (entry : Option Entry) (due : SitePart) (closed fault : F) (result : Result T F)
+      → SiteCall (seen_by k store) old new entry due closed fault result → SiteCall k (over store old) (over store new) entry due closed fault result
   site_call entry due closed fault result s = record {
     office = s.office;
     made = s.made;
@@ -80,10 +87,16 @@ module _ {K L : Type 0} (k : Keeping L) (store : K → L) (old new : SiteView K)
     refused = IfErr-weaker answer _ _ (λ e same one other. ap (over store) (same one other)) s.refused;
   }
   moved given (Gives to answer) s = record { same = ap (over store) s.same; due = s.due; fault = s.fault }
-  moved given Restarts s = record { trusted = s.trusted; left = s.left; starts = record { history = s.starts.history; office = s.starts.office; acked = s.starts.acked; opened = s.starts.opened; rests = s.starts.rests } }
-  moved given (Crashes in_hand stored) s = (s.0, s.1, record { history = s.2.history; office = s.2.office; acked = s.2.acked; opened = s.2.opened; rests = s.2.rests })
+  moved given Restarts s = record {
+    trusted = s.trusted;
+    left = s.left;
+    starts = record { history = s.starts.history; office = s.starts.office; acked = s.starts.acked; opened = s.starts.opened; rests = s.starts.rests };
+  }
+  moved given (Crashes in_hand stored) s
+      = (s.0, s.1, record { history = s.2.history; office = s.2.office; acked = s.2.acked; opened = s.2.opened; rests = s.2.rests })
 
-both_of : {K : Type 0} (k : Keeping K) (is_first : Bool) (given : List Message) (old new : SiteView (MirrorView K K)) (call : Call) → Happens (surviving is_first k k) given old call new
+both_of : {K : Type 0} (k : Keeping K) (is_first : Bool) (given : List Message) (old new : SiteView (MirrorView K K)) (call : Call)
+    → Happens (surviving is_first k k) given old call new
     → Happens (copies_of k) given (over (λ copies. Both copies is_first) old) call (over (λ copies. Both copies is_first) new)
 both_of k true given old new call h = moved (copies_of k) (λ copies. Both copies true) old new given call h
 both_of k false given old new call h = moved (copies_of k) (λ copies. Both copies false) old new given call h
@@ -101,7 +114,8 @@ entries_in (Some list) = list
 pub loss_is_a_restart : {K : Type 0} (k : Keeping K) → LossIsARestart k
 loss_is_a_restart {K = K} k old new copies is_first given g =
     let same : new.book.history ≡ old.book.history = ap entries_in (g.rests.alone (Some new.book.history) g.left) in
-    let starts : Starts (copies_of k) old new new.book.history = record { history = refl; office = g.office; acked = g.acked; opened = g.opened; rests = g.stores } in (
+    let starts : Starts (copies_of k) old new new.book.history = record
+    { history = refl; office = g.office; acked = g.acked; opened = g.opened; rests = g.stores } in (
       record {
         trusted = subst (λ (c : Copies K). (copies_of k).is_trusted c) (sym g.pair) g.trusted;
         left = subst (λ (c : Copies K). (copies_of k).may_leave c (Some new.book.history)) (sym g.pair) g.left;

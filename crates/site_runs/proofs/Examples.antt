@@ -18,7 +18,7 @@ use Rattle.request_ledger.specs.declared.request.Request.TheVariants.{Sell}
 use Rattle.book_core.specs.declared.entry.Entry.{Entry}
 use Rattle.book_core.specs.declared.entry.Entry.TheVariants.{Asked, Joined}
 use Rattle.book_core.specs.declared.plan.JoinFault.TheVariants.{UnknownSite}
-use Rattle.book_core.specs.Decision.{Decision, Fresh, Office, decision, delta_for, entry_if, entry_of_ask, is_full, own_left}
+use Rattle.book_core.specs.Decision.{Decision, Fresh, SiteConfig, decision, delta_for, entry_if, entry_of_ask, is_full, own_left}
 use Rattle.book_core.specs.History.{state_of}
 use Rattle.book_core.specs.Joining as join
 use Rattle.book_core.specs.Joining.{JoinDecision, foreign, join_decision, join_if}
@@ -55,11 +55,16 @@ five_given = five (Gave 0 0) ∷ five (Gave 0 1) ∷ []
 abbrev pub message : Message
 message = Delta 0 1 3 (said five_given)
 
-abbrev pub office : ℕ → Office
+abbrev pub office : ℕ → SiteConfig
 office me = record { me = me; sites = 2; limit = 10 }
 
 abbrev pub site_with : ℕ → List Entry → Site
-site_with me h = record { book = record { office = office me; history = h; room = record { entries = 0; cells = 0; names = 0; numbers = 0 } }; acked = zeros; keeper = tt; closed = false }
+site_with me h = record {
+  book = record { office = office me; history = h; room = record { entries = 0; cells = 0; names = 0; numbers = 0 } };
+  acked = zeros;
+  keeper = tt;
+  closed = false;
+}
 
 -- what the history says
 pub record Says (h : List Entry) (ms : List Valued) : Type 0 where
@@ -75,7 +80,8 @@ known h ms says = ap (λ (X : State). knows X.names gala) says.state ∙ knows-n
 
 abbrev pub left_by : ℕ → (Cell → ℕ) → ℕ
 left_by me f =
-    (f (Gave me me) + sum_below max_sites (λ j. cond (j == me) 0 (f (Gave j me))) + f (Back me)) - (sum_below max_sites (λ j. cond (me == j) 0 (f (Gave me j))) + f (Used me))
+    (f (Gave me me) + sum_below max_sites (λ j. cond (j == me) 0 (f (Gave j me))) + f (Back me)) -
+    (sum_below max_sites (λ j. cond (me == j) 0 (f (Gave me j))) + f (Used me))
 
 left_is : (me : ℕ) (h : List Entry) (ms : List Valued) → Says h ms → own_left (office me) h gala ≡ left_by me (λ c. greatest ms gala c)
 left_is me h ms says = λ i. left_by me (λ c. value_is h ms says c i)
@@ -129,7 +135,8 @@ asks me h number request fresh =
     }
 
 abbrev decided : List Valued → Bool → JoinDecision
-decided ms within = cond (not (nat_lt 0 2 && not (0 == 1) && are_within 2 ms)) (join.Refuses UnknownSite) (join_if (foreign 1 bottom.cells ms) within (nat_le 10 0))
+decided ms within = cond (not (nat_lt 0 2 && not (0 == 1) && are_within 2 ms)) (join.Refuses UnknownSite)
+    (join_if (foreign 1 bottom.cells ms) within (nat_le 10 0))
 
 is_new : is_within (said five_given) bottom ≡ false
 is_new =

@@ -6,6 +6,7 @@ use Rattle.site_runs.proofs.Examples.{are_new, first, gala, last, sells, site_wi
 
 pub forged_messages_oversell : ForgedMessagesOversell
 forged_messages_oversell never =
-    let sums = never takes_and_sells (sites [] [] []) (sites [] last (Ack 1 0 3 ∷ [])) are_new (site_with 1 [], refl, takes, (site_with 1 first, refl, sells, refl)) gala in
+    let sums = never takes_and_sells (sites [] [] []) (sites [] last (Ack 1 0 3 ∷ [])) are_new
+    (site_with 1 [], refl, takes, (site_with 1 first, refl, sells, refl)) gala in
     let over : 5 ≤ 0 = sums.0 in
     absurd (omega arith)

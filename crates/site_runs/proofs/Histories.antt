@@ -31,9 +31,11 @@ abbrev done : ℕ → List Entry → ℕ → Request → Entry
 done me h number request = Asked number request Done (delta_for (office me) h request Done)
 
 -- a request that is done makes a legal history longer by one
-with_done_legal : (me : ℕ) (h : List Entry) (number : ℕ) (request : Request) → decision (office me) h number request ≡ Fresh Done → IsLegal (office me) h → IsLegal (office me) (with_done me h number request)
+with_done_legal : (me : ℕ) (h : List Entry) (number : ℕ) (request : Request) → decision (office me) h number request ≡ Fresh Done → IsLegal (office me) h
+    → IsLegal (office me) (with_done me h number request)
 with_done_legal me h number request fresh legal =
-    let enters : entry_of_ask (office me) h number request ≡ Some (done me h number request) = ap (λ (d : Decision). entry_if d (office me) h number request) fresh in
+    let enters : entry_of_ask (office me) h number request ≡ Some (done me h number request) = ap
+    (λ (d : Decision). entry_if d (office me) h number request) fresh in
     legal_push (office me) h (done me h number request) legal (ask_next (office me) h number request (done me h number request) enters).next
 
 none_legal : (me : ℕ) → IsLegal (office me) []
@@ -78,7 +80,8 @@ are_sites : (h g : List Entry) → sites_of (office 0) h ≡ 2 → sites_of (off
 unfolding max_sites
 are_sites h g two_h two_g legal_h legal_g = record {
   few = lit≤ tt;
-  whole = each_book (λ k book. StandsAt k 2 book) h g (record { site = refl; count = omega (arith, two_h) }) (record { site = refl; count = omega (arith, two_g) });
+  whole = each_book (λ k book. StandsAt k 2 book) h g (record { site = refl; count = omega (arith, two_h) })
+      (record { site = refl; count = omega (arith, two_g) });
   own = each_book (λ k book. book.office.me < book.office.sites) h g (lit< tt) (lit< tt);
   legal = each_book (λ k book. IsLegal book.office book.history) h g legal_h legal_g;
 }
@@ -87,7 +90,8 @@ are_sites h g two_h two_g legal_h legal_g = record {
 pub forged_deltas_oversell : ForgedDeltasOversell
 forged_deltas_oversell never =
     let entries : List (ℕ × Entry) = (1, Joined 0 (said five_given)) ∷ (1, done 1 first 1 sale) ∷ [] in
-    let sums = never entries (books [] []) (books [] last) are_empty (book_with 1 [], refl, tt, (book_with 1 first, refl, tt, refl)) (are_sites [] last refl refl (none_legal 0) last_legal) gala in
+    let sums = never entries (books [] []) (books [] last) are_empty (book_with 1 [], refl, tt, (book_with 1 first, refl, tt, refl))
+    (are_sites [] last refl refl (none_legal 0) last_legal) gala in
     let over : 5 ≤ 0 = sums.0 in
     absurd (omega (arith, over))
 
@@ -96,7 +100,8 @@ gave : AtOrBelow (said five_given) (state_of ceded)
 gave = subst (λ (s : State). AtOrBelow (said five_given) s) (sym says_ceded.state) (λ spot. omega arith)
 
 abbrev twice : List (ℕ × Entry)
-twice = (0, done 0 [] 1 (Announce gala)) ∷ (0, done 0 announced 2 (Release gala 5)) ∷ (0, done 0 released 3 sale) ∷ (1, Joined 0 (said five_given)) ∷ (1, done 1 first 1 sale) ∷ []
+twice = (0, done 0 [] 1 (Announce gala)) ∷ (0, done 0 announced 2 (Release gala 5)) ∷ (0, done 0 released 3 sale) ∷ (1, Joined 0 (said five_given))
+    ∷ (1, done 1 first 1 sale) ∷ []
 
 sold_twice : AreAdded WasHeldOnce twice (books [] []) (books resold last)
 sold_twice = (

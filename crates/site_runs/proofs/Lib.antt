@@ -12,3 +12,4 @@ mod CopiesLaws
 mod Copying
 mod Examples
 mod Forging
+mod Sharing

@@ -6,7 +6,7 @@ use Rattle.std.proofs.lemmas.Option.{slice_get_within, same_Some}
 use Rattle.rights_lattice.specs.Sums.{max_sites}
 use Rattle.request_ledger.specs.declared.request.Request.{Request}
 use Rattle.book_core.specs.declared.entry.Entry.{Entry}
-use Rattle.book_core.specs.Decision.{Office, entry_of_ask}
+use Rattle.book_core.specs.Decision.{SiteConfig, entry_of_ask}
 use Rattle.book_core.specs.Growing.{entry_of_grow}
 use Rattle.site_exchange.specs.declared.message.Message.{Message}
 use Rattle.site_exchange.specs.Exchange.{SitePart, entry_of_take, zeros}
@@ -34,7 +34,7 @@ pub data Held : Type 0 where
   OfMessage : (message : Message) → Held
   OfGrowth : (sites : ℕ) → Held
 
-abbrev pub entry_held : Held → Office → List Entry → Option Entry
+abbrev pub entry_held : Held → SiteConfig → List Entry → Option Entry
 entry_held (OfRequest number request) office h = entry_of_ask office h number request
 entry_held (OfMessage message) office h = entry_of_take office h message
 entry_held (OfGrowth sites) office h = entry_of_grow office h sites
@@ -46,19 +46,23 @@ IsHeld given (OfGrowth sites) = Unit {0}
 
 -- a stop may leave the history, or it with the one entry that was in hand
 abbrev pub LeavesHeld : {K : Type 0} → Keeping K → List Message → SiteView K → Type 0
-LeavesHeld k given site = (held : Held) × IsHeld given held × LeavesEither site.book.history (entry_held held site.book.office site.book.history) (k.may_leave site.keeper)
+LeavesHeld k given site = (held : Held) × IsHeld given held
+    × LeavesEither site.book.history (entry_held held site.book.office site.book.history) (k.may_leave site.keeper)
 
 -- a stop may leave the history, or it with all that the requests that were in hand make of it
 abbrev pub LeavesAll : {K : Type 0} → Keeping K → SiteView K → Type 0
-LeavesAll k site = (requests : List (ℕ × Request)) × LeavesAsked site.book.office site.book.history requests (k.is_trusted site.keeper) (k.may_leave site.keeper)
+LeavesAll k site = (requests : List (ℕ × Request))
+    × LeavesAsked site.book.office site.book.history requests (k.is_trusted site.keeper) (k.may_leave site.keeper)
 
 -- what a stop may leave of the site
 pub record CanRestart {K : Type 0} (k : Keeping K) (given : List Message) (site : SiteView K) : Type 0 where
   pub opened : site.closed ≡ false → k.is_trusted site.keeper → LeavesOnly site.book.history (k.may_leave site.keeper)
   pub shut : site.closed ≡ true → k.is_trusted site.keeper → LeavesHeld k given site ⊎ LeavesAll k site
 
-pub came_keeps : {K T F : Type 0} (k : Keeping K) (given : List Message) (old new : SiteView K) (held : Held) (due : SitePart) (closed store : F) (answer : Result T F)
-    → SiteCall k old new (entry_held held old.book.office old.book.history) due closed store answer → (closed ≡ store → ⊥) → (answer ≡ Err store → IsHeld given held) → CanRestart k given old → CanRestart k given new
+pub came_keeps : {K T F : Type 0} (k : Keeping K) (given : List Message) (old new : SiteView K) (held : Held) (due : SitePart) (closed store : F)
+    (answer : Result T F)
+    → SiteCall k old new (entry_held held old.book.office old.book.history) due closed store answer → (closed ≡ store → ⊥)
+    → (answer ≡ Err store → IsHeld given held) → CanRestart k given old → CanRestart k given new
 came_keeps {K} {T} {F} k given old new held due closed store answer came ne is_held can =
     record {
       opened = came.rests;
@@ -74,13 +78,13 @@ came_keeps {K} {T} {F} k given old new held due closed store answer came ne is_h
           | inl before ↦ inl (
             before.0,
             before.1,
-            subst (λ (o : Office). LeavesEither new.book.history (entry_held before.0 o new.book.history) (k.may_leave new.keeper)) (sym came.office)
+            subst (λ (o : SiteConfig). LeavesEither new.book.history (entry_held before.0 o new.book.history) (k.may_leave new.keeper)) (sym came.office)
                 (subst (λ (s : SitePart). LeavesEither s.history (entry_held before.0 old.book.office s.history) (k.may_leave new.keeper)) (sym same)
                 (subst (λ (p : K). LeavesEither old.book.history (entry_held before.0 old.book.office old.book.history) (k.may_leave p)) (sym kept) before.2)),
           )
           | inr before ↦ inr (
             before.0,
-            subst (λ (o : Office). LeavesAsked o new.book.history before.0 (k.is_trusted new.keeper) (k.may_leave new.keeper)) (sym came.office)
+            subst (λ (o : SiteConfig). LeavesAsked o new.book.history before.0 (k.is_trusted new.keeper) (k.may_leave new.keeper)) (sym came.office)
                 (subst (λ (s : SitePart). LeavesAsked old.book.office s.history before.0 (k.is_trusted new.keeper) (k.may_leave new.keeper)) (sym same)
                 (subst (λ (p : K). LeavesAsked old.book.office old.book.history before.0 (k.is_trusted p) (k.may_leave p)) (sym kept) before.1)),
           )
@@ -90,12 +94,14 @@ came_keeps {K} {T} {F} k given old new held due closed store answer came ne is_h
         inl (
           held,
           is_held failed,
-          subst (λ (o : Office). LeavesEither new.book.history (entry_held held o new.book.history) (k.may_leave new.keeper)) (sym came.office)
-              (subst (λ (s : SitePart). LeavesEither s.history (entry_held held old.book.office s.history) (k.may_leave new.keeper)) (sym same) (came.stopped failed trusted)),
+          subst (λ (o : SiteConfig). LeavesEither new.book.history (entry_held held o new.book.history) (k.may_leave new.keeper)) (sym came.office)
+              (subst (λ (s : SitePart). LeavesEither s.history (entry_held held old.book.office s.history) (k.may_leave new.keeper)) (sym same)
+              (came.stopped failed trusted)),
         )
 
 -- the same behind several requests
-pub asked_all_keeps : {K : Type 0} (k : Keeping K) (given : List Message) (old new : SiteView K) (requests : List (ℕ × Request)) (result : Result (List (Result Answer AskFault)) AskFault)
+pub asked_all_keeps : {K : Type 0} (k : Keeping K) (given : List Message) (old new : SiteView K) (requests : List (ℕ × Request))
+    (result : Result (List (Result Answer AskFault)) AskFault)
     → AskAllCall k old new requests result → CanRestart k given old → CanRestart k given new
 asked_all_keeps {K} k given old new requests result came can =
     record {
@@ -105,21 +111,25 @@ asked_all_keeps {K} k given old new requests result came can =
   where
     by_cause : new.closed ≡ true → k.is_trusted new.keeper → (old.closed ≡ true) ⊎ (result ≡ Err ask.Store) → LeavesHeld k given new ⊎ LeavesAll k new
     by_cause is trusted (inl was) =
-        let same : new ≡ old = subst (λ (a : Result (List (Result Answer AskFault)) AskFault). IfErr a (λ fault. fault ≢ ask.Store → new ≡ old)) (came.shut.1 was) came.untouched (λ e. cc) in
+        let same : new ≡ old = subst (λ (a : Result (List (Result Answer AskFault)) AskFault). IfErr a (λ fault. fault ≢ ask.Store → new ≡ old))
+        (came.shut.1 was) came.untouched (λ e. cc) in
         (subst (CanRestart k given) (sym same) can).shut is trusted
     by_cause is trusted (inr failed) =
-        let same : new.book.history ≡ old.book.history = subst (λ (a : Result (List (Result Answer AskFault)) AskFault). OnErr a (new.book.history ≡ old.book.history)) failed came.unchanged in
+        let same : new.book.history ≡ old.book.history = subst
+        (λ (a : Result (List (Result Answer AskFault)) AskFault). OnErr a (new.book.history ≡ old.book.history)) failed came.unchanged in
         inr (
           requests,
-          subst (λ (o : Office). LeavesAsked o new.book.history requests (k.is_trusted new.keeper) (k.may_leave new.keeper)) (sym came.office)
-              (subst (λ (h : List Entry). LeavesAsked old.book.office h requests (k.is_trusted new.keeper) (k.may_leave new.keeper)) (sym same) (came.stopped failed)),
+          subst (λ (o : SiteConfig). LeavesAsked o new.book.history requests (k.is_trusted new.keeper) (k.may_leave new.keeper)) (sym came.office)
+              (subst (λ (h : List Entry). LeavesAsked old.book.office h requests (k.is_trusted new.keeper) (k.may_leave new.keeper)) (sym same)
+              (came.stopped failed)),
         )
 
 pub started_can : {K : Type 0} (k : Keeping K) (given : List Message) (old new : SiteView K) (h : List Entry) → Starts k old new h → CanRestart k given new
 started_can k given old new h r = record { opened = λ q trusted. r.rests trusted; shut = λ q. cc (q, r.opened) }
 
 -- messages stay where they are
-pub sent_stays : (given : List Message) (m : Option Message) (index : ℕ) (message : Message) → slice_get given index ≡ Some message → slice_get (with_given given m) index ≡ Some message
+pub sent_stays : (given : List Message) (m : Option Message) (index : ℕ) (message : Message) → slice_get given index ≡ Some message
+    → slice_get (with_given given m) index ≡ Some message
 sent_stays given None index message found = found
 sent_stays given (Some more) index message found = go given index found
   where
@@ -133,7 +143,8 @@ held_stays given m (OfRequest number request) is = is
 held_stays given m (OfMessage message) is = (is.0, sent_stays given m is.0 message is.1)
 held_stays given m (OfGrowth sites) is = is
 
-pub can_stays : {K : Type 0} (k : Keeping K) (given : List Message) (m : Option Message) (site : SiteView K) → CanRestart k given site → CanRestart k (with_given given m) site
+pub can_stays : {K : Type 0} (k : Keeping K) (given : List Message) (m : Option Message) (site : SiteView K) → CanRestart k given site
+    → CanRestart k (with_given given m) site
 can_stays k given m site can = record {
   opened = can.opened;
   shut = λ q trusted. elim (can.shut q trusted) [
@@ -162,12 +173,15 @@ in_hand_of w i (OfMessage message) whole is =
 in_hand_of w i (OfGrowth sites) whole is =
     record { in_hand = input.Grow sites; there = refl; entry = refl; none = grow_adds_none w (office_at w i) (history_at w i) sites i whole }
 
-restart_same : {K : Type 0} (w : World) (i : ℕ) (old new : SiteView K) → IsHere w i old → new.book.history ≡ old.book.history → new.acked ≡ zeros → Made w i (site_of new) None
+restart_same : {K : Type 0} (w : World) (i : ℕ) (old new : SiteView K) → IsHere w i old → new.book.history ≡ old.book.history → new.acked ≡ zeros
+    → Made w i (site_of new) None
 restart_same w i old new here same acked =
     let is : restarted (site_numbered w i) ≡ site_of new = ap restarted here.site ∙ sym (λ k. record { history = same k; acked = acked k }) in
-    by_one w i (site_of new) None (Restart i) (ap (λ b. cond b (at_site w i (restarted (site_numbered w i))) w) (lt-ltb i (count w) here.below) ∙ ap (at_site w i) is)
+    by_one w i (site_of new) None (Restart i) (ap (λ b. cond b (at_site w i (restarted (site_numbered w i))) w) (lt-ltb i (count w) here.below)
+    ∙ ap (at_site w i) is)
 
-stop_step : {K : Type 0} (w : World) (i : ℕ) (old new : SiteView K) (held : Held) (entry : Entry) → IsHere w i old → InHand w i held → entry_held held old.book.office old.book.history ≡ Some entry
+stop_step : {K : Type 0} (w : World) (i : ℕ) (old new : SiteView K) (held : Held) (entry : Entry) → IsHere w i old → InHand w i held
+    → entry_held held old.book.office old.book.history ≡ Some entry
     → new.book.history ≡ old.book.history ++ entry ∷ [] → new.acked ≡ zeros → Made w i (site_of new) None
 stop_step w i old new held entry here hand q more acked =
     let added : Option Entry = entry_of_input (office_at w i) (history_at w i) w.sent hand.in_hand in
@@ -183,25 +197,30 @@ stop_step w i old new held entry here hand q more acked =
     )
 
 -- a start from what a stop left is a step
-pub restart_step : {K : Type 0} (k : Keeping K) (w : World) (i : ℕ) (old new : SiteView K) → count w ≡ max_sites → IsHere w i old → CanRestart k w.sent old → Restarted k old new → Made w i (site_of new) None
+pub restart_step : {K : Type 0} (k : Keeping K) (w : World) (i : ℕ) (old new : SiteView K) → count w ≡ max_sites → IsHere w i old → CanRestart k w.sent old
+    → Restarted k old new → Made w i (site_of new) None
 restart_step {K} k w i old new whole here can r = by_closed old.closed refl
   where
-    by_entry : (held : Held) → IsHeld w.sent held → (o : Option Entry) → entry_held held old.book.office old.book.history ≡ o → LeavesEither old.book.history o (k.may_leave old.keeper) → Made w i (site_of new) None
+    by_entry : (held : Held) → IsHeld w.sent held → (o : Option Entry) → entry_held held old.book.office old.book.history ≡ o
+        → LeavesEither old.book.history o (k.may_leave old.keeper) → Made w i (site_of new) None
     by_entry held is None q either = absurd either
     by_entry held is (Some entry) q either = elim (either (Some new.book.history) r.left) [
       | inl same ↦ restart_same w i old new here (same_Some new.book.history old.book.history same) r.starts.acked
-      | inr more ↦ stop_step w i old new held entry here (in_hand_of w i held whole is) q (same_Some new.book.history (old.book.history ++ entry ∷ []) more) r.starts.acked
+      | inr more ↦ stop_step w i old new held entry here (in_hand_of w i held whole is) q
+          (same_Some new.book.history (old.book.history ++ entry ∷ []) more) r.starts.acked
     ]
 
     by_requests : LeavesAll k old → Made w i (site_of new) None
     by_requests was = elim (was.1.leaves r.trusted (Some new.book.history) r.left) [
       | inl same ↦ restart_same w i old new here (same_Some new.book.history old.book.history same) r.starts.acked
       | inr all ↦ asked_restart w i old new was.0 was.1.answers here
-          (subst (AreAnswered old.book.office old.book.history was.0 was.1.answers) (sym (same_Some new.book.history was.1.after all)) was.1.answered) r.starts.acked
+          (subst (AreAnswered old.book.office old.book.history was.0 was.1.answers) (sym (same_Some new.book.history was.1.after all)) was.1.answered)
+          r.starts.acked
     ]
 
     by_closed : (b : Bool) → old.closed ≡ b → Made w i (site_of new) None
-    by_closed false q = restart_same w i old new here (same_Some new.book.history old.book.history ((can.opened q r.trusted).alone (Some new.book.history) r.left)) r.starts.acked
+    by_closed false q = restart_same w i old new here
+        (same_Some new.book.history old.book.history ((can.opened q r.trusted).alone (Some new.book.history) r.left)) r.starts.acked
     by_closed true q = elim (can.shut q r.trusted) [
       | inl was ↦ by_entry was.0 was.1 (entry_held was.0 old.book.office old.book.history) refl was.2
       | inr was ↦ by_requests was
@@ -209,22 +228,26 @@ restart_step {K} k w i old new whole here can r = by_closed old.closed refl
 
 -- a start from what was left by a stop with this in hand
 held_step : {K : Type 0} (w : World) (i : ℕ) (old new : SiteView K) (held : Held) (stored : Bool) → count w ≡ max_sites → IsHere w i old → IsHeld w.sent held
-    → new.book.history ≡ extended (cond stored (entry_held held old.book.office old.book.history) None) old.book.history → new.acked ≡ zeros → Made w i (site_of new) None
+    → new.book.history ≡ extended (cond stored (entry_held held old.book.office old.book.history) None) old.book.history → new.acked ≡ zeros
+    → Made w i (site_of new) None
 held_step w i old new held false whole here is left acked = restart_same w i old new here left acked
 held_step {K} w i old new held true whole here is left acked = by_entry (entry_held held old.book.office old.book.history) refl
   where
     by_entry : (o : Option Entry) → entry_held held old.book.office old.book.history ≡ o → Made w i (site_of new) None
     by_entry None q = restart_same w i old new here (left ∙ ap (λ (o : Option Entry). extended o old.book.history) q) acked
-    by_entry (Some entry) q = stop_step w i old new held entry here (in_hand_of w i held whole is) q (left ∙ ap (λ (o : Option Entry). extended o old.book.history) q) acked
+    by_entry (Some entry) q = stop_step w i old new held entry here (in_hand_of w i held whole is) q
+        (left ∙ ap (λ (o : Option Entry). extended o old.book.history) q) acked
 
 none_left : (stored : Bool) (h : List Entry) → extended (cond stored None None) h ≡ h
 none_left true h = refl
 none_left false h = refl
 
 -- a stop in the midst of a call, and the start behind it, are a step; those of several requests that were stored are one for each, and a restart
-pub crash_step : {K : Type 0} (w : World) (i : ℕ) (old new : SiteView K) (in_hand : Call) (stored : Bool) → count w ≡ max_sites → IsHere w i old → IsGenuine w.sent in_hand
+pub crash_step : {K : Type 0} (w : World) (i : ℕ) (old new : SiteView K) (in_hand : Call) (stored : Bool) → count w ≡ max_sites → IsHere w i old
+    → IsGenuine w.sent in_hand
     → IsLeft old.book in_hand stored new.book.history → new.acked ≡ zeros → Made w i (site_of new) None
-crash_step w i old new (Asks number request answer) stored whole here is left acked = held_step w i old new (OfRequest number request) stored whole here tt left acked
+crash_step w i old new (Asks number request answer) stored whole here is left acked = held_step w i old new (OfRequest number request) stored whole here tt
+    left acked
 crash_step w i old new (AsksAll requests result) true whole here is left acked = asked_restart w i old new requests left.0 here left.1 acked
 crash_step w i old new (AsksAll requests result) false whole here is left acked = restart_same w i old new here left acked
 crash_step w i old new (Takes message answer) stored whole here is left acked = held_step w i old new (OfMessage message) stored whole here is left acked

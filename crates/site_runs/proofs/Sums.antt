@@ -37,7 +37,8 @@ there [] k l = absurd (omega arith)
 there (x ∷ xs) zero l = (x, refl)
 there (x ∷ xs) (suc k) l = there xs k (omega (arith, l))
 
-read : {K : Type 0} (books : List (SiteView K)) (i : ℕ) (x : SiteView K) → slice_get books i ≡ Some x → get_or (map (λ (b : BookView). b.history) (map (λ (s : SiteView K). s.book) books)) i [] ≡ x.book.history
+read : {K : Type 0} (books : List (SiteView K)) (i : ℕ) (x : SiteView K) → slice_get books i ≡ Some x
+    → get_or (map (λ (b : BookView). b.history) (map (λ (s : SiteView K). s.book) books)) i [] ≡ x.book.history
 read [] i x found = cc
 read {K} (b ∷ books) zero x found = let same : b ≡ x = cc in ap (λ (s : SiteView K). s.book.history) same
 read (b ∷ books) (suc i) x found = read books i x found
@@ -96,10 +97,12 @@ pub books_agree_once_acknowledged : {K : Type 0} (k : Keeping K) → BooksAgreeO
 books_agree_once_acknowledged {K} k calls begin end are runs i j a b here there all_by_j all_by_i =
     same_states (state_of a.book.history) (state_of b.book.history) (λ s. omega (arith, held i j a b here there all_by_j s, held j i b a there here all_by_i s))
   where
-    held : (i j : ℕ) (a b : SiteView K) → slice_get end.books i ≡ Some a → slice_get end.books j ≡ Some b → get_or a.acked j 0 ≡ length a.book.history → AtOrBelow (state_of a.book.history) (state_of b.book.history)
+    held : (i j : ℕ) (a b : SiteView K) → slice_get end.books i ≡ Some a → slice_get end.books j ≡ Some b → get_or a.acked j 0 ≡ length a.book.history
+        → AtOrBelow (state_of a.book.history) (state_of b.book.history)
     held i j a b here there all =
         let kept = runs_keep_promises k calls begin end are runs in
         subst (λ (h : List Entry). AtOrBelow (state_of h) (state_of b.book.history)) (ap (λ n. take n a.book.history) all ∙ take-length a.book.history)
         (subst (λ (p : SitePart). AtOrBelow (state_at p.history (get_or p.acked j 0)) (state_of b.book.history)) (kept.1.site i a here)
-        (subst (λ (p : SitePart). AtOrBelow (state_at (history_at kept.0 i) (get_or (site_numbered kept.0 i).acked j 0)) (state_of p.history)) (kept.1.site j b there)
+        (subst (λ (p : SitePart). AtOrBelow (state_at (history_at kept.0 i) (get_or (site_numbered kept.0 i).acked j 0)) (state_of p.history))
+        (kept.1.site j b there)
         (kept.2.acknowledged_is_held i j)))

@@ -50,7 +50,8 @@ over store s = record { book = s.book; acked = s.acked; keeper = store s.keeper;
 pub record CallsAreOfCopies {K : Type 0} (k : Keeping K) : Type 0 where
   pub both : (is_first : Bool) (given : List Message) (old new : SiteView (MirrorView K K)) (call : Call) → Happens (surviving is_first k k) given old call new
       → Happens (copies_of k) given (over (λ copies. Both copies is_first) old) call (over (λ copies. Both copies is_first) new)
-  pub alone : (given : List Message) (old new : SiteView K) (call : Call) → Happens k given old call new → Happens (copies_of k) given (over Alone old) call (over Alone new)
+  pub alone : (given : List Message) (old new : SiteView K) (call : Call) → Happens k given old call new
+      → Happens (copies_of k) given (over Alone old) call (over Alone new)
 
 -- An open site with two copies lost one of them, and goes on from what the other, which is trusted, may leave: alone, or with a new copy. It is
 -- a restart of the run, and a crash in which nothing was added.

@@ -4,3 +4,4 @@ pub mod SitesCode
 pub mod Premises
 pub mod Moving
 pub mod Copies
+pub mod Shares

@@ -41,7 +41,8 @@ was_given (Err fault) = Err fault
 abbrev pub Gave : {K : Type 0} → Keeping K → Sites K → ℕ → ℕ → Option (Result Bool NextFault) → Sites K → Type 0
 Gave k old site to None now = IsNoSite old site now
 Gave k old site to (Some told) now =
-    ((told ≡ Err next.Memory) × (now ≡ old)) ⊎ ((answer : Result (Option Message) NextFault) × (told ≡ was_given answer) × Moves k old site (Gives to answer) now)
+    ((told ≡ Err next.Memory) × (now ≡ old))
+    ⊎ ((answer : Result (Option Message) NextFault) × (told ≡ was_given answer) × Moves k old site (Gives to answer) now)
 
 abbrev pub was_taken : Result Taken TakeFault → Result (Unit {0}) TakeFault
 was_taken (Ok taken) = Ok tt
@@ -52,7 +53,8 @@ abbrev pub Took : {K : Type 0} → Keeping K → Sites K → ℕ → ℕ → Opt
 Took k old site index None now = ((length old.books ≤ site) ⊎ (length old.given ≤ index)) × (now ≡ old)
 Took k old site index (Some told) now =
     ((told ≡ Err take.Memory) × (now ≡ old))
-    ⊎ ((message : Message) × (slice_get old.given index ≡ Some message) × (answer : Result Taken TakeFault) × (told ≡ was_taken answer) × Moves k old site (Takes message answer) now)
+    ⊎ ((message : Message) × (slice_get old.given index ≡ Some message) × (answer : Result Taken TakeFault) × (told ≡ was_taken answer)
+    × Moves k old site (Takes message answer) now)
 
 -- a crash of this site, between its calls, may leave these entries
 abbrev pub MayLeave : {K : Type 0} → Keeping K → SiteView K → List Entry → Meta → Type 0

@@ -26,7 +26,8 @@ HappensForged k given old call new = Happens k given old call new
 -- Some run with a forged message oversells.
 abbrev pub ForgedMessagesOversell : Type 0
 ForgedMessagesOversell =
-    ((calls : List (CallAt (Unit {0}))) (begin end : Sites (Unit {0})) → AreNew no_store begin → RunsBy (HappensForged no_store) calls begin end → NotOversold end) → ⊥
+    ((calls : List (CallAt (Unit {0}))) (begin end : Sites (Unit {0})) → AreNew no_store begin → RunsBy (HappensForged no_store) calls begin end
+    → NotOversold end) → ⊥
 
 -- what a call makes of a site, where a start may go on from an older copy of its records
 abbrev pub HappensOfCopies : {K : Type 0} → Keeping K → List Message → SiteView K → Call → SiteView K → Type 0
@@ -36,11 +37,13 @@ HappensOfCopies k given old call new = Happens k given old call new
 -- Some run that goes on from an older copy of a site, beside what the newer one gave, oversells.
 abbrev pub TwoCopiesOversell : Type 0
 TwoCopiesOversell =
-    ((calls : List (CallAt (Unit {0}))) (begin end : Sites (Unit {0})) → AreNew no_store begin → RunsBy (HappensOfCopies no_store) calls begin end → NotOversold end) → ⊥
+    ((calls : List (CallAt (Unit {0}))) (begin end : Sites (Unit {0})) → AreNew no_store begin → RunsBy (HappensOfCopies no_store) calls begin end
+    → NotOversold end) → ⊥
 
 -- Legal histories whose deltas may be added as `May` says are never oversold.
 abbrev pub NeverOversellIf : (List BookView → Entry → Type 0) → Type 0
-NeverOversellIf May = (entries : List (ℕ × Entry)) (begin end : List BookView) → AreEmpty begin → AreAdded May entries begin end → AreSites end → AreNotOversold end
+NeverOversellIf May = (entries : List (ℕ × Entry)) (begin end : List BookView) → AreEmpty begin → AreAdded May entries begin end → AreSites end
+    → AreNotOversold end
 
 -- Some legal histories oversell if a delta need be nothing that its sender had.
 abbrev pub ForgedDeltasOversell : Type 0
@@ -49,7 +52,8 @@ ForgedDeltasOversell = NeverOversellIf (λ books entry. Unit {0}) → ⊥
 -- a peer's delta is at or below what some legal history of that peer has, be it the one that it ends with or another
 abbrev pub WasHeldOnce : List BookView → Entry → Type 0
 WasHeldOnce books (Joined peer delta) =
-    (sender copy : BookView) × (slice_get books peer ≡ Some sender) × (copy.office ≡ sender.office) × IsLegal copy.office copy.history × AtOrBelow delta (state_of copy.history)
+    (sender copy : BookView) × (slice_get books peer ≡ Some sender) × (copy.office ≡ sender.office) × IsLegal copy.office copy.history
+    × AtOrBelow delta (state_of copy.history)
 WasHeldOnce books _ = Unit {0}
 
 -- Some legal histories oversell if a delta may be of another history of its sender, as after a copy of its file went on beside it.

@@ -116,7 +116,8 @@ moved s c = record { books = set s.books c.site c.after; given = with_given s.gi
 -- The calls are made one after the other: each finds its site as the one before left it, and does to it what may happen.
 abbrev pub RunsBy : {K : Type 0} → (List Message → SiteView K → Call → SiteView K → Type 0) → List (CallAt K) → Sites K → Sites K → Type 0
 RunsBy May [] s end = end ≡ s
-RunsBy {K} May (c ∷ calls) s end = (old : SiteView K) × (slice_get s.books c.site ≡ Some old) × May s.given old c.call c.after × RunsBy May calls (moved s c) end
+RunsBy {K} May (c ∷ calls) s end = (old : SiteView K) × (slice_get s.books c.site ≡ Some old) × May s.given old c.call c.after
+    × RunsBy May calls (moved s c) end
 
 abbrev pub Runs : {K : Type 0} → Keeping K → List (CallAt K) → Sites K → Sites K → Type 0
 Runs k calls s end = RunsBy (Happens k) calls s end
@@ -153,4 +154,5 @@ IsRun {K} k s = (begin : Sites K) × AreNew k begin × (calls : List (CallAt K))
 
 -- a call at one of the sites leads from these to those
 abbrev pub Moves : {K : Type 0} → Keeping K → Sites K → ℕ → Call → Sites K → Type 0
-Moves {K} k s i call now = (old new : SiteView K) × (slice_get s.books i ≡ Some old) × Happens k s.given old call new × (now ≡ moved s (record { site = i; call = call; after = new }))
+Moves {K} k s i call now = (old new : SiteView K) × (slice_get s.books i ≡ Some old) × Happens k s.given old call new
+    × (now ≡ moved s (record { site = i; call = call; after = new }))

@@ -2,6 +2,7 @@
 ghost use Rattle.site_runs.specs.Copies.{CallsAreOfCopies, CopiesNeverOversell, LossIsARestart};
 ghost use Rattle.site_runs.specs.Premises.{ForgedDeltasOversell, ForgedMessagesOversell, SecondHistoriesOversell, TwoCopiesOversell};
 ghost use Rattle.site_runs.specs.Runs.{BooksNeverOversold};
+ghost use Rattle.site_runs.specs.Shares.{OwnShareIsLeft, SharesAddUp};
 ghost use Rattle.site_runs.specs.Steps.{BooksAgreeOnceAcknowledged, RunsAreSteps, RunsKeepPromises};
 
 use history_keeper::Keeper;
@@ -27,7 +28,7 @@ pub fn books_agree_once_acknowledged<K: Keeper>()
     ensures { BooksAgreeOnceAcknowledged K.Keeper }
 {}
 
-/// Nor do sites that keep two copies of their history, if at any moment one of a site's two is lost and it goes on from what
+/// Nor do sites that keep two copies of their history, if after any step one of a site's two is lost and it goes on from what
 /// the other may leave: that is a restart of the run, of what the site had.
 pub fn sites_with_two_copies_never_oversell<K: Keeper>()
     ensures calls { CallsAreOfCopies K.Keeper }
@@ -53,4 +54,11 @@ pub fn forged_deltas_oversell()
 /// That a site has one history is needed: if a delta may be of another legal one, the same seats are sold twice.
 pub fn second_histories_oversell()
     ensures { SecondHistoriesOversell }
+{}
+
+/// What a site may sell by its view, of each site, adds up to the open seats, where the view is possible; where it is not,
+/// some row has none. The row of the site itself is what it has left.
+pub fn shares_add_up()
+    ensures seats { SharesAddUp }
+    ensures own { OwnShareIsLeft }
 {}

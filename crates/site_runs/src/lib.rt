@@ -6,9 +6,14 @@
 //! shape of the definition.
 //!
 //! Guaranteed (`laws`): each run is a list of steps of a world that shows the same; so no run oversells, and no more is
-//! given back than was sold. The same holds if sites keep two copies, of which either is lost at any moment. `books` has
-//! books of several sites as one value that keeps this, whatever is done with it; `calls` has a start and a message given
-//! as calls of a run. For callers: `proofs::Growing` (one call more).
+//! given back than was sold. The same holds if sites keep two copies, of which either is lost after any step. By one book,
+//! what each site may sell adds up to the open seats, where its view is possible. `books` has books of several sites as
+//! one value that keeps this, whatever is done with it; `calls` has a start and a message given as calls of a run. For
+//! callers: `proofs::Growing` (one call more).
+//!
+//! A new call is a variant of `Call` and a case of `Happens`, and of `adds` or `given_by` where it adds or gives
+//! (`specs/Runs.antt`), with the step that it is (`specs/Steps.antt`) and its proof in `proofs/Moves.antt` or beside
+//! it.
 #![tactic(auto)]
 
 pub mod books;

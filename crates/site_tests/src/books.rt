@@ -1,14 +1,14 @@
 //! What a site's book is told and tells, as text.
 
 use crate::said::{
-    Office, Say, book_of, failing_book, message, put_due, put_grown, put_taken, site, sites,
+    Say, SiteNumbers, book_of, failing_book, message, put_due, put_grown, put_taken, site, sites,
     try_book_of,
 };
 use book_core::Book;
 use delta_buffer::Pending;
 use delta_wire::delta_text;
 use history_keeper::ListKeeper;
-use session_server::{AtBook, Ended, talk};
+use session_server::{BookAnswerer, Ended, talk};
 use site_desk::SiteBook;
 use std::alloc::Global;
 use std::process::Abort;
@@ -22,7 +22,7 @@ pub(crate) fn talked(
     lines: &[u8],
     out: &mut Vec<u8>,
 ) -> SiteBook<ListKeeper> {
-    let mut answerer = AtBook::new(alloc, book);
+    let mut answerer = BookAnswerer::new(alloc, book);
     let ended = talk(rt, alloc, lines, out, &mut answerer);
     assert!(rt; ended == Ok(Ended::EndOfInput));
     answerer.into_book()
@@ -42,7 +42,7 @@ pub(crate) fn due(
 
 fn restarted(
     alloc: Global,
-    office: Office,
+    office: SiteNumbers,
     book: SiteBook<ListKeeper>,
 ) -> Option<SiteBook<ListKeeper>> {
     let entries = book.into_keeper().into_entries();
@@ -53,7 +53,7 @@ fn restarted(
 fn told(
     rt: &(impl Abort + Wait),
     alloc: Global,
-    office: Office,
+    office: SiteNumbers,
     mut book: SiteBook<ListKeeper>,
     say: Say,
     out: &mut Vec<u8>,
@@ -72,7 +72,7 @@ fn told(
 fn says(
     rt: &(impl Abort + Wait),
     alloc: Global,
-    office: Office,
+    office: SiteNumbers,
     mut book: SiteBook<ListKeeper>,
     all: &[Say],
 ) -> Vec<u8> {
@@ -83,7 +83,7 @@ fn says(
     out
 }
 
-const ONE: Office = Office {
+const ONE: SiteNumbers = SiteNumbers {
     me: 1,
     among: 2,
     limit: 1000,
@@ -121,7 +121,7 @@ fn book_meets_messages(rt: HostRuntime) {
 #[test]
 fn cession_goes_from_book_to_book(rt: HostRuntime) {
     let alloc = rt.alloc();
-    let zero = Office {
+    let zero = SiteNumbers {
         me: 0,
         among: 2,
         limit: 1000,

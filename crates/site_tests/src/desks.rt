@@ -2,11 +2,13 @@
 ghost use Rattle.std.specs.Prelude.{◌≡◌, ◌<◌};
 
 use crate::ends::{End, finish};
-use crate::said::{Office, Say, book_of, failing_book, message, put, put_due, put_taken, site};
+use crate::said::{
+    Say, SiteNumbers, book_of, failing_book, message, put, put_due, put_taken, site,
+};
 use history_keeper::ListKeeper;
 use plain_words::numbered;
 use request_ledger::Reply;
-use session_server::{AtDesk, Ended, talk};
+use session_server::{Ended, SeatAnswerer, talk};
 use site_desk::{Desk, FinishFault, Gate, Opens, Place, Receipt, Seat, Seen, SiteBook};
 use std::alloc::Global;
 use std::marker::Brand;
@@ -66,7 +68,7 @@ fn talked<R: Wait + Abort, L: Opens>(
     given: &mut Given,
     out: &mut Vec<u8>,
 ) -> Seat<L> {
-    let mut at = AtDesk::new(alloc, desk, gate, 0, seat);
+    let mut at = SeatAnswerer::new(alloc, desk, gate, 0, seat);
     let ended = talk(rt, alloc, lines, out, &mut at);
     assert!(rt; ended == Ok(Ended::EndOfInput));
     let (seat, receipts, looks) = at.into_parts();
@@ -201,7 +203,7 @@ fn says(
     out
 }
 
-const ONE: Office = Office {
+const ONE: SiteNumbers = SiteNumbers {
     me: 1,
     among: 2,
     limit: 4,

@@ -2,7 +2,7 @@
 ghost use Rattle.std.specs.Prelude.{◌≡◌, ◌<◌};
 
 use crate::books::talked;
-use crate::said::{Office, book_of, failing_book, message, put, put_due, site};
+use crate::said::{SiteNumbers, book_of, failing_book, message, put, put_due, site};
 use history_keeper::ListKeeper;
 use link_queue::{Rx, Tx, link};
 use plain_words::numbered;
@@ -108,7 +108,7 @@ fn met<R: Threads + Wait + Abort + Sync>(
     out
 }
 
-const ZERO: Office = Office {
+const ZERO: SiteNumbers = SiteNumbers {
     me: 0,
     among: 2,
     limit: 10,

@@ -2,10 +2,10 @@
 //!
 //! Each test ends by itself, and finds the same whatever the schedule.
 ghost use Rattle.std.specs.Prelude.{◌≡◌};
-ghost use Rattle.live_office.specs.declared.door.Access.TheVariants.{Session, Office as AllLines};
+ghost use Rattle.live_office.specs.declared.door.Access.TheVariants.{Session, Operator as AllLines};
 
 use crate::books::talked;
-use crate::said::{Office, book_of};
+use crate::said::{SiteNumbers, book_of};
 use history_keeper::ListKeeper;
 use live_office::{Access, Call, Closing, Door, Gauge, Sparing, open_office};
 use rights_lattice::Event;
@@ -135,13 +135,13 @@ impl<'a, T: Wait> Door<Sends<'a>, Page<'a, T>> for OperatorsDoor<'a, T> {
 
     fn next<U: Wait + Clock>(&self, rt: &U) -> Option<Call<Sends<'a>, Page<'a, T>>> {
         let (reader, writer) = self.0.next(rt)?;
-        Some(Call::new(Access::Office, reader, writer))
+        Some(Call::new(Access::Operator, reader, writer))
     }
 }
 
 // The book of site 0 of two after these lines.
 fn book_after(rt: &(impl Abort + Wait), alloc: Global, lines: &[u8]) -> SiteBook<ListKeeper> {
-    let office = Office {
+    let office = SiteNumbers {
         me: 0,
         among: 2,
         limit: 1000,

@@ -5,7 +5,7 @@ ghost use Rattle.std.specs.Prelude.{◌≡◌, ◌<◌};
 
 use crate::books::talked;
 use crate::ends::finish;
-use crate::said::{Office, book_of, put};
+use crate::said::{SiteNumbers, book_of, put};
 use history_keeper::ListKeeper;
 use plain_words::numbered;
 use session_server::{Ended, Session, SessionEnd, TalkFault, serve_all};
@@ -271,7 +271,7 @@ fn served<R: Threads + Wait + Abort + Sync, G: Gate + Sync>(
     gate: &G,
 ) -> Vec<u8> {
     let mut out = Vec::new(alloc);
-    let zero = Office {
+    let zero = SiteNumbers {
         me: 0,
         among: 2,
         limit: 1000,

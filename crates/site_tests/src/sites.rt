@@ -4,7 +4,7 @@
 ghost use Rattle.std.specs.Prelude.{◌≡◌, ◌<◌};
 
 use crate::books::{due, talked};
-use crate::said::{Office, book_of, put};
+use crate::said::{SiteNumbers, book_of, put};
 use history_keeper::ListKeeper;
 use plain_words::numbered;
 use session_server::{LinkEnd, Site, SiteEnd, Visit, run_all};
@@ -38,7 +38,7 @@ fn site_of(
     let book = book_of(
         rt,
         alloc,
-        Office {
+        SiteNumbers {
             me,
             among,
             limit: one.limit,

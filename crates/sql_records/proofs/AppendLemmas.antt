@@ -27,7 +27,7 @@ use Rattle.history_keeper.specs.declared.meta.Meta.{Meta}
 use Rattle.sql_records.specs.Texts.{insert_text}
 use Rattle.sql_records.specs.Layout.{IsOurs, ours_and, HasMeta, meta_shown}
 use Rattle.sql_records.specs.Rows.{event_column, amount_column, target_column, rest_column, columns_of, stored, shown, IsStorable, entry_of, in_order, AreWhole}
-use Rattle.sql_records.specs.Held.{IsAdding, IsAtRest, IsSiteIn, MayLeaveIn, LeavesSite, history_in, opened_in, rows_in}
+use Rattle.sql_records.specs.Held.{HasMore, IsAdding, IsAtRest, IsSiteIn, MayLeaveIn, LeavesSite, Stores, history_in, opened_in, rows_in}
 use Rattle.history_keeper.specs.Keeping.{LeavesWithOrWithout}
 use Rattle.sql_records.proofs.MakeLemmas.{was_clean}
 use Rattle.sql_records.proofs.EntryBack.{entry_back}
@@ -35,7 +35,8 @@ use Rattle.sql_records.proofs.RowLemmas.{put_next, whole_next, entries_next, rea
 use Rattle.sql_records.proofs.InsertLemmas.{insert_command, insert_is, insert_plain, cast_int, cast_null, Inserted, inserts}
 
 -- what a statement with no RETURNING commits
-pub commits_as : (sql : List ℕ) (params : Row) (s : State) (schema : Schema) → s.now.schema ≡ schema → (command : Command) → command_of (understood schema sql) ≡ command → IsPlain (understood schema sql)
+pub commits_as : (sql : List ℕ) (params : Row) (s : State) (schema : Schema) → s.now.schema ≡ schema → (command : Command)
+    → command_of (understood schema sql) ≡ command → IsPlain (understood schema sql)
     → (db : Trees) → CommitsBy sql params s db → MayCommit s None command (statement_of sql (understood schema sql)) params db
 unfolding CommitsBy
 commits_as sql params s schema has command is plain db h =
@@ -79,16 +80,20 @@ rest_fits (TooMany rest) = cast_int rest
 rest_fits ToSelf = cast_null
 rest_fits NoSite = cast_null
 
-inserts_entry : (place : ℕ) (entry : Entry) (limit : Option ℕ) (mode : Mode) (schema : Schema) (old : Trees) (after : Database) (text : List ℕ) (tally : Tally) (ours : IsOurs schema)
+inserts_entry : (place : ℕ) (entry : Entry) (limit : Option ℕ) (mode : Mode) (schema : Schema) (old : Trees) (after : Database) (text : List ℕ)
+    (tally : Tally) (ours : IsOurs schema)
     → Does limit mode (columns_of place entry) (record { schema = schema; trees = old }) text None insert_command (Ok (tally, after))
     → Inserted (stored (columns_of place entry)) (ours_and ours.tables ours.indexes ours.views) (record { schema = schema; trees = old }) after
 inserts_entry place (Asked number request reply delta) limit mode schema old after text tally has h =
-    inserts place Null (Int (pos number)) _ (event_column request) (amount_column request) (target_column request) _ (rest_column reply) _ cast_null (cast_int number) (amount_fits request) (target_fits request) (rest_fits reply)
+    inserts place Null (Int (pos number)) _ (event_column request) (amount_column request) (target_column request) _ (rest_column reply) _ cast_null
+    (cast_int number) (amount_fits request) (target_fits request) (rest_fits reply)
     refl (event_fits request) refl refl limit mode schema old after text tally has h
 inserts_entry place (Joined peer delta) limit mode schema old after text tally has h =
-    inserts place (Int (pos peer)) Null Null Null Null Null Null Null _ (cast_int peer) cast_null cast_null cast_null cast_null refl refl refl refl limit mode schema old after text tally has h
+    inserts place (Int (pos peer)) Null Null Null Null Null Null Null _ (cast_int peer) cast_null cast_null cast_null cast_null refl refl refl refl limit
+    mode schema old after text tally has h
 inserts_entry place (Grown sites) limit mode schema old after text tally has h =
-    inserts place Null Null _ Null Null (Int (pos sites)) Null Null _ cast_null cast_null cast_null (cast_int sites) cast_null refl refl refl refl limit mode schema old after text tally has h
+    inserts place Null Null _ Null Null (Int (pos sites)) Null Null _ cast_null cast_null cast_null (cast_int sites) cast_null refl refl refl refl limit
+    mode schema old after text tally has h
 
 placed : (place : ℕ) (entry : Entry) → column (stored (columns_of place entry)) 0 ≡ Int (pos place)
 placed place (Asked number request reply delta) = refl
@@ -108,8 +113,11 @@ record Appended (place : ℕ) (entry : Entry) (old : Trees) (after : Database) :
   history : history_in after.trees ≡ history_in old ++ entry ∷ []
   meta : after.trees 0 ≡ old 0
 
-appends : (place : ℕ) (entry : Entry) (limit : Option ℕ) (mode : Mode) (schema : Schema) (old : Trees) (after : Database) (text : List ℕ) (tally : Tally) → IsOurs schema → IsStorable entry
-    → AreWhole 0 (rows_in old) → length (rows_in old) ≡ place → Does limit mode (columns_of place entry) (record { schema = schema; trees = old }) text None insert_command (Ok (tally, after)) → Appended place entry old after
+appends : (place : ℕ) (entry : Entry) (limit : Option ℕ) (mode : Mode) (schema : Schema) (old : Trees) (after : Database) (text : List ℕ) (tally : Tally)
+    → IsOurs schema → IsStorable entry
+    → AreWhole 0 (rows_in old) → length (rows_in old) ≡ place
+    → Does limit mode (columns_of place entry) (record { schema = schema; trees = old }) text None insert_command (Ok (tally, after))
+    → Appended place entry old after
 appends place entry limit mode schema old after text tally has fits whole count h =
     let it = inserts_entry place entry limit mode schema old after text tally has h in
     let new = stored (columns_of place entry) in
@@ -125,14 +133,16 @@ appends place entry limit mode schema old after text tally has fits whole count 
     }
 
 module _ (place : ℕ) (entry : Entry) (fits : IsStorable entry) (old new : State) (rest : IsAtRest old place) where
-  insert_ok : (count : ℕ) → Executes insert_text (columns_of place entry) old new (Ok count) → IsAtRest new (place + 1) × (history_in new.now.trees ≡ history_in old.now.trees ++ entry ∷ []) × (new.now.trees 0 ≡ old.now.trees 0)
+  insert_ok : (count : ℕ) → Executes insert_text (columns_of place entry) old new (Ok count)
+      → IsAtRest new (place + 1) × (history_in new.now.trees ≡ history_in old.now.trees ++ entry ∷ []) × (new.now.trees 0 ≡ old.now.trees 0)
   insert_ok count h =
       let ours = rest.schema in
       let all = ours_and ours.tables ours.indexes ours.views in
       let command = insert_is ours.tables ours.indexes ours.views in
       let plain = insert_plain ours.tables ours.indexes ours.views in
       let w = runs_as insert_text (columns_of place entry) old new all ours.is insert_command command plain count h in
-      let it = appends place entry old.step_limit (mode_of old) old.now.schema old.now.trees new.now (statement_of insert_text (understood all insert_text)) w.tally ours fits rest.whole rest.counted w.changed in (
+      let it = appends place entry old.step_limit (mode_of old) old.now.schema old.now.trees new.now
+      (statement_of insert_text (understood all insert_text)) w.tally ours fits rest.whole rest.counted w.changed in (
         record {
           is_open = w.shown.is_open;
           autocommit = w.shown.mode ∙ rest.autocommit;
@@ -146,7 +156,8 @@ module _ (place : ℕ) (entry : Entry) (fits : IsStorable entry) (old new : Stat
         it.meta,
       )
 
-  never_ends : ((insert_command ≡ Commit) ⊎ ((name : List ℕ) × (at : ℕ) × (insert_command ≡ Release name) × IsNewestNamed (names_in old) name at × IsTrue (begins_at old at))) → ⊥
+  never_ends : ((insert_command ≡ Commit)
+      ⊎ ((name : List ℕ) × (at : ℕ) × (insert_command ≡ Release name) × IsNewestNamed (names_in old) name at × IsTrue (begins_at old at))) → ⊥
   never_ends (inl is) = cc
   never_ends (inr release) = let is = release.2 in cc
 
@@ -168,19 +179,26 @@ module _ (place : ℕ) (entry : Entry) (fits : IsStorable entry) (old new : Stat
         | inr writes ↦ record {
           after = writes.2;
           trees = writes.5;
-          adds = appends place entry old.step_limit (mode_of old) old.now.schema old.now.trees writes.2 (statement_of insert_text (understood all insert_text)) writes.1 ours fits rest.whole rest.counted writes.3;
+          adds = appends place entry old.step_limit (mode_of old) old.now.schema old.now.trees writes.2
+              (statement_of insert_text (understood all insert_text)) writes.1 ours fits rest.whole rest.counted writes.3;
           sound = writes.4;
         }
       ]
 
-module _ (place : ℕ) (entry : Entry) (fits : IsStorable entry) (row : Row) (is : row ≡ columns_of place entry) (old new : State) (rest : HasCleanDisk old → IsAtRest old place) (Commits : Trees → Type 0)
+module _ (place : ℕ) (entry : Entry) (fits : IsStorable entry) (row : Row) (is : row ≡ columns_of place entry) (old new : State) (rest : HasCleanDisk old
+    → IsAtRest old place) (Commits : Trees → Type 0)
     (survives : Survives old new Commits) (commits : (db : Trees) → Commits db → CommitsBy insert_text row old db) where
   pub insert_rests : (r : Result ℕ Error) → (HasCleanDisk new → Executes insert_text row old new r) → HasCleanDisk new → OnOk r (IsAtRest new (place + 1))
-  insert_rests (Ok count) runs clean = (insert_ok place entry fits old new (rest (was_clean old new _ survives clean)) count (subst (λ p. Executes insert_text p old new (Ok count)) is (runs clean))).0
+  insert_rests (Ok count) runs clean
+      = (insert_ok place entry fits old new (rest (was_clean old new _ survives clean)) count
+      (subst (λ p. Executes insert_text p old new (Ok count)) is (runs clean))).0
   insert_rests (Err e) runs clean = tt
 
-  pub insert_adds : (r : Result ℕ Error) → (HasCleanDisk new → Executes insert_text row old new r) → HasCleanDisk new → OnOk r (history_in new.now.trees ≡ history_in old.now.trees ++ entry ∷ [])
-  insert_adds (Ok count) runs clean = (insert_ok place entry fits old new (rest (was_clean old new _ survives clean)) count (subst (λ p. Executes insert_text p old new (Ok count)) is (runs clean))).1
+  pub insert_adds : (r : Result ℕ Error) → (HasCleanDisk new → Executes insert_text row old new r) → HasCleanDisk new
+      → OnOk r (history_in new.now.trees ≡ history_in old.now.trees ++ entry ∷ [])
+  insert_adds (Ok count) runs clean
+      = (insert_ok place entry fits old new (rest (was_clean old new _ survives clean)) count
+      (subst (λ p. Executes insert_text p old new (Ok count)) is (runs clean))).1
   insert_adds (Err e) runs clean = tt
 
   -- `only` is the law of the store: while it is open, a crash leaves the last commit
@@ -208,23 +226,45 @@ module _ (place : ℕ) (entry : Entry) (fits : IsStorable entry) (row : Row) (is
               let it = commit_adds place entry fits old new at_rest db (subst (λ p. CommitsBy insert_text p old db) is (commits db commit)) in
               let were = had old.committed.trees (stays at_rest.is_open) in
               let now : HasMeta meta old.now.trees = subst (λ (d : Database). HasMeta meta d.trees) at_rest.settled were.numbers in
-              subst (IsSiteIn meta) (sym it.trees) (record { schema = it.after.schema; ours = it.adds.schema; sound = it.sound; numbers = ap (map meta_shown) it.adds.meta ∙ now; within = were.within }))
+              subst (IsSiteIn meta) (sym it.trees)
+              (record {
+                schema = it.after.schema;
+                ours = it.adds.schema;
+                sound = it.sound;
+                numbers = ap (map meta_shown) it.adds.meta
+                    ∙ now;
+                within = were.within;
+              }))
         ]
 
-  pub insert_meta : (r : Result ℕ Error) → (HasCleanDisk new → Executes insert_text row old new r) → HasCleanDisk new → OnOk r (new.now.trees 0 ≡ old.now.trees 0)
-  insert_meta (Ok count) runs clean = (insert_ok place entry fits old new (rest (was_clean old new _ survives clean)) count (subst (λ p. Executes insert_text p old new (Ok count)) is (runs clean))).2
-  insert_meta (Err e) runs clean = tt
+  pub insert_more : (count : ℕ) → (HasCleanDisk new → Executes insert_text row old new (Ok count)) → HasCleanDisk new → HasMore old new place (entry ∷ [])
+  insert_more count runs clean = record { rest = insert_rests (Ok count) runs clean; added = insert_adds (Ok count) runs clean }
+
+  -- a call whose result is that of the INSERT
+  pub insert_stores : {T : Type 0} → ((db : Trees) → IsTrue old.is_open → old.may_leave db → db ≡ old.committed.trees)
+      → (IsTrue old.is_open → old.may_leave old.committed.trees)
+      → (result : Result T Error) → (HasCleanDisk new → OnOk result (HasMore old new place (entry ∷ []))) → HasCleanDisk new
+      → Stores old new place (entry ∷ []) result
+  insert_stores only stays result more clean = record {
+    clean = was_clean old new _ survives clean;
+    more = more clean;
+    crash = insert_leaves only clean;
+    site = insert_site only stays clean;
+  }
 
 -- the same INSERT in a transaction, which shows one entry more and commits nothing
 module _ (place : ℕ) (entry : Entry) (fits : IsStorable entry) (row : Row) (is : row ≡ columns_of place entry) (old new : State) where
-  pub insert_inside : (count : ℕ) → ExecutesInside 0 insert_text row old new (Ok count) → (begun : Database) (added : List Entry) → IsAdding begun old place added → IsAdding begun new (place + 1) (added ++ entry ∷ [])
+  pub insert_inside : (count : ℕ) → ExecutesInside 0 insert_text row old new (Ok count) → (begun : Database) (added : List Entry)
+      → IsAdding begun old place added → IsAdding begun new (place + 1) (added ++ entry ∷ [])
   insert_inside count h begun added rest =
       let ours = rest.schema in
       let all = ours_and ours.tables ours.indexes ours.views in
       let command = insert_is ours.tables ours.indexes ours.views in
       let plain = insert_plain ours.tables ours.indexes ours.views in
-      let w = runs_as insert_text (columns_of place entry) old new all ours.is insert_command command plain count (subst (λ p. Executes insert_text p old new (Ok count)) is h.0) in
-      let it = appends place entry old.step_limit (mode_of old) old.now.schema old.now.trees new.now (statement_of insert_text (understood all insert_text)) w.tally ours fits rest.whole rest.counted w.changed in
+      let w = runs_as insert_text (columns_of place entry) old new all ours.is insert_command command plain count
+      (subst (λ p. Executes insert_text p old new (Ok count)) is h.0) in
+      let it = appends place entry old.step_limit (mode_of old) old.now.schema old.now.trees new.now
+      (statement_of insert_text (understood all insert_text)) w.tally ours fits rest.whole rest.counted w.changed in
       record {
         is_open = h.1.is_open;
         inside = h.1.mode;

@@ -19,7 +19,8 @@ found : (ops : List Op) (at : ℕ) (op : Op) → slice_get ops at ≡ Some op �
 found ops at op e = sym (unwrap_or-slice_get ops at (Literal Null)) ∙ ap (λ o. unwrap_or o (Literal Null)) e
 
 -- a node that is no literal null is there
-there : (ops : List Op) (at : ℕ) (op : Op) → (o : Option Op) → slice_get ops at ≡ o → unwrap_or o (Literal Null) ≡ op → (op ≡ Literal Null → ⊥) → slice_get ops at ≡ Some op
+there : (ops : List Op) (at : ℕ) (op : Op) → (o : Option Op) → slice_get ops at ≡ o → unwrap_or o (Literal Null) ≡ op → (op ≡ Literal Null → ⊥)
+    → slice_get ops at ≡ Some op
 there ops at op None is e other = absurd (other (sym e))
 there ops at op (Some x) is e other = is ∙ ap Some e
 
@@ -48,7 +49,8 @@ equality_of (Binary (Compare Eq Bytewise) a b) left right e = let p : ◌≡◌ 
 equality_of _ left right e = absurd cc
 
 -- the node of an equality, over the terms of its sides
-sides_in : (below : ℕ → Term) (op : Op) → op_term below op ≡ one_is_1 → (left right : ℕ) × (op ≡ equality left right) × (below left ≡ col 1 0) × (below right ≡ lit (Int (pos 1)))
+sides_in : (below : ℕ → Term) (op : Op) → op_term below op ≡ one_is_1 → (left right : ℕ) × (op ≡ equality left right) × (below left ≡ col 1 0)
+    × (below right ≡ lit (Int (pos 1)))
 sides_in below (Literal v) e = absurd cc
 sides_in below (Column slot at) e = absurd cc
 sides_in below (Unary op a) e = absurd cc
@@ -76,10 +78,12 @@ check_to [] at long e = absurd (omega (arith, long))
 check_to (x ∷ []) at long e = absurd (omega (arith, long))
 check_to (x ∷ y ∷ more) at long e = deep_to (x ∷ y ∷ more) at (length more) e
 
-deep_from : (ops : List Op) (at left right n : ℕ) → slice_get ops at ≡ Some (equality left right) → AreOneAnd1 ops left right → term_to ops (suc (suc n)) at ≡ one_is_1
+deep_from : (ops : List Op) (at left right n : ℕ) → slice_get ops at ≡ Some (equality left right) → AreOneAnd1 ops left right
+    → term_to ops (suc (suc n)) at ≡ one_is_1
 deep_from ops at left right n is h = rw (found ops at _ is, found ops left _ h.0, found ops right _ h.1) refl
 
-pub check_from : (ops : List Op) (at left right : ℕ) → 2 ≤ length ops → slice_get ops at ≡ Some (equality left right) → AreOneAnd1 ops left right → term_in ops at ≡ one_is_1
+pub check_from : (ops : List Op) (at left right : ℕ) → 2 ≤ length ops → slice_get ops at ≡ Some (equality left right) → AreOneAnd1 ops left right
+    → term_in ops at ≡ one_is_1
 check_from [] at left right long is h = absurd (omega (arith, long))
 check_from (x ∷ []) at left right long is h = absurd (omega (arith, long))
 check_from (x ∷ y ∷ more) at left right long is h = deep_from (x ∷ y ∷ more) at left right (length more) is h

@@ -87,6 +87,7 @@ asks (Cede e to n) = refl
 -- what was written for an entry is read as that entry
 pub entry_back : (at : ℕ) (entry : Entry) → IsStorable entry → entry_of (columns_of at entry) ≡ Some entry
 unfolding entry_of asked_of joined_of grown_of
-entry_back at (Asked number request reply delta) h = rw (delta_back delta h.3 h.4, asks request, value_back number h.0, request_back request h.1, reply_back reply h.2) refl
+entry_back at (Asked number request reply delta) h = rw
+    (delta_back delta h.3 h.4, asks request, value_back number h.0, request_back request h.1, reply_back reply h.2) refl
 entry_back at (Joined peer delta) h = rw (delta_back delta h.1 h.2, site_back peer h.0) refl
 entry_back at (Grown sites) h = rw (none_back, within_back 1 most_sites sites h.0 h.1) refl

@@ -56,7 +56,8 @@ pub record IsRun (schema : Schema) (sql : List ℕ) (params : Row) : Type 0 wher
   pub typed : accepts_program schema (lets_of program) program.body params ≡ true
   pub small : (db : Trees) → ¬ ProgramOverflows db params [] (lets_of program) program.body
 
-refused : (limit : Option ℕ) (db : Database) (program : Program) (params : Row) (e : Error) → accepts_program db.schema (lets_of program) program.body params ≡ true
+refused : (limit : Option ℕ) (db : Database) (program : Program) (params : Row) (e : Error)
+    → accepts_program db.schema (lets_of program) program.body params ≡ true
     → ¬ ProgramOverflows db.trees params [] (lets_of program) program.body → RefusesQuery limit db program params e → IsSome limit
 refused limit db program params e typed small (inl untyped) = absurd (let never = sym typed ∙ untyped.1 in cc)
 refused limit db program params e typed small (inr (inl overflow)) = absurd (small overflow.1)
@@ -132,7 +133,8 @@ module _ (sql : List ℕ) (params : Row) (old new : State) (schema : Schema) (ha
       inl it.3
 
 -- the fault that is told of it
-pub told_fault : {F : Type 0} (Is : F → Type 0) (memory disk : F) (old new : State) (e : Error) → (e ≡ SqliteFailure code.OutOfMemory → Is memory) → (HasDiskCause old new → Is disk) → Caused old new e → Is (told memory disk e)
+pub told_fault : {F : Type 0} (Is : F → Type 0) (memory disk : F) (old new : State) (e : Error) → (e ≡ SqliteFailure code.OutOfMemory → Is memory)
+    → (HasDiskCause old new → Is disk) → Caused old new e → Is (told memory disk e)
 told_fault Is memory disk old new e m d (inl is) = subst Is (sym (ap (told memory disk) is)) (m is)
 told_fault Is memory disk old new (SqliteFailure code.OutOfMemory) m d (inr cause) = m refl
 told_fault Is memory disk old new _ m d (inr cause) = d cause
@@ -141,6 +143,7 @@ pub never_folded : {X : Type 0} (xs : List X) → Any (λ x. ⊥) xs → ⊥
 never_folded xs h = h.4
 
 -- an error is want of memory or another, and is told as it is
-pub told_either : {F : Type 0} (memory disk : F) (e : Error) → ((e ≡ SqliteFailure code.OutOfMemory) × (told memory disk e ≡ memory)) ⊎ ((e ≢ SqliteFailure code.OutOfMemory) × (told memory disk e ≡ disk))
+pub told_either : {F : Type 0} (memory disk : F) (e : Error) → ((e ≡ SqliteFailure code.OutOfMemory) × (told memory disk e ≡ memory))
+    ⊎ ((e ≢ SqliteFailure code.OutOfMemory) × (told memory disk e ≡ disk))
 told_either memory disk (SqliteFailure code.OutOfMemory) = inl (refl, refl)
 told_either memory disk _ = inr ((λ is. cc), refl)

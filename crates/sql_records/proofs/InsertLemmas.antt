@@ -41,7 +41,8 @@ terms = col 0 0 ∷ lit Null ∷ col 0 1 ∷ col 0 2 ∷ col 0 3 ∷ col 0 4 ∷
 abbrev pub insert_command : Command
 insert_command = Insert 1 (Values terms 11)
 
-pub insert_is : (more : List Table) (indexes : List Index) (views : List View) → command_of (understood (ours_and more indexes views) insert_text) ≡ insert_command
+pub insert_is : (more : List Table) (indexes : List Index) (views : List View)
+    → command_of (understood (ours_and more indexes views) insert_text) ≡ insert_command
 unfolding understood everything
 insert_is more indexes views = refl
 
@@ -81,14 +82,17 @@ pub record Inserted (row : Row) (schema : Schema) (db after : Database) : Type 0
   pub meta : after.trees 0 ≡ db.trees 0
 
 module _ (at : ℕ) (peer number verb event amount target reply rest delta : Value)
-    (peer_fits : cast Integer peer ≡ peer) (number_fits : cast Integer number ≡ number) (amount_fits : cast Integer amount ≡ amount) (target_fits : cast Integer target ≡ target) (rest_fits : cast Integer rest ≡ rest)
-    (verb_fits : cast Text verb ≡ verb) (event_fits : cast Text event ≡ event) (reply_fits : cast Text reply ≡ reply) (delta_fits : cast Text delta ≡ delta) where
+    (peer_fits : cast Integer peer ≡ peer) (number_fits : cast Integer number ≡ number) (amount_fits : cast Integer amount ≡ amount)
+    (target_fits : cast Integer target ≡ target) (rest_fits : cast Integer rest ≡ rest)
+    (verb_fits : cast Text verb ≡ verb) (event_fits : cast Text event ≡ event) (reply_fits : cast Text reply ≡ reply)
+    (delta_fits : cast Text delta ≡ delta) where
   abbrev params : Row
   params = Int (pos at) ∷ peer ∷ number ∷ verb ∷ event ∷ amount ∷ target ∷ reply ∷ rest ∷ delta ∷ []
 
   pub inserts : (limit : Option ℕ) (mode : Mode) (schema : Schema) (old : Trees) (after : Database) (text : List ℕ) (tally : Tally) (ours : IsOurs schema)
       → Does limit mode params (record { schema = schema; trees = old }) text None insert_command (Ok (tally, after))
-      → Inserted (Int (pos at) ∷ Null ∷ peer ∷ number ∷ verb ∷ event ∷ amount ∷ target ∷ reply ∷ rest ∷ delta ∷ []) (ours_and ours.tables ours.indexes ours.views) (record { schema = schema; trees = old }) after
+      → Inserted (Int (pos at) ∷ Null ∷ peer ∷ number ∷ verb ∷ event ∷ amount ∷ target ∷ reply ∷ rest ∷ delta ∷ [])
+      (ours_and ours.tables ours.indexes ours.views) (record { schema = schema; trees = old }) after
   inserts limit mode schema old after text tally ours h =
       let all = ours_and ours.tables ours.indexes ours.views in
       let done = went (subst (λ s. Does limit mode params (record { schema = s; trees = old }) text None insert_command (Ok (tally, after))) ours.is h) in
@@ -98,7 +102,8 @@ module _ (at : ℕ) (peer number verb event amount target reply rest delta : Val
       let counted = went written.2 in
       let trees : done.0.trees ≡ written.0 = ap (λ (it : Written). it.trees) (same_value counted.2) ∙ same_value counted.1 in
       let put = edit_of old (entries_at 1) [] Chosen 0 given.0 in
-      let step = one_step all mode.keys old written.0 put (no_work all mode.keys 0 1 (taken_by old put) put.news (meta_at 0 ∷ entries_at 1 ∷ ours.tables) (refl, (refl, ours.bare))) written.1 in
+      let step = one_step all mode.keys old written.0 put
+      (no_work all mode.keys 0 1 (taken_by old put) put.news (meta_at 0 ∷ entries_at 1 ∷ ours.tables) (refl, (refl, ours.bare))) written.1 in
       let tree = λ (t : ℕ). ap (λ (d : Database). d.trees t) now ∙ ap (λ (x : Trees). x t) trees in
       let edit : edited old (edit_of old (entries_at 1) [] Chosen 0 given.0)
       ≡ put_row (Int (pos at) ∷ Null ∷ peer ∷ number ∷ verb ∷ event ∷ amount ∷ target ∷ reply ∷ rest ∷ delta ∷ []) (old 1) =

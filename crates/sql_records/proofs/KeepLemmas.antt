@@ -17,8 +17,10 @@ use Rattle.sql_records.proofs.OpeningLemmas.{rest_count}
 pub told_keep : {S : Type 0} (g : Ghosts S) (old new : RecordsView S) (entry : Entry) (count : ℕ) (e : Error) → IsAtRest (state g old.conn) count
     → Executes insert_text (columns_of count entry) (state g old.conn) (state g new.conn) (Err e) → IsKeepFault g old new entry (told Memory Disk e)
 told_keep g old new entry count e rest h =
-    let at = subst (λ n. Executes insert_text (columns_of n entry) (state g old.conn) (state g new.conn) (Err e)) (sym (rest_count (state g old.conn) count rest)) h in
+    let at = subst (λ n. Executes insert_text (columns_of n entry) (state g old.conn) (state g new.conn) (Err e))
+    (sym (rest_count (state g old.conn) count rest)) h in
     elim (told_either Memory Disk e) [
-      | inl memory ↦ subst (IsKeepFault g old new entry) (sym memory.1) (inr (subst (λ x. Executes insert_text (columns_of (length (kept_in g old)) entry) (state g old.conn) (state g new.conn) (Err x)) memory.0 at))
+      | inl memory ↦ subst (IsKeepFault g old new entry) (sym memory.1)
+          (inr (subst (λ x. Executes insert_text (columns_of (length (kept_in g old)) entry) (state g old.conn) (state g new.conn) (Err x)) memory.0 at))
       | inr other ↦ subst (IsKeepFault g old new entry) (sym other.1) (inr (e, other.0, at))
     ]

@@ -21,3 +21,4 @@ pub mod UpdateLemmas
 pub mod VersionLemmas
 pub mod MigrateLemmas
 pub mod ReadsLemmas
+mod TurnLemmas

@@ -107,15 +107,20 @@ event_is word event amount target q e = let v = bind_some (verb_in word) (λ v. 
 
 abbrev HasParts : Row → Entry → Type 0
 HasParts values (Asked number request reply delta) =
-    (column values 2 ≡ Int (pos number)) × (positive_in (column values 2) ≡ Some number) × (request_in (column values 3) (column values 4) (column values 5) (column values 6) ≡ Some request) × (reply_in (column values 7) (column values 8) ≡ Some reply)
+    (column values 2 ≡ Int (pos number)) × (positive_in (column values 2) ≡ Some number)
+    × (request_in (column values 3) (column values 4) (column values 5) (column values 6) ≡ Some request)
+    × (reply_in (column values 7) (column values 8) ≡ Some reply)
 HasParts values (Joined peer delta) = (column values 2 ≡ Null) × (column values 4 ≡ Null)
 HasParts values (Grown sites) = (column values 2 ≡ Null) × (column values 4 ≡ Null)
 
 asked_parts : (values : Row) (delta : State) (e : Entry) → asked_of values delta ≡ Some e → HasParts values e
 unfolding asked_of
 asked_parts values delta e h =
-    let n = bind_some (positive_in (column values 2)) (λ n. request_in (column values 3) (column values 4) (column values 5) (column values 6) >>= λ q. reply_in (column values 7) (column values 8) >>= λ r. Some (Asked n q r delta)) e h in
-    let q = bind_some (request_in (column values 3) (column values 4) (column values 5) (column values 6)) (λ q. reply_in (column values 7) (column values 8) >>= λ r. Some (Asked n.0 q r delta)) e n.2 in
+    let n = bind_some (positive_in (column values 2))
+    (λ n. request_in (column values 3) (column values 4) (column values 5) (column values 6) >>= λ q. reply_in (column values 7) (column values 8) >>=
+    λ r. Some (Asked n q r delta)) e h in
+    let q = bind_some (request_in (column values 3) (column values 4) (column values 5) (column values 6))
+    (λ q. reply_in (column values 7) (column values 8) >>= λ r. Some (Asked n.0 q r delta)) e n.2 in
     let r = bind_some (reply_in (column values 7) (column values 8)) (λ r. Some (Asked n.0 q.0 r delta)) e q.2 in
     subst (HasParts values) (same_Some (Asked n.0 q.0 r.0 delta) e r.2) (within_found 1 greatest_value n.0 (column values 2) n.1, n.1, q.1, r.1)
 
@@ -196,21 +201,27 @@ found_kept k = record { place = k.place; reply = k.reply }
 abbrev IsFoundIn : ℕ → List Row → KeptByNumber → Type 0
 IsFoundIn n rows keeping = first_found (map found_columns (filter (has_number n) rows)) ≡ option_map Some (option_map found_kept (kept_under keeping n))
 
-found_reads : (from : ℕ) (values : Row) (reply : Reply) → column values 0 ≡ Int (pos from) → reply_in (column values 7) (column values 8) ≡ Some reply → found_of (found_columns values) ≡ Some (record { place = from; reply = reply })
+found_reads : (from : ℕ) (values : Row) (reply : Reply) → column values 0 ≡ Int (pos from) → reply_in (column values 7) (column values 8) ≡ Some reply
+    → found_of (found_columns values) ≡ Some (record { place = from; reply = reply })
 unfolding found_of
 found_reads from values reply at is = rw (at, is) refl
 
-none_found : (n : ℕ) (values : Row) (rows : List Row) (keeping : KeptByNumber) → column values 2 ≡ Null → IsFoundIn n rows keeping → IsFoundIn n (values ∷ rows) keeping
+none_found : (n : ℕ) (values : Row) (rows : List Row) (keeping : KeptByNumber) → column values 2 ≡ Null → IsFoundIn n rows keeping
+    → IsFoundIn n (values ∷ rows) keeping
 none_found n values rows keeping null more =
     let test : has_number n values ≡ false = ap (λ v. is_true (binary (Compare Eq Binary) v (Int (pos n)))) null ∙ no_number (Int (pos n)) in
     ap (λ b. first_found (map found_columns (cond b (values ∷ filter (has_number n) rows) (filter (has_number n) rows)))) test ∙ more
 
-one_found : (n from : ℕ) (values : Row) (rows : List Row) (e : Entry) (es : List Entry) → column values 0 ≡ Int (pos from) → HasParts values e → IsFoundIn n rows (asked_from (from + 1) es) → IsFoundIn n (values ∷ rows) (asked_from from (e ∷ es))
+one_found : (n from : ℕ) (values : Row) (rows : List Row) (e : Entry) (es : List Entry) → column values 0 ≡ Int (pos from) → HasParts values e
+    → IsFoundIn n rows (asked_from (from + 1) es) → IsFoundIn n (values ∷ rows) (asked_from from (e ∷ es))
 one_found n from values rows (Asked number request reply delta) es at h more =
     let test : has_number n values ≡ eqb number n = ap (λ v. is_true (binary (Compare Eq Binary) v (Int (pos n)))) h.0 ∙ same_number number n in
     let keeping = asked_from (from + 1) es in
     let kept : Kept = record { place = from; request = request; reply = reply } in
-    let step : (b : Bool) → first_found (map found_columns (cond b (values ∷ filter (has_number n) rows) (filter (has_number n) rows))) ≡ option_map Some (option_map found_kept (cond b (Some kept) (kept_under keeping n))) = λ b. elim b as (λ b. first_found (map found_columns (cond b (values ∷ filter (has_number n) rows) (filter (has_number n) rows))) ≡ option_map Some (option_map found_kept (cond b (Some kept) (kept_under keeping n)))) [
+    let step : (b : Bool) → first_found (map found_columns (cond b (values ∷ filter (has_number n) rows) (filter (has_number n) rows))) ≡ option_map Some
+    (option_map found_kept (cond b (Some kept) (kept_under keeping n))) = λ b.
+    elim b as (λ b. first_found (map found_columns (cond b (values ∷ filter (has_number n) rows) (filter (has_number n) rows))) ≡ option_map Some
+    (option_map found_kept (cond b (Some kept) (kept_under keeping n)))) [
       | true ↦ ap Some (found_reads from values reply at h.3)
       | false ↦ more
     ] in
@@ -241,29 +252,38 @@ reads_all (Some a) e = cc
 -- ---- looking up an event
 
 abbrev AreListedIn : List ℕ → List Row → KeptByNumber → Type 0
-AreListedIn name rows keeping = map listed_of (map listed_columns (filter (has_event name) rows)) ≡ map Some (map listing (filter (λ a. names_event name a.1.request) keeping))
+AreListedIn name rows keeping = map listed_of (map listed_columns (filter (has_event name) rows)) ≡ map Some
+    (map listing (filter (λ a. names_event name a.1.request) keeping))
 
-listed_reads : (from number : ℕ) (values : Row) (request : Request) (reply : Reply) → column values 0 ≡ Int (pos from) → positive_in (column values 2) ≡ Some number → request_in (column values 3) (column values 4) (column values 5) (column values 6) ≡ Some request
-    → reply_in (column values 7) (column values 8) ≡ Some reply → listed_of (listed_columns values) ≡ Some (record { place = from; number = number; request = request; reply = reply })
+listed_reads : (from number : ℕ) (values : Row) (request : Request) (reply : Reply) → column values 0 ≡ Int (pos from)
+    → positive_in (column values 2) ≡ Some number → request_in (column values 3) (column values 4) (column values 5) (column values 6) ≡ Some request
+    → reply_in (column values 7) (column values 8) ≡ Some reply
+    → listed_of (listed_columns values) ≡ Some (record { place = from; number = number; request = request; reply = reply })
 unfolding listed_of
 listed_reads from number values request reply at n q r = rw (at, n, q, r) refl
 
-none_listed : (name : List ℕ) (values : Row) (rows : List Row) (keeping : KeptByNumber) → column values 4 ≡ Null → AreListedIn name rows keeping → AreListedIn name (values ∷ rows) keeping
+none_listed : (name : List ℕ) (values : Row) (rows : List Row) (keeping : KeptByNumber) → column values 4 ≡ Null → AreListedIn name rows keeping
+    → AreListedIn name (values ∷ rows) keeping
 none_listed name values rows keeping null more =
     let test : has_event name values ≡ false = ap (λ v. is_true (binary (Compare Eq Binary) v (Text name))) null ∙ no_number (Text name) in
     ap (λ b. map listed_of (map listed_columns (cond b (values ∷ filter (has_event name) rows) (filter (has_event name) rows)))) test ∙ more
 
-one_listed : (name : List ℕ) (from : ℕ) (values : Row) (rows : List Row) (e : Entry) (es : List Entry) → column values 0 ≡ Int (pos from) → HasParts values e → AreListedIn name rows (asked_from (from + 1) es) → AreListedIn name (values ∷ rows) (asked_from from (e ∷ es))
+one_listed : (name : List ℕ) (from : ℕ) (values : Row) (rows : List Row) (e : Entry) (es : List Entry) → column values 0 ≡ Int (pos from)
+    → HasParts values e → AreListedIn name rows (asked_from (from + 1) es) → AreListedIn name (values ∷ rows) (asked_from from (e ∷ es))
 one_listed name from values rows (Asked number request reply delta) es at h more =
     let event = event_is (column values 3) (column values 4) (column values 5) (column values 6) request h.2 in
     let test : has_event name values ≡ names_event name request = ap (λ v. is_true (binary (Compare Eq Binary) v (Text name))) event ∙ names name request in
     let keeping = filter (λ (a : ℕ × Kept). names_event name a.1.request) (asked_from (from + 1) es) in
     let kept : ℕ × Kept = (number, record { place = from; request = request; reply = reply }) in
-    let step : (b : Bool) → map listed_of (map listed_columns (cond b (values ∷ filter (has_event name) rows) (filter (has_event name) rows))) ≡ map Some (map listing (cond b (kept ∷ keeping) keeping)) = λ b. elim b as (λ b. map listed_of (map listed_columns (cond b (values ∷ filter (has_event name) rows) (filter (has_event name) rows))) ≡ map Some (map listing (cond b (kept ∷ keeping) keeping))) [
+    let step : (b : Bool) → map listed_of (map listed_columns (cond b (values ∷ filter (has_event name) rows) (filter (has_event name) rows))) ≡ map Some
+    (map listing (cond b (kept ∷ keeping) keeping)) = λ b.
+    elim b as (λ b. map listed_of (map listed_columns (cond b (values ∷ filter (has_event name) rows) (filter (has_event name) rows))) ≡ map Some
+    (map listing (cond b (kept ∷ keeping) keeping))) [
       | true ↦ rw (listed_reads from number values request reply at h.1 h.2 h.3) (ap (λ l. Some (listing kept) ∷ l) more)
       | false ↦ more
     ] in
-    ap (λ b. map listed_of (map listed_columns (cond b (values ∷ filter (has_event name) rows) (filter (has_event name) rows)))) test ∙ step (names_event name request)
+    ap (λ b. map listed_of (map listed_columns (cond b (values ∷ filter (has_event name) rows) (filter (has_event name) rows)))) test
+    ∙ step (names_event name request)
 one_listed name from values rows (Joined peer delta) es at h more = none_listed name values rows (asked_from (from + 1) es) h.1 more
 one_listed name from values rows (Grown sites) es at h more = none_listed name values rows (asked_from (from + 1) es) h.1 more
 
@@ -284,7 +304,8 @@ listed_out (x ∷ xs) (y ∷ ys) e =
     rw first (ap (λ l. y ∷ l) (listed_out xs ys tail))
 
 -- a row that is not read is among the rows
-unread : (rows : List Row) (i : ℕ) (values : Row) → slice_get rows i ≡ Some values → listed_of values ≡ None → (all : List Listed) → map Some all ≡ map listed_of rows → ⊥
+unread : (rows : List Row) (i : ℕ) (values : Row) → slice_get rows i ≡ Some values → listed_of values ≡ None → (all : List Listed)
+    → map Some all ≡ map listed_of rows → ⊥
 unread [] i values at none all e = cc
 unread (r ∷ rows) i values at none [] e = cc
 unread (r ∷ rows) zero values at none (x ∷ all) e =
@@ -298,11 +319,13 @@ unread (r ∷ rows) (suc i) values at none (x ∷ all) e =
 
 -- ---- what the calls answer
 
-module _ (rows whole : List Row) (h : List Entry) (number : ℕ) (are : AreWhole 0 whole) (history : h ≡ filter_map entry_of whole) (shows : rows ≡ map found_columns (filter (has_number number) whole)) where
+module _ (rows whole : List Row) (h : List Entry) (number : ℕ) (are : AreWhole 0 whole) (history : h ≡ filter_map entry_of whole)
+    (shows : rows ≡ map found_columns (filter (has_number number) whole)) where
   first_is : first_found rows ≡ option_map Some (found_in h number)
   first_is = rw (shows, history) (is_found number 0 whole are)
 
-  pub first_kept : (r : Result (Option Found) FindFault) → IfOk r (λ found. option_map Some found ≡ first_found rows) → IfOk r (λ found. found ≡ found_in h number)
+  pub first_kept : (r : Result (Option Found) FindFault) → IfOk r (λ found. option_map Some found ≡ first_found rows)
+      → IfOk r (λ found. found ≡ found_in h number)
   first_kept (Ok found) e = found_out found (found_in h number) (e ∙ first_is)
   first_kept (Err f) e = tt
 
@@ -311,11 +334,13 @@ module _ (rows whole : List Row) (h : List Entry) (number : ℕ) (are : AreWhole
   first_fault Is (Ok found) e = tt
   first_fault Is (Err g) e = absurd (reads_all (found_in h number) (sym first_is ∙ e))
 
-module _ (rows whole : List Row) (h : List Entry) (name : List ℕ) (are : AreWhole 0 whole) (history : h ≡ filter_map entry_of whole) (shows : rows ≡ map listed_columns (filter (has_event name) whole)) where
+module _ (rows whole : List Row) (h : List Entry) (name : List ℕ) (are : AreWhole 0 whole) (history : h ≡ filter_map entry_of whole)
+    (shows : rows ≡ map listed_columns (filter (has_event name) whole)) where
   all_are : map listed_of rows ≡ map Some (listed_in h name)
   all_are = rw (shows, history) (are_listed name 0 whole are)
 
-  pub all_listed : {X : Type 0} (r : Result X FindFault) (items : X → List Listed) → IfOk r (λ all. map Some (items all) ≡ map listed_of rows) → IfOk r (λ all. items all ≡ listed_in h name)
+  pub all_listed : {X : Type 0} (r : Result X FindFault) (items : X → List Listed) → IfOk r (λ all. map Some (items all) ≡ map listed_of rows)
+      → IfOk r (λ all. items all ≡ listed_in h name)
   all_listed (Ok all) items e = listed_out (items all) (listed_in h name) (e ∙ all_are)
   all_listed (Err f) items e = tt
 
@@ -326,7 +351,8 @@ module _ (rows whole : List Row) (h : List Entry) (name : List ℕ) (are : AreWh
       let long = ap length all_are in
       omega (arith, low, long, length-map rows listed_of, length-map (listed_in h name) (λ (x : Listed). Some x))
 
-  pub all_fault : {X : Type 0} (Is : FindFault → Type 0) (r : Result X FindFault) → (0 < length (listed_in h name) → Is fault.Memory) → IfErr r (λ f. ((f ≡ fault.Memory) × ReadsSome rows) ⊎ IsFirstUnread rows f) → IfErr r Is
+  pub all_fault : {X : Type 0} (Is : FindFault → Type 0) (r : Result X FindFault) → (0 < length (listed_in h name) → Is fault.Memory)
+      → IfErr r (λ f. ((f ≡ fault.Memory) × ReadsSome rows) ⊎ IsFirstUnread rows f) → IfErr r Is
   all_fault Is (Ok all) m e = tt
   all_fault Is (Err f) m (inl memory) = subst Is (sym memory.0) (m (some_listed memory.1))
   all_fault Is (Err f) m (inr first) = absurd (unread rows first.at first.values first.here first.unread (listed_in h name) (sym all_are))

@@ -25,7 +25,8 @@ use Rattle.sql_records.specs.Migrating.{AreRecordsIn, IsToldAs, of_replay, IsUnr
 use Rattle.sql_records.proofs.FaultLemmas.{told_either}
 
 -- what is at fault in records of ours is told as it is
-unread : (old new : State) (ours : Bool) (cause : OpenFault) (fault : MigrateFault) → ours ≡ true → IsOurs old.now.schema → IsReadFault First old new cause → IsToldAs ours cause fault → IsUnread old new fault
+unread : (old new : State) (ours : Bool) (cause : OpenFault) (fault : MigrateFault) → ours ≡ true → IsOurs old.now.schema → IsReadFault First old new cause
+    → IsToldAs ours cause fault → IsUnread old new fault
 unread old new ours cause fault is schema (inl foreign) told = absurd (foreign.0 schema)
 unread old new ours cause fault is schema (inr found) told = by_cause cause found.1 (subst (λ b. IsToldAs b cause fault) is told)
   where
@@ -39,8 +40,10 @@ unread old new ours cause fault is schema (inr found) told = by_cause cause foun
     by_cause Disk h is = subst (IsUnread old new) (sym is) h
 
 -- what a reading answered is told as it is, where the tables are ours or not
-pub unfit : {S : Type 0} (g : Ghosts S) (conn after : Held S) (ours : Bool) (cause : OpenFault) (fault : MigrateFault) → conn.in_transaction ≡ false → (IsTrue ours → IsOurs conn.schema) → (IsOurs conn.schema → IsTrue ours)
-    → (¬ IsOurs conn.schema → IsForeignCauseAs g conn First cause) → IsReadFault First (state g conn) (state g after) cause → IsToldAs ours cause fault → IsUnfit g conn after fault
+pub unfit : {S : Type 0} (g : Ghosts S) (conn after : Held S) (ours : Bool) (cause : OpenFault) (fault : MigrateFault) → conn.in_transaction ≡ false
+    → (IsTrue ours → IsOurs conn.schema) → (IsOurs conn.schema → IsTrue ours)
+    → (¬ IsOurs conn.schema → IsForeignCauseAs g conn First cause) → IsReadFault First (state g conn) (state g after) cause → IsToldAs ours cause fault
+    → IsUnfit g conn after fault
 unfit g conn after ours cause fault outside to from foreign found tells = elim (cases_Bool ours) [
   | inl ours_are ↦ inr (outside, inr (to ours_are, unread (state g conn) (state g after) ours cause fault ours_are (to ours_are) found tells))
   | inr are_not ↦ (
@@ -49,18 +52,23 @@ unfit g conn after ours cause fault outside to from foreign found tells = elim (
 ]
 
 -- so is a history that is not legal
-pub no_history : (old new : State) (meta : Meta) (entries : List Entry) (cause : ReplayFault) (fault : MigrateFault) → IsUnchanged old new → AreRecordsIn First meta old.now.trees → entries ≡ history_in old.now.trees
+pub no_history : (old new : State) (meta : Meta) (entries : List Entry) (cause : ReplayFault) (fault : MigrateFault) → IsUnchanged old new
+    → AreRecordsIn First meta old.now.trees → entries ≡ history_in old.now.trees
     → IsReplayFault (office_of meta) entries cause → fault ≡ of_replay cause → IsUnread old new fault
 no_history old new meta entries (IllegalAt place) fault same first is found told =
-    subst (IsUnread old new) (sym told) (inr (record { meta = meta; first = first; found = subst (λ l. IsReplayFault (office_of meta) l (IllegalAt place)) is found }))
+    subst (IsUnread old new) (sym told)
+    (inr (record { meta = meta; first = first; found = subst (λ l. IsReplayFault (office_of meta) l (IllegalAt place)) is found }))
 no_history old new meta entries NoMemory fault same first is found told =
-    subst (IsUnread old new) (sym told) (inr (same, inr (record { meta = meta; first = first; found = subst (λ l. IsReplayFault (office_of meta) l NoMemory) is found })))
+    subst (IsUnread old new) (sym told)
+    (inr (same, inr (record { meta = meta; first = first; found = subst (λ l. IsReplayFault (office_of meta) l NoMemory) is found })))
 
 -- what the UPDATE was answered with is told as it is
-pub unset : {S : Type 0} (g : Ghosts S) (conn mid after : Held S) (e : Error) → IsOurs conn.schema → IsUnchanged (state g conn) (state g mid) → Executes update_text [] (state g mid) (state g after) (Err e)
+pub unset : {S : Type 0} (g : Ghosts S) (conn mid after : Held S) (e : Error) → IsOurs conn.schema → IsUnchanged (state g conn) (state g mid)
+    → Executes update_text [] (state g mid) (state g after) (Err e)
     → IsMigrateFault g conn after (told migrate.Memory migrate.Disk e)
 unset g conn mid after e ours same fails =
     elim (told_either migrate.Memory migrate.Disk e) [
-      | inl memory ↦ subst (IsMigrateFault g conn after) (sym memory.1) (inr (ours, (mid, same, subst (λ x. Executes update_text [] (state g mid) (state g after) (Err x)) memory.0 fails)))
+      | inl memory ↦ subst (IsMigrateFault g conn after) (sym memory.1)
+          (inr (ours, (mid, same, subst (λ x. Executes update_text [] (state g mid) (state g after) (Err x)) memory.0 fails)))
       | inr other ↦ subst (IsMigrateFault g conn after) (sym other.1) (inr (ours, (e, other.0, (mid, same, fails))))
     ]

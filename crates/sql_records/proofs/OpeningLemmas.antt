@@ -27,7 +27,8 @@ use Rattle.sql_records.proofs.QueryLemmas.{whole_order}
 
 -- ---- rows that are read in turn
 
-pub whole_more : (rows : List Row) (i : ℕ) (values : Row) (entry : Entry) → i < length rows → values ≡ get_or rows i values → AreWhole 0 (take i rows) → column values 0 ≡ Int (pos i) → entry_of values ≡ Some entry
+pub whole_more : (rows : List Row) (i : ℕ) (values : Row) (entry : Entry) → i < length rows → values ≡ get_or rows i values → AreWhole 0 (take i rows)
+    → column values 0 ≡ Int (pos i) → entry_of values ≡ Some entry
     → AreWhole 0 (take (i + 1) rows)
 whole_more rows i values entry low at h is reads =
     rw (take_more rows i values low, ← at) (whole_next (take i rows) values entry 0 i h (omega (arith, length-take-le i rows (omega arith))) is reads)
@@ -38,18 +39,25 @@ entries_more rows i values entry low at reads = rw (take_more rows i values low,
 
 -- want of memory for a row, or the first row that is not the entry of its place
 abbrev pub StopsReading : Version → List Row → OpenFault → Type 0
-StopsReading read rows fault = ((fault ≡ Memory) × ((place : ℕ) × IsWantedAt read place rows)) ⊎ ((place : ℕ) × (fault ≡ Damaged place) × IsFirstDamaged read place rows)
+StopsReading read rows fault = ((fault ≡ Memory) × ((place : ℕ) × IsWantedAt read place rows))
+    ⊎ ((place : ℕ) × (fault ≡ Damaged place) × IsFirstDamaged read place rows)
 
 -- memory is wanted for the row at a place, the rows before it being whole
-pub wanted_at : (read : Version) (rows : List Row) (i : ℕ) (values : Row) → i < length rows → values ≡ get_or rows i values → AreWholeIn read 0 (take i rows) → column values 0 ≡ Int (pos i) → IsOfVersion read values
+pub wanted_at : (read : Version) (rows : List Row) (i : ℕ) (values : Row) → i < length rows → values ≡ get_or rows i values
+    → AreWholeIn read 0 (take i rows) → column values 0 ≡ Int (pos i) → IsOfVersion read values
     → IsSome (entry_of values) ⊎ WantsForEntry values → IsWantedAt read i rows
-wanted_at read rows i values low at whole placed version wants = record { before = whole; values = values; here = slice_get_read rows (length rows) i values refl low at; placed = placed; version = version; wants = wants }
+wanted_at read rows i values low at whole placed version wants = record
+    { before = whole; values = values; here = slice_get_read rows (length rows) i values refl low at; placed = placed; version = version; wants = wants }
 
 -- the fault of that row
-pub fault_at : (read : Version) (rows : List Row) (i : ℕ) (values : Row) (fault : OpenFault) → i < length rows → values ≡ get_or rows i values → AreWholeIn read 0 (take i rows) → (fault ≡ Memory) ⊎ (fault ≡ Damaged i)
-    → (fault ≡ Damaged i → ¬ IsEntryIn read i values) → (fault ≡ Memory → (column values 0 ≡ Int (pos i)) × IsOfVersion read values × WantsForEntry values) → StopsReading read rows fault
-fault_at read rows i values fault low at whole (inl is) other wanted = let w = wanted is in inl (is, (i, wanted_at read rows i values low at whole w.0 w.1 (inr w.2)))
-fault_at read rows i values fault low at whole (inr is) other wanted = inr (i, is, (whole, (values, slice_get_read rows (length rows) i values refl low at, other is)))
+pub fault_at : (read : Version) (rows : List Row) (i : ℕ) (values : Row) (fault : OpenFault) → i < length rows → values ≡ get_or rows i values
+    → AreWholeIn read 0 (take i rows) → (fault ≡ Memory) ⊎ (fault ≡ Damaged i)
+    → (fault ≡ Damaged i → ¬ IsEntryIn read i values) → (fault ≡ Memory → (column values 0 ≡ Int (pos i)) × IsOfVersion read values × WantsForEntry values)
+    → StopsReading read rows fault
+fault_at read rows i values fault low at whole (inl is) other wanted = let w = wanted is in inl
+    (is, (i, wanted_at read rows i values low at whole w.0 w.1 (inr w.2)))
+fault_at read rows i values fault low at whole (inr is) other wanted = inr
+    (i, is, (whole, (values, slice_get_read rows (length rows) i values refl low at, other is)))
 
 -- ---- rows in front of the place 0
 
@@ -63,11 +71,13 @@ damaged_above read rows fault (inl (is, wanted)) = subst (AreRowsFault read rows
 damaged_above read rows fault (inr (place, is, (whole, (values, at, other)))) =
     let low = slice_get_within (rows_from_0 rows) place values at in
     let long = length-drop (rows_below rows) rows in
-    let here : (v : Row) → slice_get (rows_from_0 rows) place ≡ Some v → ¬ IsEntryIn read place v = λ v there. subst (λ (r : Row). ¬ IsEntryIn read place r) (same_Some values v (sym at ∙ there)) other in
+    let here : (v : Row) → slice_get (rows_from_0 rows) place ≡ Some v
+    → ¬ IsEntryIn read place v = λ v there. subst (λ (r : Row). ¬ IsEntryIn read place r) (same_Some values v (sym at ∙ there)) other in
     subst (AreRowsFault read rows) (sym is) (record { low = omega (arith, low, long); before = whole; reached = omega (arith, low); missing = here })
 
 -- all rows from the place 0 on are whole, and some stand in front of it
-pub damaged_below : (read : Version) (rows : List Row) → 0 < rows_below rows → AreWholeIn read 0 (rows_from_0 rows) → IsDamagedAt read (length (rows_from_0 rows)) rows
+pub damaged_below : (read : Version) (rows : List Row) → 0 < rows_below rows → AreWholeIn read 0 (rows_from_0 rows)
+    → IsDamagedAt read (length (rows_from_0 rows)) rows
 damaged_below read rows some whole =
     let long = length-drop (rows_below rows) rows in
     let few = prefix_len-le-length (λ (r : Row). is_below (column r 0)) rows in
@@ -112,7 +122,8 @@ unchanged_twice first mid last one two = (
   two.2 ∙ one.2,
 )
 
-module _ (read : Version) (first mid last : State) (rows : List Row) (one : IsUnchanged first mid) (two : IsUnchanged mid last) (order : AreInOrder (mid.now.trees 1) rows) (whole : AreWholeIn read 0 rows) where
+module _ (read : Version) (first mid last : State) (rows : List Row) (one : IsUnchanged first mid) (two : IsUnchanged mid last)
+    (order : AreInOrder (mid.now.trees 1) rows) (whole : AreWholeIn read 0 rows) where
   shown_are : rows ≡ rows_in first.now.trees
   shown_are = whole_order (mid.now.trees 1) rows order whole.0 ∙ ap (λ (d : Database). rows_in d.trees) one.0.now_is
 
@@ -123,7 +134,8 @@ module _ (read : Version) (first mid last : State) (rows : List Row) (one : IsUn
   read_history = ap (filter_map entry_of) shown_are
 
 -- records that were read are at rest
-pub opened : (first last : State) (count : ℕ) → IsUnchanged first last → first.in_transaction ≡ false → (IsTrue first.is_open → first.now ≡ first.committed) → IsLive first → IsOurs first.now.schema
+pub opened : (first last : State) (count : ℕ) → IsUnchanged first last → first.in_transaction ≡ false
+    → (IsTrue first.is_open → first.now ≡ first.committed) → IsLive first → IsOurs first.now.schema
     → AreWhole 0 (rows_in first.now.trees) → count ≡ length (history_in first.now.trees) → IsAtRest last count
 opened first last count same autocommit settled live ours whole is =
     let now = sym same.0.now_is in
@@ -160,11 +172,13 @@ module _ (s : State) (count : ℕ) (rest : IsAtRest s count) (only : (db : Trees
 
   -- and the numbers that are there
   pub leaves_site : (meta : Meta) → AreNumbers meta → HasMeta meta s.now.trees → LeavesSite s meta
-  leaves_site meta within now db left = subst (IsSiteIn meta) (sym (left_now db left)) (record { schema = s.now.schema; ours = rest.schema; sound = rest.sound; numbers = now; within = within })
+  leaves_site meta within now db left = subst (IsSiteIn meta) (sym (left_now db left))
+      (record { schema = s.now.schema; ours = rest.schema; sound = rest.sound; numbers = now; within = within })
 
 -- ---- what is at fault in a later query is at fault from the first on
 
-cause_before : (first mid last : State) → IsUnchanged first mid → first.faults ≤ mid.faults → mid.step_limit ≡ first.step_limit → HasDiskCause mid last → HasDiskCause first last
+pub cause_before : (first mid last : State) → IsUnchanged first mid → first.faults ≤ mid.faults → mid.step_limit ≡ first.step_limit → HasDiskCause mid last
+    → HasDiskCause first last
 cause_before first mid last same low limit (inl more) = inl (omega (arith, more, low))
 cause_before first mid last same low limit (inr (inl closed)) = absurd (let e = sym same.0.is_open ∙ closed in cc)
 cause_before first mid last same low limit (inr (inr steps)) = inr (inr (subst IsSome limit steps))
@@ -178,7 +192,7 @@ undone_before first mid last same back = record {
   counts = record { changes = back.counts.changes ∙ same.1.changes; last_rowid = back.counts.last_rowid ∙ same.1.last_rowid };
 }
 
-memory_before : (first mid last : State) → IsUnchanged first mid → IsUndoneForMemory mid last → IsUndoneForMemory first last
+pub memory_before : (first mid last : State) → IsUnchanged first mid → IsUndoneForMemory mid last → IsUndoneForMemory first last
 memory_before first mid last same h = (StoreError.OutOfMemory, refl, tt, undone_before first mid last same h.3, λ kind is yes. absurd cc)
 
 -- a fault of the numbers
@@ -190,7 +204,9 @@ numbers_fault read first last Memory h = inl h
 numbers_fault read first last Disk h = h
 
 -- a fault of the rows, which were shown
-pub entries_fault : (read : Version) (first mid last : State) (rows : List Row) → IsUnchanged first mid → IsUnchanged mid last → HasGoodMeta read first.now.trees → AreInOrder (mid.now.trees 1) rows → (fault : OpenFault) → AreRowsFault read rows fault → IsOurFault read first last fault
+pub entries_fault : (read : Version) (first mid last : State) (rows : List Row) → IsUnchanged first mid → IsUnchanged mid last
+    → HasGoodMeta read first.now.trees → AreInOrder (mid.now.trees 1) rows → (fault : OpenFault) → AreRowsFault read rows fault
+    → IsOurFault read first last fault
 entries_fault read first mid last rows one two good order fault h =
     let now = subst (λ (d : Database). AreInOrder (d.trees 1) rows) one.0.now_is order in
     by_fault fault now h
@@ -202,7 +218,8 @@ entries_fault read first mid last rows one two good order fault h =
     by_fault Memory now h = inr (unchanged_twice first mid last one two, (good, (rows, now, h)))
     by_fault Disk now h = absurd h
 
-pub rows_fault : (read : Version) (first mid last : State) → IsUnchanged first mid → first.faults ≤ mid.faults → mid.step_limit ≡ first.step_limit → (fault : OpenFault) → IsStoreFault mid last fault → IsOurFault read first last fault
+pub rows_fault : (read : Version) (first mid last : State) → IsUnchanged first mid → first.faults ≤ mid.faults → mid.step_limit ≡ first.step_limit
+    → (fault : OpenFault) → IsStoreFault mid last fault → IsOurFault read first last fault
 rows_fault read first mid last same low limit NotOurs h = absurd h
 rows_fault read first mid last same low limit (OtherSchema version) h = absurd h
 rows_fault read first mid last same low limit (Damaged place) h = absurd h

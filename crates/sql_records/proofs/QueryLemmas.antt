@@ -1,5 +1,5 @@
 -- What the queries for all entries and for the numbers show.
-use Rattle.std.proofs.Common.{◌≡◌, inl, inr, ℕ, zero, suc, ◌+◌, ◌<◌, pos, negsuc, false, None, refl, ap, sym, subst, ◌∙◌, List, [], ◌∷◌, map, flat_map, length, get_or, codes, arith, IsPermutation, IsSorted, Ordering, Less, Equal, Greater, is_lt}
+use Rattle.std.proofs.Common.{◌≡◌, inl, inr, ℕ, zero, suc, ◌+◌, ◌<◌, pos, negsuc, false, None, refl, ap, sym, subst, ◌∙◌, List, [], ◌∷◌, map, flat_map, length, get_or, codes, arith, IsPermutation, IsSorted, Ordering, Less, Equal, Greater, is_lt, IsTrue, ◌++◌, Result, Ok}
 use Rattle.std.specs.Ordering.{is_eq, ordering_reverse}
 use Rattle.std.specs.Cmp.{IsTotalOrder}
 use Rattle.std.specs.List.{AllByRecursion}
@@ -12,9 +12,16 @@ use Rattle.sqlite_keyed.proofs.SortLemmas.{HasNoTies, sorted_is-sort_by, IsPermu
 use Rattle.sqlite.specs.Collation.TheVariants.{Binary}
 use Rattle.sqlite.specs.Listing.{understood, reads_listing}
 use Rattle.sqlite.specs.Schema.{Schema}
-use Rattle.sqlite.specs.State.{State, HasCleanDisk, Survives, CommitsShowing, Shown, FailsToQuery, IsUnchanged}
+use Rattle.sqlite.specs.State.{State, HasCleanDisk, Survives, CommitsShowing, Shown, FailsToQuery, Begins, IsUnchanged}
 use Rattle.sqlite.specs.Command.TheVariants.{Select}
-use Rattle.sqlite.proofs.Callers.{IsPlain, command_of, reads_as}
+use Rattle.sqlite.proofs.Callers.{EndsIn, IsPlain, begins_shown, begun_plain, command_of, reads_as}
+use Rattle.sqlite.proofs.StateLemmas.{unchanged}
+use Rattle.sqlite.specs.Effect.{Database}
+use Rattle.sqlite.specs.Given.{HasBegun, HasGiven}
+use Rattle.sqlite.specs.Held.{Held, state}
+use Rattle.sqlite.specs.Store.{Ghosts}
+use Rattle.sqlite_resolve.specs.declared.compiled.Compiled.{Compiled}
+use Rattle.sqlite_resolve.specs.declared.error.CompileError.{CompileError}
 use Rattle.sqlite.specs.Query.{Query, inner, end, IsAnswer, output, output_cmp, Output}
 use Rattle.sqlite.specs.Program.{overlay}
 use Rattle.sqlite.specs.Term.{lit, col}
@@ -55,9 +62,12 @@ query = record {
 }
 
 abbrev names : List (List ℕ)
-names = codes "pos" ∷ codes "peer" ∷ codes "number" ∷ codes "verb" ∷ codes "event" ∷ codes "amount" ∷ codes "target" ∷ codes "reply" ∷ codes "rest" ∷ codes "delta" ∷ []
+names = codes "pos" ∷ codes "peer" ∷ codes "number" ∷ codes "verb" ∷ codes "event" ∷ codes "amount" ∷ codes "target" ∷ codes "reply" ∷ codes "rest"
+    ∷ codes "delta" ∷ []
 
-select_is : (more : List Table) (indexes : List Index) (views : List View) → (command_of (understood (ours_and more indexes views) select_text) ≡ Select (record { lets = []; body = query }) names) × (reads_listing (ours_and more indexes views) select_text ≡ false)
+select_is : (more : List Table) (indexes : List Index) (views : List View)
+    → (command_of (understood (ours_and more indexes views) select_text) ≡ Select (record { lets = []; body = query }) names)
+    × (reads_listing (ours_and more indexes views) select_text ≡ false)
 unfolding understood everything
 select_is more indexes views = (refl, refl)
 
@@ -109,7 +119,8 @@ answers db params rows a =
     let is : rows ≡ map (λ (o : Output). o.1) a.ordered = a.shown in
     let kept : a.kept ≡ map out (db 1) = a.distinct ∙ ap (map (output query)) a.grouped ∙ staged_out params (db 1) in
     let same : IsPermutation (map out (db 1)) a.ordered = subst (λ k. IsPermutation k a.ordered) kept a.same in
-    let outs = recursion_from_All IsOut a.ordered (All-permutation IsOut (map out (db 1)) a.ordered same (All-from_recursion IsOut (map out (db 1)) (all_out (db 1)))) in
+    let outs = recursion_from_All IsOut a.ordered
+    (All-permutation IsOut (map out (db 1)) a.ordered same (All-from_recursion IsOut (map out (db 1)) (all_out (db 1)))) in
     let moved = IsPermutation-map (λ (o : Output). o.1) (map out (db 1)) a.ordered same in
     record {
       same = subst (IsPermutation (map shown (db 1))) (sym is) (subst (λ l. IsPermutation l (map (λ (o : Output). o.1) a.ordered)) (shown_out (db 1)) moved);
@@ -138,10 +149,13 @@ module _ {X : Type 0} (cmp : X → X → Ordering) (total : IsTotalOrder cmp) wh
 
   -- a list with no ties has none in any order
   moves : (xs ys : List X) → IsPermutation xs ys → Moves xs ys
-  moves = along_permutation Moves (λ xs. (IsPermutation-refl xs, λ h. h)) (λ x xs ys m. (IsPermutation-cons x xs ys m.0, λ h. (apart_moved x xs ys m.0 h.0, m.1 h.1)))
-      (λ x y xs. (IsPermutation-middle (x ∷ []) y xs, λ h. ((apart_back x y h.0.0, h.1.0), (h.0.1, h.1.1)))) (λ xs ys zs m n. (IsPermutation-trans xs ys zs m.0 n.0, λ h. n.1 (m.1 h)))
+  moves = along_permutation Moves (λ xs. (IsPermutation-refl xs, λ h. h))
+      (λ x xs ys m. (IsPermutation-cons x xs ys m.0, λ h. (apart_moved x xs ys m.0 h.0, m.1 h.1)))
+      (λ x y xs. (IsPermutation-middle (x ∷ []) y xs, λ h. ((apart_back x y h.0.0, h.1.0), (h.0.1, h.1.1))))
+      (λ xs ys zs m n. (IsPermutation-trans xs ys zs m.0 n.0, λ h. n.1 (m.1 h)))
 
-apart_from : (values : Row) (m from : ℕ) (rows : List Row) → column values 0 ≡ Int (pos m) → m < from → AreWhole from rows → AllByRecursion (λ b. is_eq (by_place values b) ≡ false) rows
+apart_from : (values : Row) (m from : ℕ) (rows : List Row) → column values 0 ≡ Int (pos m) → m < from → AreWhole from rows
+    → AllByRecursion (λ b. is_eq (by_place values b) ≡ false) rows
 apart_from values m from [] is low h = tt
 apart_from values m from (r ∷ rows) is low h =
     let below : by_place values r ≡ Less = rw (is, h.0.placed) (lower_id m from low) in
@@ -164,7 +178,8 @@ order_whole table rows order whole =
     sorted_is-sort_by by_place by_place_total (map shown table) rows apart order.same order.sorted
 
 -- a query with no RETURNING leaves the connection as it was
-pub unchanged_as : (sql : List ℕ) (params : Row) (old new : State) (schema : Schema) → old.now.schema ≡ schema → IsPlain (understood schema sql) → (rows : List Row) → Shown sql params old new rows → IsUnchanged old new
+pub unchanged_as : (sql : List ℕ) (params : Row) (old new : State) (schema : Schema) → old.now.schema ≡ schema → IsPlain (understood schema sql)
+    → (rows : List Row) → Shown sql params old new rows → IsUnchanged old new
 unfolding Shown
 unchanged_as sql params old new schema has plain rows h =
     let known = sym h.1.is ∙ ap (λ s. understood s sql) has in
@@ -172,7 +187,8 @@ unchanged_as sql params old new schema has plain rows h =
     (rw (bare.0) at h.2).3
 
 -- and commits nothing
-pub leaves_as : (sql : List ℕ) (params : Row) (old new : State) (schema : Schema) → old.now.schema ≡ schema → IsPlain (understood schema sql) → Survives old new (CommitsShowing sql params old) → HasCleanDisk new → LeavesNoMore old new
+pub leaves_as : (sql : List ℕ) (params : Row) (old new : State) (schema : Schema) → old.now.schema ≡ schema → IsPlain (understood schema sql)
+    → Survives old new (CommitsShowing sql params old) → HasCleanDisk new → LeavesNoMore old new
 unfolding CommitsShowing
 leaves_as sql params old new schema has plain survives clean db left = elim (survives.crash clean db left) [
   | inl before ↦ before
@@ -183,13 +199,38 @@ leaves_as sql params old new schema has plain survives clean db left = elim (sur
 ]
 
 pub entries_left : (old new : State) → IsOurs old.now.schema → Survives old new (CommitsShowing select_text [] old) → HasCleanDisk new → LeavesNoMore old new
-entries_left old new has survives clean = leaves_as select_text [] old new (ours_and has.tables has.indexes has.views) has.is (select_plain has.tables has.indexes has.views) survives clean
+entries_left old new has survives clean = leaves_as select_text [] old new (ours_and has.tables has.indexes has.views) has.is
+    (select_plain has.tables has.indexes has.views) survives clean
 
 pub shown_rows : (old new : State) (rows : List Row) → IsOurs old.now.schema → Shown select_text [] old new rows → AreInOrder (old.now.trees 1) rows
-shown_rows old new rows has h = answers old.now.trees [] rows ((reads_as select_text [] old new (ours_and has.tables has.indexes has.views) has.is _ (select_is has.tables has.indexes has.views).0 (select_plain has.tables has.indexes has.views) (select_is has.tables has.indexes has.views).1 rows h).answer Null)
+shown_rows old new rows has h = answers old.now.trees [] rows
+    ((reads_as select_text [] old new (ours_and has.tables has.indexes has.views) has.is _ (select_is has.tables has.indexes has.views).0
+    (select_plain has.tables has.indexes has.views) (select_is has.tables has.indexes has.views).1 rows h).answer Null)
 
 pub shown_same : (old new : State) (rows : List Row) → IsOurs old.now.schema → Shown select_text [] old new rows → IsUnchanged old new
-shown_same old new rows has h = unchanged_as select_text [] old new (ours_and has.tables has.indexes has.views) has.is (select_plain has.tables has.indexes has.views) rows h
+shown_same old new rows has h = unchanged_as select_text [] old new (ours_and has.tables has.indexes has.views) has.is
+    (select_plain has.tables has.indexes has.views) rows h
+
+-- the rows one at a time
+pub begun_rows : {S : Type 0} (g : Ghosts S) (old now : Held S) → IsOurs (state g old).now.schema → HasBegun g select_text [] old now
+    → HasGiven g select_text [] now [] × IsUnchanged (state g old) (state g now)
+begun_rows g old now has h =
+    let plain = select_plain has.tables has.indexes has.views in
+    begun_plain g select_text [] old now (subst (λ s. IsPlain (understood s select_text)) (sym has.is) plain) h
+
+ends_of : (r : Result Compiled CompileError) (c : Compiled) (db : Database) (params : Row) → r ≡ Ok c
+    → command_of r ≡ Select (record { lets = []; body = query }) names
+    → EndsIn c.command db params
+ends_of r c db params is command = subst (λ k. EndsIn k db params) (sym (sym (ap command_of is) ∙ command)) tt
+
+-- rows that begin an answer are the first of one
+pub whole_answer : (s : State) (rows : List Row) → IsOurs s.now.schema → IsTrue s.is_open → Begins select_text [] s rows
+    → (tail : List Row) × AreInOrder (s.now.trees 1) (rows ++ tail)
+whole_answer s rows has live begins =
+    let command = ap (λ d. command_of (understood d select_text)) has.is ∙ (select_is has.tables has.indexes has.views).0 in
+    let all =
+    begins_shown select_text [] s s rows begins (unchanged s live) (λ c db it source. ends_of (understood s.now.schema select_text) c db _ it.is command) in
+    (all.0, shown_rows s s (rows ++ all.0) has all.1)
 
 -- ---- the numbers
 
@@ -209,7 +250,9 @@ meta_query = record {
 abbrev meta_names : List (List ℕ)
 meta_names = codes "one" ∷ codes "kind" ∷ codes "version" ∷ codes "me" ∷ codes "sites" ∷ codes "bound" ∷ []
 
-meta_select_is : (more : List Table) (indexes : List Index) (views : List View) → (command_of (understood (ours_and more indexes views) meta_select_text) ≡ Select (record { lets = []; body = meta_query }) meta_names) × (reads_listing (ours_and more indexes views) meta_select_text ≡ false)
+meta_select_is : (more : List Table) (indexes : List Index) (views : List View)
+    → (command_of (understood (ours_and more indexes views) meta_select_text) ≡ Select (record { lets = []; body = meta_query }) meta_names)
+    × (reads_listing (ours_and more indexes views) meta_select_text ≡ false)
 unfolding understood everything
 meta_select_is more indexes views = (refl, refl)
 
@@ -236,42 +279,75 @@ meta_answers db params rows a =
     let moved = IsPermutation-map (λ (o : Output). o.1) (map meta_out (db 0)) a.ordered same in
     subst (IsPermutation (meta_rows db)) (sym is) (subst (λ l. IsPermutation l (map (λ (o : Output). o.1) a.ordered)) (shown_meta_out (db 0)) moved)
 
-pub shown_meta : (old new : State) (rows : List Row) → IsOurs old.now.schema → Shown meta_select_text [] old new rows → IsPermutation (meta_rows old.now.trees) rows
-shown_meta old new rows has h = meta_answers old.now.trees [] rows ((reads_as meta_select_text [] old new (ours_and has.tables has.indexes has.views) has.is _ (meta_select_is has.tables has.indexes has.views).0 (meta_select_plain has.tables has.indexes has.views) (meta_select_is has.tables has.indexes has.views).1 rows h).answer Null)
+pub shown_meta : (old new : State) (rows : List Row) → IsOurs old.now.schema → Shown meta_select_text [] old new rows
+    → IsPermutation (meta_rows old.now.trees) rows
+shown_meta old new rows has h = meta_answers old.now.trees [] rows
+    ((reads_as meta_select_text [] old new (ours_and has.tables has.indexes has.views) has.is _ (meta_select_is has.tables has.indexes has.views).0
+    (meta_select_plain has.tables has.indexes has.views) (meta_select_is has.tables has.indexes has.views).1 rows h).answer Null)
 
 pub meta_same : (old new : State) (rows : List Row) → IsOurs old.now.schema → Shown meta_select_text [] old new rows → IsUnchanged old new
-meta_same old new rows has h = unchanged_as meta_select_text [] old new (ours_and has.tables has.indexes has.views) has.is (meta_select_plain has.tables has.indexes has.views) rows h
+meta_same old new rows has h = unchanged_as meta_select_text [] old new (ours_and has.tables has.indexes has.views) has.is
+    (meta_select_plain has.tables has.indexes has.views) rows h
 
 pub meta_left : (old new : State) → IsOurs old.now.schema → Survives old new (CommitsShowing meta_select_text [] old) → HasCleanDisk new → LeavesNoMore old new
-meta_left old new has survives clean = leaves_as meta_select_text [] old new (ours_and has.tables has.indexes has.views) has.is (meta_select_plain has.tables has.indexes has.views) survives clean
+meta_left old new has survives clean = leaves_as meta_select_text [] old new (ours_and has.tables has.indexes has.views) has.is
+    (meta_select_plain has.tables has.indexes has.views) survives clean
 
 -- ---- what the queries fail for
 
 module _ (more : List Table) (indexes : List Index) (views : List View) where
   select_runs : IsRun (ours_and more indexes views) select_text []
   unfolding understood everything
-  select_runs = record { program = record { lets = []; body = query }; names = names; is = refl; plain = (refl, refl); whole = refl; given = refl; unlisted = refl; typed = refl; small = λ db over. elim over [ inl grouped ↦ grouped | inr folded ↦ never_folded (db 1) folded ] }
+  select_runs = record {
+    program = record { lets = []; body = query };
+    names = names;
+    is = refl;
+    plain = (refl, refl);
+    whole = refl;
+    given = refl;
+    unlisted = refl;
+    typed = refl;
+    small = λ db over. elim over [ inl grouped ↦ grouped | inr folded ↦ never_folded (db 1) folded ];
+  }
 
   meta_runs : IsRun (ours_and more indexes views) meta_select_text []
   unfolding understood everything
-  meta_runs = record { program = record { lets = []; body = meta_query }; names = meta_names; is = refl; plain = (refl, refl); whole = refl; given = refl; unlisted = refl; typed = refl; small = λ db over. elim over [ inl grouped ↦ grouped | inr folded ↦ never_folded (db 0) folded ] }
+  meta_runs = record {
+    program = record { lets = []; body = meta_query };
+    names = meta_names;
+    is = refl;
+    plain = (refl, refl);
+    whole = refl;
+    given = refl;
+    unlisted = refl;
+    typed = refl;
+    small = λ db over. elim over [ inl grouped ↦ grouped | inr folded ↦ never_folded (db 0) folded ];
+  }
 
 pub select_fails : (old new : State) (e : Error) → IsOurs old.now.schema → FailsToQuery select_text [] old new e → Caused old new e
-select_fails old new e ours h = query_cause select_text [] old new (ours_and ours.tables ours.indexes ours.views) ours.is (select_runs ours.tables ours.indexes ours.views) e h
+select_fails old new e ours h = query_cause select_text [] old new (ours_and ours.tables ours.indexes ours.views) ours.is
+    (select_runs ours.tables ours.indexes ours.views) e h
 
 pub meta_select_fails : (old new : State) (e : Error) → IsOurs old.now.schema → FailsToQuery meta_select_text [] old new e → Caused old new e
-meta_select_fails old new e ours h = query_cause meta_select_text [] old new (ours_and ours.tables ours.indexes ours.views) ours.is (meta_runs ours.tables ours.indexes ours.views) e h
+meta_select_fails old new e ours h = query_cause meta_select_text [] old new (ours_and ours.tables ours.indexes ours.views) ours.is
+    (meta_runs ours.tables ours.indexes ours.views) e h
 
-pub select_wants : (old new : State) (e : Error) → IsOurs old.now.schema → FailsToQuery select_text [] old new e → e ≡ SqliteFailure code.OutOfMemory → IsUndoneForMemory old new
-select_wants old new e ours h = query_wants select_text [] old new (ours_and ours.tables ours.indexes ours.views) ours.is (select_runs ours.tables ours.indexes ours.views) e h
+pub select_wants : (old new : State) (e : Error) → IsOurs old.now.schema → FailsToQuery select_text [] old new e → e ≡ SqliteFailure code.OutOfMemory
+    → IsUndoneForMemory old new
+select_wants old new e ours h = query_wants select_text [] old new (ours_and ours.tables ours.indexes ours.views) ours.is
+    (select_runs ours.tables ours.indexes ours.views) e h
 
-pub meta_select_wants : (old new : State) (e : Error) → IsOurs old.now.schema → FailsToQuery meta_select_text [] old new e → e ≡ SqliteFailure code.OutOfMemory → IsUndoneForMemory old new
-meta_select_wants old new e ours h = query_wants meta_select_text [] old new (ours_and ours.tables ours.indexes ours.views) ours.is (meta_runs ours.tables ours.indexes ours.views) e h
+pub meta_select_wants : (old new : State) (e : Error) → IsOurs old.now.schema → FailsToQuery meta_select_text [] old new e
+    → e ≡ SqliteFailure code.OutOfMemory → IsUndoneForMemory old new
+meta_select_wants old new e ours h = query_wants meta_select_text [] old new (ours_and ours.tables ours.indexes ours.views) ours.is
+    (meta_runs ours.tables ours.indexes ours.views) e h
 
 -- ---- what a query that fails leaves
 
 pub select_undone : (old new : State) (e : Error) → IsOurs old.now.schema → FailsToQuery select_text [] old new e → IsLeftOrUndone old new
-select_undone old new e ours h = left_or_undone old new (query_undone select_text [] old new (ours_and ours.tables ours.indexes ours.views) ours.is (select_runs ours.tables ours.indexes ours.views) e h)
+select_undone old new e ours h = left_or_undone old new
+    (query_undone select_text [] old new (ours_and ours.tables ours.indexes ours.views) ours.is (select_runs ours.tables ours.indexes ours.views) e h)
 
 pub meta_select_undone : (old new : State) (e : Error) → IsOurs old.now.schema → FailsToQuery meta_select_text [] old new e → IsLeftOrUndone old new
-meta_select_undone old new e ours h = left_or_undone old new (query_undone meta_select_text [] old new (ours_and ours.tables ours.indexes ours.views) ours.is (meta_runs ours.tables ours.indexes ours.views) e h)
+meta_select_undone old new e ours h = left_or_undone old new
+    (query_undone meta_select_text [] old new (ours_and ours.tables ours.indexes ours.views) ours.is (meta_runs ours.tables ours.indexes ours.views) e h)

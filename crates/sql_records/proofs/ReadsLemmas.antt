@@ -16,7 +16,8 @@ err_after (Ok x) a b c first h = tt
 err_after (Err e) a b c first h = left_after a b c first h
 
 -- one that answered, and then another
-pub reads_on : {S T F U E : Type 0} (g : Ghosts S) (a b c : Held S) (x : T) (r : Result U E) → Reads {S = S} {T = T} {F = F} g a b (Ok x) → Reads g b c r → Reads g a c r
+pub reads_on : {S T F U E : Type 0} (g : Ghosts S) (a b c : Held S) (x : T) (r : Result U E) → Reads {S = S} {T = T} {F = F} g a b (Ok x) → Reads g b c r
+    → Reads g a c r
 reads_on g a b c x r first then = record {
   limit = then.limit ∙ first.limit;
   clean = λ h. first.clean (then.clean h);
@@ -36,7 +37,8 @@ reads_ok g a b x r first = record {
 }
 
 -- one that failed, with the error that is made of its own
-pub reads_err : {S T F U E : Type 0} (g : Ghosts S) (a b : Held S) (e : F) (r : Result U E) (Q : E → Type 0) → Reads {S = S} {T = T} {F = F} g a b (Err e) → IsErrAnd r Q → Reads g a b r
+pub reads_err : {S T F U E : Type 0} (g : Ghosts S) (a b : Held S) (e : F) (r : Result U E) (Q : E → Type 0) → Reads {S = S} {T = T} {F = F} g a b (Err e)
+    → IsErrAnd r Q → Reads g a b r
 reads_err g a b e r Q first is = record {
   limit = first.limit;
   clean = first.clean;

@@ -6,11 +6,13 @@ use Rattle.sqlite_schema.specs.declared.schema.Index.{Index}
 use Rattle.sqlite_schema.specs.declared.schema.View.{View}
 use Rattle.sql_records.specs.Layout.{IsOurs, AreOursFirst, IsOursFirst}
 
-from_lists : (tables : List Table) (indexes : List Index) (views : List View) → AreOursFirst tables → IsOursFirst indexes → IsOurs (record { tables = tables; indexes = indexes; views = views })
+from_lists : (tables : List Table) (indexes : List Index) (views : List View) → AreOursFirst tables → IsOursFirst indexes
+    → IsOurs (record { tables = tables; indexes = indexes; views = views })
 from_lists [] indexes views h k = absurd h
 from_lists (meta ∷ []) indexes views h k = absurd h
 from_lists (meta ∷ entries ∷ more) [] views h k = absurd k
-from_lists (meta ∷ entries ∷ more) (index ∷ indexes) views h k = record { tables = more; indexes = indexes; views = views; is = rw (h.0, h.1, k) refl; bare = h.2 }
+from_lists (meta ∷ entries ∷ more) (index ∷ indexes) views h k = record
+    { tables = more; indexes = indexes; views = views; is = rw (h.0, h.1, k) refl; bare = h.2 }
 
 pub ours_of : (s : Schema) → AreOursFirst s.tables → IsOursFirst s.indexes → IsOurs s
 ours_of s h k = from_lists s.tables s.indexes s.views h k

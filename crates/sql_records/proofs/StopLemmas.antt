@@ -28,7 +28,8 @@ no_other meta version db has other =
 
 whole_at : (from i : ℕ) (rows : List Row) (values : Row) → AreWhole from rows → slice_get rows i ≡ Some values → IsEntryAt (from + i) values
 whole_at from i [] values whole at = absurd cc
-whole_at from zero (r ∷ rows) values whole at = let same : r ≡ values = cc in let here : from ≡ from + 0 = omega arith in subst (λ k. IsEntryAt k values) here (subst (IsEntryAt from) same whole.0)
+whole_at from zero (r ∷ rows) values whole at = let same : r ≡ values = cc in let here : from ≡ from + 0 = omega arith in subst (λ k. IsEntryAt k values)
+    here (subst (IsEntryAt from) same whole.0)
 whole_at from (suc i) (r ∷ rows) values whole at =
     let here : (from + 1) + i ≡ from + suc i = omega arith in
     subst (λ k. IsEntryAt k values) here (whole_at (from + 1) i rows values whole.1 at)
@@ -56,7 +57,8 @@ some : {A : Type 0} (o : Option A) → IsSome o → (x : A) × (o ≡ Some x)
 some None h = absurd (let e = h in cc)
 some (Some x) h = (x, refl)
 
-module _ (old new : State) (meta : Meta) (site : IsSiteIn meta old.now.trees) (sound : IsSound old.now.schema old.now.trees) (opens : IsSome (opened_in old.now.trees)) where
+module _ (old new : State) (meta : Meta) (site : IsSiteIn meta old.now.trees) (sound : IsSound old.now.schema old.now.trees)
+    (opens : IsSome (opened_in old.now.trees)) where
   not_at_fault : (fault : OpenFault) → IsOurFault Second old new fault → IsAfterStop (Some fault)
   not_at_fault NotOurs h = absurd (h.no_numbers meta site.within site.numbers)
   not_at_fault (OtherSchema version) h = absurd (no_other meta version old.now.trees site.numbers h)

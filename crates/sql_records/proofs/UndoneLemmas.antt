@@ -10,8 +10,10 @@ use Rattle.sql_records.specs.Held.{IsAtRest, IsUndisturbed}
 use Rattle.sql_records.specs.Opening.{IsLeftOrUndone}
 
 pub left_or_undone : (old new : State) → IsUnchanged old new ⊎ IsRolledBack old new → IsLeftOrUndone old new
-left_or_undone old new (inl h) = record { kept = record { was_open = λ _. h.0.was_open; committed = λ _. h.0.committed_is }; shows = λ _. inl (h.0.now_is, h.0.mode, h.2) }
-left_or_undone old new (inr h) = record { kept = record { was_open = h.was_open; committed = λ on. (h.undone on).1 }; shows = λ on. inr ((h.undone on).0, h.autocommit, h.unmarked) }
+left_or_undone old new (inl h) = record
+    { kept = record { was_open = λ _. h.0.was_open; committed = λ _. h.0.committed_is }; shows = λ _. inl (h.0.now_is, h.0.mode, h.2) }
+left_or_undone old new (inr h) = record
+    { kept = record { was_open = h.was_open; committed = λ on. (h.undone on).1 }; shows = λ on. inr ((h.undone on).0, h.autocommit, h.unmarked) }
 
 -- at rest, what was undone is what was shown
 pub undisturbed : (old new : State) (count : ℕ) → IsAtRest old count → IsLeftOrUndone old new → IsUndisturbed old new
@@ -31,16 +33,19 @@ unchanged_keeps old new h = record { was_open = λ _. h.0.was_open; committed = 
 rolled_keeps : (old new : State) → IsRolledBack old new → KeepsCommit old new
 rolled_keeps old new h = record { was_open = h.was_open; committed = λ on. (h.undone on).1 }
 
-rows_keep : (old new : State) (sql : List ℕ) (c : Compiled) (params : Row) (rows : List Row) (o : Option Returning) → old.in_transaction ≡ true → ShowsRows old new sql c params rows o → KeepsCommit old new
+rows_keep : (old new : State) (sql : List ℕ) (c : Compiled) (params : Row) (rows : List Row) (o : Option Returning) → old.in_transaction ≡ true
+    → ShowsRows old new sql c params rows o → KeepsCommit old new
 rows_keep old new sql c params rows None within h = unchanged_keeps old new h.3
 rows_keep old new sql c params rows (Some what) within h =
     record { was_open = λ _. h.1.shown.was_open; committed = λ _. h.1.shown.committed_is ∙ cond-true old.in_transaction old.committed new.now within }
 
-pub shown_keeps : (sql : List ℕ) (params : Row) (old new : State) (rows : List Row) → old.in_transaction ≡ true → Shown sql params old new rows → KeepsCommit old new
+pub shown_keeps : (sql : List ℕ) (params : Row) (old new : State) (rows : List Row) → old.in_transaction ≡ true → Shown sql params old new rows
+    → KeepsCommit old new
 unfolding Shown
 shown_keeps sql params old new rows within h = rows_keep old new sql h.0 _ rows h.0.returning within h.2
 
-failure_keeps : (old new : State) (sql : List ℕ) (c : Compiled) (params : Row) (e : Error) (o : Option Returning) → FailsToShow old new sql c params e o → KeepsCommit old new
+failure_keeps : (old new : State) (sql : List ℕ) (c : Compiled) (params : Row) (e : Error) (o : Option Returning) → FailsToShow old new sql c params e o
+    → KeepsCommit old new
 failure_keeps old new sql c params e None h = unchanged_keeps old new h.3
 failure_keeps old new sql c params e (Some what) (inl h) = unchanged_keeps old new h.1
 failure_keeps old new sql c params e (Some what) (inr h) = rolled_keeps old new h.3
@@ -55,12 +60,14 @@ unfolding FailsToQuery
 fails_keeps sql params old new e (inl h) = not_run_keeps sql params old new e h
 fails_keeps sql params old new e (inr h) = failure_keeps old new sql h.0 _ e h.0.returning h.2
 
-pub error_keeps : (sql : List ℕ) (params : Row) (old new : State) (e : Error) → FailsToQuery sql params old new e ⊎ IsTooLate sql params old new e → KeepsCommit old new
+pub error_keeps : (sql : List ℕ) (params : Row) (old new : State) (e : Error) → FailsToQuery sql params old new e ⊎ IsTooLate sql params old new e
+    → KeepsCommit old new
 error_keeps sql params old new e (inl h) = fails_keeps sql params old new e h
 error_keeps sql params old new e (inr h) = unchanged_keeps old new h.5
 
 -- the transaction in which it ran is rolled back
-pub undone_outside : (old begun mid new : State) → begun.committed ≡ old.committed → (IsTrue begun.is_open → IsTrue old.is_open) → KeepsCommit begun mid → IsRolledBack mid new → IsLeftOrUndone old new
+pub undone_outside : (old begun mid new : State) → begun.committed ≡ old.committed → (IsTrue begun.is_open → IsTrue old.is_open) → KeepsCommit begun mid
+    → IsRolledBack mid new → IsLeftOrUndone old new
 undone_outside old begun mid new same opened ran back = record {
   kept = record { was_open = λ on. opened (ran.was_open (back.was_open on)); committed = λ on. (back.undone on).1 ∙ ran.committed (back.was_open on) ∙ same };
   shows = λ on. inr ((back.undone on).0 ∙ ran.committed (back.was_open on) ∙ same, back.autocommit, back.unmarked);

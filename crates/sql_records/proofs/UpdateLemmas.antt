@@ -47,7 +47,8 @@ query = record {
 abbrev pub update_command : Command
 update_command = Update 0 (record { lets = []; body = query })
 
-pub update_is : (more : List Table) (indexes : List Index) (views : List View) → command_of (understood (ours_and more indexes views) update_text) ≡ update_command
+pub update_is : (more : List Table) (indexes : List Index) (views : List View)
+    → command_of (understood (ours_and more indexes views) update_text) ≡ update_command
 unfolding understood everything
 update_is more indexes views = refl
 
@@ -62,7 +63,8 @@ one_of f (x ∷ z ∷ more) y e = absurd cc
 
 -- the row of these numbers as the table keeps it
 abbrev pub stored_as : Version → Meta → Row
-stored_as version meta = Int (pos 1) ∷ Null ∷ Words our_kind ∷ Int (version_number version) ∷ Int (pos meta.me) ∷ Int (pos meta.sites) ∷ Int (pos meta.limit) ∷ []
+stored_as version meta = Int (pos 1) ∷ Null ∷ Words our_kind ∷ Int (version_number version) ∷ Int (pos meta.me) ∷ Int (pos meta.sites)
+    ∷ Int (pos meta.limit) ∷ []
 
 -- what the UPDATE is given to write for it, after the rowid of the row that it replaces
 abbrev given_for : Meta → Row
@@ -74,7 +76,8 @@ given_of meta r e =
     rw (at 0, at 1, at 3, at 4, at 5) refl
 
 -- the one row that the query gives
-answer_is : (meta : Meta) (db : Trees) (r : Row) (rows : List Row) → db 0 ≡ r ∷ [] → meta_shown r ≡ meta_as First meta → IsAnswer query (overlay db []) [] rows → rows ≡ given_for meta ∷ []
+answer_is : (meta : Meta) (db : Trees) (r : Row) (rows : List Row) → db 0 ≡ r ∷ [] → meta_shown r ≡ meta_as First meta
+    → IsAnswer query (overlay db []) [] rows → rows ≡ given_for meta ∷ []
 answer_is meta db r rows one e a =
     let staged : a.staged ≡ ([] ∷ r ∷ []) ∷ [] = a.grouped ∙ rw one in
     let o : Output = output query ([] ∷ r ∷ []) in
@@ -97,8 +100,10 @@ pub record Updated (schema : Schema) (meta : Meta) (db : Trees) (after : Databas
   pub row : after.trees 0 ≡ stored_as Second meta ∷ []
   pub entries : after.trees 1 ≡ db 1
 
-pub updates : (meta : Meta) (limit : Option ℕ) (mode : Mode) (schema : Schema) (old : Trees) (after : Database) (text : List ℕ) (tally : Tally) (ours : IsOurs schema) → HasMetaAs First meta old
-    → Does limit mode [] (record { schema = schema; trees = old }) text None update_command (Ok (tally, after)) → Updated (ours_and ours.tables ours.indexes ours.views) meta old after
+pub updates : (meta : Meta) (limit : Option ℕ) (mode : Mode) (schema : Schema) (old : Trees) (after : Database) (text : List ℕ) (tally : Tally)
+    (ours : IsOurs schema) → HasMetaAs First meta old
+    → Does limit mode [] (record { schema = schema; trees = old }) text None update_command (Ok (tally, after))
+    → Updated (ours_and ours.tables ours.indexes ours.views) meta old after
 updates meta limit mode schema old after text tally ours is h =
     let all = ours_and ours.tables ours.indexes ours.views in
     let one = one_of meta_shown (old 0) (meta_as First meta) is in
@@ -108,7 +113,8 @@ updates meta limit mode schema old after text tally ours is h =
     let written = went given.2 in
     let trees : done.0.trees ≡ written.0 = ap (λ (it : Written). it.trees) (same_value written.2) in
     let edit = edit_of old (meta_at 0) (ids_of given.0) Given 1 given.0 in
-    let step = one_step all mode.keys old written.0 edit (no_work all mode.keys 0 0 (taken_by old edit) edit.news (meta_at 0 ∷ entries_at 1 ∷ ours.tables) (refl, (refl, ours.bare))) written.1 in
+    let step = one_step all mode.keys old written.0 edit
+    (no_work all mode.keys 0 0 (taken_by old edit) edit.news (meta_at 0 ∷ entries_at 1 ∷ ours.tables) (refl, (refl, ours.bare))) written.1 in
     let rows = answer_is meta old one.0 given.0 one.1 one.2 (given.1.answer Null) in
     let edit = edit_is meta old one.0 given.0 one.1 (ap (λ (v : Row). column v 0) one.2) rows in
     let tree = λ (t : ℕ). ap (λ (d : Database). d.trees t) now ∙ ap (λ (x : Trees). x t) trees in

@@ -41,7 +41,8 @@ text_in ours = statement_of update_text (understood (ours_and ours.tables ours.i
 
 module _ (old new : State) (place : ℕ) (rest : IsAtRest old place) where
   -- an UPDATE that fails changes nothing that is shown or committed, and leaves no transaction
-  as_before : (e : Error) → Executes update_text [] old new (Err e) → IsTrue new.is_open → (new.now ≡ old.now) × (new.committed ≡ old.committed) × (new.in_transaction ≡ old.in_transaction)
+  as_before : (e : Error) → Executes update_text [] old new (Err e) → IsTrue new.is_open → (new.now ≡ old.now) × (new.committed ≡ old.committed)
+      × (new.in_transaction ≡ old.in_transaction)
   as_before e h is_open = elim (err_keeps update_text [] old new e h) [
     | inl same ↦ (same.0.now_is, same.0.committed_is, same.0.mode)
     | inr undone ↦ ((undone.undone is_open).0 ∙ rest.settled, (undone.undone is_open).1, undone.autocommit ∙ sym rest.autocommit)
@@ -67,22 +68,31 @@ module _ (old new : State) (place : ℕ) (rest : IsAtRest old place) where
           record { meta = meta; was = is; is = ap (map meta_shown) it.row; entries = it.entries },
         )
 
-    never_ends : ((update_command ≡ Commit) ⊎ ((name : List ℕ) × (at : ℕ) × (update_command ≡ Release name) × IsNewestNamed (names_in old) name at × IsTrue (begins_at old at))) → ⊥
+    never_ends : ((update_command ≡ Commit)
+        ⊎ ((name : List ℕ) × (at : ℕ) × (update_command ≡ Release name) × IsNewestNamed (names_in old) name at × IsTrue (begins_at old at))) → ⊥
     never_ends (inl is) = cc
     never_ends (inr release) = let is = release.2 in cc
 
     commits : (db : Trees) → CommitsBy update_text [] old db → IsMigrated old.now.trees db
     commits db h =
         let ours = rest.schema in
-        elim (commits_as update_text [] old (ours_and ours.tables ours.indexes ours.views) ours.is update_command (update_is ours.tables ours.indexes ours.views) (update_plain ours.tables ours.indexes ours.views) db h) [
+        elim (commits_as update_text [] old (ours_and ours.tables ours.indexes ours.views) ours.is update_command
+        (update_is ours.tables ours.indexes ours.views) (update_plain ours.tables ours.indexes ours.views) db h) [
           | inl ends ↦ absurd (never_ends ends.0)
           | inr writes ↦ (
               let it = updates meta old.step_limit (mode_of old) old.now.schema old.now.trees writes.2 (text_in ours) writes.1 ours is writes.3 in
-              record { meta = meta; was = is; is = ap (λ (t : Trees). map meta_shown (t 0)) writes.5 ∙ ap (map meta_shown) it.row; entries = ap (λ (t : Trees). t 1) writes.5 ∙ it.entries })
+              record {
+                meta = meta;
+                was = is;
+                is = ap (λ (t : Trees). map meta_shown (t 0)) writes.5
+                    ∙ ap (map meta_shown) it.row;
+                entries = ap (λ (t : Trees). t 1) writes.5 ∙ it.entries;
+              })
         ]
 
 -- over any statement that was run, as a function's clauses speak of it
-module _ (old new : State) (rest : HasCleanDisk old → (place : ℕ) × IsAtRest old place) (good : HasCleanDisk old → IsLegalFirst old.now.trees) (survives : Survives old new (CommitsBy update_text [] old)) where
+module _ (old new : State) (rest : HasCleanDisk old → (place : ℕ) × IsAtRest old place) (good : HasCleanDisk old → IsLegalFirst old.now.trees)
+    (survives : Survives old new (CommitsBy update_text [] old)) where
   pub leaves_either : HasCleanDisk new → LeavesAsBeforeOrMigrated old new
   leaves_either clean db left =
       let at_rest = rest (was_clean old new _ survives clean) in
@@ -92,18 +102,21 @@ module _ (old new : State) (rest : HasCleanDisk old → (place : ℕ) × IsAtRes
         | inr commit ↦ inr (legal, commits old new at_rest.0 at_rest.1 legal.meta legal.first.numbers db commit)
       ]
 
-  pub stays_as : (e : Error) → Executes update_text [] old new (Err e) → HasCleanDisk new → IsTrue new.is_open → (new.now ≡ old.now) × (new.committed ≡ old.committed) × (new.in_transaction ≡ old.in_transaction)
+  pub stays_as : (e : Error) → Executes update_text [] old new (Err e) → HasCleanDisk new → IsTrue new.is_open
+      → (new.now ≡ old.now) × (new.committed ≡ old.committed) × (new.in_transaction ≡ old.in_transaction)
   stays_as e h clean = let at_rest = rest (was_clean old new _ survives clean) in as_before old new at_rest.0 at_rest.1 e h
 
   module _ (count : ℕ) (runs : HasCleanDisk new → Executes update_text [] old new (Ok count)) (clean : HasCleanDisk new) where
     both : IsAtRest new (rest (was_clean old new _ survives clean)).0 × IsMigrated old.now.trees new.now.trees
-    both = let at_rest = rest (was_clean old new _ survives clean) in let legal = good (was_clean old new _ survives clean) in ok old new at_rest.0 at_rest.1 legal.meta legal.first.numbers count (runs clean)
+    both = let at_rest = rest (was_clean old new _ survives clean) in let legal = good (was_clean old new _ survives clean) in ok old new at_rest.0
+        at_rest.1 legal.meta legal.first.numbers count (runs clean)
 
     pub migrated : IsMigrated old.now.trees new.now.trees
     migrated = both.1
 
     pub rests : (place : ℕ) → IsAtRest old place → IsAtRest new place
-    rests place at_rest = let legal = good (was_clean old new _ survives clean) in (ok old new place at_rest legal.meta legal.first.numbers count (runs clean)).0
+    rests place at_rest = let legal = good (was_clean old new _ survives clean)
+        in (ok old new place at_rest legal.meta legal.first.numbers count (runs clean)).0
 
     same_history : history_in new.now.trees ≡ history_in old.now.trees
     same_history = ap history_of both.1.entries
@@ -111,14 +124,16 @@ module _ (old new : State) (rest : HasCleanDisk old → (place : ℕ) × IsAtRes
     -- `only` and `stays` are the laws of the store: while it is open, a crash leaves the last commit
     module _ (only : (db : Trees) → IsTrue new.is_open → new.may_leave db → db ≡ new.committed.trees) where
       pub leaves_list : (IsTrue new.is_open → new.may_leave new.committed.trees) → LeavesOnly (history_in old.now.trees) (MayLeaveIn new)
-      leaves_list stays = subst (λ list. LeavesOnly list (MayLeaveIn new)) same_history (leaves_only new (rest (was_clean old new _ survives clean)).0 both.0 only stays)
+      leaves_list stays = subst (λ list. LeavesOnly list (MayLeaveIn new)) same_history
+          (leaves_only new (rest (was_clean old new _ survives clean)).0 both.0 only stays)
 
       pub leaves_numbers : (meta : Meta) → HasMetaAs First meta old.now.trees → LeavesSite new meta
       leaves_numbers meta was =
           let had = good (was_clean old new _ survives clean) in
           let same = one_meta First had.meta meta old.now.trees had.first.numbers was in
           let also = one_meta First both.1.meta meta old.now.trees both.1.was was in
-          leaves_site new (rest (was_clean old new _ survives clean)).0 both.0 only meta (subst AreNumbers same had.first.within) (subst (λ m. HasMeta m new.now.trees) also both.1.is)
+          leaves_site new (rest (was_clean old new _ survives clean)).0 both.0 only meta (subst AreNumbers same had.first.within)
+          (subst (λ m. HasMeta m new.now.trees) also both.1.is)
 
 -- ---- what is read of what a stop leaves
 

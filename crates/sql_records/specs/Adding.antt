@@ -33,7 +33,8 @@ module _ {S : Type 0} (g : Ghosts S) where
   -- as of one entry alone: nothing was done, or the INSERT was answered with want of memory; no room for the entry, or the INSERT failed
   -- for another cause
   abbrev pub FailsToPut : ℕ → Entry → Held S → Held S → KeepFault → Type 0
-  FailsToPut place entry before after Memory = (after ≡ before) ⊎ ExecutesInside 0 insert_text (columns_of place entry) (state g before) (state g after) (Err (SqliteFailure OutOfMemory))
+  FailsToPut place entry before after Memory = (after ≡ before)
+      ⊎ ExecutesInside 0 insert_text (columns_of place entry) (state g before) (state g after) (Err (SqliteFailure OutOfMemory))
   FailsToPut place entry before after Disk =
       ((¬ HasRoom entry (length (delta_text (delta_of entry)))) ⊎ (most ≤ place))
       ⊎ ((e : Error) × (e ≢ SqliteFailure OutOfMemory) × ExecutesInside 0 insert_text (columns_of place entry) (state g before) (state g after) (Err e))
@@ -69,7 +70,8 @@ module _ {S : Type 0} (g : Ghosts S) (old new : RecordsView S) (entries : List E
   -- one of the entries was not added to the transaction, or its commit failed
   abbrev pub FailsToKeep : KeepFault → Type 0
   FailsToKeep fault =
-      ((ended : Held S) × HasCleanDisk (state g ended) × FailsToPutAll g (length (kept_in g old)) entries (record old.conn { in_transaction = true }) ended fault)
+      ((ended : Held S) × HasCleanDisk (state g ended)
+      × FailsToPutAll g (length (kept_in g old)) entries (record old.conn { in_transaction = true }) ended fault)
       ⊎ FailsAtCommit g (length (kept_in g old)) entries (record old.conn { in_transaction = true }) new.conn fault
 
   -- that, or there is no room for more

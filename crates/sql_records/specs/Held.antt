@@ -1,5 +1,5 @@
 -- What the records hold, and what a stop may leave of them. (Our own.)
-use Rattle.std.specs.Prelude.{◌≡◌, ◌≢◌, ◌⊎◌, ◌≤◌, ◌^◌, ◌+◌, ℕ, Err, false, true, List, [], ◌++◌, length, map, Option, Some, IsTrue, refl}
+use Rattle.std.specs.Prelude.{◌≡◌, ◌≢◌, ◌⊎◌, ◌≤◌, ◌^◌, ◌+◌, ℕ, Err, false, true, List, [], ◌++◌, length, map, Option, Some, Result, OnOk, IsTrue, refl}
 use Rattle.std.specs.Coded.{Coded, code_by, coded×, coded_ℕ}
 use Rattle.book_core.specs.declared.entry.Entry.{Entry}
 use Rattle.sqlite.specs.Store.{Ghosts}
@@ -19,6 +19,7 @@ use Rattle.history_keeper.specs.declared.keeper.KeepFault.{KeepFault}
 use Rattle.history_keeper.specs.declared.keeper.KeepFault.TheVariants.{Memory, Disk, Shut}
 use Rattle.sql_records.specs.Texts.{insert_text}
 use Rattle.history_keeper.specs.declared.meta.Meta.{Meta}
+use Rattle.history_keeper.specs.Keeping.{LeavesAllOrNone}
 use Rattle.sql_records.specs.Layout.{our_schema, meta_tree, IsOurs, HasMeta, AreNumbers}
 use Rattle.sql_records.specs.Rows.{shown, columns_of, HasRoom, in_order, history_of, entries_from, AreWhole}
 
@@ -59,7 +60,8 @@ pub record IsAdding (begun : Database) (s : State) (count : ℕ) (added : List E
 
 -- a transaction that had added some entries, with which there were so many, has added these behind them
 abbrev pub Adds : State → State → ℕ → List Entry → Type 0
-Adds old new count entries = (begun : Database) (added : List Entry) → IsAdding begun old count added → IsAdding begun new (count + length entries) (added ++ entries)
+Adds old new count entries = (begun : Database) (added : List Entry) → IsAdding begun old count added
+    → IsAdding begun new (count + length entries) (added ++ entries)
 
 -- the records are at rest, as they were when they had so many entries, and have these more
 pub record HasMore (old new : State) (count : ℕ) (entries : List Entry) : Type 0 where
@@ -69,6 +71,10 @@ pub record HasMore (old new : State) (count : ℕ) (entries : List Entry) : Type
 -- a connection that is open still shows what it showed, in a transaction only if it was in one
 abbrev pub IsUndisturbed : State → State → Type 0
 IsUndisturbed old new = IsTrue new.is_open → (new.now ≡ old.now) × (new.in_transaction ≡ old.in_transaction)
+
+-- a connection that is open has committed nothing since
+abbrev pub HasCommittedNothing : State → State → Type 0
+HasCommittedNothing old new = IsTrue new.is_open → new.committed ≡ old.committed
 
 -- the trees are those of our schema alone, of a site with these numbers and no entry
 pub record IsNewIn (meta : Meta) (db : Trees) : Type 0 where
@@ -112,6 +118,14 @@ LeavesSite s meta = (db : Trees) → s.may_leave db → IsSiteIn meta db
 abbrev pub KeepsSite : State → State → Type 0
 KeepsSite old new = (meta : Meta) → LeavesSite old meta → LeavesSite new meta
 
+-- A call that adds entries to records which had so many, in a transaction of its own: all of them if it succeeds, and all or none after
+-- a crash or an error. The site is as it was.
+pub record Stores {T E : Type 0} (old new : State) (count : ℕ) (entries : List Entry) (result : Result T E) : Type 0 where
+  pub clean : HasCleanDisk old
+  pub more : OnOk result (HasMore old new count entries)
+  pub crash : LeavesAllOrNone (history_in old.now.trees) entries (MayLeaveIn new)
+  pub site : KeepsSite old new
+
 -- each database that a stop may leave is one that it could leave before, or the new one
 abbrev pub LeavesAsBeforeOrNew : Meta → State → State → Type 0
 LeavesAsBeforeOrNew meta old new = (db : Trees) → new.may_leave db → old.may_leave db ⊎ IsNewIn meta db
@@ -121,8 +135,13 @@ pub record RecordsView (S : Type 0) : Type 0 where
   pub conn : Held S
   pub failures : ℕ
 
+-- the records of a connection, with so many failures
+abbrev pub failing : {S : Type 0} → Held S → ℕ → RecordsView S
+failing conn failures = record { conn = conn; failures = failures }
+
 abbrev pub kept_code : {S : Type 0} → Coded S → Coded (RecordsView S)
-kept_code {S} store = code_by (Held S × ℕ) (coded× (held_code store) coded_ℕ) (λ k. (k.conn, k.failures)) (λ p. record { conn = p.0; failures = p.1 }) (λ _. refl)
+kept_code {S} store = code_by (Held S × ℕ) (coded× (held_code store) coded_ℕ) (λ k. (k.conn, k.failures)) (λ p. record { conn = p.0; failures = p.1 })
+    (λ _. refl)
 
 module _ {S : Type 0} (g : Ghosts S) where
   abbrev pub kept_in : RecordsView S → List Entry
@@ -154,5 +173,6 @@ module _ {S : Type 0} (g : Ghosts S) (old new : RecordsView S) (entry : Entry) w
   -- nothing was done, or the INSERT was answered with want of memory; no room for the entry, or the INSERT failed for another cause
   abbrev pub IsKeepFault : KeepFault → Type 0
   IsKeepFault Memory = (new.conn ≡ old.conn) ⊎ FailsToInsert (SqliteFailure OutOfMemory)
-  IsKeepFault Disk = ((¬ HasRoom entry (length (delta_text (delta_of entry)))) ⊎ (most ≤ length (kept_in g old))) ⊎ ((e : Error) × (e ≢ SqliteFailure OutOfMemory) × FailsToInsert e)
+  IsKeepFault Disk = ((¬ HasRoom entry (length (delta_text (delta_of entry)))) ⊎ (most ≤ length (kept_in g old)))
+      ⊎ ((e : Error) × (e ≢ SqliteFailure OutOfMemory) × FailsToInsert e)
   IsKeepFault Shut = old.failures ≢ 0

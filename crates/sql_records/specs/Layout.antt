@@ -32,7 +32,8 @@ required name kind = record { name = name; kind = kind; is_strict = true; not_nu
 
 abbrev pub last_columns : List Column
 last_columns =
-    plain (codes "amount") Integer ∷ plain (codes "target") Integer ∷ plain (codes "reply") Text ∷ plain (codes "rest") Integer ∷ required (codes "delta") Text ∷ []
+    plain (codes "amount") Integer ∷ plain (codes "target") Integer ∷ plain (codes "reply") Text ∷ plain (codes "rest") Integer
+    ∷ required (codes "delta") Text ∷ []
 
 -- the table of the entries, in this tree
 abbrev pub entries_at : ℕ → Table
@@ -40,7 +41,8 @@ entries_at tree = record {
   name = codes "entries";
   tree = tree;
   columns =
-      plain (codes "pos") Integer ∷ plain (codes "peer") Integer ∷ plain (codes "number") Integer ∷ plain (codes "verb") Text ∷ plain (codes "event") Text ∷ last_columns;
+      plain (codes "pos") Integer ∷ plain (codes "peer") Integer ∷ plain (codes "number") Integer ∷ plain (codes "verb") Text ∷ plain (codes "event") Text
+      ∷ last_columns;
   key = Some 0;
   primary = 0 ∷ [];
   uniques = (3 ∷ []) ∷ [];

@@ -32,7 +32,8 @@ found_columns values = column values 0 ∷ column values 7 ∷ column values 8 �
 
 -- the place, the number, the four columns of the request, the reply and its number
 abbrev pub listed_columns : Row → Row
-listed_columns values = column values 0 ∷ column values 2 ∷ column values 3 ∷ column values 4 ∷ column values 5 ∷ column values 6 ∷ column values 7 ∷ column values 8 ∷ []
+listed_columns values = column values 0 ∷ column values 2 ∷ column values 3 ∷ column values 4 ∷ column values 5 ∷ column values 6 ∷ column values 7
+    ∷ column values 8 ∷ []
 
 abbrev pub place_of : Value → Option ℕ
 place_of (Int (pos place)) = Some place

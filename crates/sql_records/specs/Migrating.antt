@@ -81,8 +81,10 @@ LeavesSameEntries trees s = (meta : Meta) → AreRecordsIn First meta trees
 -- what a fault of reading the first version is told as, where the tables are ours or not
 abbrev pub IsToldAs : Bool → OpenFault → MigrateFault → Type 0
 IsToldAs ours opening.NotOurs fault = fault ≡ NotOurs
-IsToldAs true (opening.OtherSchema version) fault = ((version ≡ version_number Second) × (fault ≡ Nothing)) ⊎ ((version ≢ version_number Second) × (fault ≡ OtherSchema version))
-IsToldAs false (opening.OtherSchema version) fault = ((version ≡ version_number Second) × (fault ≡ NotOurs)) ⊎ ((version ≢ version_number Second) × (fault ≡ OtherSchema version))
+IsToldAs true (opening.OtherSchema version) fault = ((version ≡ version_number Second) × (fault ≡ Nothing))
+    ⊎ ((version ≢ version_number Second) × (fault ≡ OtherSchema version))
+IsToldAs false (opening.OtherSchema version) fault = ((version ≡ version_number Second) × (fault ≡ NotOurs))
+    ⊎ ((version ≢ version_number Second) × (fault ≡ OtherSchema version))
 IsToldAs ours (opening.Damaged place) fault = fault ≡ Damaged place
 IsToldAs ours opening.Memory fault = fault ≡ Memory
 IsToldAs ours opening.Disk fault = fault ≡ Disk
@@ -97,7 +99,8 @@ IsUnread old new NotOurs = HasNoMeta First old.now.trees
 IsUnread old new (OtherSchema version) = (version ≢ version_number Second) × HasOtherSchema First version old.now.trees
 IsUnread old new Nothing = HasOtherSchema First (version_number Second) old.now.trees
 IsUnread old new (Damaged place) = IsEntriesFault First old.now.trees (opening.Damaged place) ⊎ IsNoHistory old.now.trees (replay.IllegalAt place)
-IsUnread old new Memory = IsUndoneForMemory old new ⊎ (IsUnchanged old new × (IsEntriesFault First old.now.trees opening.Memory ⊎ IsNoHistory old.now.trees replay.Memory))
+IsUnread old new Memory = IsUndoneForMemory old new
+    ⊎ (IsUnchanged old new × (IsEntriesFault First old.now.trees opening.Memory ⊎ IsNoHistory old.now.trees replay.Memory))
 IsUnread old new Disk = HasDiskCause old new
 
 module _ {S : Type 0} (g : Ghosts S) (conn : Held S) where

@@ -49,7 +49,8 @@ module _ {S : Type 0} (g : Ghosts S) (conn : Held S) where
   -- it has none that could be opened: a transaction is open, or this is what they are found to be at fault in
   pub record CannotOpen (fault : OpenFault) : Type 0 where
     pub busy : conn.in_transaction ≡ true → fault ≡ Disk
-    pub found : conn.in_transaction ≡ false → (after : Held S) × (HasCleanDisk (state g after) → HasCleanDisk (state g conn) × IsOpenFault (state g conn) (state g after) fault)
+    pub found : conn.in_transaction ≡ false
+        → (after : Held S) × (HasCleanDisk (state g after) → HasCleanDisk (state g conn) × IsOpenFault (state g conn) (state g after) fault)
     pub foreign : ¬ IsOurs conn.schema → conn.in_transaction ≡ false → (after : Held S) × (HasCleanDisk (state g after) → IsForeignCause g conn fault)
 
 -- the records of a site with no entry, which a stop leaves
@@ -77,7 +78,8 @@ pub record InitCall {S : Type 0} (g : Ghosts S) (old new : Held S) (meta : Meta)
 
 -- A question to records that have not failed is answered, which changes nothing; or it shuts them, for this fault, and undoes what was not
 -- committed. Records that are shut answer `Shut` and are as they were.
-pub record Asks {S T : Type 0} (g : Ghosts S) (old new : RecordsView S) (Tells : T → Type 0) (Fails : FindFault → Type 0) (result : Result T FindFault) : Type 0 where
+pub record Asks {S T : Type 0} (g : Ghosts S) (old new : RecordsView S) (Tells : T → Type 0) (Fails : FindFault → Type 0) (result : Result T FindFault) :
+    Type 0 where
   pub told : IfOk result (λ it. IsTrusted g new → Tells it)
   pub reads : Reads g old.conn new.conn result
   pub still : OnErr result (IsTrusted g new → IsUndisturbed (state g old.conn) (state g new.conn))
@@ -91,4 +93,5 @@ abbrev pub FindCall : {S : Type 0} → Ghosts S → RecordsView S → RecordsVie
 FindCall g old new number = Asks g old new (λ found. found ≡ found_in (kept_in g old) number) (IsQueryFault (state g old.conn) (state g new.conn))
 
 abbrev pub ListCall : {S : Type 0} → Ghosts S → RecordsView S → RecordsView S → List ℕ → Result (Vec Listed Global) FindFault → Type 0
-ListCall g old new event = Asks g old new (λ rows. rows.items ≡ listed_in (kept_in g old) event) (IsListFault (state g old.conn) (state g new.conn) (listed_in (kept_in g old) event))
+ListCall g old new event = Asks g old new (λ rows. rows.items ≡ listed_in (kept_in g old) event)
+    (IsListFault (state g old.conn) (state g new.conn) (listed_in (kept_in g old) event))

@@ -13,16 +13,17 @@ use Rattle.sqlite.specs.declared.error.Error.TheVariants.{SqliteFailure}
 use Rattle.sqlite.specs.declared.error.ErrorCode.TheVariants.{OutOfMemory, SystemIoFailure, DatabaseCorrupt, DiskFull, Closed}
 use Rattle.plain_words.specs.Words.{◌>>=◌}
 use Rattle.book_core.specs.Limits.{greatest_limit}
+use Rattle.book_core.specs.declared.entry.Entry.{Entry}
 use Rattle.history_keeper.specs.declared.meta.Meta.{Meta}
 use Rattle.sql_records.specs.declared.fault.OpenFault.{OpenFault}
 use Rattle.sql_records.specs.declared.fault.OpenFault.TheVariants.{NotOurs, OtherSchema, Damaged, Memory, Disk}
 use Rattle.sql_records.specs.Rows.{number_within, site_in, sites_in, entry_of, rows_from_0, AreInOrder, AreWholeIn, IsDamagedAt, IsOfVersion, WantsForEntry}
 use Rattle.sql_records.specs.declared.version.Version.{Version}
 use Rattle.sql_records.specs.declared.version.Version.TheVariants.{Second}
-use Rattle.sql_records.specs.Layout.{IsOurs, our_kind, version_number, HasOtherSchema, HasGoodMeta, HasNoMeta}
+use Rattle.sql_records.specs.Layout.{HasMetaAs, IsOurs, our_kind, version_number, HasOtherSchema, HasGoodMeta, HasNoMeta}
 use Rattle.sql_records.specs.Faults.{HasDiskCause, IsUndoneForMemory}
 use Rattle.sql_records.specs.Texts.{meta_select_text}
-use Rattle.sql_records.specs.Held.{entries_tree, LeavesNoMore}
+use Rattle.sql_records.specs.Held.{entries_tree, rows_in, history_in, LeavesNoMore}
 
 abbrev pub int_in : Value → Option ℤ
 int_in (Int n) = Some n
@@ -46,11 +47,13 @@ pub record IsRowOf (read : Version) (meta : Meta) (values : Row) : Type 0 where
 -- the row is of another kind, has no version, or has no numbers of a site
 abbrev pub IsForeignRow : Version → Row → Type 0
 IsForeignRow read values =
-    ((column values 0 ≢ Int (pos 1)) ⊎ (column values 1 ≢ Text our_kind)) ⊎ ((int_in (column values 2) ≡ None) ⊎ ((column values 2 ≡ Int (version_number read)) × (meta_in values ≡ None)))
+    ((column values 0 ≢ Int (pos 1)) ⊎ (column values 1 ≢ Text our_kind))
+    ⊎ ((int_in (column values 2) ≡ None) ⊎ ((column values 2 ≡ Int (version_number read)) × (meta_in values ≡ None)))
 
 -- the row is of our kind, and of this version, which is another than the one that is read
 abbrev pub IsOtherVersion : Version → ℤ → Row → Type 0
-IsOtherVersion read version values = (column values 0 ≡ Int (pos 1)) × (column values 1 ≡ Text our_kind) × (column values 2 ≡ Int version) × (version ≢ version_number read)
+IsOtherVersion read version values = (column values 0 ≡ Int (pos 1)) × (column values 1 ≡ Text our_kind) × (column values 2 ≡ Int version)
+    × (version ≢ version_number read)
 
 -- what is at fault in a row of `meta`
 abbrev pub IsRowFault : Version → Row → OpenFault → Type 0
@@ -76,7 +79,8 @@ IsMetaFault read old new (Damaged place) = ⊥
 IsMetaFault read old new Memory = IsUndoneForMemory old new
 IsMetaFault read old new Disk = HasDiskCause old new
 
--- memory may be wanted for the row at this place: it has its place, has the columns of this version, and is an entry or may want memory for its delta; those before it are the entries of theirs in this version
+-- memory may be wanted for the row at this place: it has its place, has the columns of this version, and is an entry or may want memory for its
+-- delta; those before it are the entries of theirs in this version
 pub record IsWantedAt (read : Version) (place : ℕ) (rows : List Row) : Type 0 where
   pub before : AreWholeIn read 0 (take place rows)
   pub values : Row
@@ -140,6 +144,20 @@ IsForeignFault read (OtherSchema version) = version ≢ version_number read
 IsForeignFault read (Damaged place) = ⊥
 IsForeignFault read _ = Unit {0}
 
+-- all rows of a database read as entries of this version, and these are theirs
+abbrev pub AreReadFrom : Version → Trees → List Entry → Type 0
+AreReadFrom read db entries = AreWholeIn read 0 (rows_in db) × (entries ≡ history_in db)
+
+-- the entries and the numbers of a site are those of records of this version
+pub record IsReadAs (read : Version) (db : Trees) (entries : List Entry) (meta : Meta) : Type 0 where
+  pub entries_are : AreReadFrom read db entries
+  pub meta_is : HasMetaAs read meta db
+
+-- the entries were not read: a query failed, or nothing changed and something is at fault in the rows
+abbrev pub IsHistoryFault : Version → State → State → OpenFault → Type 0
+IsHistoryFault read old new fault =
+    IsStoreFault old new fault ⊎ (IsUnchanged old new × ((rows : List Row) × AreInOrder (old.now.trees entries_tree) rows × AreRowsFault read rows fault))
+
 -- what is at fault in the rows of a database, in an order of their places
 abbrev pub IsEntriesFault : Version → Trees → OpenFault → Type 0
 IsEntriesFault read db fault = HasGoodMeta read db × ((rows : List Row) × AreInOrder (db entries_tree) rows × AreRowsFault read rows fault)
@@ -164,7 +182,8 @@ pub record IsFoundAfterStop {S : Type 0} (g : Ghosts S) (conn : Held S) (fault :
   pub again : Held S
   pub is_new : IsNew again
   pub after : Held S
-  pub found : HasCleanDisk (state g after) → (state g conn).may_leave (state g again).now.trees × IsDatabase (state g again).now × IsOpenFault (state g again) (state g after) fault
+  pub found : HasCleanDisk (state g after) → (state g conn).may_leave (state g again).now.trees × IsDatabase (state g again).now
+      × IsOpenFault (state g again) (state g after) fault
   pub foreign : ¬ IsOurs again.schema → (last : Held S) × (HasCleanDisk (state g last) → IsForeignCause g again fault)
 
 -- the connection shows what it showed, in the transaction and the savepoints in which it was

@@ -29,7 +29,9 @@ module _ {S : Type 0} (g : Ghosts S) where
     pub found : IfOk answer (λ found. Finds (state g crashed) found.0 found.1)
     pub numbers : (meta : Meta) → LeavesSite (state g crashed) meta → IfOk answer (λ found. found.0 ≡ meta)
     pub entries : (list : List Entry) → LeavesOnly list (MayLeaveIn (state g crashed)) → IfOk answer (λ found. found.1 ≡ list)
-    pub fault : (meta : Meta) → LeavesSite (state g crashed) meta → CanBeOpened (MayLeaveIn (state g crashed)) → IfErr answer (λ fault. IsAfterStop (Some fault))
+    pub fault : (meta : Meta) → LeavesSite (state g crashed) meta → CanBeOpened (MayLeaveIn (state g crashed))
+        → IfErr answer (λ fault. IsAfterStop (Some fault))
 
   abbrev pub CrashesAreSurvived : Type 0
-  CrashesAreSurvived = (crashed again after : Held S) (answer : Result (Meta × List Entry) OpenFault) → Reopens crashed again after answer → FindsWhatIsLeft crashed answer
+  CrashesAreSurvived = (crashed again after : Held S) (answer : Result (Meta × List Entry) OpenFault) → Reopens crashed again after answer
+      → FindsWhatIsLeft crashed answer

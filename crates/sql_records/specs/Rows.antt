@@ -91,7 +91,8 @@ stored (at ∷ more) = at ∷ Null ∷ more
 -- the columns of a row of the table as a query shows them
 abbrev pub shown : Row → Row
 shown values =
-    column values 0 ∷ column values 2 ∷ column values 3 ∷ column values 4 ∷ column values 5 ∷ column values 6 ∷ column values 7 ∷ column values 8 ∷ column values 9 ∷ column values 10 ∷ []
+    column values 0 ∷ column values 2 ∷ column values 3 ∷ column values 4 ∷ column values 5 ∷ column values 6 ∷ column values 7 ∷ column values 8
+    ∷ column values 9 ∷ column values 10 ∷ []
 
 -- ---- what has columns that are read back
 
@@ -231,7 +232,8 @@ pub record WantsForDelta (v : Value) : Type 0 where
 -- the columns of a request and its reply are null
 abbrev pub asks_nothing : Row → Bool
 asks_nothing values =
-    is_null (column values 2) && is_null (column values 3) && is_null (column values 4) && is_null (column values 5) && is_null (column values 6) && is_null (column values 7)
+    is_null (column values 2) && is_null (column values 3) && is_null (column values 4) && is_null (column values 5) && is_null (column values 6) &&
+    is_null (column values 7)
     && is_null (column values 8)
 
 unfoldable pub joined_of : Row → State → Option Entry
@@ -250,7 +252,8 @@ is_empty _ = false
 -- beside the place, the peer, the word and the count, the columns are null, and the delta's text is empty
 abbrev pub only_grows : Row → Bool
 only_grows values =
-    is_null (column values 2) && is_null (column values 4) && is_null (column values 5) && is_null (column values 7) && is_null (column values 8) && is_empty (column values 9)
+    is_null (column values 2) && is_null (column values 4) && is_null (column values 5) && is_null (column values 7) && is_null (column values 8) &&
+    is_empty (column values 9)
 
 unfoldable pub grown_of : Row → Option Entry
 grown_of values = do

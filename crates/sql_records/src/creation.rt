@@ -4,7 +4,7 @@ ghost use Rattle.sqlite.specs.State.{HasCleanDisk, Survives};
 ghost use Rattle.sqlite.specs.Held.{state};
 ghost use Rattle.sqlite.specs.Values.{bound};
 ghost use Rattle.sql_records.specs.Layout.{no_schema, has_our_table, meta_of};
-ghost use Rattle.sql_records.specs.Held.{IsNew, IsAtRest, LeavesAsBeforeOrNew, LeavesSite, MayLeaveIn};
+ghost use Rattle.sql_records.specs.Held.{HasCommittedNothing, IsNew, IsAtRest, LeavesAsBeforeOrNew, LeavesSite, MayLeaveIn};
 ghost use Rattle.history_keeper.specs.Keeping.{LeavesOnly};
 ghost use Rattle.sql_records.specs.Opened.{InitCall, IsMade};
 ghost use Rattle.sql_records.specs.Making.{making, RunInTurn, FailInTurn, FailsToMake, IsRefusal, IsVacant, IsInitFault};
@@ -55,8 +55,8 @@ fn fill<S: Alter>(tx: &mut Transaction<'_, S>, meta: Meta) -> Result<(), Error>
     ensures same_reference { tx.new.conn.ghost_name ≡ tx.old.conn.ghost_name }
     ensures made { HasCleanDisk (state S.Store tx.new.conn.now)
         → OnOk result (IsNew meta (state S.Store tx.new.conn.now).now) }
-    ensures kept { HasCleanDisk (state S.Store tx.new.conn.now) → IsTrue (state S.Store tx.new.conn.now).is_open
-        → (state S.Store tx.new.conn.now).committed ≡ (state S.Store tx.old.conn.now).committed }
+    ensures kept { HasCleanDisk (state S.Store tx.new.conn.now)
+        → HasCommittedNothing (state S.Store tx.old.conn.now) (state S.Store tx.new.conn.now) }
     ensures survives { Survives
         (state S.Store tx.old.conn.now) (state S.Store tx.new.conn.now) (λ _. ⊥) }
     ensures runs { HasCleanDisk (state S.Store tx.new.conn.now)
@@ -88,18 +88,18 @@ fn refusal<S: Alter>(conn: &Connection<S>) -> Option<InitFault>
 // Makes new records in one transaction.
 fn make<S: Alter>(conn: &mut Connection<S>, meta: Meta) -> Result<(), Error>
     requires me { meta.me < meta.sites }
-    requires outside { conn.old.in_transaction ≡ false }
-    requires empty { conn.old.schema ≡ no_schema }
+    requires empty { (conn.old.in_transaction ≡ false) × (conn.old.schema ≡ no_schema) }
     ensures made { HasCleanDisk (state S.Store conn.new)
         → OnOk result (IsMade (state S.Store conn.new) meta) }
     ensures crash { HasCleanDisk (state S.Store conn.new)
         → LeavesAsBeforeOrNew meta (state S.Store conn.old) (state S.Store conn.new) }
-    ensures as_before { HasCleanDisk (state S.Store conn.new) → IsTrue (state S.Store conn.new).is_open → OnErr result
-        ((state S.Store conn.new).committed ≡ (state S.Store conn.old).committed) }
+    ensures as_before { HasCleanDisk (state S.Store conn.new) → IsTrue (state S.Store
+        conn.new).is_open → OnErr result ((state S.Store conn.new).committed
+        ≡ (state S.Store conn.old).committed) }
     ensures fails { HasCleanDisk (state S.Store conn.new)
         → IfErr result (FailsToMake S.Store conn.old meta) }
-    ensures limit { conn.new.step_limit ≡ conn.old.step_limit }
-    ensures ended { conn.new.in_transaction ≡ false }
+    ensures ended { (conn.new.in_transaction ≡ false)
+        × (conn.new.step_limit ≡ conn.old.step_limit) }
     ensures clean { HasCleanDisk (state S.Store conn.new) → HasCleanDisk (state S.Store conn.old) }
 {
     let mut tx = conn.transaction();

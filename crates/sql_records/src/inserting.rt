@@ -1,15 +1,12 @@
 //! One entry more in the table.
-ghost use Rattle.std.specs.Prelude.{true, ◌≡◌, ◌<◌, ◌+◌, ◌^◌, OnOk, IfErr, Err, [], ◌∷◌, ◌++◌, length};
+ghost use Rattle.std.specs.Prelude.{true, ◌≡◌, ◌<◌, ◌^◌, OnOk, IfErr, Err, [], ◌∷◌, length};
 ghost use Rattle.sqlite.specs.State.{HasCleanDisk, Executes, Survives};
 ghost use Rattle.sqlite.specs.Held.{state};
 ghost use Rattle.book_core.specs.History.{delta_of};
-ghost use Rattle.history_keeper.specs.declared.meta.Meta.{Meta};
 ghost use Rattle.delta_wire.specs.Grammar.{IsDelta, delta_text};
 ghost use Rattle.sql_records.specs.Rows.{HasRoom, columns_of};
 ghost use Rattle.sql_records.specs.Adding.{RunsInsert};
-ghost use Rattle.sql_records.specs.Held.{Adds, IsAtRest, LeavesSite, MayLeaveIn, history_in};
-ghost use Rattle.history_keeper.specs.Keeping.{LeavesWithOrWithout};
-ghost use Rattle.sql_records.specs.Layout.{meta_tree};
+ghost use Rattle.sql_records.specs.Held.{Adds, IsAtRest, Stores};
 
 use crate::columns::columns;
 use book_core::Entry;
@@ -30,20 +27,10 @@ pub fn insert<S: Alter>(
     requires room { HasRoom entry.now (length text.now) }
     requires rest { HasCleanDisk (state S.Store conn.old)
         → IsAtRest (state S.Store conn.old) place }
-    ensures rest { HasCleanDisk (state S.Store conn.new)
-        → OnOk result (IsAtRest (state S.Store conn.new) (place + 1)) }
-    ensures added { HasCleanDisk (state S.Store conn.new) → OnOk result
-        (history_in (state S.Store conn.new).now.trees ≡ history_in (state S.Store conn.old).now.trees ++ entry.now ∷ []) }
-    ensures crash { HasCleanDisk (state S.Store conn.new)
-        → LeavesWithOrWithout (history_in (state S.Store conn.old).now.trees) entry.now (MayLeaveIn (state S.Store conn.new)) }
-    ensures meta { HasCleanDisk (state S.Store conn.new) → OnOk result
-        ((state S.Store conn.new).now.trees meta_tree ≡ (state S.Store conn.old).now.trees meta_tree) }
-    ensures site { HasCleanDisk (state S.Store conn.new) → (meta : Meta)
-        → LeavesSite (state S.Store conn.old) meta → LeavesSite (state S.Store conn.new) meta }
+    ensures stores { HasCleanDisk (state S.Store conn.new) → Stores
+        (state S.Store conn.old) (state S.Store conn.new) place (entry.now ∷ []) result }
     ensures fails { HasCleanDisk (state S.Store conn.new) → IfErr result (λ e. Executes INSERT.now
         (columns_of place entry.now) (state S.Store conn.old) (state S.Store conn.new) (Err e)) }
-    ensures limit { conn.new.step_limit ≡ conn.old.step_limit }
-    ensures clean { HasCleanDisk (state S.Store conn.new) → HasCleanDisk (state S.Store conn.old) }
 {
     let row = columns(place, entry, text);
     conn.execute(INSERT, &row)?;

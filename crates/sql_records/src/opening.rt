@@ -1,5 +1,5 @@
 //! Reading the records of a database.
-ghost use Rattle.std.specs.Prelude.{◌≡◌, ◌≢◌, ◌↔◌, ◌≤◌, ℕ, ℤ, true, false, Err, length, IsTrue, IfOk, IfErr, OnOk, IfSome, IfNone, OnErr, [], ◌∷◌, ◌⊎◌, Some, None, pos};
+ghost use Rattle.std.specs.Prelude.{◌≡◌, ◌≢◌, ◌↔◌, ◌≤◌, ℕ, ℤ, true, false, Err, length, IsTrue, IfOk, IfErr, OnOk, IfSome, IfNone, OnErr, [], ◌∷◌, ◌⊎◌, Some, None, pos, ◌==◌, ◌&&◌};
 ghost use Rattle.std.specs.List.{filter_map};
 ghost use Rattle.sqlite.specs.declared.types.Value.TheVariants.{Int, Text};
 ghost use Rattle.sqlite.specs.State.{HasCleanDisk, IsLive, IsUnchanged};
@@ -11,7 +11,7 @@ ghost use Rattle.sql_records.specs.Layout.{IsOurs, our_kind, version_number, Has
 ghost use Rattle.sql_records.specs.Rows.{entry_of, is_below, rows_below, number_within, IsEntryIn, IsOfVersion, AreInOrder, AreWhole, AreWholeIn, IsFirstDamaged, WantsForEntry};
 ghost use Rattle.sql_records.specs.declared.version.Version.{Version};
 ghost use Rattle.sql_records.specs.Held.{entries_tree, rows_in, history_in, LeavesNoMore};
-ghost use Rattle.sql_records.specs.Opening.{int_in, meta_in, IsRowOf, IsRowFault, IsMetaFault, AreRowsFault, IsStoreFault, IsWantedAt, IsForeignFault, IsForeignCause, IsForeignCauseAs, AreOfVersion, AreTold, foreign_told, IsOpenFault, IsReadFault, IsLeftOrUndone, Reads};
+ghost use Rattle.sql_records.specs.Opening.{int_in, meta_in, IsRowOf, IsRowFault, IsMetaFault, AreRowsFault, IsStoreFault, IsWantedAt, IsForeignFault, IsForeignCause, IsForeignCauseAs, AreOfVersion, AreTold, foreign_told, IsOpenFault, IsReadFault, IsLeftOrUndone, AreReadFrom, IsHistoryFault, IsReadAs, Reads};
 
 use crate::fault::OpenFault;
 use crate::reading::{column_at, is_of_version, number_within, read_entry, site_in, sites_in};
@@ -124,6 +124,81 @@ fn read_all(alloc: Global, read: Version, rows: &[Row]) -> Result<Vec<Entry>, Op
         });
     }
     Ok(entries)
+}
+
+// The entries of this version in all rows, which are read at once.
+fn read_at_once<S: Alter>(
+    alloc: Global,
+    read: Version,
+    conn: &mut Connection<S>,
+) -> Result<Vec<Entry>, OpenFault>
+    requires { HasCleanDisk (state S.Store conn.old) → IsOurs (state S.Store conn.old).now.schema }
+    ensures entries { HasCleanDisk (state S.Store conn.new) → IfOk result
+        (λ entries. AreReadFrom read (state S.Store conn.old).now.trees entries.items) }
+    ensures fault { HasCleanDisk (state S.Store conn.new) → IfErr result
+        (IsHistoryFault read (state S.Store conn.old) (state S.Store conn.new)) }
+    ensures reads { Reads S.Store conn.old conn.new result }
+{
+    let rows = read_rows(conn)?;
+    read_all(alloc, read, rows.as_slice())
+}
+
+// Whether the row is the first, and stands in front of the place 0.
+fn is_in_front(place: u64, row: &Row) -> bool
+    ensures { result ≡ (place == 0 && is_below (column row.now 0)) }
+{
+    place == 0 && is_below(column_at(row, 0))
+}
+
+// The same of rows that are read one after the other, so that memory holds few of them. None where the first stands in
+// front of the place 0, as in a damaged database: what is at fault there is known only behind the last row.
+fn read_in_turn<S: Alter>(
+    alloc: Global,
+    read: Version,
+    conn: &mut Connection<S>,
+) -> Result<Option<Vec<Entry>>, OpenFault>
+    requires { HasCleanDisk (state S.Store conn.old) → IsOurs (state S.Store conn.old).now.schema }
+    ensures entries { HasCleanDisk (state S.Store conn.new) → IfOk result (λ it. IfSome it
+        (λ entries. AreReadFrom read (state S.Store conn.old).now.trees entries.items)) }
+    ensures fault { HasCleanDisk (state S.Store conn.new) → IfErr result
+        (IsHistoryFault read (state S.Store conn.old) (state S.Store conn.new)) }
+    ensures counts { (state S.Store conn.old).faults ≤ (state S.Store conn.new).faults }
+    ensures reads { Reads S.Store conn.old conn.new result }
+{
+    let mut entries = Vec::new(alloc);
+    let mut rows = conn.query(SELECT, &[])?;
+    'turns: for place in 0..u64::MAX {
+        rows.advance()?;
+        let Some(row) = rows.get() else {
+            return Ok(Some(entries));
+        };
+        if is_in_front(place, row) {
+            return Ok(None);
+        }
+        let entry = read_next(alloc, read, place, row)?;
+        entries.push(entry)?;
+    }
+    Ok(None)
+}
+
+// The entries of this version in all rows, of which memory holds few unless one stands in front of the place 0.
+fn read_history<S: Alter>(
+    alloc: Global,
+    read: Version,
+    conn: &mut Connection<S>,
+) -> Result<Vec<Entry>, OpenFault>
+    requires { HasCleanDisk (state S.Store conn.old) → IsOurs (state S.Store conn.old).now.schema }
+    ensures entries { HasCleanDisk (state S.Store conn.new) → IfOk result
+        (λ entries. AreReadFrom read (state S.Store conn.old).now.trees entries.items) }
+    ensures fault { HasCleanDisk (state S.Store conn.new) → IfErr result
+        (IsHistoryFault read (state S.Store conn.old) (state S.Store conn.new)) }
+    ensures reads { Reads S.Store conn.old conn.new result }
+{
+    let turned = read_in_turn(alloc, read, conn)?;
+    match turned {
+        Some(entries) => Ok(entries),
+        None => read_at_once(alloc, read, conn),
+    }
 }
 
 fn is_our_kind(value: ValueRef<'_>) -> bool
@@ -286,12 +361,8 @@ pub fn read_as<S: Alter>(
     read: Version,
     conn: &mut Connection<S>,
 ) -> Result<(Vec<Entry>, Meta), OpenFault>
-    ensures entries { HasCleanDisk (state S.Store conn.new)
-        → IfOk result (λ it. it.0.items ≡ history_in (state S.Store conn.old).now.trees) }
-    ensures whole { HasCleanDisk (state S.Store conn.new)
-        → OnOk result (AreWholeIn read 0 (rows_in (state S.Store conn.old).now.trees)) }
-    ensures meta { HasCleanDisk (state S.Store conn.new)
-        → IfOk result (λ it. HasMetaAs read it.1 (state S.Store conn.old).now.trees) }
+    ensures read { HasCleanDisk (state S.Store conn.new) → IfOk result
+        (λ it. IsReadAs read (state S.Store conn.old).now.trees it.0.items it.1) }
     ensures numbers { IfOk result (λ it. AreNumbers it.1) }
     ensures schema { OnOk result (IsOurs conn.old.schema) }
     ensures live { IsLive (state S.Store conn.old) }
@@ -307,8 +378,7 @@ pub fn read_as<S: Alter>(
         return Err(foreign_fault(read, conn));
     }
     let meta = read_meta(read, conn)?;
-    let rows = read_rows(conn)?;
-    let entries = read_all(alloc, read, rows.as_slice())?;
+    let entries = read_history(alloc, read, conn)?;
     Ok((entries, meta))
 }
 
@@ -321,12 +391,8 @@ pub fn read_records<S: Alter>(
     alloc: Global,
     conn: &mut Connection<S>,
 ) -> Result<(Vec<Entry>, Meta), OpenFault>
-    ensures entries { HasCleanDisk (state S.Store conn.new)
-        → IfOk result (λ it. it.0.items ≡ history_in (state S.Store conn.old).now.trees) }
-    ensures whole { HasCleanDisk (state S.Store conn.new)
-        → OnOk result (AreWhole 0 (rows_in (state S.Store conn.old).now.trees)) }
-    ensures meta { HasCleanDisk (state S.Store conn.new)
-        → IfOk result (λ it. HasMeta it.1 (state S.Store conn.old).now.trees) }
+    ensures read { HasCleanDisk (state S.Store conn.new) → IfOk result
+        (λ it. IsReadAs Version.Second (state S.Store conn.old).now.trees it.0.items it.1) }
     ensures numbers { IfOk result (λ it. AreNumbers it.1) }
     ensures schema { OnOk result (IsOurs conn.old.schema) }
     ensures live { IsLive (state S.Store conn.old) }

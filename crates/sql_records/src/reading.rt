@@ -235,6 +235,16 @@ pub fn reply_in(word: ValueRef<'_>, rest: ValueRef<'_>) -> Option<Reply>
     Reply::read(word, number)
 }
 
+// The delta with no spare room, so that a long history takes less memory; as it is, where memory was refused for that.
+fn trimmed(alloc: Global, delta: Delta) -> Delta
+    ensures { result ≡ delta }
+{
+    match delta.copy(alloc) {
+        Ok(copy) => copy,
+        Err(_) => delta,
+    }
+}
+
 #[tactic(auto, unfolding(crate::specs::Rows::delta_in))]
 fn delta_in(alloc: Global, value: ValueRef<'_>) -> Result<Option<Delta>, AllocError>
     ensures delta { IfOk result (λ delta. delta ≡ delta_in (owned value.entry)) }
@@ -247,7 +257,7 @@ fn delta_in(alloc: Global, value: ValueRef<'_>) -> Result<Option<Delta>, AllocEr
         return Ok(None);
     }
     match read_delta(alloc, text) {
-        Ok(delta) => Ok(Some(delta)),
+        Ok(delta) => Ok(Some(trimmed(alloc, delta))),
         Err(WireFault::Memory) => Err(AllocError),
         Err(_) => Ok(None),
     }

@@ -2,11 +2,9 @@
 ghost use Rattle.std.specs.Prelude.{true, length, IfOk, ◌≤◌, ◌≡◌, ◌≢◌, ◌<◌, ◌+◌, ◌++◌, ◌∷◌, [], OnOk, IfErr, Err};
 ghost use Rattle.sqlite.specs.State.{HasCleanDisk, IsUnchanged, Survives};
 ghost use Rattle.sqlite.specs.Held.{state};
-ghost use Rattle.history_keeper.specs.declared.meta.Meta.{Meta as Numbers};
 ghost use Rattle.sql_records.specs.Adding.{IsKeepAllFault, Puts, PutsAll};
-ghost use Rattle.sql_records.specs.Held.{Adds, HasMore, IsAtRest, IsKeepFault, KeepsSite, LeavesSite, MayLeaveIn, history_in, most};
-ghost use Rattle.history_keeper.specs.Keeping.{LeavesAllOrNone, LeavesWithOrWithout};
-ghost use Rattle.sql_records.specs.Layout.{meta_tree};
+ghost use Rattle.sql_records.specs.Held.{Adds, HasMore, IsAtRest, IsKeepFault, KeepsSite, MayLeaveIn, Stores, failing, history_in, most};
+ghost use Rattle.history_keeper.specs.Keeping.{LeavesAllOrNone};
 
 use crate::columns::fits;
 use crate::fault::{OpenFault, keep_fault};
@@ -66,21 +64,11 @@ fn store<S: Alter>(
     requires rest { HasCleanDisk (state S.Store conn.old)
         → IsAtRest (state S.Store conn.old) place }
     ensures low { OnOk result (place < most) }
-    ensures rest { HasCleanDisk (state S.Store conn.new)
-        → OnOk result (IsAtRest (state S.Store conn.new) (place + 1)) }
-    ensures added { HasCleanDisk (state S.Store conn.new) → OnOk result
-        (history_in (state S.Store conn.new).now.trees ≡ history_in (state S.Store conn.old).now.trees ++ entry.now ∷ []) }
-    ensures stopped { HasCleanDisk (state S.Store conn.new)
-        → LeavesWithOrWithout (history_in (state S.Store conn.old).now.trees) entry.now (MayLeaveIn (state S.Store conn.new)) }
+    ensures stores { HasCleanDisk (state S.Store conn.new) → Stores
+        (state S.Store conn.old) (state S.Store conn.new) place (entry.now ∷ []) result }
     ensures cause { IfErr result (λ fault. HasCleanDisk (state S.Store conn.new)
-        → IsKeepFault S.Store (record { conn = conn.old; failures = 0 }) (record { conn = conn.new; failures = 1 }) entry.now fault) }
+        → IsKeepFault S.Store (failing conn.old 0) (failing conn.new 1) entry.now fault) }
     ensures named { result ≢ Err KeepFault.Shut }
-    ensures site { HasCleanDisk (state S.Store conn.new) → (meta : Numbers)
-        → LeavesSite (state S.Store conn.old) meta → LeavesSite (state S.Store conn.new) meta }
-    ensures meta { HasCleanDisk (state S.Store conn.new) → OnOk result
-        ((state S.Store conn.new).now.trees meta_tree ≡ (state S.Store conn.old).now.trees meta_tree) }
-    ensures limit { conn.new.step_limit ≡ conn.old.step_limit }
-    ensures clean { HasCleanDisk (state S.Store conn.new) → HasCleanDisk (state S.Store conn.old) }
 {
     let text = delta_text(alloc, entry.delta())?;
     if place >= MOST || !fits(entry, &text) {
@@ -165,8 +153,7 @@ fn store_all<S: Alter>(
         (history_in (state S.Store conn.old).now.trees) entries.now
         (MayLeaveIn (state S.Store conn.new)) }
     ensures cause { IfErr result (λ fault. HasCleanDisk (state S.Store conn.new)
-        → IsKeepAllFault S.Store (record { conn = conn.old; failures = 0 })
-        (record { conn = conn.new; failures = 1 }) entries.now fault) }
+        → IsKeepAllFault S.Store (failing conn.old 0) (failing conn.new 1) entries.now fault) }
     ensures named { result ≢ Err KeepFault.Shut }
     ensures site { HasCleanDisk (state S.Store conn.new)
         → KeepsSite (state S.Store conn.old) (state S.Store conn.new) }
@@ -218,8 +205,8 @@ impl<S: Alter> Keeper for Records<S> {
             (kept_in S.Store self.new) (MayLeave S.Store self.new)) }
         ensures stopped { self.old.failures ≡ 0 → OnErr result (IsTrusted S.Store self.new →
             LeavesWithOrWithout (kept_in S.Store self.old) entry.now (MayLeave S.Store self.new)) }
-        ensures open { OnOk result ((self.old.failures ≡ 0) × (self.new.failures ≡ 0)) }
-        ensures counted { self.old.failures ≡ 0 → OnErr result (self.new.failures ≡ 1) }
+        ensures counted { self.old.failures ≡ 0
+            → MatchResult result (λ _. self.new.failures ≡ 0) (λ _. self.new.failures ≡ 1) }
         ensures named { self.old.failures ≡ 0 → IsErrOf result KeepFault.Shut → ⊥ }
         ensures shut { self.old.failures ≢ 0
             → (result ≡ Err KeepFault.Shut) × (self.new ≡ self.old) }
@@ -227,9 +214,6 @@ impl<S: Alter> Keeper for Records<S> {
             → IsKeepFault S.Store self.old self.new entry.now fault) }
         ensures site { IsTrusted S.Store self.new
             → (meta : Numbers) → IsOf S.Store self.old meta → IsOf S.Store self.new meta }
-        ensures numbers { OnOk result (IsTrusted S.Store self.new
-            → (state S.Store self.new.conn).now.trees meta_tree ≡ (state S.Store self.old.conn).now.trees meta_tree) }
-        ensures limit { self.new.conn.step_limit ≡ self.old.conn.step_limit }
         ensures trusted { IsTrusted S.Store self.new → IsTrusted S.Store self.old }
     {
         if self.failures != 0 {

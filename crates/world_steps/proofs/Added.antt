@@ -13,7 +13,8 @@ pub record AreSoFar (sites limit : ℕ) (old now : List NodeView) (next : ℕ) :
   pub within : (next ≡ length old) ⊎ (next ≤ sites)
   pub opened : (k : ℕ) (node : NodeView) → slice_get more k ≡ Some node → IsOpened sites limit (length old + k) node
 
-pub one_added : (sites limit : ℕ) (old now new : List NodeView) (next : ℕ) (node : NodeView) → AreSoFar sites limit old now next → next < sites → new ≡ now ++ node ∷ []
+pub one_added : (sites limit : ℕ) (old now new : List NodeView) (next : ℕ) (node : NodeView) → AreSoFar sites limit old now next → next < sites
+    → new ≡ now ++ node ∷ []
     → IsOpened sites limit next node → AreSoFar sites limit old new (next + 1)
 one_added sites limit old now new next node before l is opened = record {
   more = before.more ++ node ∷ [];

@@ -23,7 +23,8 @@ use Rattle.world_steps.proofs.Promised.{refunds_below}
 use Rattle.world_steps.proofs.Seats.{legal_within}
 
 -- a book that a walk has come to
-pub found_view : (books : List (Bor BookView)) (i : ℕ) (book : Bor BookView) → i < length books → book ≡ get_or books i book → slice_get (books_of books) i ≡ Some book.now
+pub found_view : (books : List (Bor BookView)) (i : ℕ) (book : Bor BookView) → i < length books → book ≡ get_or books i book
+    → slice_get (books_of books) i ≡ Some book.now
 found_view [] i book l is = absurd (omega (arith, l))
 found_view (x ∷ books) zero book l is = ap (λ (b : Bor BookView). Some b.now) (sym is)
 found_view (x ∷ books) (suc i) book l is = found_view books i book (omega (arith, l)) is
@@ -84,7 +85,8 @@ limit_there (x ∷ books) zero book found = let same : x ≡ book = cc in ap (λ
 limit_there (x ∷ books) (suc k) book found = limit_there books k book found
 
 -- each history is legal for the site of its place
-pub legal_in : (books : List BookView) → AreSites books → (k : ℕ) → IsLegal (office_numbered k (first_count_in books k) (limit_in books k)) (history_among books k)
+pub legal_in : (books : List BookView) → AreSites books → (k : ℕ)
+    → IsLegal (office_numbered k (first_count_in books k) (limit_in books k)) (history_among books k)
 legal_in books sites k = by_case (slice_get books k) refl
   where
     by_case : (o : Option BookView) → slice_get books k ≡ o → IsLegal (office_numbered k (first_count_in books k) (limit_in books k)) (history_among books k)
@@ -93,7 +95,8 @@ legal_in books sites k = by_case (slice_get books k) refl
         let stands = sites.whole k book found in
         let office_is : book.office ≡ office_numbered k (first_count_in books k) (limit_in books k) =
         λ i. record { me = stands.site i; sites = sym (first_count_there books k book found) i; limit = sym (limit_there books k book found) i } in
-        subst (λ o. IsLegal o (history_among books k)) office_is (subst (IsLegal book.office) (sym (history_there books k book found)) (sites.legal k book found))
+        subst (λ o. IsLegal o (history_among books k)) office_is
+        (subst (IsLegal book.office) (sym (history_there books k book found)) (sites.legal k book found))
 
 owner_below : (n : ℕ) (cell : Cell) → IsCellOf n cell → owner_of cell < n
 owner_below n (Gave by to) of = of.0
@@ -108,7 +111,8 @@ views_below books sites none event i cell = by_viewer (slice_get books i) refl
     own : ℕ
     own = value_at (state_of (history_among books (owner_of cell))).cells event cell
 
-    by_owner : (viewer : BookView) → slice_get books i ≡ Some viewer → (o : Option BookView) → slice_get books (owner_of cell) ≡ o → value_at (state_of viewer.history).cells event cell ≤ own
+    by_owner : (viewer : BookView) → slice_get books i ≡ Some viewer → (o : Option BookView) → slice_get books (owner_of cell) ≡ o
+        → value_at (state_of viewer.history).cells event cell ≤ own
     by_owner viewer found None past = elim (cases_lt 0 (value_at (state_of viewer.history).cells event cell)) [
       | inl some ↦
           let stands = sites.whole i viewer found in
@@ -118,13 +122,19 @@ views_below books sites none event i cell = by_viewer (slice_get books i) refl
     ]
     by_owner viewer found (Some owner) there =
         let stands = sites.whole (owner_of cell) owner there in
-        subst (λ (h : List Entry). value_at (state_of viewer.history).cells event cell ≤ value_at (state_of h).cells event cell) (sym (history_there books (owner_of cell) owner there))
+        subst (λ (h : List Entry). value_at (state_of viewer.history).cells event cell ≤ value_at (state_of h).cells event cell)
+        (sym (history_there books (owner_of cell) owner there))
         (none i viewer found (owner_of cell) owner there event cell (sym stands.site))
 
     by_viewer : (o : Option BookView) → slice_get books i ≡ o → value_at (state_of (history_among books i)).cells event cell ≤ own
-    by_viewer None past = omega (arith, ap (λ (h : List Entry). value_at (state_of h).cells event cell) (history_past books i past), value_at-all_zero event cell)
+    by_viewer None past = omega (
+      arith,
+      ap (λ (h : List Entry). value_at (state_of h).cells event cell) (history_past books i past),
+      value_at-all_zero event cell,
+    )
     by_viewer (Some viewer) found =
-        subst (λ (h : List Entry). value_at (state_of h).cells event cell ≤ own) (sym (history_there books i viewer found)) (by_owner viewer found (slice_get books (owner_of cell)) refl)
+        subst (λ (h : List Entry). value_at (state_of h).cells event cell ≤ own) (sym (history_there books i viewer found))
+        (by_owner viewer found (slice_get books (owner_of cell)) refl)
 
 -- books of all sites of which none is ahead are not oversold
 pub audited : (books : List BookView) → AreSites books → NoneIsAhead books → AreNotOversold books

@@ -3,7 +3,7 @@ use Rattle.std.proofs.Common.{◌≡◌, ℕ, ◌<◌, ◌⊎◌, List, Option, 
 use Rattle.std.specs.Prelude.{slice_get, Result, Ok, IsSome, IsSomeAnd}
 use Rattle.std.proofs.lemmas.Option.{same_Some, slice_get_read}
 use Rattle.book_core.specs.BookView.{BookView}
-use Rattle.book_core.specs.Decision.{Office}
+use Rattle.book_core.specs.Decision.{SiteConfig}
 use Rattle.site_exchange.specs.declared.message.Message.{Message}
 use Rattle.site_exchange.specs.declared.message.Message.TheVariants.{Delta, Ack}
 use Rattle.site_exchange.specs.Exchange.{SitePart, Verdict, receiver, verdict}
@@ -23,30 +23,36 @@ use Rattle.world_steps.proofs.Sites.{at_place, found_at, made_at, length-sites}
 use Rattle.world_steps.proofs.Worlds.{IsSound}
 
 -- the message read at a place is the one that was sent
-pub message_at : (sent now : List Message) (index : ℕ) (message : Message) → now ≡ sent → index < length sent → message ≡ get_or now index message → slice_get sent index ≡ Some message
-message_at sent now index message same l is = slice_get_read sent (length sent) index message refl l (is ∙ ap (λ (ms : List Message). get_or ms index message) same)
+pub message_at : (sent now : List Message) (index : ℕ) (message : Message) → now ≡ sent → index < length sent → message ≡ get_or now index message
+    → slice_get sent index ≡ Some message
+message_at sent now index message same l is = slice_get_read sent (length sent) index message refl l
+    (is ∙ ap (λ (ms : List Message). get_or ms index message) same)
 
 pub receiver_there : (w : World) (message : Message) → IsSound w message → receiver message < count w
 receiver_there w (Delta by to upto delta) ok = ok.0.1
 receiver_there w (Ack by to upto) ok = ok.0.1
 
-pub receiver_below : (nodes : List NodeView) (sent : List Message) (index i : ℕ) (message : Message) → IsKept nodes sent → slice_get sent index ≡ Some message → i ≡ receiver message → i < length nodes
+pub receiver_below : (nodes : List NodeView) (sent : List Message) (index i : ℕ) (message : Message) → IsKept nodes sent
+    → slice_get sent index ≡ Some message → i ≡ receiver message → i < length nodes
 receiver_below nodes sent index i message kept found is =
     let w : World = world_of nodes sent in
     omega (arith, is, receiver_there w message ((sound_in w kept.reached).sent index message found), length-sites nodes)
 
 -- a message that is read again is the same
-pub same_message : (sent now : List Message) (index : ℕ) (message again : Message) → now ≡ sent → index < length sent → message ≡ get_or sent index message → again ≡ get_or now index again
+pub same_message : (sent now : List Message) (index : ℕ) (message again : Message) → now ≡ sent → index < length sent → message ≡ get_or sent index message
+    → again ≡ get_or now index again
     → again ≡ message
 same_message sent now index message again same l is is_again =
     same_Some again message (sym (message_at sent now index again same l is_again) ∙ message_at sent sent index message refl l is)
 
 -- so is a site
-pub same_node : (nodes : List NodeView) (i : ℕ) (node again : NodeView) → i < length nodes → node ≡ get_or nodes i node → again ≡ get_or nodes i again → node ≡ again
+pub same_node : (nodes : List NodeView) (i : ℕ) (node again : NodeView) → i < length nodes → node ≡ get_or nodes i node → again ≡ get_or nodes i again
+    → node ≡ again
 same_node nodes i node again l is is_again = same_Some node again (sym (found_at nodes i node l is) ∙ found_at nodes i again l is_again)
 
 -- a verdict by the book that a site shows is the site's
-pub verdict_by : (told : Verdict) (message : Message) (shown book : BookView) → told ≡ verdict shown.office shown.history message → shown ≡ book → told ≡ verdict book.office book.history message
+pub verdict_by : (told : Verdict) (message : Message) (shown book : BookView) → told ≡ verdict shown.office shown.history message → shown ≡ book
+    → told ≡ verdict book.office book.history message
 verdict_by told message shown book is same = is ∙ ap (λ (b : BookView). verdict b.office b.history message) same
 
 -- a message that was sent, and the place of its receiver
@@ -55,25 +61,29 @@ pub record IsFor (nodes : List NodeView) (sent : List Message) (index i : ℕ) (
   pub to : i ≡ receiver message
   pub below : i < length nodes
 
-pub is_for : (nodes : List NodeView) (sent : List Message) (index i : ℕ) (message : Message) → IsKept nodes sent → index < length sent → message ≡ get_or sent index message → i ≡ receiver message
+pub is_for : (nodes : List NodeView) (sent : List Message) (index i : ℕ) (message : Message) → IsKept nodes sent → index < length sent
+    → message ≡ get_or sent index message → i ≡ receiver message
     → IsFor nodes sent index i message
 is_for nodes sent index i message kept l is to =
     let found = message_at sent sent index message refl l is in
     record { sent_is = found; to = to; below = receiver_below nodes sent index i message kept found to }
 
-judged_is : (nodes : List NodeView) (sent : List Message) (i : ℕ) (message : Message) (old : NodeView) → IsKept nodes sent → i ≡ receiver message → i < length nodes → old ≡ get_or nodes i old
+judged_is : (nodes : List NodeView) (sent : List Message) (i : ℕ) (message : Message) (old : NodeView) → IsKept nodes sent → i ≡ receiver message
+    → i < length nodes → old ≡ get_or nodes i old
     → verdict old.book.office old.book.history message ≡ judged (world_of nodes sent) message
 judged_is nodes sent i message old kept to l is =
     let w : World = world_of nodes sent in
     let here = at_place nodes sent i old kept l is in
-    ap (λ (f : Office). verdict f old.book.history message) (sym here.office)
+    ap (λ (f : SiteConfig). verdict f old.book.history message) (sym here.office)
     ∙ ap (λ (s : SitePart). verdict (office_at w i) s.history message) (sym here.site)
     ∙ ap (λ k. verdict (office_at w k) (history_at w k) message) to
 
 -- a delivery that wants memory is acknowledged, or is taken with more memory
-pub deliver_wants : (nodes : List NodeView) (sent : List Message) (index i : ℕ) (message : Message) (old : NodeView) → IsKept nodes sent → slice_get sent index ≡ Some message
+pub deliver_wants : (nodes : List NodeView) (sent : List Message) (index i : ℕ) (message : Message) (old : NodeView) → IsKept nodes sent
+    → slice_get sent index ≡ Some message
     → i ≡ receiver message → i < length nodes → old ≡ get_or nodes i old
-    → IsSome (ack_due (verdict old.book.office old.book.history message) message) ⊎ MayTake (verdict old.book.office old.book.history message) (site_of old) message
+    → IsSome (ack_due (verdict old.book.office old.book.history message) message)
+    ⊎ MayTake (verdict old.book.office old.book.history message) (site_of old) message
     → MayWantMemory (world_of nodes sent) (Deliver index)
 deliver_wants nodes sent index i message old kept sent_is to l is wants =
     let w : World = world_of nodes sent in
@@ -84,12 +94,14 @@ deliver_wants nodes sent index i message old kept sent_is to l is wants =
     (subst (λ (v : Verdict). IsSome (ack_due v message) ⊎ MayTake v (site_of old) message) (judged_is nodes sent i message old kept to l is) wants))
 
 -- what a delivery gives
-pub record IsDelivered (nodes : List NodeView) (sent : List Message) (now : List NodeView) (sent_now : List Message) (index : ℕ) (given : Outcome) : Type 0 where
-  pub kept : IsKept now sent_now
-  pub made : world_of now sent_now ≡ after (world_of nodes sent) (Deliver index)
-  pub outcome : outcome (world_of nodes sent) (Deliver index) ≡ Ok given
+pub record IsDelivered (nodes : List NodeView) (sent : List Message) (now : List NodeView) (sent_now : List Message) (index : ℕ) (given : Outcome) : Type 0
+  where
+    pub kept : IsKept now sent_now
+    pub made : world_of now sent_now ≡ after (world_of nodes sent) (Deliver index)
+    pub outcome : outcome (world_of nodes sent) (Deliver index) ≡ Ok given
 
-pub deliver_gives : (nodes : List NodeView) (sent : List Message) (index i : ℕ) (message : Message) (old new : NodeView) (taken : Judged) → IsKept nodes sent → slice_get sent index ≡ Some message
+pub deliver_gives : (nodes : List NodeView) (sent : List Message) (index i : ℕ) (message : Message) (old new : NodeView) (taken : Judged)
+    → IsKept nodes sent → slice_get sent index ≡ Some message
     → i ≡ receiver message → i < length nodes → old ≡ get_or nodes i old → new.book.office ≡ old.book.office
     → verdict_told taken ≡ verdict old.book.office old.book.history message
     → site_of new ≡ site_after (verdict old.book.office old.book.history message) message (site_of old)

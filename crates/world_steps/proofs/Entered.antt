@@ -9,8 +9,6 @@ use Rattle.rights_lattice.specs.Cells.{value_at}
 use Rattle.rights_lattice.specs.State.{At, State}
 use Rattle.rights_lattice.proofs.CellLaws.{value_at-all_zero}
 use Rattle.rights_lattice.proofs.SpotLaws.{same_cell_is}
-use Rattle.request_ledger.specs.declared.request.Request.{Request}
-use Rattle.request_ledger.specs.declared.reply.Reply.{Reply}
 use Rattle.book_core.specs.declared.entry.Entry.{Entry}
 use Rattle.book_core.specs.declared.entry.Entry.TheVariants.{Asked, Joined, Grown}
 use Rattle.book_core.specs.BookView.{BookView}
@@ -48,32 +46,50 @@ grows h entry event cell = omega (arith, at-push h entry (At event cell))
 -- an accepted change is of the own row
 gain_other : (me : ℕ) (o : Option Change) (event : List ℕ) (cell : Cell) → owner_of cell ≢ me → gain me o event cell ≡ 0
 gain_other me None event cell ne = refl
-gain_other me (Some c) event cell ne = miss (same_event event c.event) (same_cell cell (cell_of me c.kind)) c.amount (by_test (same_cell cell (cell_of me c.kind)) refl)
+gain_other me (Some c) event cell ne = miss (same_event event c.event) (same_cell cell (cell_of me c.kind)) c.amount
+    (by_test (same_cell cell (cell_of me c.kind)) refl)
   where
     by_test : (b : Bool) → same_cell cell (cell_of me c.kind) ≡ b → b ≡ false
     by_test true q = absurd (ne (ap owner_of (same_cell_is cell (cell_of me c.kind) q) ∙ own_cell me c.kind))
     by_test false q = refl
 
 -- what the book shows of another row behind an entry is at or below what the row's owner shows
-next_below : (books : List BookView) → NoneIsAhead books → (i : ℕ) (old : BookView) (entry : Entry) → slice_get books i ≡ Some old → IsNext old.office old.history entry → WasHeld books entry
-    → (o : ℕ) (owner : BookView) → slice_get books o ≡ Some owner → (event : List ℕ) (cell : Cell) → owner_of cell ≡ owner.office.me → owner_of cell ≢ old.office.me
+next_below : (books : List BookView) → NoneIsAhead books → (i : ℕ) (old : BookView) (entry : Entry) → slice_get books i ≡ Some old
+    → IsNext old.office old.history entry → WasHeld books entry
+    → (o : ℕ) (owner : BookView) → slice_get books o ≡ Some owner → (event : List ℕ) (cell : Cell) → owner_of cell ≡ owner.office.me
+    → owner_of cell ≢ old.office.me
     → shown (old.history ++ entry ∷ []) event cell ≤ shown owner.history event cell
 next_below books none i old (Asked number request reply delta) here next held o owner there event cell own ne =
-    let same : shown (old.history ++ Asked number request reply delta ∷ []) event cell ≡ shown (old.history ++ Asked number request reply (delta_for old.office old.history request reply) ∷ []) event cell =
+    let same : shown (old.history ++ Asked number request reply delta ∷ []) event cell ≡ shown
+    (old.history ++ Asked number request reply (delta_for old.office old.history request reply) ∷ []) event cell =
     ap (λ (d : State). shown (old.history ++ Asked number request reply d ∷ []) event cell) next.change in
-    omega (arith, same, asked_at old.office old.history number request reply event cell, gain_other old.office.me (accepted old.history request reply) event cell ne, none i old here o owner there event cell own)
+    omega (
+      arith,
+      same,
+      asked_at old.office old.history number request reply event cell,
+      gain_other old.office.me (accepted old.history request reply) event cell ne,
+      none i old here o owner there event cell own,
+    )
 next_below books none i old (Joined peer delta) here next held o owner there event cell own ne =
-    omega (arith, at-push old.history (Joined peer delta) (At event cell), none i old here o owner there event cell own, held.2 (At event cell), none peer held.0 held.1 o owner there event cell own)
+    omega (
+      arith,
+      at-push old.history (Joined peer delta) (At event cell),
+      none i old here o owner there event cell own,
+      held.2 (At event cell),
+      none peer held.0 held.1 o owner there event cell own,
+    )
 next_below books none i old (Grown sites) here next held o owner there event cell own ne =
     omega (arith, grown_at old.history sites event cell, none i old here o owner there event cell own)
 
-numbered_on : (books : List BookView) (i : ℕ) (old : BookView) (entry : Entry) → slice_get books i ≡ Some old → Numbered books → Numbered (set books i (with_next old entry))
+numbered_on : (books : List BookView) (i : ℕ) (old : BookView) (entry : Entry) → slice_get books i ≡ Some old → Numbered books
+    → Numbered (set books i (with_next old entry))
 numbered_on books i old entry here numbered k book found = elim (found_after books i k (with_next old entry) book found) [
   | inl p ↦ ap (λ (b : BookView). b.office.me) p.1 ∙ numbered i old here ∙ sym p.0
   | inr p ↦ numbered k book p.1
 ]
 
-none_on : (books : List BookView) → Numbered books → NoneIsAhead books → (i : ℕ) (old : BookView) (entry : Entry) → slice_get books i ≡ Some old → IsNext old.office old.history entry → WasHeld books entry
+none_on : (books : List BookView) → Numbered books → NoneIsAhead books → (i : ℕ) (old : BookView) (entry : Entry) → slice_get books i ≡ Some old
+    → IsNext old.office old.history entry → WasHeld books entry
     → NoneIsAhead (set books i (with_next old entry))
 none_on books numbered none i old entry here next held v viewer seen o owner there event cell own =
     both (found_after books i v (with_next old entry) viewer seen) (found_after books i o (with_next old entry) owner there)
@@ -81,11 +97,13 @@ none_on books numbered none i old entry here next held v viewer seen o owner the
     new : BookView
     new = with_next old entry
 
-    both : ((v ≡ i) × (viewer ≡ new)) ⊎ ((v ≢ i) × (slice_get books v ≡ Some viewer)) → ((o ≡ i) × (owner ≡ new)) ⊎ ((o ≢ i) × (slice_get books o ≡ Some owner)) → shown viewer.history event cell ≤ shown owner.history event cell
+    both : ((v ≡ i) × (viewer ≡ new)) ⊎ ((v ≢ i) × (slice_get books v ≡ Some viewer))
+        → ((o ≡ i) × (owner ≡ new)) ⊎ ((o ≢ i) × (slice_get books o ≡ Some owner)) → shown viewer.history event cell ≤ shown owner.history event cell
     both (inl p) (inl q) = omega (arith, ap (λ (b : BookView). shown b.history event cell) (p.1 ∙ sym q.1))
     both (inl p) (inr q) =
         let other : owner_of cell ≢ old.office.me = λ e. q.0 (sym (numbered o owner q.1) ∙ sym own ∙ e ∙ numbered i old here) in
-        subst (λ (b : BookView). shown b.history event cell ≤ shown owner.history event cell) (sym p.1) (next_below books none i old entry here next held o owner q.1 event cell own other)
+        subst (λ (b : BookView). shown b.history event cell ≤ shown owner.history event cell) (sym p.1)
+        (next_below books none i old entry here next held o owner q.1 event cell own other)
     both (inr p) (inl q) =
         let mine : owner_of cell ≡ old.office.me = own ∙ ap (λ (b : BookView). b.office.me) q.1 in
         let before : shown viewer.history event cell ≤ shown old.history event cell = none v viewer p.1 i old here event cell mine in
@@ -125,8 +143,15 @@ record EndsAs (end : List BookView) (i : ℕ) (book : BookView) : Type 0 where
   rest : List Entry
   history : last.history ≡ book.history ++ rest
 
-ends : (entries : List (ℕ × Entry)) (books end : List BookView) → AreEntered entries books end → (i : ℕ) (book : BookView) → slice_get books i ≡ Some book → EndsAs end i book
-ends [] books end entered i book here = record { last = book; there = subst (λ bs. slice_get bs i ≡ Some book) (sym entered) here; office = refl; rest = []; history = sym (append-nil book.history) }
+ends : (entries : List (ℕ × Entry)) (books end : List BookView) → AreEntered entries books end → (i : ℕ) (book : BookView) → slice_get books i ≡ Some book
+    → EndsAs end i book
+ends [] books end entered i book here = record {
+  last = book;
+  there = subst (λ bs. slice_get bs i ≡ Some book) (sym entered) here;
+  office = refl;
+  rest = [];
+  history = sym (append-nil book.history);
+}
 ends (e ∷ es) books end entered i book here = by_place (ends es (set books e.0 (with_next entered.0 e.1)) end entered.3 i) (cases_eq i e.0)
   where
     new : BookView
@@ -150,13 +175,16 @@ abbrev AllLegal : List BookView → Type 0
 AllLegal books = (k : ℕ) (book : BookView) → slice_get books k ≡ Some book → IsLegal book.office book.history
 
 -- an entry of a legal history was legal when it was added
-was_next : (es : List (ℕ × Entry)) (books end : List BookView) → AllLegal end → (i : ℕ) (old : BookView) (entry : Entry) → slice_get books i ≡ Some old → AreEntered es (set books i (with_next old entry)) end → IsNext old.office old.history entry
+was_next : (es : List (ℕ × Entry)) (books end : List BookView) → AllLegal end → (i : ℕ) (old : BookView) (entry : Entry) → slice_get books i ≡ Some old
+    → AreEntered es (set books i (with_next old entry)) end → IsNext old.office old.history entry
 was_next es books end legal i old entry here entered =
     let r = ends es (set books i (with_next old entry)) end entered i (with_next old entry) (set_found books i old (with_next old entry) here) in
-    let all : IsLegal old.office ((old.history ++ entry ∷ []) ++ r.rest) = subst (λ h. IsLegal old.office h) r.history (subst (λ o. IsLegal o r.last.history) r.office (legal i r.last r.there)) in
+    let all : IsLegal old.office ((old.history ++ entry ∷ []) ++ r.rest) = subst (λ h. IsLegal old.office h) r.history
+    (subst (λ o. IsLegal o r.last.history) r.office (legal i r.last r.there)) in
     subst (λ h. IsNext old.office h entry) (before_end old.history r.rest entry) (all (length old.history) entry (at_end old.history r.rest entry))
 
-none_ahead : (entries : List (ℕ × Entry)) (books end : List BookView) → AllLegal end → Numbered books → NoneIsAhead books → AreEntered entries books end → NoneIsAhead end
+none_ahead : (entries : List (ℕ × Entry)) (books end : List BookView) → AllLegal end → Numbered books → NoneIsAhead books → AreEntered entries books end
+    → NoneIsAhead end
 none_ahead [] books end legal numbered none entered = subst NoneIsAhead (sym entered) none
 none_ahead (e ∷ es) books end legal numbered none entered =
     let old = entered.0 in

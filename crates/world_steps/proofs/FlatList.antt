@@ -9,7 +9,7 @@ use Rattle.request_ledger.specs.Requests.{is_done}
 use Rattle.book_core.specs.declared.entry.Entry.{Entry}
 use Rattle.book_core.specs.declared.entry.Entry.TheVariants.{Asked, Joined, Grown}
 use Rattle.book_core.specs.History.{state_of}
-use Rattle.book_core.specs.Decision.{Office, Kind, Releasing, Selling, Refunding, Ceding, Change, change_of}
+use Rattle.book_core.specs.Decision.{SiteConfig, Kind, Releasing, Selling, Refunding, Ceding, Change, change_of}
 use Rattle.book_core.specs.Legal.{IsNext, IsLegal}
 use Rattle.book_core.specs.Operations.{Operation, operation_if, operation_of, operations_from, operations, operations_below, counted, total, ceded_by, ceded, AreDistinct, same_kind}
 use Rattle.book_core.proofs.Histories.{operations_push, legal_along}
@@ -33,19 +33,22 @@ get_append (x ∷ xs) ys (suc k) a found = elim (get_append xs ys k a found) [
 ]
 
 -- an entry's operation stands at the entry's place, and is alone
-of_if : (me place : ℕ) (o : Option Change) (k : ℕ) (x : Operation) → slice_get (operation_if me place o) k ≡ Some x → (k ≡ 0) × (x.site ≡ me) × (x.place ≡ place)
+of_if : (me place : ℕ) (o : Option Change) (k : ℕ) (x : Operation) → slice_get (operation_if me place o) k ≡ Some x
+    → (k ≡ 0) × (x.site ≡ me) × (x.place ≡ place)
 of_if me place None k x found = cc
 of_if me place (Some c) zero x found =
     let same : record { site = me; place = place; kind = c.kind; event = c.event; amount = c.amount } ≡ x = cc in
     (refl, sym (ap (λ (y : Operation). y.site) same), sym (ap (λ (y : Operation). y.place) same))
 of_if me place (Some c) (suc k) x found = cc
 
-of_entry : (me : ℕ) (before : List Entry) (entry : Entry) (k : ℕ) (x : Operation) → slice_get (operation_of me before entry) k ≡ Some x → (k ≡ 0) × (x.site ≡ me) × (x.place ≡ length before)
+of_entry : (me : ℕ) (before : List Entry) (entry : Entry) (k : ℕ) (x : Operation) → slice_get (operation_of me before entry) k ≡ Some x
+    → (k ≡ 0) × (x.site ≡ me) × (x.place ≡ length before)
 of_entry me before (Joined peer delta) k x found = cc
 of_entry me before (Grown sites) k x found = cc
 of_entry me before (Asked number request reply delta) k x found = by_test (is_done reply) found
   where
-    by_test : (b : Bool) → slice_get (cond b (operation_if me (length before) (change_of before request)) []) k ≡ Some x → (k ≡ 0) × (x.site ≡ me) × (x.place ≡ length before)
+    by_test : (b : Bool) → slice_get (cond b (operation_if me (length before) (change_of before request)) []) k ≡ Some x
+        → (k ≡ 0) × (x.site ≡ me) × (x.place ≡ length before)
     by_test true here = of_if me (length before) (change_of before request) k x here
     by_test false here = cc
 
@@ -62,7 +65,8 @@ of_history me before (entry ∷ h) k x found = elim (get_append (operation_of me
       )
 ]
 
-distinct_history : (me : ℕ) (before h : List Entry) (k l : ℕ) (x y : Operation) → slice_get (operations_from me before h) k ≡ Some x → slice_get (operations_from me before h) l ≡ Some y → x.place ≡ y.place → k ≡ l
+distinct_history : (me : ℕ) (before h : List Entry) (k l : ℕ) (x y : Operation) → slice_get (operations_from me before h) k ≡ Some x
+    → slice_get (operations_from me before h) l ≡ Some y → x.place ≡ y.place → k ≡ l
 distinct_history me before [] k l x y found also same = cc
 distinct_history me before (entry ∷ h) k l x y found also same =
     both (λ i j here there. distinct_history me (before ++ entry ∷ []) h i j x y here there same)
@@ -75,9 +79,12 @@ distinct_history me before (entry ∷ h) k l x y found also same =
     later : (m : ℕ) (z : Operation) → slice_get (operations_from me (before ++ entry ∷ []) h) m ≡ Some z → length before < z.place
     later m z at = let more = of_history me (before ++ entry ∷ []) h m z at in omega (arith, more.place, length-append before (entry ∷ []))
 
-    both : ((i j : ℕ) → slice_get (operations_from me (before ++ entry ∷ []) h) i ≡ Some x → slice_get (operations_from me (before ++ entry ∷ []) h) j ≡ Some y → i ≡ j)
-        → ((k < length (operation_of me before entry)) × (slice_get (operation_of me before entry) k ≡ Some x)) ⊎ ((j : ℕ) × (k ≡ length (operation_of me before entry) + j) × (slice_get (operations_from me (before ++ entry ∷ []) h) j ≡ Some x))
-        → ((l < length (operation_of me before entry)) × (slice_get (operation_of me before entry) l ≡ Some y)) ⊎ ((j : ℕ) × (l ≡ length (operation_of me before entry) + j) × (slice_get (operations_from me (before ++ entry ∷ []) h) j ≡ Some y))
+    both : ((i j : ℕ) → slice_get (operations_from me (before ++ entry ∷ []) h) i ≡ Some x
+        → slice_get (operations_from me (before ++ entry ∷ []) h) j ≡ Some y → i ≡ j)
+        → ((k < length (operation_of me before entry)) × (slice_get (operation_of me before entry) k ≡ Some x))
+        ⊎ ((j : ℕ) × (k ≡ length (operation_of me before entry) + j) × (slice_get (operations_from me (before ++ entry ∷ []) h) j ≡ Some x))
+        → ((l < length (operation_of me before entry)) × (slice_get (operation_of me before entry) l ≡ Some y))
+        ⊎ ((j : ℕ) × (l ≡ length (operation_of me before entry) + j) × (slice_get (operations_from me (before ++ entry ∷ []) h) j ≡ Some y))
         → k ≡ l
     both rest (inl p) (inl q) = omega (arith, (here k x p.1).0, (here l y q.1).0)
     both rest (inl p) (inr q) = absurd (omega (arith, (here k x p.1).1, later q.0 y q.2, same))
@@ -95,11 +102,14 @@ of_below (suc n) h k x found = elim (get_append (operations_below n h) (operatio
 pub distinct_below : (n : ℕ) (h : ℕ → List Entry) → AreDistinct (operations_below n h)
 distinct_below zero h k l x y found also site place = cc
 distinct_below (suc n) h k l x y found also site place =
-    both (λ i j here there. distinct_below n h i j x y here there site place) (get_append (operations_below n h) (operations n (h n)) k x found) (get_append (operations_below n h) (operations n (h n)) l y also)
+    both (λ i j here there. distinct_below n h i j x y here there site place) (get_append (operations_below n h) (operations n (h n)) k x found)
+    (get_append (operations_below n h) (operations n (h n)) l y also)
   where
     both : ((i j : ℕ) → slice_get (operations_below n h) i ≡ Some x → slice_get (operations_below n h) j ≡ Some y → i ≡ j)
-        → ((k < length (operations_below n h)) × (slice_get (operations_below n h) k ≡ Some x)) ⊎ ((j : ℕ) × (k ≡ length (operations_below n h) + j) × (slice_get (operations n (h n)) j ≡ Some x))
-        → ((l < length (operations_below n h)) × (slice_get (operations_below n h) l ≡ Some y)) ⊎ ((j : ℕ) × (l ≡ length (operations_below n h) + j) × (slice_get (operations n (h n)) j ≡ Some y))
+        → ((k < length (operations_below n h)) × (slice_get (operations_below n h) k ≡ Some x))
+        ⊎ ((j : ℕ) × (k ≡ length (operations_below n h) + j) × (slice_get (operations n (h n)) j ≡ Some x))
+        → ((l < length (operations_below n h)) × (slice_get (operations_below n h) l ≡ Some y))
+        ⊎ ((j : ℕ) × (l ≡ length (operations_below n h) + j) × (slice_get (operations n (h n)) j ≡ Some y))
         → k ≡ l
     both rest (inl p) (inl q) = rest k l p.1 q.1
     both rest (inl p) (inr q) = absurd (omega (arith, of_below n h k x p.1, (of_history n [] (h n) q.0 y q.2).site, site))
@@ -108,7 +118,8 @@ distinct_below (suc n) h k l x y found also site place =
 
 -- ---- what a site ceded
 
-ceded_here : (me j : ℕ) (event : List ℕ) (os : List Operation) → ((k : ℕ) (x : Operation) → slice_get os k ≡ Some x → x.site ≡ me) → ceded me j event os ≡ total (Ceding j) event os
+ceded_here : (me j : ℕ) (event : List ℕ) (os : List Operation) → ((k : ℕ) (x : Operation) → slice_get os k ≡ Some x → x.site ≡ me)
+    → ceded me j event os ≡ total (Ceding j) event os
 ceded_here me j event [] at = refl
 ceded_here me j event (o ∷ os) at =
     omega (
@@ -119,7 +130,8 @@ ceded_here me j event (o ∷ os) at =
       ceded_here me j event os (λ k x found. at (suc k) x found),
     )
 
-ceded_elsewhere : (me i j : ℕ) (event : List ℕ) (os : List Operation) → me ≢ i → ((k : ℕ) (x : Operation) → slice_get os k ≡ Some x → x.site ≡ me) → ceded i j event os ≡ 0
+ceded_elsewhere : (me i j : ℕ) (event : List ℕ) (os : List Operation) → me ≢ i → ((k : ℕ) (x : Operation) → slice_get os k ≡ Some x → x.site ≡ me)
+    → ceded i j event os ≡ 0
 ceded_elsewhere me i j event [] ne at = refl
 ceded_elsewhere me i j event (o ∷ os) ne at =
     omega (
@@ -142,14 +154,16 @@ ceded_past (suc n) h i j event l =
       ceded_elsewhere n i j event (operations n (h n)) (λ e. absurd (omega (arith, e, l))) (at_site n (h n)),
     )
 
-ceded_below : (n : ℕ) (h : ℕ → List Entry) (i j : ℕ) (event : List ℕ) → i < n → ceded i j event (operations_below n h) ≡ total (Ceding j) event (operations i (h i))
+ceded_below : (n : ℕ) (h : ℕ → List Entry) (i j : ℕ) (event : List ℕ) → i < n
+    → ceded i j event (operations_below n h) ≡ total (Ceding j) event (operations i (h i))
 ceded_below zero h i j event l = absurd (omega (arith, l))
 ceded_below (suc n) h i j event l = elim (cases_eq n i) [
   | inl e ↦ omega (
     arith,
     sum_by-append (ceded_by i j event) (operations_below n h) (operations n (h n)),
     ceded_past n h i j event (omega (arith, e)),
-    subst (λ m. ceded i j event (operations m (h m)) ≡ total (Ceding j) event (operations i (h i))) (sym e) (ceded_here i j event (operations i (h i)) (at_site i (h i))),
+    subst (λ m. ceded i j event (operations m (h m)) ≡ total (Ceding j) event (operations i (h i))) (sym e)
+        (ceded_here i j event (operations i (h i)) (at_site i (h i))),
   )
   | inr ne ↦ omega (
     arith,
@@ -160,14 +174,16 @@ ceded_below (suc n) h i j event l = elim (cases_eq n i) [
 ]
 
 -- what site i ceded is the sum over its own history
-pub ceded_all : (n : ℕ) (h : ℕ → List Entry) → ((i : ℕ) → n ≤ i → h i ≡ []) → (i j : ℕ) (event : List ℕ) → ceded i j event (operations_below n h) ≡ total (Ceding j) event (operations i (h i))
+pub ceded_all : (n : ℕ) (h : ℕ → List Entry) → ((i : ℕ) → n ≤ i → h i ≡ []) → (i j : ℕ) (event : List ℕ)
+    → ceded i j event (operations_below n h) ≡ total (Ceding j) event (operations i (h i))
 ceded_all n h none i j event = elim (cases_lt i n) [
   | inl l ↦ ceded_below n h i j event l
   | inr l ↦ ceded_past n h i j event l ∙ sym (ap (λ (g : List Entry). total (Ceding j) event (operations i g)) (none i l))
 ]
 
 -- no site cedes to itself
-pub ceded_self : (office : Office) (h : List Entry) → IsLegal office h → (j : ℕ) → j ≡ office.me → (event : List ℕ) → total (Ceding j) event (operations office.me h) ≡ 0
+pub ceded_self : (office : SiteConfig) (h : List Entry) → IsLegal office h → (j : ℕ) → j ≡ office.me → (event : List ℕ)
+    → total (Ceding j) event (operations office.me h) ≡ 0
 ceded_self office h legal j me event = legal_along office (λ g. total (Ceding j) event (operations office.me g) ≡ 0) refl more h legal
   where
     no_share : (x : Cells) (o : Option Change) → Allowed office.me x o → share (Ceding j) event o ≡ 0
@@ -180,7 +196,8 @@ ceded_self office h legal j me event = legal_along office (λ g. total (Ceding j
         by_kind Refunding here = miss (same_event event c.event) false c.amount refl
         by_kind (Ceding to) here = miss (same_event event c.event) (j == to) c.amount (ne_eqb j to (λ e. here.0 (sym e ∙ me)))
 
-    more : (g : List Entry) (entry : Entry) → total (Ceding j) event (operations office.me g) ≡ 0 → IsNext office g entry → total (Ceding j) event (operations office.me (g ++ entry ∷ [])) ≡ 0
+    more : (g : List Entry) (entry : Entry) → total (Ceding j) event (operations office.me g) ≡ 0 → IsNext office g entry
+        → total (Ceding j) event (operations office.me (g ++ entry ∷ [])) ≡ 0
     more g (Asked number request reply delta) before next =
         asked_total office.me g number request reply delta (Ceding j) event
         ∙ omega (arith, before, no_share (state_of g).cells (accepted g request reply) (asked_allowed office g request reply next.answer))

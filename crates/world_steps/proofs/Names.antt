@@ -20,7 +20,8 @@ use Rattle.book_core.specs.History.{state_of, names_known}
 use Rattle.book_core.proofs.NameLaws.{known_names}
 use Rattle.world_steps.specs.World.{known_below}
 
-keys-put : (name : List ℕ) (es : List (List ℕ × Unit {0})) → map (λ e. e.0) (put (slice_cmp nat_cmp) name tt es) ≡ insert_key (slice_cmp nat_cmp) (map (λ e. e.0) es) name
+keys-put : (name : List ℕ) (es : List (List ℕ × Unit {0}))
+    → map (λ e. e.0) (put (slice_cmp nat_cmp) name tt es) ≡ insert_key (slice_cmp nat_cmp) (map (λ e. e.0) es) name
 keys-put name [] = refl
 keys-put name (e ∷ es) = by_test (slice_cmp nat_cmp name e.0) (keys-put name es)
   where
@@ -68,7 +69,8 @@ union_of known h = same_names _ _ (λ n.
 
 -- all names of a book are added
 pub all_added : (old now : List (List ℕ)) (h : List Entry) (k : ℕ) (known : Names) → length (names_known h) ≤ k
-    → (old ≡ names_in_order known → now ≡ names_in_order (with_names known (take k (names_known h)))) → old ≡ names_in_order known → now ≡ names_in_order (join_names known (state_of h).names)
+    → (old ≡ names_in_order known → now ≡ names_in_order (with_names known (take k (names_known h)))) → old ≡ names_in_order known
+    → now ≡ names_in_order (join_names known (state_of h).names)
 all_added old now h k known all before start =
     before start
     ∙ ap (λ (l : List (List ℕ)). names_in_order (with_names known l)) (take_all k (names_known h) all)

@@ -32,11 +32,13 @@ pub never_oversold : (w : World) → Sound w → count w ≤ max_sites → Never
 never_oversold w sound few event =
     omega (
       arith,
-      not_oversold (history_at w) (λ i. get_or w.counts i 0) (λ i. get_or w.limits i 0) (count w) event few (no_history w) sound.legal (λ i cell. sound_views w sound i event cell),
+      not_oversold (history_at w) (λ i. get_or w.counts i 0) (λ i. get_or w.limits i 0) (count w) event few (no_history w) sound.legal
+          (λ i cell. sound_views w sound i event cell),
     )
 
 -- where each history is legal, no more is given back than was sold
-pub refunds_below : (m : ℕ) (n limit : ℕ → ℕ) (h : ℕ → List Entry) (event : List ℕ) → ((i : ℕ) → IsLegal (office_numbered i (n i) (limit i)) (h i)) → refunded event (operations_below m h) ≤ sold event (operations_below m h)
+pub refunds_below : (m : ℕ) (n limit : ℕ → ℕ) (h : ℕ → List Entry) (event : List ℕ) → ((i : ℕ) → IsLegal (office_numbered i (n i) (limit i)) (h i))
+    → refunded event (operations_below m h) ≤ sold event (operations_below m h)
 refunds_below zero n limit h event legal = omega arith
 refunds_below (suc m) n limit h event legal =
     omega (
@@ -89,7 +91,8 @@ agree_once_acknowledged w sound all i j l m = elim (cases_eq i j) [
   where
     held : (i j : ℕ) → i < count w → j < count w → (i ≡ j → ⊥) → AtOrBelow (own_state w i) (own_state w j)
     held i j l m ne =
-        subst (λ h. AtOrBelow (state_of h) (own_state w j)) (ap (λ a. take a (history_at w i)) (all i j l m ne) ∙ take-length (history_at w i)) (sound.acked i j).1
+        subst (λ h. AtOrBelow (state_of h) (own_state w j)) (ap (λ a. take a (history_at w i)) (all i j l m ne) ∙ take-length (history_at w i))
+        (sound.acked i j).1
 
 pub views_are_positions : (w : World) → Sound w → ViewsArePositions w
 views_are_positions w sound i event = sound_position w sound i event
@@ -127,7 +130,8 @@ promises_hold w h =
     }
 
 -- and of the world after a step, whether it was made or not
-pub promises_after : (w v : World) (step : Step) (result : Result Outcome WorldFault) → IsReached w → OnOk result (v ≡ after w step) → OnErr result (v ≡ w) → HoldsPromises v
+pub promises_after : (w v : World) (step : Step) (result : Result Outcome WorldFault) → IsReached w → OnOk result (v ≡ after w step) → OnErr result (v ≡ w)
+    → HoldsPromises v
 promises_after w v step (Ok outcome) h made same = subst HoldsPromises (sym made) (promises_hold (after w step) (reached_after w step h))
 promises_after w v step (Err fault) h made same = subst HoldsPromises (sym same) (promises_hold w h)
 

@@ -25,7 +25,8 @@ few_given : (o : Option Message) (w : World) → count w ≤ max_sites → count
 few_given None w few = few
 few_given (Some message) w few = few_at w (receiver message) (site_after (judged w message) message (site_numbered w (receiver message))) few
 
-few_stopped : (w : World) (i : ℕ) (entry : Option Entry) (stored : Bool) → (stored ≡ true → count (entered entry i (stopped_with entry true (site_numbered w i)) w) ≤ max_sites) → count w ≤ max_sites
+few_stopped : (w : World) (i : ℕ) (entry : Option Entry) (stored : Bool)
+    → (stored ≡ true → count (entered entry i (stopped_with entry true (site_numbered w i)) w) ≤ max_sites) → count w ≤ max_sites
     → count (stopped_in w i entry stored) ≤ max_sites
 few_stopped w i entry true there few = there refl
 few_stopped w i entry false there few = few_at w i (restarted (site_numbered w i)) few
@@ -37,7 +38,8 @@ few_after w (Ask i number request) sound few =
     few_either (nat_lt i (count w)) (at_site w i site) w (few_at w i site few) few
 few_after w (Send i j) sound few = few_either (are_peers w i j) (sends (next i (site_numbered w i) j) w) w few few
 few_after w (Deliver index) sound few = few_given (slice_get w.sent index) w few
-few_after w (Restart i) sound few = few_either (nat_lt i (count w)) (at_site w i (restarted (site_numbered w i))) w (few_at w i (restarted (site_numbered w i)) few) few
+few_after w (Restart i) sound few = few_either (nat_lt i (count w)) (at_site w i (restarted (site_numbered w i))) w
+    (few_at w i (restarted (site_numbered w i)) few) few
 few_after w (Stop i in_hand stored) sound few =
     let entry : Option Entry = entry_of_input (office_at w i) (history_at w i) w.sent in_hand in
     few_either (nat_lt i (count w) && is_there w.sent in_hand) (stopped_in w i entry stored) w
@@ -56,7 +58,8 @@ sound_reached limits steps = sound_run steps (opened limits) (sound_opened limit
 pub sound_from : (limits counts : List ℕ) (steps : List Step) → AreBegun limits counts → Sound (run steps (begun limits counts))
 sound_from limits counts steps are = sound_run steps (begun limits counts) (sound_begun limits counts are)
 
-pub few_from : (limits counts : List ℕ) (steps : List Step) → AreBegun limits counts → length limits ≤ max_sites → count (run steps (begun limits counts)) ≤ max_sites
+pub few_from : (limits counts : List ℕ) (steps : List Step) → AreBegun limits counts → length limits ≤ max_sites
+    → count (run steps (begun limits counts)) ≤ max_sites
 few_from limits counts steps are few =
     few_run steps (begun limits counts) (sound_begun limits counts are) (omega (arith, few, length-replicate (length limits) no_site))
 

@@ -15,7 +15,8 @@ outcomes-append [] more w = refl
 outcomes-append (step ∷ steps) more w = ap (λ (os : List (Result Outcome WorldFault)). outcome w step ∷ os) (outcomes-append steps more (after w step))
 
 -- one more step
-pub run_more : (steps : List Step) (k : ℕ) (step : Step) (w v : World) → k < length steps → step ≡ get_or steps k step → v ≡ run (take k steps) w → after v step ≡ run (take (k + 1) steps) w
+pub run_more : (steps : List Step) (k : ℕ) (step : Step) (w v : World) → k < length steps → step ≡ get_or steps k step → v ≡ run (take k steps) w
+    → after v step ≡ run (take (k + 1) steps) w
 run_more steps k step w v l is so_far =
     ap (λ (u : World). after u step) so_far
     ∙ ap (λ (s : Step). after (run (take k steps) w) s) is
@@ -24,7 +25,8 @@ run_more steps k step w v l is so_far =
 
 -- and what it is answered
 pub outcomes_more : (steps : List Step) (k : ℕ) (step : Step) (w v : World) (before now : List Outcome) (answer : Outcome)
-    → k < length steps → step ≡ get_or steps k step → v ≡ run (take k steps) w → map (λ (o : Outcome). let r : Result Outcome WorldFault = Ok o in r) before ≡ outcomes (take k steps) w
+    → k < length steps → step ≡ get_or steps k step → v ≡ run (take k steps) w
+    → map (λ (o : Outcome). let r : Result Outcome WorldFault = Ok o in r) before ≡ outcomes (take k steps) w
     → outcome v step ≡ Ok answer → now ≡ before ++ answer ∷ []
     → map (λ (o : Outcome). let r : Result Outcome WorldFault = Ok o in r) now ≡ outcomes (take (k + 1) steps) w
 outcomes_more steps k step w v before now answer l is so_far answers given now_is =
@@ -35,7 +37,8 @@ outcomes_more steps k step w v before now answer l is so_far answers given now_i
     ∙ ap (λ (s : List Step). outcomes s w) (sym (take_more steps k step l))
 
 -- the step at a place is due its fault
-pub due_at : (steps items : List Step) (k : ℕ) (step : Step) (w : World) (fault : WorldFault) → items ≡ steps → k < length items → step ≡ get_or items k step → IsDue w step fault
+pub due_at : (steps items : List Step) (k : ℕ) (step : Step) (w : World) (fault : WorldFault) → items ≡ steps → k < length items
+    → step ≡ get_or items k step → IsDue w step fault
     → IsSomeAnd (slice_get steps k) (λ s. IsDue w s fault)
 due_at steps items k step w fault same l is due =
     subst (λ (o : List Step). IsSomeAnd (slice_get o k) (λ s. IsDue w s fault)) same

@@ -15,7 +15,7 @@ use Rattle.local_rights.specs.Rights.{gained, spent}
 use Rattle.local_rights.proofs.Sums.{sum_below-add, sum_below_same, sum_below_swap, sum_below_more}
 use Rattle.book_core.specs.declared.entry.Entry.{Entry}
 use Rattle.book_core.specs.History.{state_of, delta_of}
-use Rattle.book_core.specs.Decision.{Office, Releasing, Selling, Refunding, Ceding, sites_of}
+use Rattle.book_core.specs.Decision.{SiteConfig, Releasing, Selling, Refunding, Ceding, sites_of}
 use Rattle.book_core.specs.Legal.{IsNext, IsLegal}
 use Rattle.book_core.specs.Operations.{operations, total, sold, refunded, ceded}
 use Rattle.book_core.proofs.BookLaws.{marks_within}
@@ -29,13 +29,14 @@ use Rattle.world_steps.proofs.Worlds.{Sound, sound_views}
 use Rattle.world_steps.proofs.Reached.{no_history}
 
 -- the cells that a history raises are of sites below the count so far, and so is the site itself
-record IsOfSites (office : Office) (h : List Entry) : Type 0 where
+record IsOfSites (office : SiteConfig) (h : List Entry) : Type 0 where
   me : office.me < sites_of office h
   cells : (event : List ℕ) (cell : Cell) → 1 ≤ value_at (state_of h).cells event cell → IsCellOf (sites_of office h) cell
 
-legal_of_sites : (office : Office) (h : List Entry) → office.me < office.sites → IsLegal office h → IsOfSites office h
+legal_of_sites : (office : SiteConfig) (h : List Entry) → office.me < office.sites → IsLegal office h → IsOfSites office h
 legal_of_sites office h me legal =
-    legal_along office (IsOfSites office) (record { me = me; cells = λ event cell some. absurd (omega (arith, some, value_at-all_zero event cell)) }) more h legal
+    legal_along office (IsOfSites office) (record { me = me; cells = λ event cell some. absurd (omega (arith, some, value_at-all_zero event cell)) }) more
+    h legal
   where
     more : (g : List Entry) (entry : Entry) → IsOfSites office g → IsNext office g entry → IsOfSites office (g ++ entry ∷ [])
     more g entry before next =
@@ -53,7 +54,7 @@ legal_of_sites office h me legal =
               (omega (arith, l, some, at-push g entry (At event cell), greatest-marks_of (delta_of entry).cells event cell))
         ]
 
-pub legal_within : (office : Office) (h : List Entry) → office.me < office.sites → IsLegal office h
+pub legal_within : (office : SiteConfig) (h : List Entry) → office.me < office.sites → IsLegal office h
     → (event : List ℕ) (cell : Cell) → 1 ≤ value_at (state_of h).cells event cell → IsCellOf (sites_of office h) cell
 legal_within office h me legal = (legal_of_sites office h me legal).cells
 
@@ -91,7 +92,8 @@ seats_sum n created back used sellable given got under each between =
     )
 
 -- for an event, in a world whose sites have numbers
-pub seats_add_up : (w : World) → Sound w → count w ≤ max_sites → (event : List ℕ) → refunded event (all_operations w) ≤ sold event (all_operations w) → SeatsAddUp w event
+pub seats_add_up : (w : World) → Sound w → count w ≤ max_sites → (event : List ℕ) → refunded event (all_operations w) ≤ sold event (all_operations w)
+    → SeatsAddUp w event
 seats_add_up w sound few event within =
     let n = count w in
     let h : ℕ → List Entry = λ i. history_at w i in
@@ -103,7 +105,8 @@ seats_add_up w sound few event within =
     let learned : (i j : ℕ) → got j i ≤ given i j = λ i j. ceded_below (view j) (view i) event i j (sound_views w sound j event (Gave i j)) in
     let sum : sum_below n (λ i. value_at (view i) event (Gave i i)) + sum_below n (λ i. value_at (view i) event (Back i))
     ≡ sum_below n (λ i. value_at (view i) event (Used i)) + sum_below n sellable + sum_below n (λ i. sum_below n (under i)) =
-    seats_sum n (λ i. value_at (view i) event (Gave i i)) (λ i. value_at (view i) event (Back i)) (λ i. value_at (view i) event (Used i)) sellable given got under
+    seats_sum n (λ i. value_at (view i) event (Gave i i)) (λ i. value_at (view i) event (Back i)) (λ i. value_at (view i) event (Used i)) sellable given
+    got under
     (λ i l. omega (
       arith,
       legal_rights (office_at w i) (h i) (sound.legal i) event,
@@ -131,7 +134,12 @@ seats_add_up w sound few event within =
     -- nothing is given to a site that is not there
     no_gift : (i j : ℕ) → i < count w → count w ≤ j → value_at (state_of (history_at w i)).cells event (Gave i j) ≡ 0
     no_gift i j l m = elim (cases_lt 0 (value_at (state_of (history_at w i)).cells event (Gave i j))) [
-      | inl some ↦ absurd (omega (arith, (legal_within (office_at w i) (history_at w i) (sound.own i l) (sound.legal i) event (Gave i j) (omega (arith, some))).1, sound.few i, m))
+      | inl some ↦ absurd (omega (
+        arith,
+        (legal_within (office_at w i) (history_at w i) (sound.own i l) (sound.legal i) event (Gave i j) (omega (arith, some))).1,
+        sound.few i,
+        m,
+      ))
       | inr none ↦ omega (arith, none)
     ]
 

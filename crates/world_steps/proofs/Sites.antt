@@ -4,7 +4,7 @@ use Rattle.std.proofs.Common.{◌≡◌, ℕ, zero, suc, ◌-◌, ◌<◌, ◌�
 use Rattle.std.specs.Prelude.{slice_get, replicate}
 use Rattle.std.proofs.lemmas.List.{length-replicate, map-append, set-get_or}
 use Rattle.rights_lattice.specs.Sums.{max_sites}
-use Rattle.book_core.specs.Decision.{Office}
+use Rattle.book_core.specs.Decision.{SiteConfig}
 use Rattle.site_exchange.specs.declared.message.Message.{Message}
 use Rattle.site_exchange.specs.Exchange.{SitePart, zeros}
 use Rattle.world_steps.specs.NodeView.{NodeView}
@@ -24,14 +24,16 @@ all_empty (node ∷ nodes) empty =
     let here = empty 0 node refl in
     λ i. record { history = here.0 i; acked = here.1 i } ∷ rest i
 
-all_limited : (limit : ℕ) (nodes : List NodeView) → ((i : ℕ) (n : NodeView) → slice_get nodes i ≡ Some n → limit_of n ≡ limit) → map limit_of nodes ≡ replicate (length nodes) limit
+all_limited : (limit : ℕ) (nodes : List NodeView) → ((i : ℕ) (n : NodeView) → slice_get nodes i ≡ Some n → limit_of n ≡ limit)
+    → map limit_of nodes ≡ replicate (length nodes) limit
 all_limited limit [] same = refl
 all_limited limit (node ∷ nodes) same =
     let rest = all_limited limit nodes (λ i n found. same (suc i) n found) in
     let here = same 0 node refl in
     λ i. here i ∷ rest i
 
-all_counting : (sites : ℕ) (nodes : List NodeView) → ((i : ℕ) (n : NodeView) → slice_get nodes i ≡ Some n → first_count_of n ≡ sites) → map first_count_of nodes ≡ replicate (length nodes) sites
+all_counting : (sites : ℕ) (nodes : List NodeView) → ((i : ℕ) (n : NodeView) → slice_get nodes i ≡ Some n → first_count_of n ≡ sites)
+    → map first_count_of nodes ≡ replicate (length nodes) sites
 all_counting sites [] same = refl
 all_counting sites (node ∷ nodes) same =
     let rest = all_counting sites nodes (λ i n found. same (suc i) n found) in
@@ -44,14 +46,16 @@ sites_set (n ∷ nodes) zero node = refl
 sites_set (n ∷ nodes) (suc i) node = ap (λ (ss : List SitePart). site_of n ∷ ss) (sites_set nodes i node)
 
 -- a site with the same limit in its place
-limits_set : (nodes : List NodeView) (i : ℕ) (old new : NodeView) → slice_get nodes i ≡ Some old → limit_of new ≡ limit_of old → map limit_of (set nodes i new) ≡ map limit_of nodes
+limits_set : (nodes : List NodeView) (i : ℕ) (old new : NodeView) → slice_get nodes i ≡ Some old → limit_of new ≡ limit_of old
+    → map limit_of (set nodes i new) ≡ map limit_of nodes
 limits_set [] i old new found same = refl
 limits_set (n ∷ nodes) zero old new found same =
     let is : n ≡ old = cc in
     ap (λ (l : ℕ). l ∷ map limit_of nodes) (same ∙ sym (ap limit_of is))
 limits_set (n ∷ nodes) (suc i) old new found same = ap (λ (ls : List ℕ). limit_of n ∷ ls) (limits_set nodes i old new found same)
 
-counts_set : (nodes : List NodeView) (i : ℕ) (old new : NodeView) → slice_get nodes i ≡ Some old → first_count_of new ≡ first_count_of old → map first_count_of (set nodes i new) ≡ map first_count_of nodes
+counts_set : (nodes : List NodeView) (i : ℕ) (old new : NodeView) → slice_get nodes i ≡ Some old → first_count_of new ≡ first_count_of old
+    → map first_count_of (set nodes i new) ≡ map first_count_of nodes
 counts_set [] i old new found same = refl
 counts_set (n ∷ nodes) zero old new found same =
     let is : n ≡ old = cc in
@@ -78,7 +82,8 @@ length-sites [] = refl
 length-sites (n ∷ nodes) = ap suc (length-sites nodes)
 
 -- the history of a site of the program
-pub history_found : (nodes : List NodeView) (sent : List Message) (i : ℕ) (node : NodeView) → slice_get nodes i ≡ Some node → history_at (world_of nodes sent) i ≡ node.book.history
+pub history_found : (nodes : List NodeView) (sent : List Message) (i : ℕ) (node : NodeView) → slice_get nodes i ≡ Some node
+    → history_at (world_of nodes sent) i ≡ node.book.history
 history_found nodes sent i node found = ap (λ (s : SitePart). s.history) (site_found nodes i node found)
 
 -- the book is of the site that its place names
@@ -99,9 +104,10 @@ each_set Holds (x ∷ nodes) (suc i) (suc k) new node found before here =
     each_set (λ j. Holds (suc j)) nodes i k new node found (λ j m there. before (suc j) m there) here
 
 -- a site that is put in the place of another, of the same office, is in its place
-pub kept_places : (nodes : List NodeView) (i : ℕ) (old new : NodeView) → AreInPlace nodes → slice_get nodes i ≡ Some old → new.book.office ≡ old.book.office → AreInPlace (set nodes i new)
+pub kept_places : (nodes : List NodeView) (i : ℕ) (old new : NodeView) → AreInPlace nodes → slice_get nodes i ≡ Some old
+    → new.book.office ≡ old.book.office → AreInPlace (set nodes i new)
 kept_places nodes i old new before found same k n there =
-    each_set IsInPlace nodes i k new n there before (ap (λ (o : Office). o.me) same ∙ before i old found)
+    each_set IsInPlace nodes i k new n there before (ap (λ (o : SiteConfig). o.me) same ∙ before i old found)
 
 pub found_at : (nodes : List NodeView) (i : ℕ) (n : NodeView) → i < length nodes → n ≡ get_or nodes i n → slice_get nodes i ≡ Some n
 found_at nodes i n l e = slice_get_read nodes (length nodes) i n refl l e
@@ -119,14 +125,15 @@ pub record IsMade (nodes : List NodeView) (sent : List Message) (now : List Node
 pub world_set : (nodes : List NodeView) (sent : List Message) (i : ℕ) (old new : NodeView) → slice_get nodes i ≡ Some old → new.book.office ≡ old.book.office
     → world_of (set nodes i new) sent ≡ at_site (world_of nodes sent) i (site_of new)
 world_set nodes sent i old new found same = λ k. record {
-  limits = limits_set nodes i old new found (ap (λ (o : Office). o.limit) same) k;
-  counts = counts_set nodes i old new found (ap (λ (o : Office). o.sites) same) k;
+  limits = limits_set nodes i old new found (ap (λ (o : SiteConfig). o.limit) same) k;
+  counts = counts_set nodes i old new found (ap (λ (o : SiteConfig). o.sites) same) k;
   sites = sites_set nodes i new k;
   sent = sent;
 }
 
 -- what the definition of the step changes is what was changed
-pub made_at : (nodes : List NodeView) (sent sent_now : List Message) (i : ℕ) (old new : NodeView) (step : Step) → IsKept nodes sent → slice_get nodes i ≡ Some old → new.book.office ≡ old.book.office
+pub made_at : (nodes : List NodeView) (sent sent_now : List Message) (i : ℕ) (old new : NodeView) (step : Step) → IsKept nodes sent
+    → slice_get nodes i ≡ Some old → new.book.office ≡ old.book.office
     → after (world_of nodes sent) step ≡ at_site (world_of nodes sent_now) i (site_of new) → IsMade nodes sent (set nodes i new) sent_now step
 made_at nodes sent sent_now i old new step kept found same after_is =
     let is : world_of (set nodes i new) sent_now ≡ after (world_of nodes sent) step = world_set nodes sent_now i old new found same ∙ sym after_is in
@@ -139,13 +146,15 @@ made_at nodes sent sent_now i old new step kept found same after_is =
     }
 
 -- a site that shows the same makes the same world
-pub same_world : (nodes : List NodeView) (sent : List Message) (i : ℕ) (old new : NodeView) → slice_get nodes i ≡ Some old → new.book.office ≡ old.book.office → site_of new ≡ site_of old → world_of (set nodes i new) sent ≡ world_of nodes sent
+pub same_world : (nodes : List NodeView) (sent : List Message) (i : ℕ) (old new : NodeView) → slice_get nodes i ≡ Some old
+    → new.book.office ≡ old.book.office → site_of new ≡ site_of old → world_of (set nodes i new) sent ≡ world_of nodes sent
 same_world nodes sent i old new found same_office same =
     world_set nodes sent i old new found same_office
     ∙ ap (at_site (world_of nodes sent) i) (same ∙ sym (site_found nodes i old found))
     ∙ site_kept (world_of nodes sent) i
 
-pub kept_same : (nodes : List NodeView) (sent : List Message) (i : ℕ) (old new : NodeView) → IsKept nodes sent → slice_get nodes i ≡ Some old → new.book.office ≡ old.book.office → site_of new ≡ site_of old
+pub kept_same : (nodes : List NodeView) (sent : List Message) (i : ℕ) (old new : NodeView) → IsKept nodes sent → slice_get nodes i ≡ Some old
+    → new.book.office ≡ old.book.office → site_of new ≡ site_of old
     → IsKept (set nodes i new) sent
 kept_same nodes sent i old new kept found same_office same = record {
   places = kept_places nodes i old new kept.places found same_office;
@@ -159,7 +168,8 @@ pub record IsAt (nodes : List NodeView) (sent : List Message) (i : ℕ) (old : N
   pub site : site_numbered (world_of nodes sent) i ≡ site_of old
   pub office : office_at (world_of nodes sent) i ≡ old.book.office
 
-pub at_place : (nodes : List NodeView) (sent : List Message) (i : ℕ) (old : NodeView) → IsKept nodes sent → i < length nodes → old ≡ get_or nodes i old → IsAt nodes sent i old
+pub at_place : (nodes : List NodeView) (sent : List Message) (i : ℕ) (old : NodeView) → IsKept nodes sent → i < length nodes → old ≡ get_or nodes i old
+    → IsAt nodes sent i old
 at_place nodes sent i old kept l is =
     let found = found_at nodes i old l is in
     record {
@@ -171,23 +181,26 @@ at_place nodes sent i old kept l is =
 
 -- sites that are added are in their places
 pub places_added : (sites limit : ℕ) (nodes now : List NodeView) → AreInPlace nodes → AreAdded sites limit nodes now → AreInPlace now
-places_added sites limit nodes now before added i n found = elim (get_append nodes added.more i n (subst (λ (ns : List NodeView). slice_get ns i ≡ Some n) added.behind found)) [
-  | inl p ↦ before i n p.1
-  | inr p ↦ ap (λ (o : Office). o.me) (added.opened p.0 n p.2).office ∙ sym p.1
-]
+places_added sites limit nodes now before added i n found = elim
+    (get_append nodes added.more i n (subst (λ (ns : List NodeView). slice_get ns i ≡ Some n) added.behind found)) [
+      | inl p ↦ before i n p.1
+      | inr p ↦ ap (λ (o : SiteConfig). o.me) (added.opened p.0 n p.2).office ∙ sym p.1
+    ]
 
 -- the world with sites that are added
-pub world_added : (sites limit : ℕ) (nodes now : List NodeView) (sent : List Message) → AreAdded sites limit nodes now → world_of now sent ≡ widened sites limit (world_of nodes sent)
+pub world_added : (sites limit : ℕ) (nodes now : List NodeView) (sent : List Message) → AreAdded sites limit nodes now
+    → world_of now sent ≡ widened sites limit (world_of nodes sent)
 world_added sites limit nodes now sent added =
     let more : List NodeView = added.more in
     let lacking : length more ≡ sites - length (map site_of nodes) = added.lacking ∙ ap (λ n. sites - n) (sym (length-sites nodes)) in
     let limits_are = map-append limit_of nodes more ∙ ap (λ ls. map limit_of nodes ++ ls)
-    (all_limited limit more (λ k n found. ap (λ (o : Office). o.limit) (added.opened k n found).office) ∙ ap (λ n. replicate n limit) lacking) in
+    (all_limited limit more (λ k n found. ap (λ (o : SiteConfig). o.limit) (added.opened k n found).office) ∙ ap (λ n. replicate n limit) lacking) in
     let counts_are = map-append first_count_of nodes more ∙ ap (λ ks. map first_count_of nodes ++ ks)
-    (all_counting sites more (λ k n found. ap (λ (o : Office). o.sites) (added.opened k n found).office) ∙ ap (λ n. replicate n sites) lacking) in
+    (all_counting sites more (λ k n found. ap (λ (o : SiteConfig). o.sites) (added.opened k n found).office) ∙ ap (λ n. replicate n sites) lacking) in
     let sites_are = map-append site_of nodes more ∙ ap (λ ss. map site_of nodes ++ ss)
     (all_empty more (λ k n found. ((added.opened k n found).history, (added.opened k n found).acked)) ∙ ap (λ n. replicate n no_site) lacking) in
-    ap (λ (ns : List NodeView). world_of ns sent) added.behind ∙ (λ i. record { limits = limits_are i; counts = counts_are i; sites = sites_are i; sent = sent })
+    ap (λ (ns : List NodeView). world_of ns sent) added.behind
+    ∙ (λ i. record { limits = limits_are i; counts = counts_are i; sites = sites_are i; sent = sent })
 
 -- the sites that a world begins with
 pub kept_opening : (sites limit : ℕ) (nodes : List NodeView) (sent : List Message) → sites ≤ max_sites → sent ≡ [] → AreAdded sites limit [] nodes

@@ -69,12 +69,18 @@ pub own_none : (h : ℕ → List Entry) (event : List ℕ) → AreOwn 0 h event 
 own_none h event = record { released = refl; sold = refl; refunded = refl }
 
 -- the sums of all own cells are those over the flat list
-pub own_totals : (n i : ℕ) (h : ℕ → List Entry) (sites limit : ℕ → ℕ) (event : List ℕ) (totals : Totals) → ((k : ℕ) → IsLegal (office_numbered k (sites k) (limit k)) (h k))
+pub own_totals : (n i : ℕ) (h : ℕ → List Entry) (sites limit : ℕ → ℕ) (event : List ℕ) (totals : Totals)
+    → ((k : ℕ) → IsLegal (office_numbered k (sites k) (limit k)) (h k))
     → i ≡ n → AreOwn i h event totals → totals ≡ totals_below n h event
 own_totals n i h sites limit event totals legal all own =
-    λ k. record { released = whole Releasing (λ _. tt) totals.released own.released k; sold = whole Selling (λ _. tt) totals.sold own.sold k; refunded = whole Refunding (λ _. tt) totals.refunded own.refunded k }
+    λ k. record {
+      released = whole Releasing (λ _. tt) totals.released own.released k;
+      sold = whole Selling (λ _. tt) totals.sold own.sold k;
+      refunded = whole Refunding (λ _. tt) totals.refunded own.refunded k;
+    }
   where
-    whole : (kind : Kind) → ((k : ℕ) → IsProper k kind) → (sum : ℕ) → sum ≡ own_sum i h event (λ k. cell_of k kind) → sum ≡ total kind event (operations_below n h)
+    whole : (kind : Kind) → ((k : ℕ) → IsProper k kind) → (sum : ℕ) → sum ≡ own_sum i h event (λ k. cell_of k kind)
+        → sum ≡ total kind event (operations_below n h)
     whole kind proper sum is =
         is ∙ ap (λ m. own_sum m h event (λ k. cell_of k kind)) all
         ∙ sym (total_below n h kind event (λ k. legal_cells (office_numbered k (sites k) (limit k)) (h k) (legal k) kind (proper k) event))

@@ -9,7 +9,7 @@ use Rattle.book_core.specs.declared.entry.Entry.{Entry}
 use Rattle.book_core.specs.declared.entry.Entry.TheVariants.{Asked, Joined, Grown}
 use Rattle.book_core.specs.History.{state_of}
 use Rattle.book_core.specs.Decision as decided
-use Rattle.book_core.specs.Decision.{Office, decision, entry_of_ask, sites_of}
+use Rattle.book_core.specs.Decision.{SiteConfig, decision, entry_of_ask, sites_of}
 use Rattle.book_core.specs.Legal.{IsNext, IsLegal}
 use Rattle.book_core.proofs.Histories.{sites_of-push}
 use Rattle.site_exchange.specs.declared.message.Message.{Message}
@@ -90,14 +90,14 @@ sound_widened w sites limit sound =
 
     legal_at : (i : ℕ) → IsLegal (office_at (widened sites limit w) i) (history_at (widened sites limit w) i)
     legal_at i = elim (cases_lt i (count w)) [
-      | inl l ↦ subst (λ (o : Office). IsLegal o (history_at (widened sites limit w) i)) (sym (office_widened w sites limit i sound l))
+      | inl l ↦ subst (λ (o : SiteConfig). IsLegal o (history_at (widened sites limit w) i)) (sym (office_widened w sites limit i sound l))
           (subst (λ (s : SitePart). IsLegal (office_at w i) s.history) (sym (site_widened w sites limit i)) (sound.legal i))
       | inr m ↦ λ k entry found. cc (ap (λ (h : List Entry). slice_get h k) (none i m))
     ]
 
     own_at : (i : ℕ) → i < count (widened sites limit w) → i < get_or (widened sites limit w).counts i 0
     own_at i l = elim (cases_lt i (count w)) [
-      | inl here ↦ omega (arith, sound.own i here, ap (λ (o : Office). o.sites) (office_widened w sites limit i sound here))
+      | inl here ↦ omega (arith, sound.own i here, ap (λ (o : SiteConfig). o.sites) (office_widened w sites limit i sound here))
       | inr m ↦ omega (arith, count_added w sites limit i sound m l, l, m, more)
     ]
 
@@ -106,7 +106,7 @@ sound_widened w sites limit sound =
       | inl l ↦ omega (
         arith,
         sound.few i,
-        ap (λ (o : Office). sites_of o (history_at (widened sites limit w) i)) (office_widened w sites limit i sound l),
+        ap (λ (o : SiteConfig). sites_of o (history_at (widened sites limit w) i)) (office_widened w sites limit i sound l),
         ap (λ (s : SitePart). sites_of (office_at w i) s.history) (site_widened w sites limit i),
         more,
       )
@@ -122,7 +122,8 @@ sound_widened w sites limit sound =
         | inr past ↦ omega (
           arith,
           ap (λ (h : List Entry). sites_of (office_at (widened sites limit w) i) h) (none i m),
-          get_or_past (widened sites limit w).counts i 0 (omega (arith, sound.counts, length-append w.counts (replicate lacking sites), length-replicate lacking sites, more, past)),
+          get_or_past (widened sites limit w).counts i 0
+              (omega (arith, sound.counts, length-append w.counts (replicate lacking sites), length-replicate lacking sites, more, past)),
         )
       ]
     ]
@@ -132,7 +133,8 @@ sound_widened w sites limit sound =
 -- a count that an entry leaves is that of a site that is there
 pub fewer : (w : World) (i : ℕ) (o : Option Entry) → Sound w → sites_of (office_at w i) (extended o (history_at w i)) ≤ count (widened_by o i w)
 fewer w i None sound = sound.few i
-fewer w i (Some (Asked number request reply delta)) sound = omega (arith, sound.few i, sites_of-push (office_at w i) (history_at w i) (Asked number request reply delta))
+fewer w i (Some (Asked number request reply delta)) sound = omega
+    (arith, sound.few i, sites_of-push (office_at w i) (history_at w i) (Asked number request reply delta))
 fewer w i (Some (Joined peer delta)) sound = omega (arith, sound.few i, sites_of-push (office_at w i) (history_at w i) (Joined peer delta))
 fewer w i (Some (Grown sites)) sound =
     omega (arith, count_widened w sites (get_or w.limits i 0), sites_of-push (office_at w i) (history_at w i) (Grown sites))
@@ -151,7 +153,12 @@ record IsWider (w v : World) (i : ℕ) : Type 0 where
   office : office_at v i ≡ office_at w i
 
 still : (w : World) (i : ℕ) → Sound w → IsWider w w i
-still w i sound = record { sound = sound; grows = record { count = omega arith; histories = λ j. ([], sym (append-nil (history_at w j))) }; site = refl; office = refl }
+still w i sound = record {
+  sound = sound;
+  grows = record { count = omega arith; histories = λ j. ([], sym (append-nil (history_at w j))) };
+  site = refl;
+  office = refl;
+}
 
 wider : (w : World) (i : ℕ) (o : Option Entry) → Sound w → i < count w → IsWider w (widened_by o i w) i
 wider w i None sound l = still w i sound
@@ -170,13 +177,15 @@ wider w i (Some (Grown sites)) sound l =
 may_widened : (w v : World) (i : ℕ) (o : Option Entry) → IsWider w v i → MayFollow w i o → MayFollow v i o
 may_widened w v i None wide may = tt
 may_widened w v i (Some entry) wide may = (
-  subst (λ (o : Office). IsNext o (history_at v i) entry) (sym wide.office) (subst (λ (s : SitePart). IsNext (office_at w i) s.history entry) (sym wide.site) may.0),
+  subst (λ (o : SiteConfig). IsNext o (history_at v i) entry) (sym wide.office)
+      (subst (λ (s : SitePart). IsNext (office_at w i) s.history entry) (sym wide.site) may.0),
   λ k ne. subst (λ (s : SitePart). HasVersion v k (state_of (s.history ++ entry ∷ []))) (sym wide.site)
       (version_extends w v k (state_of (history_at w i ++ entry ∷ [])) wide.grows (may.1 k ne)),
 )
 
 -- an entry that may follow keeps what holds, with the sites that it adds
-pub sound_entered : (w : World) (i : ℕ) (o : Option Entry) (site : SitePart) → Sound w → i < count w → MayFollow w i o → site.history ≡ extended o (history_at w i)
+pub sound_entered : (w : World) (i : ℕ) (o : Option Entry) (site : SitePart) → Sound w → i < count w → MayFollow w i o
+    → site.history ≡ extended o (history_at w i)
     → ((j : ℕ) → IsAcked w i j (get_or site.acked j 0)) → Sound (entered o i site w)
 sound_entered w i o site sound l may is acked =
     let v : World = widened_by o i w in
@@ -184,7 +193,7 @@ sound_entered w i o site sound l may is acked =
     let history_is : extended o (history_at v i) ≡ site.history = ap (λ (s : SitePart). extended o s.history) wide.site ∙ sym is in
     sound_site v i site wide.sound (omega (arith, l, wide.grows.count))
     (subst (GoesOn v i) history_is (goes_on v i o wide.sound (may_widened w v i o wide may)))
-    (omega (arith, fewer w i o sound, ap (λ (f : Office). sites_of f site.history) wide.office, ap (sites_of (office_at w i)) is))
+    (omega (arith, fewer w i o sound, ap (λ (f : SiteConfig). sites_of f site.history) wide.office, ap (sites_of (office_at w i)) is))
     (λ j. acked_extends w v i j (get_or site.acked j 0) wide.grows (acked j))
 
 -- no more sites than there can be are added
@@ -199,7 +208,8 @@ few_entered w i o site may few = omega (arith, length-set (widened_by o i w).sit
     by_entry (Some (Grown sites)) may = omega (arith, few, may.0.few, count_widened w sites (get_or w.limits i 0))
 
 -- asking adds no sites
-pub ask_adds_none : (office : Office) (h : List Entry) (number : ℕ) (request : Request) (i : ℕ) (w : World) → widened_by (entry_of_ask office h number request) i w ≡ w
+pub ask_adds_none : (office : SiteConfig) (h : List Entry) (number : ℕ) (request : Request) (i : ℕ) (w : World)
+    → widened_by (entry_of_ask office h number request) i w ≡ w
 ask_adds_none office h number request i w = by_decision (decision office h number request)
   where
     by_decision : (d : decided.Decision) → widened_by (decided.entry_if d office h number request) i w ≡ w
@@ -209,7 +219,7 @@ ask_adds_none office h number request i w = by_decision (decision office h numbe
     by_decision (decided.Fresh reply) = refl
 
 -- nor does taking a message
-pub take_adds_none : (office : Office) (h : List Entry) (message : Message) (i : ℕ) (w : World) → widened_by (entry_of_take office h message) i w ≡ w
+pub take_adds_none : (office : SiteConfig) (h : List Entry) (message : Message) (i : ℕ) (w : World) → widened_by (entry_of_take office h message) i w ≡ w
 take_adds_none office h message i w = by_verdict (verdict office h message) message
   where
     by_verdict : (v : Verdict) (m : Message) → widened_by (exchange.taken_if v m) i w ≡ w
@@ -220,7 +230,8 @@ take_adds_none office h message i w = by_verdict (verdict office h message) mess
     by_verdict (exchange.Refuses fault) m = refl
 
 -- nor does a stop in the midst of either
-pub input_adds_none : (office : Office) (h : List Entry) (sent : List Message) (in_hand : Input) → (IsGrowth in_hand → ⊥) → (stored : Bool) (i : ℕ) (w : World)
+pub input_adds_none : (office : SiteConfig) (h : List Entry) (sent : List Message) (in_hand : Input) → (IsGrowth in_hand → ⊥)
+    → (stored : Bool) (i : ℕ) (w : World)
     → widened_by (entry_if_stored stored (entry_of_input office h sent in_hand)) i w ≡ w
 input_adds_none office h sent in_hand kind false i w = refl
 input_adds_none office h sent (input.Request number request) kind true i w = ask_adds_none office h number request i w

@@ -36,8 +36,10 @@ pub record AreEmpty (books : List BookView) : Type 0 where
 -- Legal histories of all sites are not oversold if, in some order of all their entries, each delta that was joined was at or below what its
 -- sender had by then.
 abbrev pub EntriesNeverOversell : Type 0
-EntriesNeverOversell = (entries : List (ℕ × Entry)) (begin end : List BookView) → AreEmpty begin → AreEntered entries begin end → AreSites end → AreNotOversold end
+EntriesNeverOversell = (entries : List (ℕ × Entry)) (begin end : List BookView) → AreEmpty begin → AreEntered entries begin end → AreSites end
+    → AreNotOversold end
 
 -- Nor does an audit of them find a book ahead.
 abbrev pub NoAuditIsAhead : Type 0
-NoAuditIsAhead = (entries : List (ℕ × Entry)) (begin end : List BookView) → AreEmpty begin → AreEntered entries begin end → AreSites end → (v o : ℕ) → IsFirstAhead end v o → ⊥
+NoAuditIsAhead = (entries : List (ℕ × Entry)) (begin end : List BookView) → AreEmpty begin → AreEntered entries begin end → AreSites end → (v o : ℕ)
+    → IsFirstAhead end v o → ⊥

@@ -7,4 +7,5 @@ use Rattle.site_exchange.specs.Exchange.{SitePart, next}
 
 -- The delta that is due to a peer is at or below the state of the site that gives it.
 abbrev pub GivesWhatItHas : Type 0
-GivesWhatItHas = (me to : ℕ) (site : SitePart) (by dest upto : ℕ) (delta : State) → next me site to ≡ Some (Delta by dest upto delta) → AtOrBelow delta (state_of site.history)
+GivesWhatItHas = (me to : ℕ) (site : SitePart) (by dest upto : ℕ) (delta : State) → next me site to ≡ Some (Delta by dest upto delta)
+    → AtOrBelow delta (state_of site.history)

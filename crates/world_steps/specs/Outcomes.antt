@@ -1,10 +1,10 @@
 -- What each step is answered. (Our own.)
-use Rattle.std.specs.Prelude.{◌≡◌, ℕ, ◌⊎◌, true, if◌then◌else◌, nat_lt, List, [], ◌∷◌, length, slice_get, Option, Some, None, Result, Ok, Err, IsOk, IsSome, IsSomeAnd}
+use Rattle.std.specs.Prelude.{◌≡◌, ℕ, ◌⊎◌, true, if◌then◌else◌, nat_lt, List, [], ◌∷◌, length, slice_get, Option, Some, None, Result, Ok, Err, IfErr, IfOk, IsOk, IsSome, IsSomeAnd, OnErr, OnOk}
 use Rattle.book_core.specs.declared.plan.PlanFault.TheVariants as fault
 use Rattle.book_core.specs.declared.plan.GrowFault.TheVariants as grow_fault
 use Rattle.book_core.specs.Decision as decided
 use Rattle.book_core.specs.declared.entry.Entry.{Entry}
-use Rattle.book_core.specs.Decision.{Office, decision}
+use Rattle.book_core.specs.Decision.{SiteConfig, decision}
 use Rattle.book_core.specs.Growing as growing
 use Rattle.book_core.specs.Growing.{grow_decision}
 use Rattle.book_core.specs.Plans.{IsFresh}
@@ -71,7 +71,7 @@ IsDue w step NoMessage = outcome w step ≡ Err NoMessage
 
 -- Storing what an input adds may want memory where it is a request that is new, a delta that the site joins, or a
 -- growth.
-abbrev pub MayStore : Office → List Entry → List Message → Input → Type 0
+abbrev pub MayStore : SiteConfig → List Entry → List Message → Input → Type 0
 MayStore office h sent (input.Request number request) = IsFresh (decision office h number request)
 MayStore office h sent (input.Take index) = IsSomeAnd (slice_get sent index) (λ message. verdict office h message ≡ exchange.Joins)
 MayStore office h sent (input.Grow sites) = grow_decision office h sites ≡ growing.Grows
@@ -83,7 +83,16 @@ abbrev pub MayWantMemory : World → Step → Type 0
 MayWantMemory w (Ask i number request) = IsFresh (decision (office_at w i) (history_at w i) number request)
 MayWantMemory w (Send i j) = IsSome (next i (site_numbered w i) j)
 MayWantMemory w (Deliver index) =
-    IsSomeAnd (slice_get w.sent index) (λ message. IsSome (ack_due (judged w message) message) ⊎ MayTake (judged w message) (site_numbered w (receiver message)) message)
+    IsSomeAnd (slice_get w.sent index) (λ message. IsSome (ack_due (judged w message) message)
+    ⊎ MayTake (judged w message) (site_numbered w (receiver message)) message)
 MayWantMemory w (Restart i) = ⊥
 MayWantMemory w (Stop i in_hand stored) = (stored ≡ true) × MayStore (office_at w i) (history_at w i) w.sent in_hand
 MayWantMemory w (Grow i sites) = grow_decision (office_at w i) (history_at w i) sites ≡ growing.Grows
+
+-- what making a step comes to: its answer, and the world after it, or a fault that is due it, and no change
+pub record MakesStep (old : World) (step : Step) (new : World) (came : Result Outcome WorldFault) : Type 0 where
+  pub outcome : IfOk came (λ o. outcome old step ≡ Ok o)
+  pub fault : IfErr came (IsDue old step)
+  pub memory : came ≡ Err Memory → MayWantMemory old step
+  pub made : OnOk came (new ≡ after old step)
+  pub unchanged : OnErr came (new ≡ old)

@@ -23,7 +23,8 @@ Always Holds = (limits counts : List ℕ) → AreBegun limits counts → (steps 
 
 -- The same, where each site has a number.
 abbrev pub AlwaysNumbered : (World → Type 0) → Type 0
-AlwaysNumbered Holds = (limits counts : List ℕ) → AreBegun limits counts → length limits ≤ max_sites → (steps : List Step) → Holds (run steps (begun limits counts))
+AlwaysNumbered Holds = (limits counts : List ℕ) → AreBegun limits counts → length limits ≤ max_sites → (steps : List Step)
+    → Holds (run steps (begun limits counts))
 
 -- The tickets outstanding over all sites never exceed the seats released.
 abbrev pub NeverOversold : World → Type 0

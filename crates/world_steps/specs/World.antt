@@ -1,6 +1,6 @@
 -- Sites, all messages ever sent, and the steps that change them. Each step changes one site as the site's own
 -- definitions say, or puts a message behind those that were sent; a growth adds sites too. (Our own.)
-use Rattle.std.specs.Prelude.{◌≡◌, ℕ, zero, suc, ◌-◌, ◌≤◌, ◌<◌, Bool, true, not, ◌&&◌, ◌==◌, if◌then◌else◌, nat_lt, List, [], ◌∷◌, ◌++◌, length, take, set, replicate, get_or, slice_get}
+use Rattle.std.specs.Prelude.{◌≡◌, ℕ, zero, suc, ◌-◌, ◌≤◌, ◌<◌, Bool, true, not, ◌&&◌, ◌==◌, if◌then◌else◌, IsTrue, nat_lt, List, [], ◌∷◌, ◌++◌, length, take, set, replicate, get_or, slice_get}
 use Rattle.std.specs.Prelude.{Option, Some, None}
 use Rattle.rights_lattice.specs.Sums.{max_sites}
 use Rattle.rights_lattice.specs.State.{State, Names, no_names, join_names, names_in_order}
@@ -14,7 +14,7 @@ use Rattle.world_steps.specs.declared.step.Input.TheVariants as input
 use Rattle.world_steps.specs.declared.step.Step.{Step}
 use Rattle.world_steps.specs.declared.step.Step.TheVariants.{Ask, Send, Deliver, Restart, Stop, Grow}
 use Rattle.book_core.specs.History.{state_of}
-use Rattle.book_core.specs.Decision.{Office, entry_of_ask, sites_of}
+use Rattle.book_core.specs.Decision.{SiteConfig, entry_of_ask, sites_of}
 use Rattle.book_core.specs.Growing.{entry_of_grow}
 use Rattle.book_core.specs.Operations.{Operation, operations_below, released, sold, refunded}
 use Rattle.site_exchange.specs.Exchange.{SitePart, zeros, Verdict, next, receiver, verdict, entry_of_take}
@@ -59,7 +59,7 @@ site_numbered w i = get_or w.sites i no_site
 abbrev pub history_at : World → ℕ → List Entry
 history_at w i = (site_numbered w i).history
 
-abbrev pub office_at : World → ℕ → Office
+abbrev pub office_at : World → ℕ → SiteConfig
 office_at w i = record { me = i; sites = get_or w.counts i 0; limit = get_or w.limits i 0 }
 
 -- how many sites a site counts so far
@@ -116,12 +116,12 @@ abbrev pub delivered : World → Option Message → World
 delivered w None = w
 delivered w (Some message) = taken_with (judged w message) message w
 
-abbrev pub entry_if_sent : Office → List Entry → Option Message → Option Entry
+abbrev pub entry_if_sent : SiteConfig → List Entry → Option Message → Option Entry
 entry_if_sent office h None = None
 entry_if_sent office h (Some message) = entry_of_take office h message
 
 -- the entry that an input would add, if any
-abbrev pub entry_of_input : Office → List Entry → List Message → Input → Option Entry
+abbrev pub entry_of_input : SiteConfig → List Entry → List Message → Input → Option Entry
 entry_of_input office h sent (input.Request number request) = entry_of_ask office h number request
 entry_of_input office h sent (input.Take index) = entry_if_sent office h (slice_get sent index)
 entry_of_input office h sent (input.Grow sites) = entry_of_grow office h sites
@@ -141,6 +141,11 @@ abbrev pub is_there : List Message → Input → Bool
 is_there sent (input.Take index) = nat_lt index (length sent)
 is_there sent (input.Request number request) = true
 is_there sent (input.Grow sites) = true
+
+-- the input is a request, or a message that was sent: what a site that stops may have in hand
+pub record IsInHand (sent : List Message) (in_hand : Input) : Type 0 where
+  pub there : IsTrue (is_there sent in_hand)
+  pub kind : IsGrowth in_hand → ⊥
 
 -- site i may send to site j, which is another that it counts
 abbrev pub are_peers : World → ℕ → ℕ → Bool

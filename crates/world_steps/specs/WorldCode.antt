@@ -9,7 +9,8 @@ use Rattle.site_exchange.specs.Exchange.{SitePart}
 use Rattle.world_steps.specs.World.{World}
 
 abbrev pub coded_site : Coded SitePart
-coded_site = code_by (List Entry × List ℕ) (coded× (coded_list coded_entry) (coded_list coded_ℕ)) (λ s. (s.history, s.acked)) (λ p. record { history = p.0; acked = p.1 }) (λ _. refl)
+coded_site = code_by (List Entry × List ℕ) (coded× (coded_list coded_entry) (coded_list coded_ℕ)) (λ s. (s.history, s.acked))
+    (λ p. record { history = p.0; acked = p.1 }) (λ _. refl)
 
 abbrev pub coded_world : Coded World
 coded_world =

@@ -11,6 +11,9 @@
 //!
 //! What a site does in a step is what its book does over records: both cite `with_entry` and `site_after`.
 //!
+//! A new step is a variant of `Step` or `Input`, with its case of `after` in `specs/World.antt` and a function of
+//! `node.rt`; a new promise is a field of `specs/Promises.antt`, proved of each step.
+//!
 //! Lemmas for callers: `Promised`, `Reached`.
 #![tactic(auto)]
 

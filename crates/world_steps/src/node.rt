@@ -1,15 +1,15 @@
 //! One site of a world: its book, what its peers have acknowledged, and what is pending for them.
-ghost use Rattle.std.specs.Prelude.{[], ◌∷◌, ◌++◌, ◌≡◌, ◌≢◌, ◌≤◌, ◌<◌, ℕ, get_or, length, max, set, vec_capacity, IfOk, IfErr, OnOk, OnErr, IsSome, IsTrue, Some, Err};
-ghost use Rattle.book_core.specs.Decision.{decision, entry_of_ask, sites_of};
+ghost use Rattle.std.specs.Prelude.{[], ◌≡◌, ◌≢◌, ◌≤◌, ◌<◌, ℕ, get_or, length, vec_capacity, IfOk, IfErr, OnOk, OnErr, IsSome, IsTrue, Some, Err};
+ghost use Rattle.book_core.specs.Decision.{decision, entry_of_ask, office_from, sites_of};
 ghost use Rattle.book_core.specs.Plans.{IsFresh, IsGrowFault, IsGrowPlan, IsReady};
 ghost use Rattle.book_core.specs.Joining as join;
 ghost use Rattle.book_core.specs.Joining.{join_decision};
 ghost use Rattle.book_core.specs.declared.entry.Entry.TheVariants.{Joined};
 ghost use Rattle.site_exchange.specs.Exchange.{Joins, entry_of_take, next, verdict, zeros};
-ghost use Rattle.site_exchange.specs.Taking.{MayTake, extended, site_after, stopped_with, with_entry};
-ghost use Rattle.world_steps.specs.World.{IsGrowth, entry_of_input, is_there};
+ghost use Rattle.site_exchange.specs.Taking.{MayTake, acked_upto, site_after, stopped_with, with_entry};
+ghost use Rattle.world_steps.specs.World.{IsInHand, entry_of_input};
 ghost use Rattle.world_steps.specs.Outcomes.{answered, MayStore};
-ghost use Rattle.world_steps.specs.Nodes.{AreAdded, site_of, verdict_told};
+ghost use Rattle.world_steps.specs.Nodes.{AreAdded, ChangesSite, Stores, site_of, verdict_told};
 
 use crate::step::{Input, Outcome, WorldFault};
 use book_core::{Book, GrowFault, JoinDecision, JoinPlan, Limit, Plan, PlanFault, Planned};
@@ -45,7 +45,7 @@ impl Node {
     /// A site that has no history: nothing counts as acknowledged. Its exchange is fresh.
     pub fn new(alloc: Global, me: SiteId, sites: Sites, limit: Limit) -> Node
         requires { me < sites }
-        ensures office { result.book.office ≡ record { me = me; sites = sites; limit = limit } }
+        ensures office { result.book.office ≡ office_from me sites limit }
         ensures history { result.book.history ≡ [] }
         ensures acked { result.acked ≡ zeros }
     {
@@ -86,8 +86,8 @@ impl Node {
     // Takes an acknowledgement of the first entries of its history.
     fn ack(&mut self, by: SiteId, upto: Upto) -> Result<(), AllocError>
         requires { upto ≤ length self.old.book.history }
-        ensures taken { OnOk result (self.new ≡ record self.old
-            { acked = set self.old.acked by (max (get_or self.old.acked by 0) upto) }) }
+        ensures taken { OnOk result
+            (self.new ≡ record self.old { acked = acked_upto self.old.acked by upto }) }
         ensures wanted { OnErr result (get_or self.old.acked by 0 < upto) }
         ensures unchanged { OnErr result (self.new ≡ self.old) }
     {
@@ -146,15 +146,14 @@ pub fn ask(
     number: RequestNumber,
     request: &Request,
 ) -> Result<Outcome, WorldFault>
-    ensures office { node.new.book.office ≡ node.old.book.office }
     ensures outcome { IfOk result (λ o.
         o ≡ answered (decision node.old.book.office node.old.book.history number request.now)) }
     ensures memory { IfErr result (λ fault. fault ≡ WorldFault.Memory) }
     ensures wanted { result ≡ Err WorldFault.Memory
         → IsFresh (decision node.old.book.office node.old.book.history number request.now) }
-    ensures entered { OnOk result (site_of node.new ≡ with_entry (entry_of_ask
-        node.old.book.office node.old.book.history number request.now) (site_of node.old)) }
-    ensures unchanged { OnErr result (site_of node.new ≡ site_of node.old) }
+    ensures site { ChangesSite (with_entry (entry_of_ask
+        node.old.book.office node.old.book.history number request.now) (site_of node.old))
+        node.old node.new result }
 {
     match node.book.plan(alloc, number, request) {
         Ok(Plan::Again { reply, .. }) => Ok(Outcome::Answered(reply)),
@@ -188,12 +187,11 @@ pub fn judge(book: &Book, message: &Message) -> Judged
 /// Takes a message at a site: joins its delta or takes its acknowledgement, as the site judges it. An error leaves the
 /// history and what is acknowledged.
 pub fn take(node: &mut Node, alloc: Global, message: &Message) -> Result<(), AllocError>
-    ensures office { node.new.book.office ≡ node.old.book.office }
-    ensures changed { OnOk result (site_of node.new ≡ site_after (verdict
-        node.old.book.office node.old.book.history message.now) message.now (site_of node.old)) }
+    ensures site { ChangesSite (site_after (verdict
+        node.old.book.office node.old.book.history message.now) message.now (site_of node.old))
+        node.old node.new result }
     ensures wanted { OnErr result (MayTake (verdict
         node.old.book.office node.old.book.history message.now) (site_of node.old) message.now) }
-    ensures unchanged { OnErr result (site_of node.new ≡ site_of node.old) }
 {
     match (judge(&node.book, message), message) {
         (Judged::Joined, Message::Delta { by, delta, .. }) => {
@@ -207,10 +205,7 @@ pub fn take(node: &mut Node, alloc: Global, message: &Message) -> Result<(), All
 // Joins a copy of a peer's delta.
 fn join(book: &mut Book, alloc: Global, peer: SiteId, delta: &Delta) -> Result<(), AllocError>
     requires { join_decision book.old.office book.old.history peer delta.now ≡ join.Joins }
-    ensures office { book.new.office ≡ book.old.office }
-    ensures joined { OnOk result
-        (book.new.history ≡ book.old.history ++ Joined peer delta.now ∷ []) }
-    ensures unchanged { OnErr result (book.new.history ≡ book.old.history) }
+    ensures { Stores (Some (Joined peer delta.now)) book.old book.new result }
 {
     let copy = delta.copy(alloc)?;
     match book.plan_join(peer, copy) {
@@ -233,17 +228,15 @@ pub fn stop(
     input: &Input,
     stored: bool,
 ) -> Result<Outcome, WorldFault>
-    requires there { IsTrue (is_there sent.now input.now) }
-    requires kind { IsGrowth input.now → ⊥ }
-    ensures office { node.new.book.office ≡ node.old.book.office }
+    requires in_hand { IsInHand sent.now input.now }
     ensures outcome { IfOk result (λ o. o ≡ Outcome.Stopped) }
     ensures memory { IfErr result (λ fault. fault ≡ WorldFault.Memory) }
     ensures stores { result ≡ Err WorldFault.Memory → IsTrue stored }
     ensures wanted { result ≡ Err WorldFault.Memory
         → MayStore node.old.book.office node.old.book.history sent.now input.now }
-    ensures stopped { OnOk result (site_of node.new ≡ stopped_with (entry_of_input
-        node.old.book.office node.old.book.history sent.now input.now) stored (site_of node.old)) }
-    ensures unchanged { OnErr result (site_of node.new ≡ site_of node.old) }
+    ensures site { ChangesSite (stopped_with (entry_of_input
+        node.old.book.office node.old.book.history sent.now input.now) stored (site_of node.old))
+        node.old node.new result }
 {
     if stored && store(&mut node.book, alloc, sent, input).is_err() {
         return Err(WorldFault::Memory);
@@ -254,13 +247,10 @@ pub fn stop(
 
 // Enters what the input adds.
 fn store(book: &mut Book, alloc: Global, sent: &[Message], input: &Input) -> Result<(), AllocError>
-    requires there { IsTrue (is_there sent.now input.now) }
-    requires kind { IsGrowth input.now → ⊥ }
-    ensures office { book.new.office ≡ book.old.office }
-    ensures stored { OnOk result (book.new.history ≡ extended
-        (entry_of_input book.old.office book.old.history sent.now input.now) book.old.history) }
+    requires in_hand { IsInHand sent.now input.now }
+    ensures stores { Stores (entry_of_input book.old.office book.old.history sent.now input.now)
+        book.old book.new result }
     ensures wanted { OnErr result (MayStore book.old.office book.old.history sent.now input.now) }
-    ensures unchanged { OnErr result (book.new.history ≡ book.old.history) }
 {
     match input {
         Input::Request { number, request } => store_request(book, alloc, *number, request),
@@ -276,12 +266,10 @@ fn store_request(
     number: RequestNumber,
     request: &Request,
 ) -> Result<(), AllocError>
-    ensures office { book.new.office ≡ book.old.office }
-    ensures stored { OnOk result (book.new.history ≡ extended
-        (entry_of_ask book.old.office book.old.history number request.now) book.old.history) }
+    ensures stores { Stores (entry_of_ask book.old.office book.old.history number request.now)
+        book.old book.new result }
     ensures wanted { OnErr result
         (IsFresh (decision book.old.office book.old.history number request.now)) }
-    ensures unchanged { OnErr result (book.new.history ≡ book.old.history) }
 {
     match book.plan(alloc, number, request) {
         Ok(Plan::New(planned)) => {
@@ -295,11 +283,9 @@ fn store_request(
 
 // Enters what taking the message adds.
 fn store_delta(book: &mut Book, alloc: Global, message: &Message) -> Result<(), AllocError>
-    ensures office { book.new.office ≡ book.old.office }
-    ensures stored { OnOk result (book.new.history
-        ≡ extended (entry_of_take book.old.office book.old.history message.now) book.old.history) }
+    ensures stores { Stores (entry_of_take book.old.office book.old.history message.now)
+        book.old book.new result }
     ensures wanted { OnErr result (verdict book.old.office book.old.history message.now ≡ Joins) }
-    ensures unchanged { OnErr result (book.new.history ≡ book.old.history) }
 {
     match (judge(book, message), message) {
         (Judged::Joined, Message::Delta { by, delta, .. }) => join(book, alloc, *by, delta),

@@ -8,7 +8,7 @@ ghost use Rattle.site_exchange.specs.Taking.{with_given};
 ghost use Rattle.world_steps.specs.Promises.{HoldsPromises};
 ghost use Rattle.world_steps.specs.declared.step.Input.{Input};
 ghost use Rattle.world_steps.specs.declared.step.Outcome.{Outcome};
-ghost use Rattle.world_steps.specs.Outcomes.{outcome, outcomes, sent_as, taken_as, IsDue, MayWantMemory};
+ghost use Rattle.world_steps.specs.Outcomes.{outcome, outcomes, sent_as, taken_as, IsDue, MakesStep, MayWantMemory};
 ghost use Rattle.world_steps.specs.Nodes.{verdict_told};
 
 use crate::books::{add_names, listed, with_own};
@@ -107,13 +107,7 @@ impl World {
         number: RequestNumber,
         request: &Request,
     ) -> Result<Outcome, WorldFault>
-        ensures outcome { IfOk result
-            (λ o. outcome self.old (Step.Ask site number request.now) ≡ Ok o) }
-        ensures fault { IfErr result (IsDue self.old (Step.Ask site number request.now)) }
-        ensures memory { result ≡ Err WorldFault.Memory
-            → MayWantMemory self.old (Step.Ask site number request.now) }
-        ensures made { OnOk result (self.new ≡ after self.old (Step.Ask site number request.now)) }
-        ensures unchanged { OnErr result (self.new ≡ self.old) }
+        ensures { MakesStep self.old (Step.Ask site number request.now) self.new result }
     {
         let place = site.number() as usize;
         if place >= self.sites.len() {
@@ -124,11 +118,7 @@ impl World {
     }
 
     fn restart(&mut self, alloc: Global, site: SiteId) -> Result<Outcome, WorldFault>
-        ensures outcome { IfOk result (λ o. outcome self.old (Step.Restart site) ≡ Ok o) }
-        ensures fault { IfErr result (IsDue self.old (Step.Restart site)) }
-        ensures memory { result ≡ Err WorldFault.Memory → ⊥ }
-        ensures made { OnOk result (self.new ≡ after self.old (Step.Restart site)) }
-        ensures unchanged { OnErr result (self.new ≡ self.old) }
+        ensures { MakesStep self.old (Step.Restart site) self.new result }
     {
         let place = site.number() as usize;
         if place >= self.sites.len() {
@@ -146,12 +136,7 @@ impl World {
         input: Input,
         stored: bool,
     ) -> Result<Outcome, WorldFault>
-        ensures outcome { IfOk result (λ o. outcome self.old (Step.Stop site input stored) ≡ Ok o) }
-        ensures fault { IfErr result (IsDue self.old (Step.Stop site input stored)) }
-        ensures memory { result ≡ Err WorldFault.Memory
-            → MayWantMemory self.old (Step.Stop site input stored) }
-        ensures made { OnOk result (self.new ≡ after self.old (Step.Stop site input stored)) }
-        ensures unchanged { OnErr result (self.new ≡ self.old) }
+        ensures { MakesStep self.old (Step.Stop site input stored) self.new result }
     {
         if let Input::Grow { sites } = input {
             return self.stop_growth(alloc, site, sites, stored);
@@ -175,14 +160,7 @@ impl World {
         sites: Sites,
         stored: bool,
     ) -> Result<Outcome, WorldFault>
-        ensures outcome { IfOk result
-            (λ o. outcome self.old (Step.Stop site (Input.Grow sites) stored) ≡ Ok o) }
-        ensures fault { IfErr result (IsDue self.old (Step.Stop site (Input.Grow sites) stored)) }
-        ensures memory { result ≡ Err WorldFault.Memory
-            → MayWantMemory self.old (Step.Stop site (Input.Grow sites) stored) }
-        ensures made { OnOk result
-            (self.new ≡ after self.old (Step.Stop site (Input.Grow sites) stored)) }
-        ensures unchanged { OnErr result (self.new ≡ self.old) }
+        ensures { MakesStep self.old (Step.Stop site (Input.Grow sites) stored) self.new result }
     {
         if stored {
             self.grow(alloc, site, sites)?;
@@ -192,12 +170,7 @@ impl World {
     }
 
     fn grow(&mut self, alloc: Global, site: SiteId, sites: Sites) -> Result<Outcome, WorldFault>
-        ensures outcome { IfOk result (λ o. outcome self.old (Step.Grow site sites) ≡ Ok o) }
-        ensures fault { IfErr result (IsDue self.old (Step.Grow site sites)) }
-        ensures memory { result ≡ Err WorldFault.Memory
-            → MayWantMemory self.old (Step.Grow site sites) }
-        ensures made { OnOk result (self.new ≡ after self.old (Step.Grow site sites)) }
-        ensures unchanged { OnErr result (self.new ≡ self.old) }
+        ensures { MakesStep self.old (Step.Grow site sites) self.new result }
     {
         let place = site.number() as usize;
         if place >= self.sites.len() {
@@ -267,11 +240,7 @@ impl World {
     }
 
     fn send(&mut self, alloc: Global, by: SiteId, to: SiteId) -> Result<Outcome, WorldFault>
-        ensures outcome { IfOk result (λ o. outcome self.old (Step.Send by to) ≡ Ok o) }
-        ensures fault { IfErr result (IsDue self.old (Step.Send by to)) }
-        ensures memory { result ≡ Err WorldFault.Memory → MayWantMemory self.old (Step.Send by to) }
-        ensures made { OnOk result (self.new ≡ after self.old (Step.Send by to)) }
-        ensures unchanged { OnErr result (self.new ≡ self.old) }
+        ensures { MakesStep self.old (Step.Send by to) self.new result }
     {
         if !self.are_peers(by, to) {
             return Err(WorldFault::NoSite);
@@ -294,12 +263,7 @@ impl World {
     }
 
     fn deliver(&mut self, alloc: Global, index: usize) -> Result<Outcome, WorldFault>
-        ensures outcome { IfOk result (λ o. outcome self.old (Step.Deliver index) ≡ Ok o) }
-        ensures fault { IfErr result (IsDue self.old (Step.Deliver index)) }
-        ensures memory { result ≡ Err WorldFault.Memory
-            → MayWantMemory self.old (Step.Deliver index) }
-        ensures made { OnOk result (self.new ≡ after self.old (Step.Deliver index)) }
-        ensures unchanged { OnErr result (self.new ≡ self.old) }
+        ensures { MakesStep self.old (Step.Deliver index) self.new result }
     {
         if index >= self.sent.len() {
             return Err(WorldFault::NoMessage);

@@ -1,8 +1,7 @@
 //! The decision on a request.
-ghost use Rattle.std.specs.Prelude.{IfOk, IfErr, IsOk, ◌≡◌, ◌≤◌, false, None};
-ghost use Rattle.request_ledger.specs.Requests.{is_done};
+ghost use Rattle.std.specs.Prelude.{IfOk, IfErr, IsOk, ◌≡◌, ◌≤◌, None};
 ghost use Rattle.request_ledger.specs.Requests.{same_request};
-ghost use Rattle.book_core.specs.Decision.{decision, reply_to, delta_for, shortage, state_of_item};
+ghost use Rattle.book_core.specs.Decision.{decision, shortage, state_of_item, Decides};
 ghost use Rattle.book_core.specs.OwnRow.{HasOwnRights};
 ghost use Rattle.book_core.specs.Plans.{IsPlan, IsFault, IsFreshRefusal, LeavesRoom};
 ghost use Rattle.request_ledger.specs.declared.request.Request.TheVariants.{Announce, Release, Sell, Refund, Cede};
@@ -83,9 +82,7 @@ impl Book {
     }
 
     pub(super) fn decide(&self, request: &Request) -> (Reply, Option<Item>)
-        ensures reply { result.0 ≡ reply_to self.now.office self.now.history request.now }
-        ensures item { state_of_item result.1 ≡ delta_for self.now.office self.now.history request.now result.0 }
-        ensures idle { is_done result.0 ≡ false → result.1 ≡ None }
+        ensures { Decides self.now.office self.now.history request.now result }
     {
         match request {
             Request::Announce { event } => self.announce(*event),
@@ -97,9 +94,7 @@ impl Book {
     }
 
     fn announce(&self, event: Event) -> (Reply, Option<Item>)
-        ensures reply { result.0 ≡ reply_to self.now.office self.now.history (Announce event) }
-        ensures item { state_of_item result.1 ≡ delta_for self.now.office self.now.history (Announce event) result.0 }
-        ensures idle { is_done result.0 ≡ false → result.1 ≡ None }
+        ensures { Decides self.now.office self.now.history (Announce event) result }
     {
         if self.knows(event) {
             (Reply::Known, None)
@@ -109,9 +104,7 @@ impl Book {
     }
 
     fn release(&self, event: Event, amount: Amount) -> (Reply, Option<Item>)
-        ensures reply { result.0 ≡ reply_to self.now.office self.now.history (Release event amount) }
-        ensures item { state_of_item result.1 ≡ delta_for self.now.office self.now.history (Release event amount) result.0 }
-        ensures idle { is_done result.0 ≡ false → result.1 ≡ None }
+        ensures { Decides self.now.office self.now.history (Release event amount) result }
     {
         if !self.knows(event) {
             return (Reply::Unknown, None);
@@ -123,9 +116,7 @@ impl Book {
     }
 
     fn sell(&self, event: Event, amount: Amount) -> (Reply, Option<Item>)
-        ensures reply { result.0 ≡ reply_to self.now.office self.now.history (Sell event amount) }
-        ensures item { state_of_item result.1 ≡ delta_for self.now.office self.now.history (Sell event amount) result.0 }
-        ensures idle { is_done result.0 ≡ false → result.1 ≡ None }
+        ensures { Decides self.now.office self.now.history (Sell event amount) result }
     {
         if !self.knows(event) {
             return (Reply::Unknown, None);
@@ -141,9 +132,7 @@ impl Book {
     }
 
     fn refund(&self, number: RequestNumber, part: Option<Amount>) -> (Reply, Option<Item>)
-        ensures reply { result.0 ≡ reply_to self.now.office self.now.history (Refund number part) }
-        ensures item { state_of_item result.1 ≡ delta_for self.now.office self.now.history (Refund number part) result.0 }
-        ensures idle { is_done result.0 ≡ false → result.1 ≡ None }
+        ensures { Decides self.now.office self.now.history (Refund number part) result }
     {
         let Some(sale) = self.sale(number) else {
             return (Reply::NoSale, None);
@@ -165,9 +154,7 @@ impl Book {
     }
 
     fn cede(&self, event: Event, amount: Amount, to: SiteId) -> (Reply, Option<Item>)
-        ensures reply { result.0 ≡ reply_to self.now.office self.now.history (Cede event to amount) }
-        ensures item { state_of_item result.1 ≡ delta_for self.now.office self.now.history (Cede event to amount) result.0 }
-        ensures idle { is_done result.0 ≡ false → result.1 ≡ None }
+        ensures { Decides self.now.office self.now.history (Cede event to amount) result }
     {
         if !self.knows(event) {
             return (Reply::Unknown, None);

@@ -1,6 +1,6 @@
 //! What a greater count of sites leads to.
 ghost use Rattle.std.specs.Prelude.{IfOk, IfErr, ◌≡◌};
-ghost use Rattle.book_core.specs.BookView.{HasRoomFor};
+ghost use Rattle.book_core.specs.BookView.{LacksRoomFor};
 ghost use Rattle.book_core.specs.Growing.{grow_decision};
 ghost use Rattle.book_core.specs.OwnRow.{HasOwnRights};
 ghost use Rattle.book_core.specs.Plans.{IsGrowPlan, IsGrowFault, LeavesGrowRoom};
@@ -25,7 +25,7 @@ impl Book {
         ensures fault { IfErr result (IsGrowFault self.new sites) }
         ensures still { LeavesGrowRoom
             (grow_decision self.old.office self.old.history sites) self.old self.new }
-        ensures memory { result ≡ Err GrowFault.Memory → HasRoomFor self.old.room (Grown sites) → ⊥ }
+        ensures memory { result ≡ Err GrowFault.Memory → LacksRoomFor self.old.room (Grown sites) }
         ensures has_rights { HasOwnRights self.new }
     {
         // The prover opens the book, whose type says that its history is legal.

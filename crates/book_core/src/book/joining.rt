@@ -1,15 +1,12 @@
 //! What a peer's delta leads to.
-ghost use Rattle.std.specs.Prelude.{IfOk, IfErr, ◌≡◌, nat_le};
-ghost use Rattle.std.specs.List.{list_all};
-ghost use Rattle.rights_lattice.specs.Cells.{value_at};
-ghost use Rattle.rights_lattice.specs.State.{is_within, knows};
+ghost use Rattle.std.specs.Prelude.{IfOk, IfErr, ◌≡◌};
+ghost use Rattle.rights_lattice.specs.State.{is_within, knows_all, reaches_all};
 ghost use Rattle.rights_lattice.specs.RightsView.{are_within, is_cell_of};
 ghost use Rattle.book_core.specs.History.{state_of, delta_of};
-ghost use Rattle.book_core.specs.Decision.{office_after};
-ghost use Rattle.book_core.specs.Joining.{decision_told, foreign, is_foreign, is_of_sites, join_decision};
+ghost use Rattle.book_core.specs.Joining.{foreign, is_foreign, is_of_sites, join_decision};
 ghost use Rattle.book_core.specs.OwnRow.{HasOwnRights, KeepsOwnRow};
-ghost use Rattle.book_core.specs.Plans.{IsJoinPlan, IsJoinFault, LeavesJoinRoom};
-ghost use Rattle.book_core.specs.BookView.{HasRoomFor};
+ghost use Rattle.book_core.specs.Plans.{IsJoinDecision, IsJoinPlan, IsJoinFault, LeavesJoinRoom};
+ghost use Rattle.book_core.specs.BookView.{LacksRoomFor, office_now};
 ghost use Rattle.book_core.specs.declared.entry.Entry.TheVariants.{Joined};
 
 use crate::book::Book;
@@ -31,7 +28,7 @@ impl Book {
         ensures still { LeavesJoinRoom
             (join_decision self.old.office self.old.history peer delta) self.old self.new }
         ensures memory { IfErr result (λ e. e.1 ≡ JoinFault.Memory
-            → HasRoomFor self.old.room (Joined peer delta) → ⊥) }
+            → LacksRoomFor self.old.room (Joined peer delta)) }
         ensures has_rights { HasOwnRights self.new }
     {
         // The prover opens the book, whose type says that its history is legal.
@@ -52,7 +49,7 @@ impl Book {
     ///
     /// `plan_join` follows it, so memory may be wanted of a delta that joins, and of no other.
     pub fn join_decision(&self, peer: SiteId, delta: &Delta) -> JoinDecision
-        ensures { decision_told result ≡ join_decision self.now.office self.now.history peer delta.now }
+        ensures { IsJoinDecision self.now peer delta.now result }
     {
         if !self.is_of_sites(peer, delta) {
             return JoinDecision::Refuses(JoinFault::UnknownSite);
@@ -70,7 +67,7 @@ impl Book {
     }
 
     pub(super) fn is_of_sites(&self, peer: SiteId, delta: &Delta) -> bool
-        ensures { result ≡ is_of_sites (office_after self.now.office self.now.history) peer delta.now }
+        ensures { result ≡ is_of_sites (office_now self.now) peer delta.now }
     {
         let sites = self.sites();
         peer.number() < sites.count() && peer != self.me() && are_within(sites, delta.marks())
@@ -83,13 +80,13 @@ impl Book {
     }
 
     fn knows_all(&self, names: &[Event]) -> bool
-        ensures { result ≡ list_all (λ name. knows (state_of self.now.history).names name) names.now }
+        ensures { result ≡ knows_all (state_of self.now.history).names names.now }
     {
         names.iter().all(|name| self.knows(*name))
     }
 
     fn reaches_all(&self, marks: &[Mark]) -> bool
-        ensures { result ≡ list_all (λ m. nat_le m.value (value_at (state_of self.now.history).cells m.event m.cell)) marks.now }
+        ensures { result ≡ reaches_all (state_of self.now.history).cells marks.now }
     {
         marks
             .iter()

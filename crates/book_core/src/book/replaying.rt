@@ -1,10 +1,12 @@
 //! A book from the entries of its history.
 ghost use Rattle.std.specs.Prelude.{IfOk, IfErr, OnOk, IsTrue, ◌↔◌, ◌≡◌, ◌<◌, ◌++◌, ◌∷◌, [], take};
 ghost use Rattle.delta_mutators.specs.Items.{item_state};
-ghost use Rattle.book_core.specs.Decision.{state_of_item};
-ghost use Rattle.book_core.specs.Legal.{IsLegal, IsNext, IsNextAsked, IsNextGrown, IsNextJoined};
+ghost use Rattle.book_core.specs.BookView.{MayFollow};
+ghost use Rattle.book_core.specs.Decision.{office_from, state_of_item};
+ghost use Rattle.book_core.specs.Legal.{IsLegal};
 ghost use Rattle.book_core.specs.OwnRow.{HasOwnRights};
 ghost use Rattle.book_core.specs.Replay.{HasLists, IsReplayFault};
+ghost use Rattle.book_core.specs.declared.entry.Entry.TheVariants.{Asked, Joined, Grown};
 
 use super::joining::foreign;
 use crate::book::Book;
@@ -29,11 +31,11 @@ impl Book {
         entries: Vec<Entry>,
     ) -> Result<Book, ReplayFault>
         requires { me < sites }
-        ensures office { IfOk result (λ book. book.office ≡ record { me = me; sites = sites; limit = limit }) }
+        ensures office { IfOk result (λ book. book.office ≡ office_from me sites limit) }
         ensures history { IfOk result (λ book. book.history ≡ entries.items) }
-        ensures legal { OnOk result (IsLegal (record { me = me; sites = sites; limit = limit }) entries.items) }
+        ensures legal { OnOk result (IsLegal (office_from me sites limit) entries.items) }
         ensures has_rights { IfOk result HasOwnRights }
-        ensures fault { IfErr result (IsReplayFault (record { me = me; sites = sites; limit = limit }) entries.items) }
+        ensures fault { IfErr result (IsReplayFault (office_from me sites limit) entries.items) }
     {
         let mut book = Book::new(alloc, me, sites, limit);
         for entry in entries {
@@ -65,7 +67,7 @@ impl Book {
 
     // Whether the entry may follow the history.
     fn is_next(&self, entry: &Entry) -> bool
-        ensures { IsTrue result ↔ IsNext self.now.office self.now.history entry.now }
+        ensures { IsTrue result ↔ MayFollow self.now entry.now }
     {
         match entry {
             Entry::Asked {
@@ -86,7 +88,7 @@ impl Book {
         reply: Reply,
         delta: &Delta,
     ) -> bool
-        ensures { IsTrue result ↔ IsNextAsked self.now.office self.now.history number request.now reply delta.now }
+        ensures { IsTrue result ↔ MayFollow self.now (Asked number request.now reply delta.now) }
     {
         if self.is_full() {
             return false;
@@ -99,7 +101,7 @@ impl Book {
     }
 
     fn is_next_joined(&self, peer: SiteId, delta: &Delta) -> bool
-        ensures { IsTrue result ↔ IsNextJoined self.now.office self.now.history peer delta.now }
+        ensures { IsTrue result ↔ MayFollow self.now (Joined peer delta.now) }
     {
         if self.is_full() {
             return false;
@@ -114,7 +116,7 @@ impl Book {
     }
 
     fn is_next_grown(&self, sites: Sites) -> bool
-        ensures { IsTrue result ↔ IsNextGrown self.now.office self.now.history sites }
+        ensures { IsTrue result ↔ MayFollow self.now (Grown sites) }
     {
         if self.is_full() {
             return false;

@@ -19,7 +19,8 @@ raise-requires-clause-not_negative c =
     let m = c.mark-item.result in
     let i = c.loop-mark.mark-index in
     let after : raise_all c.args.rights.now.cells (take (i + 1) c.args.marks.now) ≡ raise c.loop-mark.rights.cells m =
-    raise_all-take_more c.args.rights.now.cells c.args.marks.now i m c.loop-mark-test.true c.mark-item.is ∙ ap (λ X. raise X m) (sym c.loop-mark.invariant.raised) in
+    raise_all-take_more c.args.rights.now.cells c.args.marks.now i m c.loop-mark-test.true c.mark-item.is
+    ∙ ap (λ X. raise X m) (sym c.loop-mark.invariant.raised) in
     subst (λ (me : ℕ). HasRights (raise c.loop-mark.rights.cells m) m.event me) (sym c.loop-mark.invariant.same_me)
     (subst (λ (X : Cells). HasRights X m.event c.args.rights.now.me) after (c.requires.not_negative (i + 1) m.event))
 
@@ -27,7 +28,8 @@ pub loop-mark-preserved : goal.loop-mark-preserved
 loop-mark-preserved c =
     let m = c.mark-item.result in
     record {
-      raised = c.raise.ensures.cells ∙ ap (λ X. raise X m) c.loop-mark.invariant.raised ∙ sym (raise_all-take_more c.args.rights.now.cells c.args.marks.now c.loop-mark.mark-index m c.loop-mark-test.true c.mark-item.is);
+      raised = c.raise.ensures.cells ∙ ap (λ X. raise X m) c.loop-mark.invariant.raised
+          ∙ sym (raise_all-take_more c.args.rights.now.cells c.args.marks.now c.loop-mark.mark-index m c.loop-mark-test.true c.mark-item.is);
       same_sites = c.raise.ensures.sites ∙ c.loop-mark.invariant.same_sites;
       same_me = c.raise.ensures.me ∙ c.loop-mark.invariant.same_me;
       no_more_room = omega (arith, c.raise.ensures.no_more_room, c.loop-mark.invariant.no_more_room);

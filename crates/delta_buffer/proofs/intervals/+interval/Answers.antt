@@ -17,5 +17,6 @@ returns-clause-delta t c =
     let low : c.args.from ≤ middle = omega arith in
     let high : middle ≤ c.args.upto = omega (arith, c.requires.order) in
     let whole : join c.in_ok-front.front c.in_ok-back.back ≡ interval c.args.book.now.history c.args.from c.args.upto =
-    (λ i. join (c.in_ok-front.ensures.delta i) (c.in_ok-back.ensures.delta i)) ∙ sym (meeting c.args.book.now.history c.args.from middle c.args.upto low high) in
+    (λ i. join (c.in_ok-front.ensures.delta i) (c.in_ok-back.ensures.delta i))
+    ∙ sym (meeting c.args.book.now.history c.args.from middle c.args.upto low high) in
     subst (λ (d : State). IfOk c.join.result (λ delta. delta ≡ d)) whole c.join.ensures

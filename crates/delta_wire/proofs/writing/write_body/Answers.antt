@@ -10,4 +10,5 @@ returns-in_err-write_items-clause-text g c =
     (two_failed _ _ (delta_text c.args.delta.now ++ codes "end\n") (delta_text c.args.delta.now) (codes "end\n") refl c.in_err-write_items.ensures.text)
 
 pub returns-clause-text : goal.returns-clause-text
-returns-clause-text g c = two_written _ _ _ c.write_bytes.result (delta_text c.args.delta.now ++ codes "end\n") (delta_text c.args.delta.now) (codes "end\n") refl c.in_ok-write_items.ensures.text c.write_bytes.ensures
+returns-clause-text g c = two_written _ _ _ c.write_bytes.result (delta_text c.args.delta.now ++ codes "end\n") (delta_text c.args.delta.now)
+    (codes "end\n") refl c.in_ok-write_items.ensures.text c.write_bytes.ensures

@@ -10,12 +10,15 @@ pub returns-in_err-write_names-clause-text : goal.returns-in_err-write_names-cla
 returns-in_err-write_names-clause-text g c =
     let S = c.args.delta.now in
     Writes-err _ _ c.from_residual.result _ c.from_residual.ensures.0
-    (two_failed _ _ (delta_text S) (names_text c.names.result.now) (marks_text (marks_of S.cells)) (whole_items S c.names.result.now (marks_of S.cells) c.names.ensures refl) c.in_err-write_names.ensures.text)
+    (two_failed _ _ (delta_text S) (names_text c.names.result.now) (marks_text (marks_of S.cells))
+    (whole_items S c.names.result.now (marks_of S.cells) c.names.ensures refl) c.in_err-write_names.ensures.text)
 
 pub returns-clause-text : goal.returns-clause-text
 returns-clause-text g c =
     let S = c.args.delta.now in
-    two_written _ _ _ c.write_marks.result (delta_text S) (names_text c.names.result.now) (marks_text c.marks.result.now) (whole_items S c.names.result.now c.marks.result.now c.names.ensures c.marks.ensures) c.in_ok-write_names.ensures.text c.write_marks.ensures.text
+    two_written _ _ _ c.write_marks.result (delta_text S) (names_text c.names.result.now) (marks_text c.marks.result.now)
+    (whole_items S c.names.result.now c.marks.result.now c.names.ensures c.marks.ensures) c.in_ok-write_names.ensures.text c.write_marks.ensures.text
 
 pub returns-clause-fits : goal.returns-clause-fits
-returns-clause-fits g c = fits_after c.write_marks.result c.names.result.now c.marks.result.now c.args.delta.now c.names.ensures c.marks.ensures c.in_ok-write_names.ensures.fits c.write_marks.ensures.fits
+returns-clause-fits g c = fits_after c.write_marks.result c.names.result.now c.marks.result.now c.args.delta.now c.names.ensures c.marks.ensures
+    c.in_ok-write_names.ensures.fits c.write_marks.ensures.fits

@@ -9,11 +9,14 @@ use Rattle.delta_wire.proofs.writing.write_names.Goals as goal
 
 pub names-preserved : goal.names-preserved
 names-preserved g c = record {
-  written = one_written name_line c.args.names.now c.names.name-index c.name-item.result _ _ _ c.as_slice.result.now c.names-test.true c.name-item.is (c.as_slice.ensures.value ∙ c.name_text-line.ensures.text) c.names.invariant.written c.in_ok-write_bytes.ensures;
-  fit = all_more (λ n. IsItem (item.Name n)) c.args.names.now c.names.name-index c.name-item.result c.names-test.true c.name-item.is c.names.invariant.fit c.name_text-line.ensures.fits;
+  written = one_written name_line c.args.names.now c.names.name-index c.name-item.result _ _ _ c.as_slice.result.now c.names-test.true c.name-item.is
+      (c.as_slice.ensures.value ∙ c.name_text-line.ensures.text) c.names.invariant.written c.in_ok-write_bytes.ensures;
+  fit = all_more (λ n. IsItem (item.Name n)) c.args.names.now c.names.name-index c.name-item.result c.names-test.true c.name-item.is c.names.invariant.fit
+      c.name_text-line.ensures.fits;
 }
 
 pub returns-in_err-write_bytes-clause-text : goal.returns-in_err-write_bytes-clause-text
 returns-in_err-write_bytes-clause-text g c =
     Writes-err _ _ c.from_residual.result _ c.from_residual.ensures.0
-    (one_failed name_line c.args.names.now c.names.name-index c.name-item.result _ _ _ c.as_slice.result.now c.names-test.true c.name-item.is (c.as_slice.ensures.value ∙ c.name_text-line.ensures.text) c.names.invariant.written c.in_err-write_bytes.ensures)
+    (one_failed name_line c.args.names.now c.names.name-index c.name-item.result _ _ _ c.as_slice.result.now c.names-test.true c.name-item.is
+    (c.as_slice.ensures.value ∙ c.name_text-line.ensures.text) c.names.invariant.written c.in_err-write_bytes.ensures)

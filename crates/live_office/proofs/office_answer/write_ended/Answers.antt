@@ -13,4 +13,5 @@ returns-in_err-write_rows g c =
 
 pub returns : goal.returns
 returns g c =
-    two_written _ _ _ c.write_bytes.result (ended_rows c.args.rows.now) (flat_map row_line c.args.rows.now) (codes "end" ++ 10 ∷ []) refl c.in_ok-write_rows.ensures c.write_bytes.ensures
+    two_written _ _ _ c.write_bytes.result (ended_rows c.args.rows.now) (flat_map row_line c.args.rows.now) (codes "end" ++ 10 ∷ []) refl
+    c.in_ok-write_rows.ensures c.write_bytes.ensures

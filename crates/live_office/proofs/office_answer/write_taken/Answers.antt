@@ -11,4 +11,5 @@ returns-in_err-write_bytes g c =
 
 pub returns : goal.returns
 returns g c =
-    two_written _ _ _ c.write_message.result (c.args.line.now ++ message_text c.args.ack.now) c.args.line.now (message_text c.args.ack.now) refl c.in_ok-write_bytes.ensures c.write_message.ensures.text
+    two_written _ _ _ c.write_message.result (c.args.line.now ++ message_text c.args.ack.now) c.args.line.now (message_text c.args.ack.now) refl
+    c.in_ok-write_bytes.ensures c.write_message.ensures.text

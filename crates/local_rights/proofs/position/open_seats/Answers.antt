@@ -1,4 +1,4 @@
-use Rattle.std.proofs.Common.{◌<◌, ◌+◌, ◌-◌, Some, sym, ◌∙◌, arith, rules}
+use Rattle.std.proofs.Common.{◌<◌, ◌+◌, ◌-◌, Some, refl, sym, ◌∙◌, arith, rules}
 use Rattle.std.specs.Prelude.{pos}
 use Rattle.rights_lattice.specs.Sums.{max_sites}
 use Rattle.local_rights.specs.Rights.{IsPosition}
@@ -14,15 +14,32 @@ returns-then-not-has_rights-clause-open c =
 
 pub overflow_sub-result : goal.overflow_sub-result
 overflow_sub-result c =
-    let position : IsPosition c.args.rights.now.cells c.args.event = position_below c.args.rights.now.sites c.args.rights.now.cells c.args.event c.sites-sites.ensures.within (λ i l. c.loop-number.invariant i (omega (arith, l, c.loop-number-test.false, c.count-number-end.ensures.count, c.sites-sites.ensures.sites))) in
-    omega (arith, sold_within c.args.rights.now.cells c.args.event position, c.totals-totals.ensures.released, c.totals-totals.ensures.sold, c.totals-totals.ensures.refunded)
+    let position : IsPosition c.args.rights.now.cells c.args.event = position_below c.args.rights.now.sites c.args.rights.now.cells c.args.event
+    c.sites-sites.ensures.within (λ i l.
+    c.loop-number.invariant i (omega (arith, l, c.loop-number-test.false, c.count-number-end.ensures.count, c.sites-sites.ensures.sites))) in
+    omega (
+      arith,
+      sold_within c.args.rights.now.cells c.args.event position,
+      c.totals-totals.ensures.released,
+      c.totals-totals.ensures.sold,
+      c.totals-totals.ensures.refunded,
+    )
 
 pub returns-clause-open : goal.returns-clause-open
 returns-clause-open c =
-    let position : IsPosition c.args.rights.now.cells c.args.event = position_below c.args.rights.now.sites c.args.rights.now.cells c.args.event c.sites-sites.ensures.within (λ i l. c.loop-number.invariant i (omega (arith, l, c.loop-number-test.false, c.count-number-end.ensures.count, c.sites-sites.ensures.sites))) in
-    (λ k. Some (c.totals-totals.ensures.released k + c.totals-totals.ensures.refunded k - c.totals-totals.ensures.sold k)) ∙ sym (open_at c.args.rights.now.cells c.args.event position)
+    let position : IsPosition c.args.rights.now.cells c.args.event = position_below c.args.rights.now.sites c.args.rights.now.cells c.args.event
+    c.sites-sites.ensures.within (λ i l.
+    c.loop-number.invariant i (omega (arith, l, c.loop-number-test.false, c.count-number-end.ensures.count, c.sites-sites.ensures.sites))) in
+    (λ k. Some (c.totals-totals.ensures.released k + c.totals-totals.ensures.refunded k - c.totals-totals.ensures.sold k))
+    ∙ sym (open_at c.args.rights.now.cells c.args.event position)
 
-pub returns-clause-value : goal.returns-clause-value
-returns-clause-value c =
-    let position : IsPosition c.args.rights.now.cells c.args.event = position_below c.args.rights.now.sites c.args.rights.now.cells c.args.event c.sites-sites.ensures.within (λ i l. c.loop-number.invariant i (omega (arith, l, c.loop-number-test.false, c.count-number-end.ensures.count, c.sites-sites.ensures.sites))) in
-    (λ k. pos (c.totals-totals.ensures.released k + c.totals-totals.ensures.refunded k - c.totals-totals.ensures.sold k)) ∙ open_value c.args.rights.now.cells c.args.event position
+pub returns-clause-seats : goal.returns-clause-seats
+returns-clause-seats c =
+    let position : IsPosition c.args.rights.now.cells c.args.event = position_below c.args.rights.now.sites c.args.rights.now.cells c.args.event
+    c.sites-sites.ensures.within (λ i l.
+    c.loop-number.invariant i (omega (arith, l, c.loop-number-test.false, c.count-number-end.ensures.count, c.sites-sites.ensures.sites))) in
+    record {
+      position = ((λ _. position), (λ _. refl));
+      value = (λ k. pos (c.totals-totals.ensures.released k + c.totals-totals.ensures.refunded k - c.totals-totals.ensures.sold k))
+          ∙ open_value c.args.rights.now.cells c.args.event position;
+    }

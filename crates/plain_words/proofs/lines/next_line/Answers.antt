@@ -6,8 +6,11 @@ use Rattle.plain_words.proofs.LineLaws.{ends_line, ends_input, has_no_line, pass
 use Rattle.plain_words.proofs.lines.next_line.Goals as goal
 
 pub returns-then-byte-eq10 : goal.returns-then-byte-eq10
-returns-then-byte-eq10 g c =
-    (c.bytes.invariant.1, ends_line _ _ _ _ (c.in-Ok-Some.byte ∷ []) c.bytes.invariant.0 c.bytes.invariant.2 (search rules) (ap (λ (b : ℕ). b ∷ []) c.if-byte-eq10.true))
+returns-then-byte-eq10 g c = (
+  c.bytes.invariant.1,
+  ends_line _ _ _ _ (c.in-Ok-Some.byte ∷ []) c.bytes.invariant.0 c.bytes.invariant.2 (search rules)
+      (ap (λ (b : ℕ). b ∷ []) c.if-byte-eq10.true),
+)
 
 pub returns-then-is_empty : goal.returns-then-is_empty
 returns-then-is_empty g c =
@@ -24,4 +27,5 @@ returns-in-Ok-None g c =
 pub returns-then-is_full : goal.returns-then-is_full
 returns-then-is_full g c =
     let full : longest_line ≤ length c.bytes.line.items = search rules in
-    passes_limit _ _ _ _ c.in-Ok-Some.byte c.bytes.invariant.0 c.bytes.invariant.2 (search rules) (ne_eqb _ 10 (λ e. omega arith)) (omega (arith, full, c.bytes.invariant.1))
+    passes_limit _ _ _ _ c.in-Ok-Some.byte c.bytes.invariant.0 c.bytes.invariant.2 (search rules) (ne_eqb _ 10 (λ e. omega arith))
+    (omega (arith, full, c.bytes.invariant.1))

@@ -38,5 +38,8 @@ returns-then-longer-high-clause-value c =
 pub loop-byte-preserved : goal.loop-byte-preserved
 loop-byte-preserved c =
     let e = digits_value_more 10 c.args.word.now c.loop-byte.byte-index (omega arith) in
-    let longer : c.in-Some-with_digit.longer ≡ c.loop-byte.value * 10 + c.in-Some.digit = search rules in
-    (digits_more 10 _ _ (omega arith) c.loop-byte.invariant.0 (omega (arith, c.in-Some.ensures.digit.0, c.in-Some.ensures.digit.1)), omega (arith, e, longer, c.in-Some.ensures.digit.0, c.loop-byte.invariant.1), omega arith)
+    let longer : c.in-Some-with_digit.longer ≡ c.loop-byte.value * 10 + c.in-Some.digit = search rules in (
+      digits_more 10 _ _ (omega arith) c.loop-byte.invariant.0 (omega (arith, c.in-Some.ensures.digit.0, c.in-Some.ensures.digit.1)),
+      omega (arith, e, longer, c.in-Some.ensures.digit.0, c.loop-byte.invariant.1),
+      omega arith,
+    )

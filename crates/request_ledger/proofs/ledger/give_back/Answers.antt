@@ -24,7 +24,8 @@ returns-in-Some-clause-sums c =
     let is = sym c.refund_in.ensures ∙ c.in-Some.is in
     let after : c.given_with.result ≡ with_part refund.part seats (sum_under sums refund.sale) =
     c.given_with.ensures ∙ ap (with_part refund.part seats) c.sum_of-given.ensures in
-    sums_with_refund _ _ _ _ _ refund seats c.requires.sums is c.seats_of-seats.ensures (refundable_fits _ _ _ _ refund _ c.requires.sums is c.requires.refund c.seats_of-seats.ensures)
+    sums_with_refund _ _ _ _ _ refund seats c.requires.sums is c.seats_of-seats.ensures
+    (refundable_fits _ _ _ _ refund _ c.requires.sums is c.requires.refund c.seats_of-seats.ensures)
     (λ q. c.set_sum.ensures.sums q ∙ ap (λ (n : ℕ). cond (nat_eq refund.sale q) n (sum_under sums q)) after)
 
 pub returns-in-None-clause-sums : goal.returns-in-None-clause-sums

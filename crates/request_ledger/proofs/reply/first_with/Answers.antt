@@ -7,5 +7,6 @@ use Rattle.request_ledger.proofs.reply.first_with.Goals as goal
 
 pub returns : goal.returns
 returns c =
-    let e = find_from_yields_List (λ r. bytes_eq c.args.word.now (reply_word r)) _ _ c.find.result c.find.ensures.ran (YieldsList-from_slice c.args.replies.now cc) (λ x b q k. search (rules, tests)) in
+    let e = find_from_yields_List (λ r. bytes_eq c.args.word.now (reply_word r)) _ _ c.find.result c.find.ensures.ran
+    (YieldsList-from_slice c.args.replies.now cc) (λ x b q k. search (rules, tests)) in
     cc

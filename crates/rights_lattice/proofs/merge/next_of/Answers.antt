@@ -5,20 +5,22 @@ use Rattle.rights_lattice.proofs.merge.next_of.Goals as goal
 
 pub returns-then-right-b-clause-merged : goal.returns-then-right-b-clause-merged
 returns-then-right-b-clause-merged c = λ out h.
-    take_left c.args.a.now c.args.b.now out c.args.left c.args.right c.index-a-left.result c.requires.left_marks (omega (arith, c.requires.more, c.if-right-b.true)) c.index-a-left.is
+    take_left c.args.a.now c.args.b.now out c.args.left c.args.right c.index-a-left.result c.requires.left_marks
+    (omega (arith, c.requires.has_next.more, c.if-right-b.true)) c.index-a-left.is
     (past_end c.index-a-left.result c.args.b.now c.args.right (omega (arith, c.if-right-b.true))) h
 
 pub returns-then-left-a-clause-merged : goal.returns-then-left-a-clause-merged
 returns-then-left-a-clause-merged c = λ out h.
-    take_right c.args.a.now c.args.b.now out c.args.left c.args.right c.index-b-right.result c.requires.right_marks (omega (arith, c.requires.more, c.if-left-a.true)) c.index-b-right.is
+    take_right c.args.a.now c.args.b.now out c.args.left c.args.right c.index-b-right.result c.requires.right_marks
+    (omega (arith, c.requires.has_next.more, c.if-left-a.true)) c.index-b-right.is
     (past_end c.index-b-right.result c.args.a.now c.args.left (omega (arith, c.if-left-a.true))) h
 
 pub returns-in-Less-clause-merged : goal.returns-in-Less-clause-merged
 returns-in-Less-clause-merged c = λ out h.
     let x = c.index-a-left-2.result in
     let y = c.index-b-right-2.result in
-    let a_lt : c.args.left < length c.args.a.now = omega (arith, c.requires.left_within, c.if-left-a.false) in
-    let b_lt : c.args.right < length c.args.b.now = omega (arith, c.requires.right_within, c.if-right-b.false) in
+    let a_lt : c.args.left < length c.args.a.now = omega (arith, c.requires.has_next.left_within, c.if-left-a.false) in
+    let b_lt : c.args.right < length c.args.b.now = omega (arith, c.requires.has_next.right_within, c.if-right-b.false) in
     take_left c.args.a.now c.args.b.now out c.args.left c.args.right x c.requires.left_marks a_lt c.index-a-left-2.is
     (not_yet x y c.args.b.now c.args.right b_lt c.index-b-right-2.is (sym c.key_order.ensures ∙ c.in-Less.is)) h
 
@@ -26,8 +28,8 @@ pub returns-in-Greater-clause-merged : goal.returns-in-Greater-clause-merged
 returns-in-Greater-clause-merged c = λ out h.
     let x = c.index-a-left-2.result in
     let y = c.index-b-right-2.result in
-    let a_lt : c.args.left < length c.args.a.now = omega (arith, c.requires.left_within, c.if-left-a.false) in
-    let b_lt : c.args.right < length c.args.b.now = omega (arith, c.requires.right_within, c.if-right-b.false) in
+    let a_lt : c.args.left < length c.args.a.now = omega (arith, c.requires.has_next.left_within, c.if-left-a.false) in
+    let b_lt : c.args.right < length c.args.b.now = omega (arith, c.requires.has_next.right_within, c.if-right-b.false) in
     take_right c.args.a.now c.args.b.now out c.args.left c.args.right y c.requires.right_marks b_lt c.index-b-right-2.is
     (not_yet y x c.args.a.now c.args.left a_lt c.index-a-left-2.is (turned x y (sym c.key_order.ensures ∙ c.in-Greater.is))) h
 
@@ -35,10 +37,12 @@ pub returns-in-Equal-clause-merged : goal.returns-in-Equal-clause-merged
 returns-in-Equal-clause-merged c = λ out h.
     let x = c.index-a-left-2.result in
     let y = c.index-b-right-2.result in
-    let a_lt : c.args.left < length c.args.a.now = omega (arith, c.requires.left_within, c.if-left-a.false) in
-    let b_lt : c.args.right < length c.args.b.now = omega (arith, c.requires.right_within, c.if-right-b.false) in
+    let a_lt : c.args.left < length c.args.a.now = omega (arith, c.requires.has_next.left_within, c.if-left-a.false) in
+    let b_lt : c.args.right < length c.args.b.now = omega (arith, c.requires.has_next.right_within, c.if-right-b.false) in
     let m : Valued = record { event = c.x.inside.event; cell = c.x.inside.cell; value = c.max.result } in
     let x_value = ap (λ (v : Valued). v.value) c.x.view_is in
     let y_value = ap (λ (v : Valued). v.value) c.y.view_is in
-    take_both c.args.a.now c.args.b.now out c.args.left c.args.right x y m c.requires.left_marks c.requires.right_marks a_lt b_lt c.index-a-left-2.is c.index-b-right-2.is
-    (sym c.key_order.ensures ∙ c.in-Equal.is) (ap (λ (v : Valued). v.event) c.x.view_is) (ap (λ (v : Valued). v.cell) c.x.view_is) (omega (arith, c.max.ensures, x_value, y_value)) h
+    take_both c.args.a.now c.args.b.now out c.args.left c.args.right x y m c.requires.left_marks c.requires.right_marks a_lt b_lt c.index-a-left-2.is
+    c.index-b-right-2.is
+    (sym c.key_order.ensures ∙ c.in-Equal.is) (ap (λ (v : Valued). v.event) c.x.view_is) (ap (λ (v : Valued). v.cell) c.x.view_is)
+    (omega (arith, c.max.ensures, x_value, y_value)) h

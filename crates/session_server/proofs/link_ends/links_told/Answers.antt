@@ -18,6 +18,8 @@ loop-k-preserved c =
     let before : c.add_links.new.links.items ≡ c.loop-k.links.items ++ ends_to by (take k sites) (take k row) = search rules in
     let behind : c.add_links-in-loop-k.new.links.items ≡ c.add_links.new.links.items ++ ends_to by (drop (k + 1) sites) (drop k row) =
     c.in_ok-add_links-2.ensures ∙ (λ i. c.add_links.new.links.items ++ ends_to by (take_rest sites (k + 1) i) (take_rest row k i)) in
-    site_added sites (map (λ row. row.items) c.args.told.now.items) k by row c.loop-k.links.items c.add_links.new.links.items c.add_links-in-loop-k.new.links.items
-    in_sites one_less (c.index-sites-k.is ∙ get_or_default sites k by 0 in_sites) (c.as_slice-row.ensures.value ∙ mapped_at (λ row. row.items) c.args.told.now.items k c.index.result.now _ in_told c.index.ensures)
+    site_added sites (map (λ row. row.items) c.args.told.now.items) k by row c.loop-k.links.items c.add_links.new.links.items
+    c.add_links-in-loop-k.new.links.items
+    in_sites one_less (c.index-sites-k.is ∙ get_or_default sites k by 0 in_sites)
+    (c.as_slice-row.ensures.value ∙ mapped_at (λ row. row.items) c.args.told.now.items k c.index.result.now _ in_told c.index.ensures)
     c.loop-k.invariant before behind

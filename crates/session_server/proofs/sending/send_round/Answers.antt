@@ -9,7 +9,11 @@ loop-k-init g c = record { len = refl; sent = refl }
 pub loop-k-preserved : goal.loop-k-preserved
 loop-k-preserved g c =
     let i = c.loop-k.invariant in
-    record { len = search rules; sent = next_sent g.S.Replica.gives c.loop-k.k _ c.loop-k.outs.items c.index_mut.result.now c.send_next.new.out (search rules) i.sent (search rules) c.send_next.ensures }
+    record {
+      len = search rules;
+      sent = next_sent g.S.Replica.gives c.loop-k.k _ c.loop-k.outs.items c.index_mut.result.now c.send_next.new.out
+          (search rules) i.sent (search rules) c.send_next.ensures;
+    }
 
 pub returns-clause-sent : goal.returns-clause-sent
 returns-clause-sent g c = all_sent g.S.Replica.gives c.loop-k.k _ _ (omega arith) c.loop-k.invariant.sent

@@ -10,7 +10,12 @@ scoped-requires g c =
     let b = c.type_bounds in
     record {
       at = λ a. (
-        (omega (arith, c.in_ok-ends.ensures.len, c.in_ok-ends.ensures.capacity, c.len.ensures), omega (arith, c.in_ok-seats.ensures.len, c.in_ok-seats.ensures.capacity, c.len-2.ensures), c.in_ok-ends.ensures.items, c.in_ok-seats.ensures.items),
+        (
+          omega (arith, c.in_ok-ends.ensures.len, c.in_ok-ends.ensures.capacity, c.len.ensures),
+          omega (arith, c.in_ok-seats.ensures.len, c.in_ok-seats.ensures.capacity, c.len-2.ensures),
+          c.in_ok-ends.ensures.items,
+          c.in_ok-seats.ensures.items,
+        ),
         (
           record { owned = b.send-R.owned; leaving = λ k. Quiet-if (k (of_param 1)) unseen unseen (λ x w. tt) (λ x w. tt) },
           record { owned = b.send-W.owned; leaving = λ k. Quiet-if (k (of_param 2)) unseen unseen (λ x w. tt) (λ x w. tt) },

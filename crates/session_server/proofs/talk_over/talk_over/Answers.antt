@@ -22,17 +22,20 @@ lines-preserved g c = goes_on g.A.Answerer.step _ _ _ _ _ _ _ _ _ c.lines._count
 pub returns-in-Ok-true : goal.returns-in-Ok-true
 returns-in-Ok-true g c =
     let all : c.lines._count ≡ most_lines = omega (arith, c.lines-test.false, c.lines.auto._count-end) in
-    let so_far = subst (λ (n : ℕ). SoFar g.A.Answerer.step (g.R.Read.remaining c.args.reader.now) (g.R.Read.remaining c.lines.reader) (g.W.Write.contents c.args.out.now) (g.W.Write.contents c.lines.out) c.args.answerer.now c.lines.answerer n) all c.lines.invariant in
+    let so_far = subst (λ (n : ℕ). SoFar g.A.Answerer.step (g.R.Read.remaining c.args.reader.now) (g.R.Read.remaining c.lines.reader)
+    (g.W.Write.contents c.args.out.now) (g.W.Write.contents c.lines.out) c.args.answerer.now c.lines.answerer n) all c.lines.invariant in
     too_many g.A.Answerer.step _ _ (g.R.Read.remaining c.has_more.new.reader) _ _ _ _ so_far ((rw c.in-Ok-true.field-0-test at c.in-Ok-true.ensures).1)
 
 pub returns-in-Ok-false : goal.returns-in-Ok-false
 returns-in-Ok-false g c =
     let all : c.lines._count ≡ most_lines = omega (arith, c.lines-test.false, c.lines.auto._count-end) in
-    let so_far = subst (λ (n : ℕ). SoFar g.A.Answerer.step (g.R.Read.remaining c.args.reader.now) (g.R.Read.remaining c.lines.reader) (g.W.Write.contents c.args.out.now) (g.W.Write.contents c.lines.out) c.args.answerer.now c.lines.answerer n) all c.lines.invariant in
+    let so_far = subst (λ (n : ℕ). SoFar g.A.Answerer.step (g.R.Read.remaining c.args.reader.now) (g.R.Read.remaining c.lines.reader)
+    (g.W.Write.contents c.args.out.now) (g.W.Write.contents c.lines.out) c.args.answerer.now c.lines.answerer n) all c.lines.invariant in
     ends_after_all g.A.Answerer.step _ _ (g.R.Read.remaining c.has_more.new.reader) _ _ _ _ so_far ((rw c.in-Ok-false.field-0-test at c.in-Ok-false.ensures).1)
 
 pub returns-in-Err-has_more : goal.returns-in-Err-has_more
 returns-in-Err-has_more g c =
     let all : c.lines._count ≡ most_lines = omega (arith, c.lines-test.false, c.lines.auto._count-end) in
-    let so_far = subst (λ (n : ℕ). SoFar g.A.Answerer.step (g.R.Read.remaining c.args.reader.now) (g.R.Read.remaining c.lines.reader) (g.W.Write.contents c.args.out.now) (g.W.Write.contents c.lines.out) c.args.answerer.now c.lines.answerer n) all c.lines.invariant in
+    let so_far = subst (λ (n : ℕ). SoFar g.A.Answerer.step (g.R.Read.remaining c.args.reader.now) (g.R.Read.remaining c.lines.reader)
+    (g.W.Write.contents c.args.out.now) (g.W.Write.contents c.lines.out) c.args.answerer.now c.lines.answerer n) all c.lines.invariant in
     fails g.A.Answerer.step _ (g.R.Read.remaining c.lines.reader) _ _ _ _ so_far

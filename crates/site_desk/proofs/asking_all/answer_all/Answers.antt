@@ -8,7 +8,8 @@ use Rattle.site_desk.proofs.asking_all.answer_all.Goals as goal
 pub store_from-requires : goal.store_from-requires
 store_from-requires g c = record {
   begun = subst (IsStoredBy g.K.Keeper c.args.keeper.now)
-      (sym (taken_back c.args.book.now.office c.args.book.now.history c.answer_each.new.book.history c.args.requests.now c.answer_each.new.answers.items c.len-place.result c.len-place.ensures.len c.answer_each.ensures.answered)) c.requires.stored;
+      (sym (taken_back c.args.book.now.office c.args.book.now.history c.answer_each.new.book.history c.args.requests.now c.answer_each.new.answers.items
+      c.len-place.result c.len-place.ensures.len c.answer_each.ensures.answered)) c.requires.stored;
 }
 
 pub returns-in-Err-clause-enters : goal.returns-in-Err-clause-enters
@@ -19,12 +20,14 @@ returns-in-Err-clause-enters g c =
     record {
       office = c.rewound.ensures.office ∙ c.answer_each.ensures.office;
       answered = tt;
-      unchanged = c.rewound.ensures.history ∙ taken_back book.office book.history mid c.args.requests.now answers c.len-place.result c.len-place.ensures.len c.answer_each.ensures.answered;
+      unchanged = c.rewound.ensures.history
+          ∙ taken_back book.office book.history mid c.args.requests.now answers c.len-place.result c.len-place.ensures.len c.answer_each.ensures.answered;
       fault = (refl, c.requires.stored.sound, c.in-Err.ensures.failed);
       untouched = λ other. absurd (other refl);
       stored = tt;
       still = tt;
-      stopped = λ _. leaves_asked book.office book.history mid c.args.requests.now answers c.len-place.result (g.K.Keeper.is_trusted c.store_from.new.keeper) (g.K.Keeper.may_leave c.store_from.new.keeper)
+      stopped = λ _. leaves_asked book.office book.history mid c.args.requests.now answers c.len-place.result
+          (g.K.Keeper.is_trusted c.store_from.new.keeper) (g.K.Keeper.may_leave c.store_from.new.keeper)
           c.len-place.ensures.len c.answer_each.ensures.answered (λ none. false≢true (c.in-Err.ensures.none none).0) c.in-Err.ensures.stopped;
       site = c.store_from.ensures.site;
       trusted = c.store_from.ensures.trusted;
@@ -41,7 +44,9 @@ returns-in-Ok-store_from-clause-enters g c =
       fault = tt;
       untouched = tt;
       stored = c.in-Ok-store_from.ensures.stored;
-      still = λ none. (c.in-Ok-store_from.ensures.none (no_longer book.office book.history c.answer_each.new.book.history c.args.requests.now answers c.len-place.result c.len-place.ensures.len c.answer_each.ensures.answered none)).1;
+      still = λ none. (c.in-Ok-store_from.ensures.none
+          (no_longer book.office book.history c.answer_each.new.book.history c.args.requests.now answers c.len-place.result c.len-place.ensures.len
+          c.answer_each.ensures.answered none)).1;
       stopped = λ failed. absurd (let e : Ok answers ≡ Err ask_fault.Store = failed in cc);
       site = c.store_from.ensures.site;
       trusted = c.store_from.ensures.trusted;

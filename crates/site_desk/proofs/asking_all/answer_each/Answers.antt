@@ -12,6 +12,8 @@ loop-asked-preserved c =
       has_rights = one.ensures.has_rights;
       count = search rules;
       room = search rules;
-      answered = answered_at c.args.book.now.office c.loop-asked.book.office c.args.book.now.history c.loop-asked.book.history one.new.book.history c.args.requests.now c.loop-asked.asked-index c.asked-item.result
-          c.loop-asked.answers.items c.push_reserved.new.self.items one.result c.loop-asked-test.true c.asked-item.is before.office pushed before.answered one.ensures.answer one.ensures.entered one.ensures.fault one.ensures.unchanged;
+      answered = answered_at c.args.book.now.office c.loop-asked.book.office c.args.book.now.history c.loop-asked.book.history one.new.book.history
+          c.args.requests.now c.loop-asked.asked-index c.asked-item.result
+          c.loop-asked.answers.items c.push_reserved.new.self.items one.result c.loop-asked-test.true c.asked-item.is before.office pushed before.answered
+          one.ensures.answer one.ensures.entered one.ensures.fault one.ensures.unchanged;
     }

@@ -30,7 +30,8 @@ returns-clause-runs g c clean =
     let one = c.in_ok-execute.ensures.runs (omega (arith, c.execute-2.ensures.survives.clean, c.execute-3.ensures.survives.clean)) c.requires.inside in
     let two = c.in_ok-execute-2.ensures.runs (omega (arith, c.execute-3.ensures.survives.clean)) one.1.mode in
     let three = c.in_ok-execute-3.ensures.runs clean two.1.mode in
-    let given = subst (λ p. ExecutesInside 0 meta_insert_text p (state g.S.Store second) (state g.S.Store last) (Ok c.in_ok-execute-3.field-0)) c.meta_columns-row.ensures three in
+    let given = subst (λ p. ExecutesInside 0 meta_insert_text p (state g.S.Store second) (state g.S.Store last) (Ok c.in_ok-execute-3.field-0))
+    c.meta_columns-row.ensures three in
     (first, c.in_ok-execute.field-0, one, (second, c.in_ok-execute-2.field-0, two, (last, c.in_ok-execute-3.field-0, given, refl)))
 
 pub returns-in_err-execute-clause-fails : goal.returns-in_err-execute-clause-fails
@@ -41,7 +42,8 @@ pub returns-in_err-execute-2-clause-fails : goal.returns-in_err-execute-2-clause
 returns-in_err-execute-2-clause-fails g c clean =
     let one = c.in_ok-execute.ensures.runs (omega (arith, c.execute-2.ensures.survives.clean)) c.requires.inside in
     let two = c.in_err-execute-2.ensures.runs clean one.1.mode in
-    if_err c.from_residual-in_err-execute-2.result _ _ c.from_residual-in_err-execute-2.ensures.1 (λ f e. rw e (inr (c.execute.new.self.conn.now, c.in_ok-execute.field-0, one, inl two)))
+    if_err c.from_residual-in_err-execute-2.result _ _ c.from_residual-in_err-execute-2.ensures.1
+    (λ f e. rw e (inr (c.execute.new.self.conn.now, c.in_ok-execute.field-0, one, inl two)))
 
 pub returns-in_err-execute-3-clause-fails : goal.returns-in_err-execute-3-clause-fails
 returns-in_err-execute-3-clause-fails g c clean =
@@ -50,6 +52,7 @@ returns-in_err-execute-3-clause-fails g c clean =
     let one = c.in_ok-execute.ensures.runs (omega (arith, c.execute-2.ensures.survives.clean, c.execute-3.ensures.survives.clean)) c.requires.inside in
     let two = c.in_ok-execute-2.ensures.runs (omega (arith, c.execute-3.ensures.survives.clean)) one.1.mode in
     let three = c.in_err-execute-3.ensures.runs clean two.1.mode in
-    let given = subst (λ p. ExecutesInside 0 meta_insert_text p (state g.S.Store second) (state g.S.Store last) (Err c.in_err-execute-3.field-0.0)) c.meta_columns-row.ensures three in
+    let given = subst (λ p. ExecutesInside 0 meta_insert_text p (state g.S.Store second) (state g.S.Store last) (Err c.in_err-execute-3.field-0.0))
+    c.meta_columns-row.ensures three in
     if_err c.from_residual-in_err-execute-3.result _ _ c.from_residual-in_err-execute-3.ensures.1
     (λ f e. rw e (inr (c.execute.new.self.conn.now, c.in_ok-execute.field-0, one, inr (second, c.in_ok-execute-2.field-0, two, inl given))))

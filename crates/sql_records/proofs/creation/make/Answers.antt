@@ -14,7 +14,8 @@ returns-in-Ok-clause-fails g c =
     let fails : HasCleanDisk (state g.S.Store c.commit.new.self.0) → IfErr c.commit.result (FailsToMake g.S.Store c.args.conn.now c.args.meta) = λ clean.
     let runs = c.in-Ok.ensures.runs (was_clean _ _ _ c.commit.ensures.survives clean) in
     let begun = subst (λ b. RunInTurn g.S.Store (making c.args.meta) b filled) c.transaction-tx.ensures.begun runs in
-    IfErr-weaker c.commit.result _ _ (λ e h. record { after = c.commit.new.self.0; clean = clean; fails = inr (filled, begun, h) }) (c.commit.ensures.err clean) in
+    IfErr-weaker c.commit.result _ _ (λ e h. record { after = c.commit.new.self.0; clean = clean; fails = inr (filled, begun, h) })
+    (c.commit.ensures.err clean) in
     search rules
 
 pub returns-in-Err-clause-fails : goal.returns-in-Err-clause-fails

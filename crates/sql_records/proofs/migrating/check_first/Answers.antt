@@ -14,7 +14,10 @@ returns-in-Ok-clause-rest g c clean =
     let last = state g.S.Store c.read_as.new.conn in
     let autocommit : IsTrue c.is_autocommit-is_settled.result = c.if-not-is_settled.false in
     let outside : c.args.conn.now.in_transaction ≡ false = not-true _ (sym c.is_autocommit-is_settled.ensures.value ∙ autocommit) in
-    on_ok c.check_history.result _ (opened first last (length (history_in first.now.trees)) (c.in-Ok.ensures.reads.same clean) outside (c.is_autocommit-is_settled.ensures.settled autocommit) c.read_as.ensures.live c.in-Ok.ensures.schema (c.in-Ok.ensures.whole clean).0 refl)
+    on_ok c.check_history.result _
+    (opened first last (length (history_in first.now.trees)) (c.in-Ok.ensures.reads.same clean) outside
+    (c.is_autocommit-is_settled.ensures.settled autocommit) c.read_as.ensures.live c.in-Ok.ensures.schema
+    (c.in-Ok.ensures.read clean).entries_are.0.0 refl)
 
 pub returns-in-Ok-clause-fault : goal.returns-in-Ok-clause-fault
 returns-in-Ok-clause-fault g c clean =
@@ -27,7 +30,11 @@ returns-in-Ok-clause-fault g c clean =
       inr (
         c.in-Ok.ensures.schema,
         no_history old new c.in-Ok.meta c.in-Ok.entries.items it.0 fault (c.in-Ok.ensures.reads.same clean)
-            (record { numbers = c.in-Ok.ensures.meta clean; within = c.in-Ok.ensures.numbers; whole = c.in-Ok.ensures.whole clean }) (c.in-Ok.ensures.entries clean) it.1 it.2,
+            (record {
+              numbers = (c.in-Ok.ensures.read clean).meta_is;
+              within = c.in-Ok.ensures.numbers;
+              whole = (c.in-Ok.ensures.read clean).entries_are.0;
+            }) ((c.in-Ok.ensures.read clean).entries_are.1) it.1 it.2,
       ),
     )) c.check_history.ensures.fault
 
@@ -35,5 +42,7 @@ pub returns-in-Err-clause-fault : goal.returns-in-Err-clause-fault
 returns-in-Err-clause-fault g c clean =
     let autocommit : IsTrue c.is_autocommit-is_settled.result = c.if-not-is_settled.false in
     let outside : c.args.conn.now.in_transaction ≡ false = not-true _ (sym c.is_autocommit-is_settled.ensures.value ∙ autocommit) in
-    unfit g.S.Store c.args.conn.now c.read_as.new.conn c.is_ours-are_ours.result c.in-Err.fault c.told_as.result outside (λ is. subst IsOurs c.schema.ensures.value (c.is_ours-are_ours.ensures.0 is))
-    (λ ours. c.is_ours-are_ours.ensures.1 (subst IsOurs (sym c.schema.ensures.value) ours)) (λ foreign. c.in-Err.ensures.foreign foreign outside clean) (c.in-Err.ensures.fault clean) c.told_as.ensures
+    unfit g.S.Store c.args.conn.now c.read_as.new.conn c.is_ours-are_ours.result c.in-Err.fault c.told_as.result outside
+    (λ is. subst IsOurs c.schema.ensures.value (c.is_ours-are_ours.ensures.0 is))
+    (λ ours. c.is_ours-are_ours.ensures.1 (subst IsOurs (sym c.schema.ensures.value) ours)) (λ foreign. c.in-Err.ensures.foreign foreign outside clean)
+    (c.in-Err.ensures.fault clean) c.told_as.ensures

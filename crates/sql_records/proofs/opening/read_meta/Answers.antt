@@ -40,7 +40,10 @@ returns-in_err-rows-clause-fault g c clean =
     let old = state g.S.Store c.args.conn.now in
     let new = state g.S.Store c.query_all.new.self in
     let schema = c.requires (omega (arith, c.query_all.ensures.survives.clean)) in
-    if_err c.from_residual.result _ _ c.from_residual.ensures.1 (λ f e. rw e (told_fault (IsMetaFault c.args.read old new) Memory Disk old new c.in_err-rows.field-0.0 (meta_select_wants old new c.in_err-rows.field-0.0 schema (c.in_err-rows.ensures.err clean)) (λ h. h) (meta_select_fails old new c.in_err-rows.field-0.0 schema (c.in_err-rows.ensures.err clean))))
+    if_err c.from_residual.result _ _ c.from_residual.ensures.1
+    (λ f e. rw e (told_fault (IsMetaFault c.args.read old new) Memory Disk old new c.in_err-rows.field-0.0
+    (meta_select_wants old new c.in_err-rows.field-0.0 schema (c.in_err-rows.ensures.err clean)) (λ h. h)
+    (meta_select_fails old new c.in_err-rows.field-0.0 schema (c.in_err-rows.ensures.err clean))))
 
 pub returns-in-Some-clause-reads : goal.returns-in-Some-clause-reads
 returns-in-Some-clause-reads g c =
@@ -52,7 +55,8 @@ returns-in-Some-clause-reads g c =
       clean = λ clean. omega (arith, survives.clean);
       left = λ clean. meta_left old new (c.requires (omega (arith, survives.clean))) survives clean;
       same = λ clean. on_ok c.read_numbers.result _ (meta_same old new _ (c.requires (omega (arith, survives.clean))) (c.in_ok-rows.ensures.ok clean));
-      undone = λ clean. on_err c.read_numbers.result _ (left_or_undone old new (inl (meta_same old new _ (c.requires (omega (arith, survives.clean))) (c.in_ok-rows.ensures.ok clean))));
+      undone = λ clean. on_err c.read_numbers.result _
+          (left_or_undone old new (inl (meta_same old new _ (c.requires (omega (arith, survives.clean))) (c.in_ok-rows.ensures.ok clean))));
     }
 
 pub returns-in-None-clause-reads : goal.returns-in-None-clause-reads
@@ -78,5 +82,6 @@ returns-in_err-rows-clause-reads g c =
       clean = λ clean. omega (arith, survives.clean);
       left = λ clean. meta_left old new (c.requires (omega (arith, survives.clean))) survives clean;
       same = λ clean. of_err c.from_residual.result _ _ c.from_residual.ensures.1;
-      undone = λ clean. on_err c.from_residual.result _ (meta_select_undone old new c.in_err-rows.field-0.0 (c.requires (omega (arith, survives.clean))) (c.in_err-rows.ensures.err clean));
+      undone = λ clean. on_err c.from_residual.result _
+          (meta_select_undone old new c.in_err-rows.field-0.0 (c.requires (omega (arith, survives.clean))) (c.in_err-rows.ensures.err clean));
     }

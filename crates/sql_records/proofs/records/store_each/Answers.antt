@@ -26,11 +26,14 @@ loop-entry-preserved g c =
           let ran = before.runs was inside in
           let at : c.loop-entry.next ≡ c.args.place + k = before.next in
           rw (inserting_more c.args.place c.args.entries.now k c.entry-item.result c.loop-entry-test.true c.entry-item.is)
-          (run_behind g.S.Store (inserting c.args.place (take k c.args.entries.now)) _ c.args.tx.now.conn.now c.loop-entry.tx.conn.now c.store_in.new.tx.conn.now ran
+          (run_behind g.S.Store (inserting c.args.place (take k c.args.entries.now)) _ c.args.tx.now.conn.now c.loop-entry.tx.conn.now
+          c.store_in.new.tx.conn.now ran
           (subst (λ n. RunInTurn g.S.Store (inserting n (c.entry-item.result ∷ [])) c.loop-entry.tx.conn.now c.store_in.new.tx.conn.now) at
-          (c.in_ok-store_in.ensures.runs clean (run_inside g.S.Store (inserting c.args.place (take k c.args.entries.now)) c.args.tx.now.conn.now c.loop-entry.tx.conn.now ran inside))));
+          (c.in_ok-store_in.ensures.runs clean
+          (run_inside g.S.Store (inserting c.args.place (take k c.args.entries.now)) c.args.tx.now.conn.now c.loop-entry.tx.conn.now ran inside))));
       adds = λ clean begun added rest.
-          subst (IsAdding begun new (c.loop-entry.next + 1)) (sym (more_behind added c.args.entries.now c.loop-entry.entry-index c.entry-item.result c.loop-entry-test.true c.entry-item.is))
+          subst (IsAdding begun new (c.loop-entry.next + 1))
+          (sym (more_behind added c.args.entries.now c.loop-entry.entry-index c.entry-item.result c.loop-entry-test.true c.entry-item.is))
           (c.in_ok-store_in.ensures.adds clean begun _ (before.adds (was_clean mid new _ c.store_in.ensures.survives clean) begun added rest));
     }
 
@@ -41,7 +44,8 @@ returns-in_err-store_in-clause-runs g c clean inside =
     let before = c.loop-entry.invariant in
     let k = c.loop-entry.entry-index in
     let ran = before.runs (was_clean (state g.S.Store mid) (state g.S.Store new) _ c.store_in.ensures.survives clean) inside in
-    let fails = c.in_err-store_in.ensures.runs clean (run_inside g.S.Store (inserting c.args.place (take k c.args.entries.now)) c.args.tx.now.conn.now mid ran inside) in
+    let fails = c.in_err-store_in.ensures.runs clean
+    (run_inside g.S.Store (inserting c.args.place (take k c.args.entries.now)) c.args.tx.now.conn.now mid ran inside) in
     by_err c.from_residual.result (PutsAll g.S.Store c.args.place c.args.entries.now c.args.tx.now.conn.now new) _ c.from_residual.ensures.1
     (λ f e. rw e (record {
       done = k;

@@ -17,6 +17,7 @@ invariant-loop-entry g l = record {
   survives : Survives (state g.S.Store l.initial.tx.conn.now) (state g.S.Store l.tx.conn.now) (λ _. ⊥);
   runs : HasCleanDisk (state g.S.Store l.tx.conn.now) → (state g.S.Store l.initial.tx.conn.now).in_transaction ≡ true
       → RunInTurn g.S.Store (inserting l.place (take l.entry-index l.entries)) l.initial.tx.conn.now l.tx.conn.now;
-  adds : HasCleanDisk (state g.S.Store l.tx.conn.now) → (begun : Database) (added : List Entry) → IsAdding begun (state g.S.Store l.initial.tx.conn.now) l.place added
+  adds : HasCleanDisk (state g.S.Store l.tx.conn.now) → (begun : Database) (added : List Entry)
+      → IsAdding begun (state g.S.Store l.initial.tx.conn.now) l.place added
       → IsAdding begun (state g.S.Store l.tx.conn.now) l.next (added ++ take l.entry-index l.entries);
 }

@@ -24,7 +24,8 @@ returns-in_default-sides c = (
   λ e. absurd (never e),
   λ e.
       let w = check_to c.args.nodes.now c.args.at c.requires e in
-      absurd (no_sides c.in-Some.node.now w.0 w.1 (sym c.in_default-sides.ensures) (same_Some c.in-Some.node.now (equality w.0 w.1) (c.in-Some.ensures.value ∙ w.2))),
+      absurd (no_sides c.in-Some.node.now w.0 w.1 (sym c.in_default-sides.ensures)
+      (same_Some c.in-Some.node.now (equality w.0 w.1) (c.in-Some.ensures.value ∙ w.2))),
 )
 
 pub returns : goal.returns

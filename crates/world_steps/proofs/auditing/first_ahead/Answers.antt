@@ -23,8 +23,10 @@ pub loop-viewer-preserved : goal.loop-viewer-preserved
 loop-viewer-preserved c =
     let books = c.args.books.now in
     let i = c.loop-viewer.viewer-index in
-    let found : slice_get (books_of books) i ≡ Some c.viewer-item.result.now = found_view books i c.viewer-item.result c.loop-viewer-test.true c.viewer-item.is in
-    each_more (λ _ other. SeesNoneAbove (books_of books) other) (books_of books) i c.viewer-item.result.now found (c.in_default.ensures.none refl) c.loop-viewer.invariant
+    let found : slice_get (books_of books) i ≡ Some c.viewer-item.result.now = found_view books i c.viewer-item.result c.loop-viewer-test.true
+    c.viewer-item.is in
+    each_more (λ _ other. SeesNoneAbove (books_of books) other) (books_of books) i c.viewer-item.result.now found (c.in_default.ensures.none refl)
+    c.loop-viewer.invariant
 
 pub returns-clause-none : goal.returns-clause-none
 returns-clause-none c = λ none.

@@ -25,7 +25,8 @@ loop-owner-preserved c =
     let books = c.args.books.now in
     let i = c.loop-owner.owner-index in
     let found : slice_get (books_of books) i ≡ Some c.owner-item.result.now = found_view books i c.owner-item.result c.loop-owner-test.true c.owner-item.is in
-    each_more (λ _ other. SeesWithin c.args.viewer.now other) (books_of books) i c.owner-item.result.now found (c.sees_within.ensures.0 c.if-not-sees_within.false) c.loop-owner.invariant
+    each_more (λ _ other. SeesWithin c.args.viewer.now other) (books_of books) i c.owner-item.result.now found
+    (c.sees_within.ensures.0 c.if-not-sees_within.false) c.loop-owner.invariant
 
 pub returns-clause-none : goal.returns-clause-none
 returns-clause-none c = λ none.

@@ -24,7 +24,8 @@ returns-then-not-stands_at-clause-whole c =
     let found : slice_get (books_of books) i ≡ Some book = found_view books i c.index-books-place.result c.loop-place-test.true c.index-books-place.is in
     refused (IsWhole (books_of books)) (λ whole.
     let stands = whole i book found in
-    let is : IsTrue c.stands_at.result = c.stands_at.ensures.stands.1 (record { site = stands.site; count = omega (arith, stands.count, length-views books) }) in
+    let is : IsTrue c.stands_at.result = c.stands_at.ensures.stands.1
+    (record { site = stands.site; count = omega (arith, stands.count, length-views books) }) in
     let never : false ≡ true = sym c.if-not-stands_at.true ∙ is in cc)
 
 pub loop-place-preserved : goal.loop-place-preserved

@@ -9,6 +9,7 @@ use Rattle.world_steps.proofs.auditing.is_whole.Given as goal
 
 abbrev pub invariant-loop-place : goal.invariant-loop-place
 invariant-loop-place l = record {
-  stand : (k : ℕ) (book : BookView) → k < l.place → slice_get (books_of l.books) k ≡ Some book → StandsAt k (length l.books) book × (book.office.me < book.office.sites) × IsLegal book.office book.history;
+  stand : (k : ℕ) (book : BookView) → k < l.place → slice_get (books_of l.books) k ≡ Some book
+      → StandsAt k (length l.books) book × (book.office.me < book.office.sites) × IsLegal book.office book.history;
   few : l.place ≤ max_sites;
 }

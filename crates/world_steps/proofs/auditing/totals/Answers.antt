@@ -37,5 +37,6 @@ returns c =
     let books = c.args.books.now in
     let n = length (books_of books) in
     let all : c.loop-book.book-index ≡ n = omega (arith, c.loop-book.auto.book-index-end, c.loop-book-test.false, length-views books) in
-    own_totals n c.loop-book.book-index (history_among (books_of books)) (first_count_in (books_of books)) (limit_in (books_of books)) c.args.event c.loop-book.totals
+    own_totals n c.loop-book.book-index (history_among (books_of books)) (first_count_in (books_of books)) (limit_in (books_of books)) c.args.event
+    c.loop-book.totals
     (legal_in (books_of books) c.requires.sites) all c.loop-book.invariant.own

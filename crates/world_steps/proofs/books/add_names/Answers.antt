@@ -9,7 +9,12 @@ names-preserved c = λ known start.
     (sym c.event_at.ensures ∙ c.in-Some.is) (c.names.invariant known) c.in_ok-insert.ensures.keys start
 
 pub unreachable-requires : goal.unreachable-requires
-unreachable-requires c = omega (arith, c.names-test.true, c.event_count-place-end.ensures, past_end (names_known c.args.book.now.history) c.names.place (sym c.event_at.ensures ∙ c.in_default.is))
+unreachable-requires c = omega (
+  arith,
+  c.names-test.true,
+  c.event_count-place-end.ensures,
+  past_end (names_known c.args.book.now.history) c.names.place (sym c.event_at.ensures ∙ c.in_default.is),
+)
 
 pub returns : goal.returns
 returns c = λ known start.

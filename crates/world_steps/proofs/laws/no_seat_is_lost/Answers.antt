@@ -4,4 +4,5 @@ use Rattle.world_steps.proofs.Reached.{few_from, sound_from}
 use Rattle.world_steps.proofs.laws.no_seat_is_lost.Goals as goal
 
 pub returns : goal.returns
-returns c = λ limits counts are few steps. promised.no_seat_is_lost (run steps (begun limits counts)) (sound_from limits counts steps are) (few_from limits counts steps are few)
+returns c = λ limits counts are few steps. promised.no_seat_is_lost (run steps (begun limits counts)) (sound_from limits counts steps are)
+    (few_from limits counts steps are few)

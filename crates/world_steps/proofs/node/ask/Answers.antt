@@ -17,7 +17,8 @@ pub invariant_of-node-in-Ok-New : goal.invariant_of-node-in-Ok-New
 invariant_of-node-in-Ok-New c =
     let b : BookView = c.node.inside.book in
     let planned : Entry = c.in-Ok-New.planned in
-    let is : c.enter.new.self.history ≡ b.history ++ planned ∷ [] = c.enter.ensures.history ∙ ap (λ (b : BookView). b.history ++ planned ∷ []) c.plan.ensures.unchanged in
+    let is : c.enter.new.self.history ≡ b.history ++ planned ∷ [] = c.enter.ensures.history
+    ∙ ap (λ (b : BookView). b.history ++ planned ∷ []) c.plan.ensures.unchanged in
     let office : c.enter.new.self.office ≡ b.office = c.enter.ensures.office ∙ ap (λ (b : BookView). b.office) c.plan.ensures.unchanged in
     let plan : IsPlan c.plan.new.self c.args.number c.args.request.now (New planned) =
     subst (IsPlan c.plan.new.self c.args.number c.args.request.now) c.in-Ok-New.field-0-is c.in-Ok-New.ensures.plan in

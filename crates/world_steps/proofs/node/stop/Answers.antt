@@ -8,11 +8,13 @@ invariant_of-node c =
     let b = c.node.inside.book in
     let entry = entry_of_input b.office b.history c.args.sent.now c.args.input.now in
     exchange_entered c.store.result b.office c.store.new.book.office entry b.history c.store.new.book.history c.node.inside.exchange
-    c.store.ensures.office c.store.ensures.stored c.store.ensures.unchanged (count_of_input b.office b.history c.args.sent.now c.args.input.now c.requires.kind) c.node.invariant
+    c.store.ensures.stores.office c.store.ensures.stores.stored c.store.ensures.stores.unchanged
+    (count_of_input b.office b.history c.args.sent.now c.args.input.now c.requires.in_hand.kind) c.node.invariant
 
 pub invariant_of-node-else-is_err : goal.invariant_of-node-else-is_err
 invariant_of-node-else-is_err c =
     let b = c.node.inside.book in
     let entry = entry_of_input b.office b.history c.args.sent.now c.args.input.now in
     exchange_entered c.store.result b.office c.store.new.book.office entry b.history c.store.new.book.history c.node.inside.exchange
-    c.store.ensures.office c.store.ensures.stored c.store.ensures.unchanged (count_of_input b.office b.history c.args.sent.now c.args.input.now c.requires.kind) c.node.invariant
+    c.store.ensures.stores.office c.store.ensures.stores.stored c.store.ensures.stores.unchanged
+    (count_of_input b.office b.history c.args.sent.now c.args.input.now c.requires.in_hand.kind) c.node.invariant

@@ -16,7 +16,8 @@ returns-then-is_err-clause-memory c is refusal entries numbers =
     let idle = fresh_refusal book.office book.history c.args.number c.args.request.now new room refusal in
     let nothing = c.decide-reply.ensures.idle (ap is_done c.decide-reply.ensures.reply ∙ idle) in
     let empty : c.in-Ok.delta ≡ bottom = c.in-Ok.ensures.delta ∙ ap state_of_item nothing in
-    let kept_room = c.reserve.ensures.succeeds (room_for_refusal book.room c.args.number c.args.request.now c.decide-reply.result.0 c.in-Ok.delta empty entries numbers) in
+    let kept_room = c.reserve.ensures.succeeds
+    (room_for_refusal book.room c.args.number c.args.request.now c.decide-reply.result.0 c.in-Ok.delta empty entries numbers) in
     grind (arith, kept_room, c.is_err.ensures.value, c.is_err.ensures.negation, c.if-is_err.true)
 
 pub returns-then-is_same-clause-has_rights : goal.returns-then-is_same-clause-has_rights

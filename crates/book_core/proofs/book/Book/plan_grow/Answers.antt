@@ -13,7 +13,8 @@ use Rattle.book_core.proofs.book.Book.plan_grow.Goals as goal
 pub returns-clause-plan : goal.returns-clause-plan
 returns-clause-plan c =
     let book = c.args.self.now in
-    let more : sites_of book.office book.history < c.args.sites = omega (arith, c.if-count.false, c.count.ensures.count, c.count-2.ensures.count, c.sites.ensures) in
+    let more : sites_of book.office book.history < c.args.sites = omega
+    (arith, c.if-count.false, c.count.ensures.count, c.count-2.ensures.count, c.sites.ensures) in
     let few : c.args.sites ≤ most_sites = omega (arith, c.count.ensures.count, c.count.ensures.few) in
     let room : nat_le book.office.limit (length book.history) ≡ false = search rules in
     let is : grow_decision book.office book.history c.args.sites ≡ Grows = grows book.office book.history c.args.sites more room in
@@ -22,7 +23,8 @@ returns-clause-plan c =
       grows = subst (λ (b : BookView). grow_decision b.office b.history c.args.sites ≡ Grows) (sym c.reserve.ensures.unchanged) is;
       is_growth = rw same refl;
       ready = record {
-        next = subst (λ (b : BookView). IsNext b.office b.history (Grown c.to.result)) (sym c.reserve.ensures.unchanged) (rw same (grow_next book.office book.history c.args.sites is few));
+        next = subst (λ (b : BookView). IsNext b.office b.history (Grown c.to.result)) (sym c.reserve.ensures.unchanged)
+            (rw same (grow_next book.office book.history c.args.sites is few));
         room = search rules;
       };
     }

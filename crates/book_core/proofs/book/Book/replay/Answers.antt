@@ -24,7 +24,8 @@ returns-then-not-is_next-clause-fault c =
     (YieldsList-turn road c.loop-entry.yielded _ c.loop-entry.yielded_by _ c.next.new.self c.in-Some.entry c.in-Some.is c.next.ensures.steps) in
     let refused : IsNext c.loop-entry.book.office c.loop-entry.book.history c.in-Some.entry → ⊥ =
     λ next. let yes : c.is_next.result ≡ true = c.is_next.ensures.1 next in cc in
-    replay_stops _ c.args.entries.items c.in-Some.entry c.loop-entry.book c.len.result at c.loop-entry.invariant.office c.loop-entry.invariant.legal refused c.len.ensures.len
+    replay_stops _ c.args.entries.items c.in-Some.entry c.loop-entry.book c.len.result at c.loop-entry.invariant.office c.loop-entry.invariant.legal
+    refused c.len.ensures.len
 
 pub returns-then-is_err-clause-fault : goal.returns-then-is_err-clause-fault
 returns-then-is_err-clause-fault c =
@@ -33,7 +34,8 @@ returns-then-is_err-clause-fault c =
     let at = at_entry c.args.entries.items c.loop-entry.yielded c.loop-entry.book.history c.in-Some.entry c.loop-entry.invariant.history
     (YieldsList-so_far road c.loop-entry.yielded _ c.loop-entry.yielded_by)
     (YieldsList-turn road c.loop-entry.yielded _ c.loop-entry.yielded_by _ c.next.new.self c.in-Some.entry c.in-Some.is c.next.ensures.steps) in
-    replay_goes_on _ c.args.entries.items c.in-Some.entry c.loop-entry.book at c.loop-entry.invariant.office c.loop-entry.invariant.legal (c.is_next.ensures.0 c.if-not-is_next.false)
+    replay_goes_on _ c.args.entries.items c.in-Some.entry c.loop-entry.book at c.loop-entry.invariant.office c.loop-entry.invariant.legal
+    (c.is_next.ensures.0 c.if-not-is_next.false)
 
 pub enter-requires : goal.enter-requires
 enter-requires c = record {
@@ -64,7 +66,8 @@ returns-clause-legal c =
     let begins = c.into_iter-entry-iterator.ensures.into_iter_gives in
     let road = YieldsList-from_vec {s = c.into_iter-entry-iterator.result} c.args.entries.items begins.0 (begins.1 ∙ c.args.entries.ok.0) in
     let end = YieldsList-end road c.loop-entry.yielded _ c.loop-entry.yielded_by _ c.next.new.self c.in-None.is c.next.ensures.steps in
-    replay_ends _ c.args.entries.items c.loop-entry.book c.loop-entry.invariant.office (all_yielded _ _ _ c.loop-entry.invariant.history end.0) c.loop-entry.invariant.legal
+    replay_ends _ c.args.entries.items c.loop-entry.book c.loop-entry.invariant.office (all_yielded _ _ _ c.loop-entry.invariant.history end.0)
+    c.loop-entry.invariant.legal
 
 pub returns-clause-has_rights : goal.returns-clause-has_rights
 returns-clause-has_rights c = own_rights c.loop-entry.book c.loop-entry.invariant.legal

@@ -12,4 +12,5 @@ returns-clause-pending c h is found =
     let was : IsPendingOf h p = subst (IsPendingOf h) (sym c.self.view_is) is in
     let there : slice_get h p.upto ≡ Some c.args.entry.now = ap (λ (v : PendingView). slice_get h v.upto) c.self.view_is ∙ found in
     let joined : c.in_ok-self-inside.field-0 ≡ join p.delta (delta_of c.args.entry.now) = c.in_ok-self-inside.ensures ∙ ap (join p.delta) c.delta.ensures in
-    subst (λ (d : State). IsPendingOf h (record { from = p.from; upto = p.upto + 1; delta = d })) (sym joined) (added h p c.args.entry.now c.self.invariant was there)
+    subst (λ (d : State). IsPendingOf h (record { from = p.from; upto = p.upto + 1; delta = d })) (sym joined)
+    (added h p c.args.entry.now c.self.invariant was there)

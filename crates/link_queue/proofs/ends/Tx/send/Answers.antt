@@ -4,5 +4,8 @@ use Rattle.link_queue.proofs.Links.{puts}
 use Rattle.link_queue.proofs.ends.Tx.send.Goals as goal
 
 pub send_as-requires-clause-rule : goal.send_as-requires-clause-rule
-send_as-requires-clause-rule g c =
-    (puts _ _ _ _ (ap (λ v. v.sends) c.self.invariant.1) (omega (arith, c.self.invariant.2, length-append (view c.self.inside.pass).put (c.args.message ∷ []))), λ items views h at. tt)
+send_as-requires-clause-rule g c = (
+  puts _ _ _ _ (ap (λ v. v.sends) c.self.invariant.1)
+      (omega (arith, c.self.invariant.2, length-append (view c.self.inside.pass).put (c.args.message ∷ []))),
+  λ items views h at. tt,
+)

@@ -6,7 +6,8 @@ use Rattle.live_office.proofs.desk_seat.DeskSeat.left.Goals as goal
 
 pub returns-in-Err : goal.returns-in-Err
 returns-in-Err g c =
-    left_hidden (admissible g.L.Opens.office g.L.Opens.began g.K.Keeper) c.args.self.now c.args.event c.in-Err.fault c.not_shown.result c.not_shown.ensures c.in-Err.ensures.seen
+    left_hidden (admissible g.L.Opens.office g.L.Opens.began g.K.Keeper) c.args.self.now c.args.event c.in-Err.fault c.not_shown.result c.not_shown.ensures
+    c.in-Err.ensures.seen
 
 pub returns : goal.returns
 returns g c =

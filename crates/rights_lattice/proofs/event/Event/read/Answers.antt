@@ -10,5 +10,6 @@ returns-then-not-is_event_name-clause-name c = name_of_none c.args.bytes.now (λ
 
 pub returns-clause-name : goal.returns-clause-name
 returns-clause-name c =
-    let same = ap (take (length c.args.bytes.now)) c.padded_name.ensures ∙ take-append_seam c.args.bytes.now (replicate (longest_name - length c.args.bytes.now) 0) in
+    let same = ap (take (length c.args.bytes.now)) c.padded_name.ensures
+    ∙ take-append_seam c.args.bytes.now (replicate (longest_name - length c.args.bytes.now) 0) in
     ap Some same ∙ sym (name_of_again c.args.bytes.now (c.if-not-is_event_name.ensures.0 refl))

@@ -10,7 +10,8 @@ abbrev pub invariant-loop-event : goal.invariant-loop-event
 invariant-loop-event l = record {
   valued : All (IsValued l.fn.self.sites) l.event-iterator;
   below : (e : List ℕ) (c : Cell) → greatest (marks_in l.event-iterator) e c ≤ value_at l.other.cells e c;
-  so_far : (e : List ℕ) (c : Cell) → max (value_at l.self.cells e c) (greatest (marks_in l.event-iterator) e c) ≡ max (value_at l.fn.self.cells e c) (value_at l.other.cells e c);
+  so_far : (e : List ℕ) (c : Cell)
+      → max (value_at l.self.cells e c) (greatest (marks_in l.event-iterator) e c) ≡ max (value_at l.fn.self.cells e c) (value_at l.other.cells e c);
   same_sites : l.self.sites ≡ l.fn.self.sites;
   has_room : missing l.self.cells l.other.cells ≤ l.self.room;
   room_left : l.fn.self.room + missing l.self.cells l.other.cells ≤ l.self.room + missing l.fn.self.cells l.other.cells;

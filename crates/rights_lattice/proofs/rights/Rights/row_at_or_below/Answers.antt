@@ -17,7 +17,13 @@ returns c =
     let es = c.self.inside.values.entries in
     let Y = c.args.other.now.cells in
     let site = c.args.site in (
-      λ h e d own. subst (λ (v : RightsView). value_at v.cells e d ≤ value_at Y e d) c.self.view_is (omega (arith, value_at-marks (marks_in es) e d, all_below (λ x. not (owner_of x == site)) Y es e d (sym c.are_at_most_in_row.ensures ∙ h) (ap not (eq-eqb _ _ own)))),
+      λ h e d own. subst (λ (v : RightsView). value_at v.cells e d ≤ value_at Y e d) c.self.view_is
+          (omega (
+            arith,
+            value_at-marks (marks_in es) e d,
+            all_below (λ x. not (owner_of x == site)) Y es e d (sym c.are_at_most_in_row.ensures ∙ h)
+                (ap not (eq-eqb _ _ own)),
+          )),
       λ h. c.are_at_most_in_row.ensures ∙ below_all (λ x. not (owner_of x == site)) Y es (λ e d own.
           let le = subst (λ (v : RightsView). RowAtOrBelow site v.cells Y) (sym c.self.view_is) h e d (eqb-true _ _ (both (owner_of d == site) own)) in
           omega (arith, le, value_at-marks (marks_in es) e d)),

@@ -12,7 +12,9 @@ returns-clause-answered g c = record {
 }
 
 pub returns-clause-stands : goal.returns-clause-stands
-returns-clause-stands g c = stands c.deref_mut.result.now c.ask.new.self c.args.number c.args.request.now c.ask.result c.ask.ensures.asked c.ask.ensures.receipt c.ask.ensures.stays
+returns-clause-stands g c = stands c.deref_mut.result.now c.ask.new.self c.args.number c.args.request.now c.ask.result c.ask.ensures.asked
+    c.ask.ensures.receipt c.ask.ensures.stays
 
 pub returns-clause-shut : goal.returns-clause-shut
-returns-clause-shut g c = λ failed. shut c.deref_mut.result.now c.ask.new.self (answer_in c.ask.result) ask_fault.Store c.ask.ensures.asked.call.closes c.ask.ensures.stays (ap answer_in failed)
+returns-clause-shut g c = λ failed. shut c.deref_mut.result.now c.ask.new.self (answer_in c.ask.result) ask_fault.Store c.ask.ensures.asked.call.closes
+    c.ask.ensures.stays (ap answer_in failed)

@@ -15,7 +15,14 @@ loop-mark-preserved c = λ cell of.
     elim c.if-eq.branch [
       | then-eq w ↦
           let is : m.event ≡ event = rw (← name) (same_event_is c.mark.inside.event event (sym c.eq.ensures ∙ w.if-eq.true)) in
-          rw w.self-is (omega (arith, w.raise.ensures cell of, said m event cell c.mark.inside.cell c.mark.inside.value (ap (λ (v : Valued). v.cell) c.mark.view_is) (ap (λ (v : Valued). v.value) c.mark.view_is) is, c.loop-mark.invariant cell of, more))
+          rw w.self-is (omega (
+            arith,
+            w.raise.ensures cell of,
+            said m event cell c.mark.inside.cell c.mark.inside.value (ap (λ (v : Valued). v.cell) c.mark.view_is)
+                (ap (λ (v : Valued). v.value) c.mark.view_is) is,
+            c.loop-mark.invariant cell of,
+            more,
+          ))
       | else-eq w ↦
           let apart : m.event ≢ event = rw (← name) (other_name event c.mark.inside.event c.eq.result c.eq.ensures w.if-eq.false) in
           rw w.self-is (omega (arith, elsewhere m event cell apart, c.loop-mark.invariant cell of, more))

@@ -9,4 +9,5 @@ use Rattle.site_desk.proofs.event_cells.EventCells.raise_all.Given as goal
 
 -- the cells are raised by the marks so far
 abbrev pub invariant-loop-mark : goal.invariant-loop-mark
-invariant-loop-mark l = (cell : Cell) → IsCellOf max_sites cell → value_in_table l.self cell ≡ max (value_in_table l.fn.self cell) (greatest (take l.mark-index l.marks) l.event cell)
+invariant-loop-mark l = (cell : Cell) → IsCellOf max_sites cell
+    → value_in_table l.self cell ≡ max (value_in_table l.fn.self cell) (greatest (take l.mark-index l.marks) l.event cell)

@@ -14,10 +14,16 @@ invariant_of-self g c =
         broken = search rules;
         same = search rules;
         rests = search rules;
-        acknowledged = λ peer. omega (arith, c.self.invariant.0.acknowledged peer, longer_asked_all (listed all.result) s.book.office s.book.history all.new.book.history c.args.requests.now enters.answered enters.unchanged);
+        acknowledged = λ peer. omega (
+          arith,
+          c.self.invariant.0.acknowledged peer,
+          longer_asked_all (listed all.result) s.book.office s.book.history
+              all.new.book.history c.args.requests.now enters.answered enters.unchanged,
+        );
         has_rights = search rules;
       },
-      exchange_asked_all (listed all.result) s.book.office all.new.book.office s.book.history all.new.book.history c.args.requests.now s.exchange enters.office enters.answered enters.unchanged c.self.invariant.1,
+      exchange_asked_all (listed all.result) s.book.office all.new.book.office s.book.history all.new.book.history c.args.requests.now s.exchange
+          enters.office enters.answered enters.unchanged c.self.invariant.1,
     )
 
 pub returns-clause-sites : goal.returns-clause-sites
@@ -25,4 +31,5 @@ returns-clause-sites g c =
     let s = c.self.inside in
     let all = c.answer_all-asked in
     let enters = all.ensures.enters in
-    rw (← c.self.view_is) (ap (λ o. sites_of o all.new.book.history) enters.office ∙ sites_asked_all (listed all.result) s.book.office s.book.history all.new.book.history c.args.requests.now enters.answered enters.unchanged)
+    rw (← c.self.view_is) (ap (λ o. sites_of o all.new.book.history) enters.office
+    ∙ sites_asked_all (listed all.result) s.book.office s.book.history all.new.book.history c.args.requests.now enters.answered enters.unchanged)

@@ -1,6 +1,6 @@
 use Rattle.std.proofs.Common.{◌≡◌, sym, subst, ap, ◌∙◌, arith, rules, get_or}
 use Rattle.book_core.specs.declared.entry.Entry.TheVariants.{Grown}
-use Rattle.book_core.specs.Decision.{Office, sites_of}
+use Rattle.book_core.specs.Decision.{SiteConfig, sites_of}
 use Rattle.book_core.proofs.Histories.{sites_of-push}
 use Rattle.site_exchange.specs.Pendings.{ExchangeView, IsExchangeOf}
 use Rattle.site_exchange.specs.Taking.{extended}
@@ -17,7 +17,8 @@ invariant_of-self-2 g c =
     let now = c.grow-grown.new.book.history in
     let entry = growth_in book c.args.sites in
     let is : now ≡ extended entry h = c.in_ok-grown.ensures.enters.entered in
-    let counted : sites_of office now ≡ c.args.sites = ap (sites_of office) (is ∙ ap (λ e. extended e h) c.in_ok-grown.ensures.growth) ∙ sites_of-push office h (Grown c.args.sites) in (
+    let counted : sites_of office now ≡ c.args.sites = ap (sites_of office) (is ∙ ap (λ e. extended e h) c.in_ok-grown.ensures.growth)
+    ∙ sites_of-push office h (Grown c.args.sites) in (
       record {
         sound = search rules;
         broken = search rules;
@@ -31,6 +32,7 @@ invariant_of-self-2 g c =
         );
         has_rights = search rules;
       },
-      subst (λ (o : Office). IsExchangeOf o now c.grow.new.self) (sym c.grow-grown.ensures.enters.office)
-          (exchange_grown office entry h now c.self.inside.exchange c.grow.new.self is (c.grow.ensures ∙ ap (λ n. record c.self.inside.exchange { sites = n }) (sym counted)) c.self.invariant.1),
+      subst (λ (o : SiteConfig). IsExchangeOf o now c.grow.new.self) (sym c.grow-grown.ensures.enters.office)
+          (exchange_grown office entry h now c.self.inside.exchange c.grow.new.self is
+          (c.grow.ensures ∙ ap (λ n. record c.self.inside.exchange { sites = n }) (sym counted)) c.self.invariant.1),
     )

@@ -16,12 +16,13 @@ invariant_of-self-in-Ack g c = (
     same = c.self.invariant.0.same;
     rests = c.self.invariant.0.rests;
     acknowledged = λ peer. subst (λ (acked : List ℕ). get_or acked peer 0 ≤ length c.self.inside.book.history) (sym c.in_ok-ack-in-Ack.ensures.acked)
-        (raised_within c.self.inside.exchange.acked c.in-Ack.by c.in-Ack.upto (length c.self.inside.book.history) c.self.invariant.0.acknowledged (search rules) peer);
+        (raised_within c.self.inside.exchange.acked c.in-Ack.by c.in-Ack.upto (length c.self.inside.book.history) c.self.invariant.0.acknowledged
+        (search rules) peer);
     has_rights = c.self.invariant.0.has_rights;
   },
   record {
     counted = c.in_ok-ack-in-Ack.ensures.sites ∙ c.self.invariant.1.counted;
-    pending = λ peer. c.in_ok-ack-in-Ack.ensures.pending peer (c.self.invariant.1.pending peer);
+    pending = λ peer. c.in_ok-ack-in-Ack.ensures.kept.pending peer (c.self.invariant.1.pending peer);
   },
 )
 
@@ -36,10 +37,15 @@ invariant_of-self-in-Delta g c =
         broken = search rules;
         same = search rules;
         rests = search rules;
-        acknowledged = λ peer. omega (arith, c.self.invariant.0.acknowledged peer, no_shorter c.join-taken.result entry h now c.join-taken.ensures.enters.entered c.join-taken.ensures.enters.unchanged);
+        acknowledged = λ peer. omega (
+          arith,
+          c.self.invariant.0.acknowledged peer,
+          no_shorter c.join-taken.result entry h now c.join-taken.ensures.enters.entered c.join-taken.ensures.enters.unchanged,
+        );
         has_rights = search rules;
       },
-      exchange_entered c.join-taken.result office c.join-taken.new.book.office entry h now c.self.inside.exchange c.join-taken.ensures.enters.office c.join-taken.ensures.enters.entered c.join-taken.ensures.enters.unchanged
+      exchange_entered c.join-taken.result office c.join-taken.new.book.office entry h now c.self.inside.exchange c.join-taken.ensures.enters.office
+          c.join-taken.ensures.enters.entered c.join-taken.ensures.enters.unchanged
           (count_of_join office h c.in-Delta.by c.in-Delta.delta) c.self.invariant.1,
     )
 

@@ -21,7 +21,8 @@ loop-place-preserved c = elim c.match-entry.branch [
         named = (λ i. c.loop-place.invariant.named i || named i) ∙ sym (knows_more h c.loop-place.place e event (sym w.in-Some.ensures));
         event = c.loop-place.invariant.event;
       })
-  | in_default w ↦ absurd (not_none c.args.book.now.history c.loop-place.place (omega (arith, c.loop-place-test.true, c.requires.within)) (sym w.in_default.ensures))
+  | in_default w ↦ absurd (not_none c.args.book.now.history c.loop-place.place (omega (arith, c.loop-place-test.true, c.requires.within))
+      (sym w.in_default.ensures))
 ]
 
 pub returns-clause-walked : goal.returns-clause-walked

@@ -11,13 +11,23 @@ returns-then-site-len-clause-never g c =
 
 pub invariant_of-self : goal.invariant_of-self
 invariant_of-self g c =
-    goes_on g.K.Keeper (record { books = c.self.inside.books.items; given = c.self.inside.given.items }) c.args.site c.index_mut-book.result.now (Asks c.args.number c.args.request.now c.ask.result) c.ask.new.self
-    c.self.invariant (slice_get_read c.self.inside.books.items (length c.self.inside.books.items) c.args.site c.index_mut-book.result.now refl (omega (arith, c.if-site-len.false, c.len.ensures)) c.index_mut-book.ensures.value) c.ask.ensures.asked
+    goes_on g.K.Keeper (record { books = c.self.inside.books.items; given = c.self.inside.given.items }) c.args.site c.index_mut-book.result.now
+    (Asks c.args.number c.args.request.now c.ask.result) c.ask.new.self
+    c.self.invariant (slice_get_read c.self.inside.books.items (length c.self.inside.books.items) c.args.site c.index_mut-book.result.now refl
+    (omega (arith, c.if-site-len.false, c.len.ensures)) c.index_mut-book.ensures.value) c.ask.ensures.asked
 
 pub returns-clause-moves : goal.returns-clause-moves
 returns-clause-moves g c =
-    subst (λ s. Moves g.K.Keeper s c.args.site (Asks c.args.number c.args.request.now c.ask.result) (record { books = slice_set c.self.inside.books.items c.args.site c.ask.new.self; given = c.self.inside.given.items })) c.self.view_is
-    (c.index_mut-book.result.now, c.ask.new.self, (slice_get_read c.self.inside.books.items (length c.self.inside.books.items) c.args.site c.index_mut-book.result.now refl (omega (arith, c.if-site-len.false, c.len.ensures)) c.index_mut-book.ensures.value), c.ask.ensures.asked, refl)
+    subst (λ s. Moves g.K.Keeper s c.args.site (Asks c.args.number c.args.request.now c.ask.result)
+    (record { books = slice_set c.self.inside.books.items c.args.site c.ask.new.self; given = c.self.inside.given.items })) c.self.view_is (
+      c.index_mut-book.result.now,
+      c.ask.new.self,
+      (slice_get_read c.self.inside.books.items (length c.self.inside.books.items) c.args.site c.index_mut-book.result.now refl
+          (omega (arith, c.if-site-len.false, c.len.ensures)) c.index_mut-book.ensures.value),
+      c.ask.ensures.asked,
+      refl,
+    )
 
 pub returns-clause-never : goal.returns-clause-never
-returns-clause-never g c = run_not_oversold g.K.Keeper (record { books = slice_set c.self.inside.books.items c.args.site c.ask.new.self; given = c.self.inside.given.items }) (invariant_of-self g c)
+returns-clause-never g c = run_not_oversold g.K.Keeper
+    (record { books = slice_set c.self.inside.books.items c.args.site c.ask.new.self; given = c.self.inside.given.items }) (invariant_of-self g c)

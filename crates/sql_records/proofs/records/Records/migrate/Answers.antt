@@ -13,12 +13,14 @@ returns g c =
       schema = search rules;
       first = search rules;
       set = search rules;
-      rest = λ clean. c.in_ok-set_version.ensures.rest clean (length (history_in (state g.S.Store c.args.conn.now).now.trees)) (c.in_ok-check_first.ensures.rest (c.set_version.ensures.clean clean));
+      rest = λ clean. c.in_ok-set_version.ensures.rest clean (length (history_in (state g.S.Store c.args.conn.now).now.trees))
+          (c.in_ok-check_first.ensures.rest (c.set_version.ensures.clean clean));
       leaves = search rules;
       site = search rules;
       crash = search rules;
       either = search rules;
-      reads = λ outside is_open clean. same_entries (state g.S.Store c.args.conn.now).now.trees (state g.S.Store c.set_version.new.conn) (search (rules, outside, is_open, clean));
+      reads = λ outside is_open clean. same_entries (state g.S.Store c.args.conn.now).now.trees (state g.S.Store c.set_version.new.conn)
+          (search (rules, outside, is_open, clean));
       refused = search rules;
       as_before = search rules;
       fault = search rules;
@@ -38,7 +40,8 @@ returns-in_err-check_first g c =
       site = search rules;
       crash = search rules;
       either = search rules;
-      reads = λ outside is_open clean. same_entries (state g.S.Store c.args.conn.now).now.trees (state g.S.Store c.check_first.new.conn) (search (rules, outside, is_open, clean));
+      reads = λ outside is_open clean. same_entries (state g.S.Store c.args.conn.now).now.trees (state g.S.Store c.check_first.new.conn)
+          (search (rules, outside, is_open, clean));
       refused = search rules;
       as_before = search rules;
       fault = search rules;
@@ -58,11 +61,13 @@ returns-in_err-set_version g c =
       site = search rules;
       crash = search rules;
       either = search rules;
-      reads = λ outside is_open clean. same_entries (state g.S.Store c.args.conn.now).now.trees (state g.S.Store c.set_version.new.conn) (search (rules, outside, is_open, clean));
+      reads = λ outside is_open clean. same_entries (state g.S.Store c.args.conn.now).now.trees (state g.S.Store c.set_version.new.conn)
+          (search (rules, outside, is_open, clean));
       refused = search rules;
       as_before = search rules;
       fault = λ clean. if_err c.from_residual-in_err-set_version.result _ _ c.from_residual-in_err-set_version.ensures.1
-          (λ f e. rw e (unset g.S.Store c.args.conn.now c.check_first.new.conn c.set_version.new.conn c.in_err-set_version.field-0.0 c.in_ok-check_first.ensures.schema
+          (λ f e. rw e (unset g.S.Store c.args.conn.now c.check_first.new.conn c.set_version.new.conn c.in_err-set_version.field-0.0
+          c.in_ok-check_first.ensures.schema
           (c.in_ok-check_first.ensures.reads.same (c.set_version.ensures.clean clean)) (c.in_err-set_version.ensures.fails clean)));
       limit = search rules;
       clean = search rules;

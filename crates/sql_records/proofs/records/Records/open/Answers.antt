@@ -17,8 +17,10 @@ invariant_of-records g c _ clean =
     let last = state g.S.Store c.read_records.new.conn in
     let autocommit : IsTrue c.is_autocommit-is_settled.result = c.if-not-is_settled.false in
     let outside : c.args.conn.in_transaction ≡ false = not-true _ (sym c.is_autocommit-is_settled.ensures.value ∙ autocommit) in
-    let count : c.len.result ≡ length (history_in first.now.trees) = omega (arith, c.in_ok-entries.entries.ok.0, ap length (c.in_ok-entries.ensures.entries clean)) in
-    opened first last c.len.result (c.in_ok-entries.ensures.reads.same clean) outside (c.is_autocommit-is_settled.ensures.settled autocommit) c.read_records.ensures.live c.in_ok-entries.ensures.schema (c.in_ok-entries.ensures.whole clean) count
+    let count : c.len.result ≡ length (history_in first.now.trees) = omega
+    (arith, c.in_ok-entries.entries.ok.0, ap length ((c.in_ok-entries.ensures.read clean).entries_are.1)) in
+    opened first last c.len.result (c.in_ok-entries.ensures.reads.same clean) outside (c.is_autocommit-is_settled.ensures.settled autocommit)
+    c.read_records.ensures.live c.in_ok-entries.ensures.schema (c.in_ok-entries.ensures.read clean).entries_are.0.0 count
 
 pub returns-clause-opened : goal.returns-clause-opened
 returns-clause-opened g c =
@@ -27,7 +29,8 @@ returns-clause-opened g c =
     let entries = c.in_ok-entries.ensures in
     let autocommit : IsTrue c.is_autocommit-is_settled.result = c.if-not-is_settled.false in
     let outside : c.args.conn.in_transaction ≡ false = not-true _ (sym c.is_autocommit-is_settled.ensures.value ∙ autocommit) in
-    let settled = λ (db : Trees) (is_open : IsTrue last.is_open) (left : last.may_leave db). g.met.S.Store.settled c.read_records.new.conn.store db is_open left in
+    let settled = λ (db : Trees) (is_open : IsTrue last.is_open) (left : last.may_leave db). g.met.S.Store.settled c.read_records.new.conn.store db is_open
+    left in
     record {
       sound = refl;
       limit = c.read_records.ensures.reads.limit;
@@ -37,19 +40,27 @@ returns-clause-opened g c =
       read = λ clean.
           let same = entries.reads.same clean in
           let now = same.0.now_is in
-          let count : c.len.result ≡ length (history_in first.now.trees) = omega (arith, c.in_ok-entries.entries.ok.0, ap length (entries.entries clean)) in
-          let rest = opened first last c.len.result same outside (c.is_autocommit-is_settled.ensures.settled autocommit) c.read_records.ensures.live entries.schema (entries.whole clean) count in
-          let meta_is = subst (λ (d : Database). HasMeta c.in_ok-entries.meta d.trees) (sym now) (entries.meta clean) in
+          let count : c.len.result ≡ length (history_in first.now.trees) = omega
+          (arith, c.in_ok-entries.entries.ok.0, ap length ((entries.read clean).entries_are.1)) in
+          let rest = opened first last c.len.result same outside (c.is_autocommit-is_settled.ensures.settled autocommit) c.read_records.ensures.live
+          entries.schema (entries.read clean).entries_are.0.0 count in
+          let meta_is = subst (λ (d : Database). HasMeta c.in_ok-entries.meta d.trees) (sym now) (entries.read clean).meta_is in
           record {
             clean = c.read_records.ensures.reads.clean clean;
             unchanged = same;
             same = now;
             autocommit = same.0.mode ∙ outside;
-            entries_are = entries.entries clean ∙ ap (λ (d : Database). history_in d.trees) (sym now);
-            found = read_from 0 (rows_in first.now.trees) (entries.whole clean) ∙ ap Some (sym (entries.entries clean));
-            holds = record { schema = c.args.conn.schema; ours = entries.schema; sound = (c.read_records.ensures.live same.0.was_open).0; numbers = entries.meta clean; within = entries.numbers };
+            entries_are = (entries.read clean).entries_are.1 ∙ ap (λ (d : Database). history_in d.trees) (sym now);
+            found = read_from 0 (rows_in first.now.trees) (entries.read clean).entries_are.0.0 ∙ ap Some (sym ((entries.read clean).entries_are.1));
+            holds = record {
+              schema = c.args.conn.schema;
+              ours = entries.schema;
+              sound = (c.read_records.ensures.live same.0.was_open).0;
+              numbers = (entries.read clean).meta_is;
+              within = entries.numbers;
+            };
             meta_is = meta_is;
-            given = λ meta has. one_meta Second _ meta first.now.trees (entries.meta clean) has;
+            given = λ meta has. one_meta Second _ meta first.now.trees (entries.read clean).meta_is has;
             site = leaves_site last c.len.result rest settled _ entries.numbers meta_is;
             leaves = leaves_only last c.len.result rest settled (λ is_open. g.met.S.Store.stays c.read_records.new.conn.store is_open);
           };

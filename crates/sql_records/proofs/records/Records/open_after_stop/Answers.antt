@@ -28,7 +28,8 @@ returns-in-Err-clause-opens g c =
           let both = h.1 clean in
           let first = state g.S.Store c.in-Some.again in
           let left = c.in-Some.ensures.left both.0 in
-          after_stop first (state g.S.Store h.0) meta (site first.now.trees left) (c.in-Some.ensures.sound both.0) (opens _ (first.now.trees, left, refl)) c.in-Err.fault both.1,
+          after_stop first (state g.S.Store h.0) meta (site first.now.trees left) (c.in-Some.ensures.sound both.0) (opens _ (first.now.trees, left, refl))
+          c.in-Err.fault both.1,
     )
 
 pub returns-in-Err-clause-fault : goal.returns-in-Err-clause-fault

@@ -9,10 +9,12 @@ pub returns-in-Ok-clause-kept : goal.returns-in-Ok-clause-kept
 returns-in-Ok-clause-kept g c clean =
     let conn = c.store.new.conn in
     let new = state g.S.Store conn in
-    let only = leaves_only new _ (c.in-Ok.ensures.rest clean) (λ db is_open left. g.met.S.Store.settled conn.store db is_open left) (λ is_open. g.met.S.Store.stays conn.store is_open) in
-    keeps _ _ (MayLeaveIn new) (c.in-Ok.ensures.added clean ∙ ap (λ k. kept_in g.S.Store k ++ c.args.entry.now ∷ []) c.self.view_is) only
+    let it = (c.in-Ok.ensures.stores clean).more in
+    let only = leaves_only new _ (it.rest) (λ db is_open left. g.met.S.Store.settled conn.store db is_open left)
+    (λ is_open. g.met.S.Store.stays conn.store is_open) in
+    keeps _ _ (MayLeaveIn new) (it.added ∙ ap (λ k. kept_in g.S.Store k ++ c.args.entry.now ∷ []) c.self.view_is) only
 
 pub returns-in-Err-clause-stopped : goal.returns-in-Err-clause-stopped
 returns-in-Err-clause-stopped g c none clean =
     let new = state g.S.Store c.store.new.conn in
-    subst (λ k. LeavesWithOrWithout (kept_in g.S.Store k) c.args.entry.now (MayLeaveIn new)) c.self.view_is (c.store.ensures.stopped clean)
+    subst (λ k. LeavesWithOrWithout (kept_in g.S.Store k) c.args.entry.now (MayLeaveIn new)) c.self.view_is ((c.store.ensures.stores clean).crash)

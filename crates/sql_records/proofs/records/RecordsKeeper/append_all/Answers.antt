@@ -9,7 +9,8 @@ pub returns-in-Ok-clause-kept : goal.returns-in-Ok-clause-kept
 returns-in-Ok-clause-kept g c clean =
     let conn = c.store_all.new.conn in
     let new = state g.S.Store conn in
-    let only = leaves_only new _ ((c.in-Ok.ensures.more clean).rest) (λ db is_open left. g.met.S.Store.settled conn.store db is_open left) (λ is_open. g.met.S.Store.stays conn.store is_open) in
+    let only = leaves_only new _ ((c.in-Ok.ensures.more clean).rest) (λ db is_open left. g.met.S.Store.settled conn.store db is_open left)
+    (λ is_open. g.met.S.Store.stays conn.store is_open) in
     keeps _ _ (MayLeaveIn new) ((c.in-Ok.ensures.more clean).added ∙ ap (λ k. kept_in g.S.Store k ++ c.args.entries.now) c.self.view_is) only
 
 pub returns-in-Err-clause-stopped : goal.returns-in-Err-clause-stopped

@@ -20,87 +20,112 @@ use Rattle.world_steps.proofs.world.World.deliver.Goals as goal
 
 pub index-requires : goal.index-requires
 index-requires c =
-    let there = is_for c.self.inside.sites.items c.self.inside.sent.items c.args.index c.number-place.result c.index-message.result.now c.self.invariant (search rules) c.index-message.ensures (c.number-place.ensures.number ∙ c.receiver.ensures) in
+    let there = is_for c.self.inside.sites.items c.self.inside.sent.items c.args.index c.number-place.result c.index-message.result.now c.self.invariant
+    (search rules) c.index-message.ensures (c.number-place.ensures.number ∙ c.receiver.ensures) in
     let below : c.number-place.result < length c.self.inside.sites.items = there.below in
     search rules
 
 pub index_mut-node-requires : goal.index_mut-node-requires
 index_mut-node-requires c =
-    let there = is_for c.self.inside.sites.items c.self.inside.sent.items c.args.index c.number-place.result c.index-message.result.now c.self.invariant (search rules) c.index-message.ensures (c.number-place.ensures.number ∙ c.receiver.ensures) in
+    let there = is_for c.self.inside.sites.items c.self.inside.sent.items c.args.index c.number-place.result c.index-message.result.now c.self.invariant
+    (search rules) c.index-message.ensures (c.number-place.ensures.number ∙ c.receiver.ensures) in
     let below : c.number-place.result < length c.self.inside.sites.items = there.below in
     search rules
 
-pub returns-then-is_err-clause-fault : goal.returns-then-is_err-clause-fault
-returns-then-is_err-clause-fault c =
-    subst (λ (w : World). IsDue w (Deliver c.args.index) Memory) c.self.view_is (sent_is_due (world_of c.self.inside.sites.items c.self.inside.sent.items) c.args.index (search rules))
-
-pub returns-then-is_err-2-clause-fault : goal.returns-then-is_err-2-clause-fault
-returns-then-is_err-2-clause-fault c =
-    subst (λ (w : World). IsDue w (Deliver c.args.index) Memory) c.self.view_is (sent_is_due (world_of c.self.inside.sites.items c.self.inside.sent.items) c.args.index (search rules))
-
-pub returns-then-is_err-clause-memory : goal.returns-then-is_err-clause-memory
-returns-then-is_err-clause-memory c refused =
-    let there = is_for c.self.inside.sites.items c.self.inside.sent.items c.args.index c.number-place.result c.index-message.result.now c.self.invariant (search rules) c.index-message.ensures (c.number-place.ensures.number ∙ c.receiver.ensures) in
-    let acknowledged : IsSome c.ack_due-ack.result = search rules in
-    subst (λ (w : World). MayWantMemory w (Deliver c.args.index)) c.self.view_is
-    (deliver_wants c.self.inside.sites.items c.self.inside.sent.items c.args.index c.number-place.result c.index-message.result.now c.index.result.now
-    c.self.invariant there.sent_is there.to there.below c.index.ensures
-    (inl (subst IsSome (c.ack_due-ack.ensures ∙ ap (λ (v : Verdict). ack_due v c.index-message.result.now) (verdict_by _ c.index-message.result.now c.book.result.now c.index.result.now.book c.judge-taken.ensures c.book.ensures)) acknowledged)))
+pub returns-then-is_err : goal.returns-then-is_err
+returns-then-is_err c = record {
+  outcome = tt;
+  fault = subst (λ (w : World). IsDue w (Deliver c.args.index) Memory) c.self.view_is
+      (sent_is_due (world_of c.self.inside.sites.items c.self.inside.sent.items) c.args.index (search rules));
+  memory = λ refused.
+      let there = is_for c.self.inside.sites.items c.self.inside.sent.items c.args.index c.number-place.result c.index-message.result.now c.self.invariant
+      (search rules) c.index-message.ensures (c.number-place.ensures.number ∙ c.receiver.ensures) in
+      let acknowledged : IsSome c.ack_due-ack.result = search rules in
+      subst (λ (w : World). MayWantMemory w (Deliver c.args.index)) c.self.view_is
+      (deliver_wants c.self.inside.sites.items c.self.inside.sent.items c.args.index c.number-place.result c.index-message.result.now c.index.result.now
+      c.self.invariant there.sent_is there.to there.below c.index.ensures
+      (inl (subst IsSome (c.ack_due-ack.ensures
+      ∙ ap (λ (v : Verdict). ack_due v c.index-message.result.now)
+      (verdict_by _ c.index-message.result.now c.book.result.now c.index.result.now.book c.judge-taken.ensures c.book.ensures)) acknowledged)));
+  made = tt;
+  unchanged = search rules;
+}
 
 in_err : (c : goal.Joined-ack-3) → IsFor c.self.inside.sites.items c.self.inside.sent.items c.args.index c.number-place.result c.index-message.result.now
-in_err c = is_for c.self.inside.sites.items c.self.inside.sent.items c.args.index c.number-place.result c.index-message.result.now c.self.invariant (search rules) c.index-message.ensures (c.number-place.ensures.number ∙ c.receiver.ensures)
+in_err c = is_for c.self.inside.sites.items c.self.inside.sent.items c.args.index c.number-place.result c.index-message.result.now c.self.invariant
+    (search rules) c.index-message.ensures (c.number-place.ensures.number ∙ c.receiver.ensures)
 
 node_in_err : (c : goal.Joined-ack-3) → slice_get c.self.inside.sites.items c.number-place.result ≡ Some c.index_mut-node.result.now
 node_in_err c = found_at c.self.inside.sites.items c.number-place.result c.index_mut-node.result.now (in_err c).below c.index_mut-node.ensures.value
 
-pub returns-then-is_err-2-clause-memory : goal.returns-then-is_err-2-clause-memory
-returns-then-is_err-2-clause-memory c refused =
-    let node : NodeView = c.index_mut-node.result.now in
-    let wanted : MayTake (verdict node.book.office node.book.history c.index-2.result.now) (site_of node) c.index-2.result.now = search rules in
-    let same = same_message c.self.inside.sent.items c.make_room.new.sent.items c.args.index c.index-message.result.now c.index-2.result.now c.make_room.ensures.items (search rules) c.index-message.ensures c.index-2.ensures in
-    subst (λ (w : World). MayWantMemory w (Deliver c.args.index)) c.self.view_is
-    (deliver_wants c.self.inside.sites.items c.self.inside.sent.items c.args.index c.number-place.result c.index-message.result.now node
-    c.self.invariant (in_err c).sent_is (in_err c).to (in_err c).below c.index_mut-node.ensures.value
-    (inr (subst (λ (m : Message). MayTake (verdict node.book.office node.book.history m) (site_of node) m) same wanted)))
-
 pub invariant_of-self-then-is_err-2 : goal.invariant_of-self-then-is_err-2
 invariant_of-self-then-is_err-2 c =
     subst (λ (sent : List Message). IsKept (slice_set c.self.inside.sites.items c.number-place.result c.take.new.node) sent) (sym c.make_room.ensures.items)
-    (kept_same c.self.inside.sites.items c.self.inside.sent.items c.number-place.result c.index_mut-node.result.now c.take.new.node c.self.invariant (node_in_err c) c.take.ensures.office (search rules))
+    (kept_same c.self.inside.sites.items c.self.inside.sent.items c.number-place.result c.index_mut-node.result.now c.take.new.node c.self.invariant
+    (node_in_err c) c.take.ensures.site.office (search rules))
 
-pub returns-then-is_err-2-clause-unchanged : goal.returns-then-is_err-2-clause-unchanged
-returns-then-is_err-2-clause-unchanged c =
-    ap (world_of (slice_set c.self.inside.sites.items c.number-place.result c.take.new.node)) c.make_room.ensures.items
-    ∙ same_world c.self.inside.sites.items c.self.inside.sent.items c.number-place.result c.index_mut-node.result.now c.take.new.node (node_in_err c) c.take.ensures.office (search rules)
-    ∙ c.self.view_is
+pub returns-then-is_err-2 : goal.returns-then-is_err-2
+returns-then-is_err-2 c = record {
+  outcome = tt;
+  fault = subst (λ (w : World). IsDue w (Deliver c.args.index) Memory) c.self.view_is
+      (sent_is_due (world_of c.self.inside.sites.items c.self.inside.sent.items) c.args.index (search rules));
+  memory = λ refused.
+      let node : NodeView = c.index_mut-node.result.now in
+      let wanted : MayTake (verdict node.book.office node.book.history c.index-2.result.now) (site_of node) c.index-2.result.now = search rules in
+      let same = same_message c.self.inside.sent.items c.make_room.new.sent.items c.args.index c.index-message.result.now c.index-2.result.now
+      c.make_room.ensures.items (search rules) c.index-message.ensures c.index-2.ensures in
+      subst (λ (w : World). MayWantMemory w (Deliver c.args.index)) c.self.view_is
+      (deliver_wants c.self.inside.sites.items c.self.inside.sent.items c.args.index c.number-place.result c.index-message.result.now node
+      c.self.invariant (in_err c).sent_is (in_err c).to (in_err c).below c.index_mut-node.ensures.value
+      (inr (subst (λ (m : Message). MayTake (verdict node.book.office node.book.history m) (site_of node) m) same wanted)));
+  made = tt;
+  unchanged =
+      ap (world_of (slice_set c.self.inside.sites.items c.number-place.result c.take.new.node)) c.make_room.ensures.items
+      ∙ same_world c.self.inside.sites.items c.self.inside.sent.items c.number-place.result c.index_mut-node.result.now c.take.new.node (node_in_err c)
+      c.take.ensures.site.office (search rules)
+      ∙ c.self.view_is;
+}
 
-given : (c : goal.After-put) → IsDelivered c.self.inside.sites.items c.self.inside.sent.items (slice_set c.self.inside.sites.items c.number-place.result c.take.new.node) (with_given c.self.inside.sent.items (ack_due (verdict_told c.judge-taken.result) c.index-message.result.now)) c.args.index (taken_as (verdict_told c.judge-taken.result) (length c.self.inside.sent.items))
+given : (c : goal.After-put) → IsDelivered c.self.inside.sites.items c.self.inside.sent.items
+    (slice_set c.self.inside.sites.items c.number-place.result c.take.new.node)
+    (with_given c.self.inside.sent.items (ack_due (verdict_told c.judge-taken.result) c.index-message.result.now)) c.args.index
+    (taken_as (verdict_told c.judge-taken.result) (length c.self.inside.sent.items))
 given c =
     let old : NodeView = c.index_mut-node.result.now in
-    let there = is_for c.self.inside.sites.items c.self.inside.sent.items c.args.index c.number-place.result c.index-message.result.now c.self.invariant (search rules) c.index-message.ensures (c.number-place.ensures.number ∙ c.receiver.ensures) in
-    let changed : site_of c.take.new.node ≡ site_after (verdict old.book.office old.book.history c.index-2.result.now) c.index-2.result.now (site_of old) = search rules in
-    deliver_gives c.self.inside.sites.items c.self.inside.sent.items c.args.index c.number-place.result c.index-message.result.now old c.take.new.node c.judge-taken.result
-    c.self.invariant there.sent_is there.to there.below c.index_mut-node.ensures.value c.take.ensures.office
+    let there = is_for c.self.inside.sites.items c.self.inside.sent.items c.args.index c.number-place.result c.index-message.result.now c.self.invariant
+    (search rules) c.index-message.ensures (c.number-place.ensures.number ∙ c.receiver.ensures) in
+    let changed : site_of c.take.new.node ≡ site_after (verdict old.book.office old.book.history c.index-2.result.now) c.index-2.result.now (site_of old)
+    = search rules in
+    deliver_gives c.self.inside.sites.items c.self.inside.sent.items c.args.index c.number-place.result c.index-message.result.now old c.take.new.node
+    c.judge-taken.result
+    c.self.invariant there.sent_is there.to there.below c.index_mut-node.ensures.value c.take.ensures.site.office
     (verdict_by _ c.index-message.result.now c.book.result.now c.index.result.now.book c.judge-taken.ensures c.book.ensures
-    ∙ ap (λ (n : NodeView). verdict n.book.office n.book.history c.index-message.result.now) (same_node c.self.inside.sites.items c.number-place.result c.index.result.now old there.below c.index.ensures c.index_mut-node.ensures.value))
+    ∙ ap (λ (n : NodeView). verdict n.book.office n.book.history c.index-message.result.now)
+    (same_node c.self.inside.sites.items c.number-place.result c.index.result.now old there.below c.index.ensures c.index_mut-node.ensures.value))
     (changed
     ∙ ap (λ (m : Message). site_after (verdict old.book.office old.book.history m) m (site_of old))
-    (same_message c.self.inside.sent.items c.make_room.new.sent.items c.args.index c.index-message.result.now c.index-2.result.now c.make_room.ensures.items (search rules) c.index-message.ensures c.index-2.ensures))
+    (same_message c.self.inside.sent.items c.make_room.new.sent.items c.args.index c.index-message.result.now c.index-2.result.now
+    c.make_room.ensures.items (search rules) c.index-message.ensures c.index-2.ensures))
 
-sent_now : (c : goal.After-put) → with_given c.self.inside.sent.items (ack_due (verdict_told c.judge-taken.result) c.index-message.result.now) ≡ c.put.new.sent.items
+sent_now : (c : goal.After-put)
+    → with_given c.self.inside.sent.items (ack_due (verdict_told c.judge-taken.result) c.index-message.result.now) ≡ c.put.new.sent.items
 sent_now c =
     (λ k. with_given (sym c.make_room.ensures.items k) (sym c.ack_due-ack.ensures k)) ∙ sym c.put.ensures
 
 pub invariant_of-self-2 : goal.invariant_of-self-2
-invariant_of-self-2 c = subst (λ (sent : List Message). IsKept (slice_set c.self.inside.sites.items c.number-place.result c.take.new.node) sent) (sent_now c) (given c).kept
+invariant_of-self-2 c = subst (λ (sent : List Message). IsKept (slice_set c.self.inside.sites.items c.number-place.result c.take.new.node) sent)
+    (sent_now c) (given c).kept
 
-pub returns-clause-outcome : goal.returns-clause-outcome
-returns-clause-outcome c =
-    subst (λ (w : World). outcome w (Deliver c.args.index) ≡ Ok c.taken_as-outcome.result) c.self.view_is
-    ((given c).outcome ∙ ap (λ (o : Outcome). let r : Result Outcome WorldFault = Ok o in r) (ap (taken_as (verdict_told c.judge-taken.result)) (search rules) ∙ sym c.taken_as-outcome.ensures))
-
-pub returns-clause-made : goal.returns-clause-made
-returns-clause-made c =
-    let now : World = world_of (slice_set c.self.inside.sites.items c.number-place.result c.take.new.node) c.put.new.sent.items in
-    subst (λ (w : World). now ≡ after w (Deliver c.args.index)) c.self.view_is
-    (ap (world_of (slice_set c.self.inside.sites.items c.number-place.result c.take.new.node)) (sym (sent_now c)) ∙ (given c).made)
+pub returns : goal.returns
+returns c =
+    let now : World = world_of (slice_set c.self.inside.sites.items c.number-place.result c.take.new.node) c.put.new.sent.items in record {
+      outcome =
+          subst (λ (w : World). outcome w (Deliver c.args.index) ≡ Ok c.taken_as-outcome.result) c.self.view_is
+          ((given c).outcome ∙ ap (λ (o : Outcome). let r : Result Outcome WorldFault = Ok o in r)
+          (ap (taken_as (verdict_told c.judge-taken.result)) (search rules) ∙ sym c.taken_as-outcome.ensures));
+      fault = tt;
+      memory = λ never. cc;
+      made = subst (λ (w : World). now ≡ after w (Deliver c.args.index)) c.self.view_is
+          (ap (world_of (slice_set c.self.inside.sites.items c.number-place.result c.take.new.node)) (sym (sent_now c)) ∙ (given c).made);
+      unchanged = tt;
+    }

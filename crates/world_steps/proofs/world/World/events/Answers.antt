@@ -22,7 +22,8 @@ loop-node-preserved c =
     ap (λ (w : World). history_at w i) (sym c.self.view_is)
     ∙ history_found c.self.inside.sites.items c.self.inside.sent.items i node found
     ∙ ap (λ (b : BookView). b.history) (sym c.book.ensures) in
-    known_more (history_at c.args.self.now) i c.book.result.now.history c.loop-node.names.keys c.add_names.new.names.keys is c.loop-node.invariant c.in_ok-add_names.ensures
+    known_more (history_at c.args.self.now) i c.book.result.now.history c.loop-node.names.keys c.add_names.new.names.keys is c.loop-node.invariant
+    c.in_ok-add_names.ensures
 
 pub returns : goal.returns
 returns c =

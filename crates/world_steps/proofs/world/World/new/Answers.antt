@@ -8,11 +8,14 @@ use Rattle.world_steps.proofs.Promised.{promises_hold}
 use Rattle.world_steps.proofs.Sites.{kept_opening}
 use Rattle.world_steps.proofs.world.World.new.Goals as goal
 
-kept : (c : goal.After-new) → IsKept c.add_sites.new.nodes.items c.new.result.items × (world_of c.add_sites.new.nodes.items c.new.result.items ≡ opening c.args.sites c.args.limit)
+kept : (c : goal.After-new) → IsKept c.add_sites.new.nodes.items c.new.result.items
+    × (world_of c.add_sites.new.nodes.items c.new.result.items ≡ opening c.args.sites c.args.limit)
 kept c =
     let none : AreAdded c.args.sites c.args.limit [] c.add_sites.new.nodes.items =
-    subst (λ (old : List NodeView). AreAdded c.args.sites c.args.limit old c.add_sites.new.nodes.items) (c.in_ok-reserve.ensures.items ∙ c.new-nodes.ensures.items) c.add_sites.ensures in
-    kept_opening c.args.sites c.args.limit c.add_sites.new.nodes.items c.new.result.items (few_sites c.args.sites (omega (arith, c.count.ensures.count, c.count.ensures.few)))
+    subst (λ (old : List NodeView). AreAdded c.args.sites c.args.limit old c.add_sites.new.nodes.items)
+    (c.in_ok-reserve.ensures.items ∙ c.new-nodes.ensures.items) c.add_sites.ensures in
+    kept_opening c.args.sites c.args.limit c.add_sites.new.nodes.items c.new.result.items
+    (few_sites c.args.sites (omega (arith, c.count.ensures.count, c.count.ensures.few)))
     c.new.ensures.items none
 
 pub invariant_of-result : goal.invariant_of-result

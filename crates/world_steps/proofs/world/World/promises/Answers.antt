@@ -9,4 +9,5 @@ pub returns-clause-reached : goal.returns-clause-reached
 returns-clause-reached c = subst IsReached c.self.view_is c.self.invariant.reached
 
 pub returns-clause-promises : goal.returns-clause-promises
-returns-clause-promises c = subst HoldsPromises c.self.view_is (promises_hold (world_of c.self.inside.sites.items c.self.inside.sent.items) c.self.invariant.reached)
+returns-clause-promises c = subst HoldsPromises c.self.view_is
+    (promises_hold (world_of c.self.inside.sites.items c.self.inside.sent.items) c.self.invariant.reached)

@@ -59,7 +59,8 @@ returns-clause-totals c =
       length-sites c.self.inside.sites.items,
       ap count c.self.view_is,
     ) in
-    own_totals (count w) c.loop-node.node-index (history_at w) (λ i. get_or w.counts i 0) (λ i. get_or w.limits i 0) c.args.event c.loop-node.totals sound.legal all c.loop-node.invariant.own
+    own_totals (count w) c.loop-node.node-index (history_at w) (λ i. get_or w.counts i 0) (λ i. get_or w.limits i 0) c.args.event c.loop-node.totals
+    sound.legal all c.loop-node.invariant.own
 
 promises : (c : goal.After-loop-node) → HoldsPromises c.args.self.now
 promises c = subst HoldsPromises c.self.view_is (promises_hold (world_of c.self.inside.sites.items c.self.inside.sent.items) c.self.invariant.reached)

@@ -1,4 +1,0 @@
-use Rattle.live_office.proofs.office_seat.OfficeSeat.import.Goals as goal
-
-pub failed-requires : goal.failed-requires
-failed-requires g c = ∣ c.import_at-result.ensures.shut (c.is_failed_store.ensures c.if-is_failed_store.true) ∣₁
