@@ -123,7 +123,7 @@ class Refuser:
         wrong = [it for it in edits if "/wrong_" in it.label]
         return [(it, "refused") for it in wrong], [it for it in edits if it not in wrong]
 
-    def alone(self, _: object) -> str:
+    def alone(self, _edit: object, _place: int) -> str:
         return ""
 
 
@@ -135,7 +135,7 @@ def false_by_a_stub(program: Module, folder: str, name: str, right: dict[str, st
     stubs = {"Tried": Refuser, "older": lambda _: "", "wait_for_room": lambda: None}
     before = {word: getattr(program, word) for word in stubs}
     try:
-        program.rt.must_fail = lambda *_: (program.rt.MISSED, "must-fail: NOT REFUSED")
+        program.rt.must_fail = lambda *_: (getattr(program.rt, "MISSED", False), "must-fail: NOT REFUSED")
         for word, stub in stubs.items():
             setattr(program, word, stub)
         with contextlib.redirect_stdout(said):
