@@ -4,9 +4,10 @@
 usage: balance.py [NIGHTS] [SEED] [--only POLICY,..]     (20 nights of each kind and load, from seed 1)
 
 In a night some seats are released and ceded in equal shares. Requests of 1 to 4 seats come at random; at which site
-follows weights that change. Each site sends the others what it knows when it has news; a message takes some seconds,
-and none comes out of a cut or into one. A policy sees what one site knows, and gives that site's own rights away, or
-asks another for some. To try another policy write it beside those below, and name it in POLICIES.
+follows weights that change. Each site sends the others what it knows when it has news, and acknowledges what comes at
+once; a message takes some seconds, and none comes out of a cut or into one. A policy sees what one site knows, and
+gives that site's own rights away, or asks another for some. To try another policy write it beside those below, and name
+it in POLICIES.
 
 A request is refused while open if seats enough were open somewhere. That is what a policy can mend, and it is printed
 in percent of all requests, with the part of it where the seats were cut off; then how many cessions and joined messages
@@ -121,6 +122,7 @@ class Night:
             site.sent_gave = [site.rows[site.me].gave[to] for to in range(kind.sites)]
         self.mail: dict[int, list[tuple[int, int, list[Row]]]] = defaultdict(list)
         self.asks: dict[int, list[tuple[int, int, int]]] = defaultdict(list)
+        self.acks: dict[int, list[tuple[int, int, int]]] = defaultdict(list)
         self.count: Counter[str] = Counter()
 
     def drawn(self, load: float) -> list[list[tuple[int, int]]]:
@@ -169,10 +171,14 @@ class Night:
                 self.sites[source].sent[to] = ()  # The transport brings the newest again.
                 continue
             site.acked[source] = max(site.acked[source], rows[to].version)
+            self.acks[now + self.chance.randint(*self.kind.way)].append((to, source, rows[source].version))
             newer = [at for at, row in enumerate(rows) if row.version > site.rows[at].version]
             for at in newer:
                 site.rows[at] = rows[at]
             self.count["joined"] += bool(newer)
+        for source, to, version in self.acks.pop(now, []):
+            if not (cut[source] or cut[to]):
+                self.sites[to].acked[source] = max(self.sites[to].acked[source], version)
         for source, to, seats in self.asks.pop(now, []):
             if not (cut[source] or cut[to]):
                 self.sites[to].asks.append((source, seats))
@@ -261,12 +267,12 @@ def missing_is_asked(site: Site, now: int) -> Iterator[Act]:
     site.missing = 0
 
 
-def by_demand(site: Site, now: int, store: float = 0.0) -> Iterator[Act]:
-    """What `balance` does: exchange/sharing.py."""
+def by_demand(site: Site, now: int, store: float = 0.0, is_measured: bool = True) -> Iterator[Act]:
+    """What `balance` does: exchange/sharing.py. Unless its time is measured, a message is taken to need the first's."""
     left, sold = site.left(), [row.sold for row in site.rows]
     for to, (version, since) in [*site.ceded.items()]:
         if site.acked[to] >= version:
-            site.messages.took(now - since)
+            site.messages.took(now - since if is_measured else sharing.FIRST)
             del site.ceded[to]
     back, near, fill = sharing.times(site.messages.seconds, site.demand.window(now, sold))
     rate = site.demand.look(now, left, sold, back)
@@ -283,6 +289,7 @@ POLICIES: dict[str, Policy] = {
     "half is asked": half_is_asked,
     "missing is asked": missing_is_asked,
     "by demand": by_demand,
+    "by demand, not measured": lambda site, now: by_demand(site, now, is_measured=False),
     "by demand and a minute": lambda site, now: by_demand(site, now, 60.0),
 }
 

@@ -14,10 +14,13 @@ WIDTH, HEIGHT, LEFT, BASE, TALLEST = 640, 270, 60, 250, 190
 TITLE = 'Durable sales a second at one site, by callers'
 INKS = {
     'boxoffice': '#1f5f99',
+    'boxoffice, two copies': '#9dbfe0',
     'PostgreSQL, two statements': '#c2703d',
     'PostgreSQL, one statement': '#dfb08c',
     'PostgreSQL': '#c2703d',
+    'PostgreSQL, early release': '#e9c7ad',
     'Redis': '#8a9a5b',
+    'redis-benchmark': '#c5cfa3',
 }
 # For programs under other names.
 BLUES = ('#9dbfe0', '#5c8fc0', '#143d63')
@@ -87,17 +90,18 @@ def main() -> None:
     blues = itertools.cycle(BLUES)
     inks = {name: INKS.get(name) or next(blues) for name in names}
     width = max(WIDTH, LEFT + 20 + max(len(groups) for _, groups in charts) * (40 + 38 * len(inks)))
-    size = (width, HEIGHT * len(charts) + 30)
+    row = max(1, (width - LEFT) // 190)
+    size = (width, HEIGHT * len(charts) + 12 + 18 * -(-len(inks) // row))
     print('<svg xmlns="http://www.w3.org/2000/svg" viewBox="0 0 %d %d" font-family="sans-serif" font-size="12">' % size)
     print('<rect width="100%" height="100%" fill="white"/>')
     for k, (title, groups) in enumerate(charts):
         print('\n'.join(['<g transform="translate(0 %d)">' % (k * HEIGHT), *chart(title, groups, inks, width), '</g>']))
     y = HEIGHT * len(charts) + 8
     for k, (name, ink) in enumerate(inks.items()):
-        x = LEFT + 190 * k
+        x, line = LEFT + 190 * (k % row), y + 18 * (k // row)
         print(
             '<rect x="%d" y="%d" width="10" height="10" fill="%s"/><text x="%d" y="%d">%s</text>'
-            % (x, y, ink, x + 15, y + 9, name)
+            % (x, line, ink, x + 15, line + 9, name)
         )
     print('</svg>')
 

@@ -15,7 +15,7 @@ from lib import CHECKS, Office, call, ended, free_port, make_site, same, started
 # (trials have their files in memory; here the disk is what is timed)
 tempfile.tempdir = None
 SEATS = 1000000
-FILE = 'site.db'
+FILE, COPY = 'site.db', 'copy.db'
 
 
 class Timed(NamedTuple):
@@ -76,19 +76,29 @@ def called(caller: str, peer: str, callers: int, each: int, lines: int = 1, repl
 
 
 def office_rate(
-    program: str, caller: str, folder: str, env: dict[str, str], lines: int, callers: int, each: int
+    program: str,
+    caller: str,
+    folder: str,
+    env: dict[str, str],
+    lines: int,
+    copy: Sequence[str],
+    callers: int,
+    each: int,
 ) -> Timed:
-    """What so many callers come to who make so many sales each, so many lines at once, at a new office. Its audit finds
-    as many."""
+    """What so many callers come to, with so many sales each, so many lines at once, at a new office. The words of copy
+    name the second file of a site that has one. Its audit finds as many."""
     released(program, os.path.join(folder, FILE))
-    office = Office(folder, FILE, program=program, env=env)
+    if copy:
+        fresh(os.path.join(folder, COPY))
+        same('pair', call(folder, ['pair', FILE, COPY], program=program)[:2], (0, 'paired\n'))
+    office = Office(folder, FILE, program=program, words=copy, env=env)
     try:
         well()
         rate = called(caller, str(office.port), callers, each, lines)
         office.close()
     finally:
         office.program.kill()
-    check_sums(program, call(folder, ['audit', FILE], program=program), callers * each)
+    check_sums(program, call(folder, ['audit', FILE, *copy], program=program), callers * each)
     return rate
 
 

@@ -2,13 +2,14 @@
 """Times durable sales of one event at open offices of several programs, beside PostgreSQL and Redis.
 
 usage: together.py [--rounds N] [--slower MICROSECONDS,..] [--folder FOLDER] [--callers 1,4,16,64] [--lines N] [--serve]
-NAME=PROGRAM ..
+[--copies] NAME=PROGRAM ..
 
 Each PROGRAM is a built boxoffice, and NAME what it is called in the output. Callers (bench/callers.rs, which rustc has
 to be there for) sell over loopback at the port of `open`, each line behind the reply to the one before; each sale is in
 the file and synced before it is answered. Then `close` ends the office, and `audit` has to find just as many sold.
---serve times `serve` of each program too, where each sale has a sync of its own. With --lines 10 each caller sends ten
-lines at once, and the next ten behind their replies; then the offices and Redis are timed.
+--serve times `serve` of each program too, where each sale has a sync of its own, and --copies an office over two
+files. With --lines 10 each caller sends ten lines at once, and the next ten behind their replies; then the offices and
+Redis are timed.
 
 Redis does the same over a local socket, called by the same program: one script, loaded before and named by its sum
 (EVALSHA), keeps the request's number and takes a seat from the one counter, and the log of it is synced before the
@@ -38,7 +39,7 @@ import tempfile
 import time
 from collections.abc import Callable, Container, Mapping, Sequence
 
-from offices import SEATS, Timed, called, compiled, office_rate, serve_rate
+from offices import COPY, SEATS, Timed, called, compiled, office_rate, serve_rate
 from postgres import EARLY_RELEASE, ONE_STATEMENT, Postgres, installed
 
 from lib.slower import slowed
@@ -125,15 +126,20 @@ class Redis:
 
 
 def started(
-    stack: contextlib.ExitStack, programs: Mapping[str, str], folder: str, slower: int, lines: int, serve: bool
+    stack: contextlib.ExitStack, programs: Mapping[str, str], folder: str, slower: int, given: argparse.Namespace
 ) -> dict[str, Seller]:
     """How each sells, by its name; what runs then ends with the stack."""
-    env, caller = environment(folder, slower), compiled(folder, 'callers')
+    env, caller, lines = environment(folder, slower), compiled(folder, 'callers'), given.lines
     sellers: dict[str, Seller] = {
-        name: functools.partial(office_rate, program, caller, folder, env, lines)
+        name: functools.partial(office_rate, program, caller, folder, env, lines, [])
         for name, program in programs.items()
     }
-    if serve:
+    if given.copies:
+        sellers |= {
+            name + ', two copies': functools.partial(office_rate, program, caller, folder, env, lines, ['--copy', COPY])
+            for name, program in programs.items()
+        }
+    if given.serve:
         sellers |= {
             name + ', serve': functools.partial(serve_rate, program, caller, folder, env)
             for name, program in programs.items()
@@ -204,6 +210,7 @@ def arguments() -> argparse.Namespace:
     parser.add_argument('--callers', type=numbers, default=[1, 4, 16, 64])
     parser.add_argument('--lines', type=int, default=1)
     parser.add_argument('--serve', action='store_true')
+    parser.add_argument('--copies', action='store_true')
     parser.add_argument('programs', metavar='NAME=PROGRAM', nargs='+', type=named)
     return parser.parse_args()
 
@@ -224,7 +231,7 @@ def main() -> None:
         with tempfile.TemporaryDirectory(dir=given.folder) as folder, contextlib.ExitStack() as stack:
             disk = '%g ms more a sync' % (slower / 1000) if slower else 'the disk as it is'
             print('%s (4 kB and a sync took %.0f microseconds before)' % (disk, sync_time(folder)), flush=True)
-            sellers = started(stack, programs, folder, slower, given.lines, given.serve)
+            sellers = started(stack, programs, folder, slower, given)
             for callers in given.callers:
                 print('%d callers' % callers)
                 tell(timed(sellers, given.rounds, callers), programs)

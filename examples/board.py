@@ -26,7 +26,9 @@ from collections.abc import Sequence
 
 SECONDS = 3.0  # How long an office may take to answer.
 TOTALS = re.compile("totals released ([0-9]+) sold ([0-9]+) refunded ([0-9]+) open ([0-9]+|none)")
-STATUS = re.compile("site ([0-9]+) sites ([0-9]+) entries ([0-9]+) limit ([0-9]+) callers ([0-9]+).*")
+STATUS = re.compile(
+    "site ([0-9]+) sites ([0-9]+) entries ([0-9]+) limit ([0-9]+) callers ([0-9]+).*?(?: reserve ([0-9]+))?"
+)
 CESSION = re.compile("[0-9]+ cede [0-9]+ [a-z0-9-]+ ([0-9]+) [0-9]+ done")
 NEAR = 0.9  # The part of its LIMIT from which on an office is marked.
 SHADES = [
@@ -86,7 +88,7 @@ class Site:
             return
         self.heard, self.is_there = time.time(), True
         found = STATUS.fullmatch(replies[0])
-        self.status = [int(number) for number in found.groups()] if found else None
+        self.status = [int(number) for number in found.groups("0")] if found else None
         for at, event in enumerate(events):
             mine = replies[1 + len(verbs) * at :]
             left, totals = re.fullmatch("left ([0-9]+)", mine[0]), TOTALS.fullmatch(mine[1])
@@ -197,8 +199,8 @@ def of_event(event: str, sites: list[Site]) -> str:
 
 
 def entries(status: list[int]) -> object:
-    """How many entries an office has, marked if it comes near its LIMIT."""
-    count, most = status[2], status[3]
+    """How many entries an office has, marked if it comes near its LIMIT, less what it reserves."""
+    count, most = status[2], status[3] - status[5]
     return f'<span class="late">{figure(count)}, nearly full</span>' if count >= NEAR * most else count
 
 
@@ -209,7 +211,7 @@ def of_offices(sites: list[Site]) -> str:
     rows = []
     for site in sites:
         status = site.status
-        told: list[object] = [*status[:2], entries(status), *status[3:]] if status else [None] * 5
+        told: list[object] = [*status[:2], entries(status), *status[3:5]] if status else [None] * 5
         rows.append(row([html.escape(site.name), *told, ago(site)]))
     return "<h2>Offices</h2>" + table(["office", "site", "of", "entries", "room for", "callers", "last heard"], rows)
 

@@ -38,7 +38,7 @@ TAKEN = ("joined", "nothing-new", "acked")
 QUIET = 120.0
 # How often a message is sent that has nothing for which its receiver waits. Each that is joined is an entry there.
 SPARING = 30.0
-# Where a history stands: from nine tenths of its LIMIT on, it is nearly full.
+# Where a history stands: from nine tenths of its LIMIT on, less what the office reserves, it is nearly full.
 ROOM, NEARLY_FULL = "has room", "nearly full"
 
 
@@ -52,8 +52,8 @@ def say(text: str) -> None:
     sys.stderr.flush()
 
 
-class Standing:
-    """Where something stands, which is said once for each change. The word that it has at first is not said."""
+class Reporter:
+    """Says a word of something on standard error, once for each change. The word that it has at first is not said."""
 
     def __init__(self, what: str, word: str = "") -> None:
         self.what, self.word, self.lock = what, word, threading.Lock()
@@ -71,9 +71,9 @@ def clock(at: float) -> str:
     return time.strftime("%H:%M:%S" if now[:3] == then[:3] else "%Y-%m-%d %H:%M:%S", then)
 
 
-def history_of(me: int) -> Standing:
-    """Where the history of a site stands, which is said from nine tenths of its LIMIT on."""
-    return Standing(f"site {me}: history", ROOM)
+def history_of(me: int) -> Reporter:
+    """Says of the history of a site that it is nearly full, from nine tenths of its LIMIT on."""
+    return Reporter(f"site {me}: history", ROOM)
 
 
 class Peers:
@@ -272,21 +272,22 @@ def answer_of(path: str, text: bytes) -> bytes:
     return answer
 
 
-def known(path: str, me: int, peers: Iterable[int], standing: Standing, history: Standing) -> set[int]:
-    """The other sites that a site's office recognises; none where no office is there, or another site's. It stands at
-    `not-open`, `site-is S` of that other, `no-site K` of the first of these peers that it does not recognise, or
-    `open`. Its history has room, or is nearly full."""
+def known(path: str, me: int, peers: Iterable[int], reporter: Reporter, history: Reporter) -> set[int]:
+    """The other sites that a site's office recognises; none where no office is there, or another site's. `reporter`
+    says `not-open`, `site-is S` of that other, `no-site K` of the first of these peers that it does not recognise, or
+    `open`; `history` says whether its history has room or is nearly full."""
     try:
         answer = answer_of(path, b"status\n").decode("ascii", "replace").strip()
     except Absent:
         answer = "not-open"
-    found = re.match("site ([0-9]+) sites ([0-9]+) entries ([0-9]+) limit ([0-9]+)", answer)
+    found = re.match("site ([0-9]+) sites ([0-9]+) entries ([0-9]+) limit ([0-9]+)(?:.* reserve ([0-9]+))?", answer)
     if not found or int(found[1]) != me:
-        standing.say(f"site-is {found[1]}" if found else answer)
+        reporter.say(f"site-is {found[1]}" if found else answer)
         return set()
     sites = set(range(int(found[2]))) - {me}
-    standing.say(next((f"no-site {peer}" for peer in peers if peer not in sites), "open"))
-    history.say(NEARLY_FULL if 10 * int(found[3]) >= 9 * int(found[4]) else ROOM)
+    reporter.say(next((f"no-site {peer}" for peer in peers if peer not in sites), "open"))
+    room = int(found[4]) - int(found[5] or 0)
+    history.say(NEARLY_FULL if 10 * int(found[3]) >= 9 * room else ROOM)
     return sites
 
 

@@ -18,7 +18,7 @@ from dataclasses import dataclass
 from statistics import median
 
 # A message's time until one is measured, and the most that counts: seconds.
-FIRST, MOST = 4.0, 120.0
+FIRST, MOST = 4.0, 180.0
 # So many times a message's time: the time that an average is of, the time for which what a site has is little, and the
 # time for which it is given some. And the same of the time in which SAMPLE seats are sold at all sites: a shorter look
 # would see chance alone.

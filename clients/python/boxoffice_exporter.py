@@ -41,7 +41,10 @@ except ModuleNotFoundError as missing:
     print(f"{missing.name}: install python3-prometheus-client", file=sys.stderr)
     sys.exit(3)
 
-STATUS = "site ([0-9]+) sites ([0-9]+) entries ([0-9]+) limit ([0-9]+) callers ([0-9]+)(?: .*)?"
+STATUS = (
+    "site ([0-9]+) sites ([0-9]+) entries ([0-9]+) limit ([0-9]+) callers ([0-9]+)"
+    " asking ([0-9]+) waiting ([0-9]+)(?: .*)?"
+)
 # Whoever asks again within so many seconds gets the same figures, so that the offices are not asked more often.
 FRESH = 1.0
 # How long a request to this program may take, and the most bytes of a file of the exchange scripts.
@@ -58,6 +61,8 @@ FIGURES = {
     "entries": (ONE, "entries of its history"),
     "entries_limit": (ONE, "the most entries that its history may ever have"),
     "callers": (ONE, "callers that it serves"),
+    "asking": (ONE, "callers whose requests are being stored"),
+    "waiting": (ONE, "callers who wait for the next store"),
     "event_known": (EVENT, "1 if the site knows the event, else 0"),
     "left": (EVENT, "seats that this site may sell"),
     "released": (EVENT, "seats released at all sites, as far as this one knows"),
@@ -179,7 +184,8 @@ def look_at_socket(seen: Seen, events: list[str], end: float) -> None:
         stream.settimeout(max(0.001, end - time.monotonic()))
         stream.connect(f"{seen.office.file}-sock")
         status = said(stream, "status", end)
-        for figure, value in zip(("site", "sites", "entries", "entries_limit", "callers"), numbers(status, STATUS)):
+        names = ("site", "sites", "entries", "entries_limit", "callers", "asking", "waiting")
+        for figure, value in zip(names, numbers(status, STATUS)):
             seen.put(figure, int(value))
         seen.events = events or [numbers(row, "event ([a-z0-9-]{1,32})")[0] for row in rows(stream, "events", end)]
         for event in seen.events:

@@ -10,7 +10,9 @@ from typing import Any, TextIO
 
 SECONDS = 2.0  # How long an office may take to answer a line.
 TOTALS = re.compile("totals released ([0-9]+) sold ([0-9]+) refunded ([0-9]+) open ([0-9]+|none)")
-STATUS = re.compile("site ([0-9]+) sites ([0-9]+) entries ([0-9]+) limit ([0-9]+) callers ([0-9]+).*")
+STATUS = re.compile(
+    "site ([0-9]+) sites ([0-9]+) entries ([0-9]+) limit ([0-9]+) callers ([0-9]+).*?(?: reserve ([0-9]+))?"
+)
 SHARE = re.compile("([0-9]+) left ([0-9]+|none) sold ([0-9]+) back ([0-9]+)")
 MAX_LINE, MAX_SITES = 400, 64
 # What a site may sell (None if the view is not possible), what it sold in all, and what it took back.
@@ -93,8 +95,8 @@ def at_socket(path: str, events: list[str]) -> tuple[dict[str, int] | None, list
         # (if all places are taken there is one for `status` alone)
         answer, shares = asked(path, ["status"])[0], []
     status = STATUS.fullmatch(answer)
-    names = ("site", "sites", "entries", "limit", "callers")
-    history = dict(zip(names, map(int, status.groups()))) if status else None
+    names = ("site", "sites", "entries", "limit", "callers", "reserve")
+    history = dict(zip(names, map(int, status.groups("0")))) if status else None
     return history, [shares_of(share) for share in shares] or [None] * len(events)
 
 

@@ -154,7 +154,7 @@ function show() {
   field("state").className = "state " + (isOpen ? "open" : "closed");
   if (!seen) return;
   const history = seen.history;
-  const isNear = history && history.entries >= NEAR * history.limit;
+  const isNear = history && history.entries >= NEAR * (history.limit - history.reserve);
   const used = history ? `history ${figure(history.entries)} of ${figure(history.limit)}${isNear ? ", nearly full" : ""}` : "";
   field("more").textContent = history ? `${used} · ${history.callers} callers` : "";
   field("more").className = isNear ? "late" : "";
