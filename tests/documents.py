@@ -1,6 +1,6 @@
 #!/usr/bin/env python3
-"""Runs the commands that README, MANUAL and the page of the clients in Python show, and compares what they print with
-what the page says.
+"""Runs the commands that README, MANUAL and the pages on copies and on the clients in Python show, and compares what
+they print with what the page says.
 
 usage: documents.py [PROGRAM]
 
@@ -151,11 +151,15 @@ def manual(folder: str) -> None:
     run_page("docs/MANUAL.md", folder)
 
 
+def copies(folder: str) -> None:
+    run_page("docs/COPIES.md", folder)
+
+
 def python_clients(folder: str) -> None:
     run_page("clients/python/README.md", folder)
 
 
-status = try_each([readme, manual, python_clients], "each command that is shown prints what the page says")
+status = try_each([readme, manual, copies, python_clients], "each command that is shown prints what the page says")
 for skipped in SKIPPED:
     print(f"passed over, for want of its program: {skipped}")
 sys.exit(status)

@@ -26,7 +26,7 @@ from typing import Any
 
 from lib import call, HERE, make_site, Operator, same, SECONDS, try_each
 from lib.exchanges import CITIES, EVERY, FOLDER, NEEDED, OFFICE, OFTEN, SSH
-from lib.exchanges import Brokers, Site, comes, opened_sites, python, quiet_port, running, said
+from lib.exchanges import Brokers, Site, comes, free_port, opened_sites, python, running, said
 from lib.program import Found
 
 BOARD = os.path.join(HERE, "..", "examples", "board.py")
@@ -393,7 +393,7 @@ def over_brokers(folder: str) -> None:
     if missing := [name for name in NEEDED if not shutil.which(name)]:
         print(f"over brokers: not tried, without {', '.join(missing)}")
         return
-    brokers = Brokers(folder, [("127.0.0.1", quiet_port()) for _ in CITIES])
+    brokers = Brokers(folder, [("127.0.0.1", free_port()) for _ in CITIES])
     try:
         with opened_sites(folder, 3) as offices:
             same("the opening", offices[0].ask(*OPENING), ["done"] * 3)

@@ -25,7 +25,7 @@ import urllib.parse
 import urllib.request
 from collections.abc import Callable, Iterator
 
-from lib import SECONDS, TOP, Caller, Office, Operator, among, make_site, quiet_port, same, try_each, within
+from lib import SECONDS, TOP, Caller, Office, Operator, among, free_port, make_site, same, try_each, within
 from lib.exchanges import FOLDER, comes, python, running
 
 EXPORTER = os.path.join(TOP, "clients", "python", "boxoffice_exporter.py")
@@ -46,7 +46,7 @@ class Exporter:
     """An exporter that runs until the end of a `with`."""
 
     def __init__(self, folder: str, *offices: str, seconds: float = PATIENCE, names_events: bool = True) -> None:
-        self.port, self.log = quiet_port(), os.path.join(folder, "exporter.said")
+        self.port, self.log = free_port(), os.path.join(folder, "exporter.said")
         words = [PYTHON, "-B", EXPORTER, str(self.port), *offices, "--seconds", str(seconds)]
         words += ["--events", *EVENTS] if names_events else []
         with open(self.log, "w", encoding="utf-8") as log:
@@ -97,7 +97,7 @@ def of_office(found: Figures, name: str) -> Figures:
 def wanted_of(office: Office) -> Figures:
     """What the figures of an office have to be, by its own words."""
     caller, operator = Caller(office.port), Operator(office.path)
-    site, sites, entries, limit, _ = map(int, re.findall("[0-9]+", operator.ask("status")))
+    site, sites, entries, limit, *_ = map(int, re.findall("[0-9]+", operator.ask("status")))
     wanted: Figures = {"up": 1, "socket_up": 1, "site": site, "sites": sites}
     wanted |= {"entries": entries, "entries_limit": limit}
     for event in EVENTS:
@@ -125,7 +125,7 @@ def offices(folder: str, *names: str) -> Iterator[list[Office]]:
     try:
         for me, name in enumerate(names):
             make_site(folder, name + ".db", me, len(names), 200)
-            found.append(Office(folder, name + ".db", quiet_port()))
+            found.append(Office(folder, name + ".db", free_port()))
         yield found
     finally:
         for office in found:
@@ -146,8 +146,9 @@ def asked(office: Office, *lines: str) -> list[str]:
 
 def agrees(exporter: Exporter, office: Office, what: str) -> None:
     found, wanted = of_office(exporter.figures(), office.file.removesuffix(".db")), wanted_of(office)
-    callers = found.pop("callers", 0)
+    callers, asking = found.pop("callers", 0), found.pop("asking", -1) + found.pop("waiting", -1)
     within(f"{what}: callers", callers, 1, 8)
+    within(f"{what}: callers who ask", asking, 0, 8)
     same(f"{what}: the figures are what the office says", found, wanted)
 
 
@@ -456,7 +457,7 @@ scrape_configs:
 def by_prometheus(folder: str) -> None:
     """Debian's prometheus collects the figures, and its alerts come and go."""
     shutil.copy(RULES, folder)
-    port = quiet_port()
+    port = free_port()
     with offices(folder, "north", "south") as (north, south):
         same("it sells", asked(north, "announce 1 gala", "release 2 gala 50", "sell 3 gala 8"), ["done"] * 3)
         with Exporter(folder, place(north), place(south), seconds=0.5) as exporter:

@@ -55,7 +55,8 @@ COMMANDS: list[tuple[list[str], str, Told, Told | None]] = [
 ]
 # An office closes where an entry cannot be stored, or a thread cannot be started.
 # (One that ends by itself may be killed as it does.)
-OFFICE_ENDS = [(-9, "open\n", ""), (3, "", "memory\n")]
+# (`bind` says too that no socket can be made, as where memory is refused for one)
+OFFICE_ENDS = [(-9, "open\n", ""), (3, "", "memory\n"), (3, "", "bind\n")]
 OFFICE_ENDS += [(status, "open\n", f"{word}\n") for word in ("memory", "closed 1", "not-started") for status in (3, -9)]
 # `store`: what could not be stored is an entry.
 STORING = ("import", "grow")

@@ -25,7 +25,9 @@ import time
 from collections.abc import Sequence
 from typing import Any, Union
 
-from lib import FILE, PROGRAM, SECONDS, Caller, Office, Operator, call, ended, free_port, intact, opened, same, try_each
+from lib import FILE, PROGRAM, SECONDS, Caller, Office, Operator, call, ended, free_port, intact, opened, same
+from lib import try_each, within
+from lib.hurrier import TO_READ, TO_WRITE, Hurrier
 from lib.program import Found, begun
 
 # How many are served at once at the port, and at the socket with all lines.
@@ -380,6 +382,52 @@ def slow_readers(folder: str) -> None:
     reading.join(SECONDS)
 
 
+def an_hour_of_silence(folder: str) -> None:
+    """A caller who sends nothing is served for an hour, and no longer."""
+    hurrier = Hurrier(folder, TO_READ)
+    if not hurrier.is_made():
+        print("an_hour_of_silence: no library can be loaded before the C library: not tried")
+        return
+    same("init", call(folder, ["init", FILE, "0", "2", "1000000"]), (0, "done\n", ""))
+    office = Office(folder, **hurrier.more())
+    silent = Caller(office.port)
+    same("the end of the silent", silent.stream.recv(10), b"")
+    same("milliseconds that it was waited for", hurrier.waited(), 3_600_000)
+    office.close()
+
+
+def a_minute_unread(folder: str) -> None:
+    """A caller who reads nothing of a long answer is waited for a minute, and not again for what is behind it."""
+    hurrier = Hurrier(folder, TO_WRITE)
+    if not hurrier.is_made():
+        print("a_minute_unread: no library can be loaded before the C library: not tried")
+        return
+    office = office_of_a_hundred(folder)
+    clerk = Caller(office.port)
+    clerk.stream.sendall(b"".join(b"sell %d gala 1000\n" % number for number in range(10, 4010)))
+    same("refusals", {clerk.reply() for _ in range(4000)}, {"short 100"})
+    clerk.go_away()
+    office.close()
+    office = Office(folder, **hurrier.more())
+    reader = Operator(office.path)
+    reader.stream.sendall(b"list gala\n" * 20)
+    end = time.monotonic() + SECONDS
+    while time.monotonic() < end and not hurrier.waited():
+        time.sleep(0.01)
+    while time.monotonic() < end and not status_of(office).endswith(" callers 1 asking 0 waiting 0"):
+        time.sleep(0.05)
+    within("milliseconds that it was waited for", hurrier.waited(), 60_000, 70_000)
+    reader.go_away()
+    office.close()
+
+
+def status_of(office: Office) -> str:
+    asker = Operator(office.path)
+    said = asker.ask("status")
+    asker.go_away()
+    return said
+
+
 def idle_callers(folder: str) -> None:
     """Who sends nothing for a second gives its place up where all are taken; who sent half a line keeps it."""
     office = office_of_a_hundred(folder)
@@ -452,7 +500,7 @@ def kept_places(folder: str) -> None:
         operator.begin("left ")
     for operator in halves:
         same("each has a place", operator.begin("gala\nexport ").reply(), "left 100")
-    status = (0, f"site 0 sites 2 entries 2 limit 1000000 callers {MOST_OPERATORS + 1}\n", "")
+    status = (0, f"site 0 sites 2 entries 2 limit 1000000 callers {MOST_OPERATORS + 1} asking 0 waiting 0\n", "")
     began = time.monotonic()
     same("status", call(folder, ["status", FILE]), status)
     same(f"it took {time.monotonic() - began:.1f} s", time.monotonic() - began < SOON, True)
@@ -519,6 +567,8 @@ TRIALS = [
     full_before_it_reads,
     without_threads,
     slow_readers,
+    an_hour_of_silence,
+    a_minute_unread,
     idle_callers,
     kept_places,
     thousand_tills,

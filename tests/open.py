@@ -176,7 +176,7 @@ def looked_up(folder: str) -> None:
     asked(
         operator,
         ["find 1", "list gala", "events", "shares gala", "status"],
-        ["none", "none", "none", "unknown", "site 0 sites 2 entries 0 limit 1000000 callers 2"],
+        ["none", "none", "none", "unknown", "site 0 sites 2 entries 0 limit 1000000 callers 2 asking 0 waiting 0"],
     )
     asked(
         clerk,
@@ -212,7 +212,7 @@ def looked_up(folder: str) -> None:
     stands(
         "status once the clerk has gone",
         lambda: operator.ask("status"),
-        "site 0 sites 2 entries 8 limit 1000000 callers 1",
+        "site 0 sites 2 entries 8 limit 1000000 callers 1 asking 0 waiting 0",
     )
     office.close()
     for event, lines in lists.items():
@@ -265,7 +265,7 @@ def commands(folder: str) -> None:
             office = Office(place) if is_open else None
             same("nothing is due", call(place, ["export", FILE, "1"]), (1, "nothing\n", ""))
             found.append([call(place, words, given) for words, given, _ in runs])
-            stood = "site 0 sites 2 entries 6 limit 1000000" + " callers 1" * is_open
+            stood = "site 0 sites 2 entries 6 limit 1000000" + " callers 1 asking 0 waiting 0" * is_open
             stands(f"status, open: {is_open}", lambda: call(place, ["status", FILE]), (0, stood + "\n", ""))
             if office:
                 same("a message that is due", call(place, ["export", FILE, "1"])[1][:10], "delta 0 1 ")

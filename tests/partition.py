@@ -39,7 +39,7 @@ from collections.abc import Callable, Iterator, Sequence
 from typing import Any
 
 from lib import call, intact, Office, opened, Operator, OPTIONS, same, SECONDS, try_each
-from lib.exchanges import CITIES, FOLDER, NEEDED, OFTEN, Brokers, quiet_port
+from lib.exchanges import CITIES, FOLDER, NEEDED, OFTEN, Brokers, free_port
 from lib.trials import AT_END
 
 import boxoffice
@@ -164,7 +164,7 @@ class ByFolder:
         """What a thread or a program of a site does first."""
 
     def port(self, me: int) -> int:
-        return quiet_port()
+        return free_port()
 
     def script(self, me: int) -> Script:
         return [FOLDER, str(me), str(len(SITES)), f"{CITIES[me]}.db", self.place(me), *OFTEN], {}

@@ -7,7 +7,6 @@ Usage: tests/serve_at_once.py [PROGRAM]     (PROGRAM: crates/boxoffice/out/boxof
 Says what differs and ends with status 1 where anything does.
 """
 
-import contextlib
 import os
 import shutil
 import socket
@@ -164,9 +163,7 @@ def refusals(folder: str, files: list[str], line: str) -> None:
     same("no such file", call(folder, ["serve", port, "1", "0", north, "west.db"]), (3, "", "not-ours\n"))
     same("no west.db is made", os.path.exists(os.path.join(folder, "west.db")), False)
     same("a file twice", call(folder, ["serve", port, "1", "0", north, north]), (3, "", "disk\n"))
-    with contextlib.closing(socket.socket()) as taken:
-        taken.bind(("127.0.0.1", int(port)))
-        taken.listen()
+    with socket.create_server(("127.0.0.1", int(port))):
         same("a port that is taken", call(folder, ["serve", port, "0", "0", north, south]), (3, "", "bind\n"))
     no_words = [["0", "1", "0"], ["65536", "1", "0"], [port, "1025", "0"], [port, "1", "1000001"], [port, "1"]]
     for words in no_words:

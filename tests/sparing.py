@@ -66,7 +66,7 @@ def low(folder: str) -> None:
     for number in (11, 2):
         kept = operator.ask(f"find {number}")
         same(f"find {number}", kept, "none" if number == 11 else "1 done")
-    same("status", operator.ask("status"), "site 0 sites 2 entries 10 limit 1000 callers 1")
+    same("status", operator.ask("status"), "site 0 sites 2 entries 10 limit 1000 callers 1 asking 0 waiting 0")
     operator.go_away()
     office.close()
     same("entries", entries(folder), 10)
@@ -117,7 +117,7 @@ def reserve(folder: str) -> None:
     lines += [("sell 3 gala 2", "done"), ("refund 9 3 1", "done"), ("cede 10 gala 1 1", "done")]
     said(office, lines)
     operator = Operator(office.path)
-    same("status", operator.ask("status"), "site 0 sites 2 entries 7 limit 9 callers 1 reserve 4")
+    same("status", operator.ask("status"), "site 0 sites 2 entries 7 limit 9 callers 1 asking 0 waiting 0 reserve 4")
     word, _ = operator.take("delta 1 0 3\nname ballet\nend\n")
     same("a message", word, "joined")
     same("the last refund", operator.ask("refund 11 3"), "done")

@@ -23,7 +23,7 @@ import urllib.request
 import uuid
 from typing import Any, Callable, TypeVar
 
-from lib import CHECKS, HERE, PROGRAM, SECONDS, TOP, quiet_port, same, try_each, within
+from lib import CHECKS, HERE, PROGRAM, SECONDS, TOP, free_port, same, try_each, within
 from lib.proxies import Proxy, is_here
 
 WEB = os.path.join(TOP, "clients", "web")
@@ -60,7 +60,7 @@ class Scene:
     manager."""
 
     def __init__(self, folder: str) -> None:
-        self.folder, self.port, self.web_port = folder, quiet_port(), quiet_port()
+        self.folder, self.port, self.web_port = folder, free_port(), free_port()
         self.url = f"http://127.0.0.1:{self.web_port}"
         self.call("init", "north.db", "0", "2", str(LIMIT))
         self.open()
@@ -427,8 +427,10 @@ def in_chromium(scene: Scene) -> None:
         print(f"passed over, as no browser starts here: {done.stderr.strip()[-300:]}")
         return
     said = done.stdout[-3000:] + done.stderr[-3000:] if done.returncode else ""
-    same("the pages in Chromium", (done.returncode, said), (0, ""))
-    same("what the pages sold", len(scene.sales()), 4)
+    if not same("the pages in Chromium", (done.returncode, said), (0, "")):
+        return
+    same("what the pages sold", len(scene.sales()), int(done.stdout))
+    within("sales of the pages", len(scene.sales()), 9, 10)
 
 
 def at_a_scene(trial: Callable[[Scene], None]) -> Callable[[str], None]:

@@ -6,7 +6,7 @@ import sys
 from .checks import CHECKS, Checks, among, same, within
 from .office import FILE, Caller, Office, Operator, connected, ended, is_reached, started
 from .options import DRIVER, HERE, OPTIONS, PROGRAM, TOP
-from .program import MEMORY, SECONDS, begun, call, free_port, quiet_port, text_of
+from .program import MEMORY, SECONDS, begun, call, free_port, text_of
 from .sites import (
     EMPTY_LOG,
     FORGED,
@@ -60,7 +60,6 @@ __all__ = [
     "make_site",
     "make_sites",
     "opened",
-    "quiet_port",
     "reply_of",
     "rows_kept",
     "same",

@@ -12,9 +12,9 @@ from collections.abc import Callable, Iterable, Iterator, Mapping, Sequence
 from typing import Any
 
 from .checks import same
-from .office import Caller, Office, Operator
+from .office import Caller, Office, Operator, connected
 from .options import TOP
-from .program import SECONDS, Found, call, quiet_port
+from .program import SECONDS, Found, call, free_port
 
 OFFICE, FOLDER, MQTT, SSH = (
     os.path.join(TOP, "exchange", name) for name in ("office.py", "folder/boxoffice-exchange", "mqtt", "ssh")
@@ -34,7 +34,7 @@ class Site(Office):
             same(
                 f"init {self.file}", call(folder, ["init", self.file, str(me), str(sites), "100000"]), (0, "done\n", "")
             )
-        super().__init__(folder, self.file, port or quiet_port())
+        super().__init__(folder, self.file, port or free_port())
         self.clerk = Caller(self.port)
 
     def close(self) -> None:
@@ -122,9 +122,12 @@ class Brokers:
             self.start(me)
 
     def start(self, me: int) -> None:
+        """Starts a broker, and returns once it listens (in a namespace of its own that cannot be seen from here)."""
         configuration = os.path.join(self.folder, str(me), "broker.conf")
         words = [*(self.before[me] if self.before else ()), "mosquitto", "-c", configuration]
         self.programs[me] = subprocess.Popen(words, stdout=subprocess.DEVNULL, stderr=subprocess.DEVNULL)
+        if not self.before:
+            connected(self.hosts[me][1]).close()
 
     def kill(self, me: int) -> None:
         self.programs[me].kill()

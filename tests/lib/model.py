@@ -129,6 +129,7 @@ class Site:
         self.by_number: dict[int, Row] = {}
         self.names: set[str] = set()
         self.cells: dict[Cell, int] = {}
+        self.cells_of: dict[str, dict[Cell, int]] = {}
         # What each peer has acknowledged to the office that is open.
         self.acked: dict[int, int] = {}
         self.count = sites
@@ -160,6 +161,7 @@ class Site:
 
     def join(self, cell: Cell, value: int) -> None:
         self.cells[cell] = max(value, self.cells.get(cell, 0))
+        self.cells_of.setdefault(cell[0], {})[cell] = self.cells[cell]
 
     def enter(self, *columns: int | str | None) -> None:
         self.add((len(self.rows), *columns))
@@ -181,7 +183,8 @@ class Site:
         if (row := self.by_number.get(words[0])) is not None:
             return reply_of(row) if row[2:7] == key else "reused"
         reply, rest, delta = self.decided(*key)
-        if spares and verb not in ("refund", "cede") and len(self.rows) + self.reserve >= self.limit:
+        is_reserved = self.reserve and verb not in ("refund", "cede") and len(self.rows) + self.reserve >= self.limit
+        if spares and is_reserved:
             return "history-full"
         if spares and self.low and reply == "short":
             return f"low {rest}"
@@ -236,7 +239,7 @@ class Site:
         if verb == "left":
             return f"left {self.left(event)}"
         released, sold, back = self.sums(event)
-        sites = {site for cell in self.cells if cell[0] == event for site in cell[2:]}
+        sites = {site for cell in self.cells_of.get(event, {}) for site in cell[2:]}
         is_possible = all(self.rights(event, site) >= 0 for site in sites)
         seats = released + back - sold if is_possible else "none"
         return f"totals released {released} sold {sold} refunded {back} open {seats}"
@@ -247,20 +250,20 @@ class Site:
     def rights(self, event: str, site: int) -> int:
         """Released, given and taken back, less given away and sold."""
         rights = 0
-        for (found, kind, *sites), value in self.cells.items():
-            if found == event and kind == 0 and sites[1] == site:
+        for (_, kind, *sites), value in self.cells_of.get(event, {}).items():
+            if kind == 0 and sites[1] == site:
                 rights += value
-            elif found == event and kind == 0 and sites[0] == site:
+            elif kind == 0 and sites[0] == site:
                 rights -= value
-            elif found == event and sites[0] == site:
+            elif sites[0] == site:
                 rights += value if kind == 2 else -value
         return rights
 
     def sums(self, event: str) -> tuple[int, int, int]:
         """What was released, sold and given back by what the site knows."""
         sums = [0, 0, 0]
-        for (found, kind, by, *to), value in self.cells.items():
-            if found == event and (kind > 0 or to == [by]):
+        for (_, kind, by, *to), value in self.cells_of.get(event, {}).items():
+            if kind > 0 or to == [by]:
                 sums[kind] += value
         return sums[0], sums[1], sums[2]
 
@@ -346,22 +349,27 @@ def line_of(row: Row) -> str:
     return " ".join(str(column) for column in (row[3], row[2], *row[4:7]) if column is not None)
 
 
+def follow(site: Site, row: Row) -> str:
+    """Has the model do what an entry says. What is wrong with it, where the model makes another at that place; else
+    nothing."""
+    if row[3] == "grow":
+        site.grow(row[6])
+    elif row[1] is not None:
+        head = f"delta {row[1]} {site.me} 1\n"
+        word, _ = site.take(head + row[9] + "end\n")
+        if word != "joined":
+            return f"place {row[0]}: a message that is {word}"
+    else:
+        site.ask(line_of(row), spares=False)
+    if site.rows[-1:] != [tuple(row)]:
+        return f"place {row[0]}: {tuple(row)!r}, where the model has {site.rows[-1:]!r}"
+    return ""
+
+
 def replayed(me: int, sites: int, limit: int, rows: Iterable[Row]) -> str:
     """What is wrong with a history: each entry has to be the one that the model makes at its place. Else nothing."""
     site = Site(me, sites, limit)
-    for row in rows:
-        if row[3] == "grow":
-            site.grow(row[6])
-        elif row[1] is not None:
-            head = f"delta {row[1]} {me} 1\n"
-            word, _ = site.take(head + row[9] + "end\n")
-            if word != "joined":
-                return f"place {row[0]}: a message that is {word}"
-        else:
-            site.ask(line_of(row))
-        if site.rows[-1:] != [tuple(row)]:
-            return f"place {row[0]}: {tuple(row)!r}, where the model has {site.rows[-1:]!r}"
-    return ""
+    return next((wrong for row in rows if (wrong := follow(site, row))), "")
 
 
 def audit(sites: Sequence[Site]) -> tuple[int, str]:

@@ -147,7 +147,7 @@ def use(root: Root, program: str) -> None:
     for command in commands[2:-1]:
         told = root.told("sh", "-c", command)
         if " status " in command:
-            same(command, told, "site 0 sites 4 entries 0 limit 200000 callers 1 reserve 50000\n")
+            same(command, told, "site 0 sites 4 entries 0 limit 200000 callers 1 asking 0 waiting 0 reserve 50000\n")
     lines = "announce 1 gala\nrelease 2 gala 10\nleft gala\n"
     asked = root.told("runuser", "-u", "boxoffice", "--", "boxoffice", "ask", FILE, given=lines)
     same("boxoffice ask", asked, "done\ndone\nleft 10\n")
@@ -209,7 +209,7 @@ def upgrade(root: Root, package: str) -> None:
     same("the office goes on", root.offices(), offices)
     same("with the old program", [root.program_of(office) for office in offices], ["boxoffice (deleted)"])
     status = root.told("runuser", "-u", "boxoffice", "--", "boxoffice", "status", FILE)
-    same("and answers", status, "site 0 sites 4 entries 3 limit 200000 callers 1 reserve 50000\n")
+    same("and answers", status, "site 0 sites 4 entries 3 limit 200000 callers 1 asking 0 waiting 0 reserve 50000\n")
     root.told("sh", "-c", shown("By systemd")[-1])
     same("it is closed as the manual says", os.path.exists(root.at(FILE + "-sock")), False)
     root.told("systemctl", "start", "boxoffice@north")

@@ -4,10 +4,10 @@ from __future__ import annotations
 
 import contextlib
 import os
-import random
 import socket
 import subprocess
 import tempfile
+from collections import deque
 from collections.abc import Iterable, Sequence
 from typing import Any
 
@@ -17,6 +17,8 @@ from .options import PROGRAM
 SECONDS = 240
 # What the trials need where the disk is not what is tried.
 ROOM = 512 << 20
+# What keeps the last ports that were given out.
+KEPT: deque[socket.socket] = deque(maxlen=500)
 Found = tuple[int, str, str]
 
 
@@ -55,16 +57,12 @@ def begun(folder: str, words: list[str], program: str = PROGRAM, **more: Any) ->
 
 
 def free_port() -> int:
-    with contextlib.closing(socket.socket()) as probe:
-        probe.bind(("127.0.0.1", 0))
-        return int(probe.getsockname()[1])
-
-
-def quiet_port() -> int:
-    """A port that is free and that no connection is given by chance, also while no one listens at it."""
-    for _ in range(1000):
-        with contextlib.closing(socket.socket()) as probe, contextlib.suppress(OSError):
-            port = random.SystemRandom().randrange(15000, 32000)
-            probe.bind(("127.0.0.1", port))
-            return port
-    return free_port()
+    """A port of this machine that no other program is given, also while no one listens at it. It stays bound here,
+    without a listener: a program that sets SO_REUSEADDR, as servers do, may listen at it again and again."""
+    keeper = socket.socket()
+    keeper.setsockopt(socket.SOL_SOCKET, socket.SO_REUSEADDR, 1)
+    keeper.bind(("127.0.0.1", 0))
+    if len(KEPT) == KEPT.maxlen:
+        KEPT[0].close()
+    KEPT.append(keeper)
+    return int(keeper.getsockname()[1])

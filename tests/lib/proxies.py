@@ -13,7 +13,7 @@ from collections.abc import Iterator
 from typing import Any
 
 from .options import TOP
-from .program import SECONDS, quiet_port
+from .program import SECONDS, free_port
 
 NAME = "till.example"
 
@@ -66,7 +66,7 @@ class Proxy:
     """A server before a gateway, and what curl gets from it. `url` is what the address bar shows."""
 
     def __init__(self, folder: str) -> None:
-        self.folder, self.port = folder, quiet_port()
+        self.folder, self.port = folder, free_port()
         self.url, self.files = f"https://{NAME}:{self.port}", certified(folder)
 
     @contextlib.contextmanager

@@ -3,9 +3,10 @@
 
 usage: web_pages.py URL PASSWORDS PORT LIMIT       (a JSON object of names and passwords; the office's)
 
-Sells three times and holds once: by a double click, by five clicks at once, by a key that is held down. Ends with
-status 1 if a page did or said something else than it should, and with status 77 if no browser starts here, or one goes
-away. """
+Sells by a double click, by five clicks at once, by a key that is held down, with the page loaded again before the
+reply, in two tabs at once, with one click in two tabs, and in a tab that is closed; and holds once. Prints how many
+sales these are. Ends with status 1 if a page did or said something else than it should, and with status 77 if no
+browser starts here, or one goes away. """
 
 from __future__ import annotations
 
@@ -14,6 +15,7 @@ import os
 import socket
 import sys
 import time
+import uuid
 from typing import Callable, TypeVar
 
 from selenium import webdriver
@@ -73,7 +75,9 @@ def started() -> webdriver.Chrome:
 
 
 class Page:
-    """A browser that shows a page of the gateway."""
+    """A browser that shows a page of the gateway. `sales` are those that it made."""
+
+    sales = 0
 
     def __init__(self, browser: webdriver.Chrome, url: str, name: str, password: str) -> None:
         self.browser, self.url = browser, url
@@ -98,6 +102,18 @@ class Page:
             "the click is answered", lambda: not self.browser.execute_script("return sessionStorage.getItem('click')")
         )
         time.sleep(0.6)  # The page takes no click right after an answer.
+
+    def click(self) -> None:
+        """Clicks Sell, and returns while it is asked."""
+        is_off = "return document.getElementById('sell').disabled"
+        until("a button that sells", lambda: not self.browser.execute_script(is_off))
+        self.browser.execute_script("document.getElementById('sell').click()")
+
+    def has_sold(self, what: str, sales: int, seats: int, before: int) -> None:
+        """So many sales of so many seats were made since there were so many left, and no more."""
+        self.settled()
+        until(f"{what}: {sales} of {seats} seats", lambda: self.text("left") == str(before - sales * seats))
+        self.sales += sales
 
     def shot(self, name: str) -> None:
         if SHOTS:
@@ -125,28 +141,70 @@ def sells_each_once(page: Page) -> None:
     until("the numbers", lambda: page.text("left") == "160")
     page.key("3")
     ActionChains(page.browser).double_click(page.browser.find_element(By.ID, "sell")).perform()
-    page.settled()
-    until("a double click sells once", lambda: page.text("left") == "157" and page.said() == "Sold: 3 seats")
+    page.has_sold("a double click", 1, 3, 160)
+    until("it says so", lambda: page.said() == "Sold: 3 seats")
     page.browser.execute_script("const e = document.getElementById('sell'); for (let i = 0; i < 5; i++) e.click()")
-    page.settled()
-    until("five clicks at once sell once", lambda: page.text("left") == "154")
+    page.has_sold("five clicks at once", 1, 3, 157)
     page.browser.execute_script("document.activeElement.blur()")
     page.press("Enter", 13, 30)
-    page.settled()
-    until("a key that is held down sells once", lambda: page.text("left") == "151")
+    page.has_sold("a key that is held down", 1, 3, 154)
     page.shot("web-till")
 
 
 def holds_and_pays(page: Page) -> None:
     page.key("2")
     page.key("h")
-    page.settled()
-    until("a hold", lambda: page.said() == "Held: 2 seats")
+    page.has_sold("a hold", 1, 2, 151)
+    until("it says so", lambda: page.said() == "Held: 2 seats")
     page.shot("web-hold")
     page.key("p")
     until("it is paid", lambda: page.said() == "Paid")
     page.browser.refresh()
     until("the page comes back", lambda: page.text("left") == "149")
+
+
+def is_loaded_again(page: Page) -> None:
+    """A page that is loaded again before the reply, and that is left and comes back."""
+    page.click()
+    page.browser.refresh()
+    page.has_sold("a page that is loaded again", 1, 2, 149)
+    page.browser.get(page.url + "/?hold=7")
+    until("the page", lambda: page.text("left") == "147")
+    page.click()
+    page.browser.back()
+    until("the page before", lambda: page.text("left") == "145")
+    page.sales += 1
+    for move in (page.browser.forward, page.browser.back, page.browser.refresh):
+        move()
+        page.has_sold("back and forward", 0, 2, 145)
+
+
+def has_tabs(page: Page) -> None:
+    """Two tabs that sell at once, that have one click, and of which one is closed while it asks."""
+    browser, first = page.browser, page.browser.current_window_handle
+    browser.switch_to.new_window("tab")
+    second = browser.current_window_handle
+    browser.get(page.url)
+    for tab in (second, first):
+        browser.switch_to.window(tab)
+        page.click()
+    page.has_sold("two tabs", 2, 2, 145)
+    click = {"click": str(uuid.uuid4()), "verb": "sell", "event": "gala", "seats": 2}
+    for tab in (second, first):
+        browser.switch_to.window(tab)
+        browser.execute_script("sessionStorage.setItem('click', arguments[0])", json.dumps(click))
+        browser.refresh()
+    for tab in (second, first):
+        browser.switch_to.window(tab)
+        page.has_sold("one click in two tabs", int(tab == first), 2, 141 if tab == first else 139)
+        until("both say so", lambda: page.said() == "Sold: 2 seats")
+    browser.switch_to.window(second)
+    page.click()
+    browser.close()
+    browser.switch_to.window(first)
+    time.sleep(3)
+    # (what was not sent yet as the tab was closed is never asked)
+    page.has_sold("a tab that is closed", int(page.text("left") != "139"), 2, 139)
 
 
 def refuses(page: Page) -> None:
@@ -192,17 +250,20 @@ def fills(board: Page, port: int, limit: int) -> None:
     board.shot("web-board-full")
 
 
-def tries(browser: webdriver.Chrome, url: str, passwords: dict[str, str], port: int, limit: int) -> None:
+def tries(browser: webdriver.Chrome, url: str, passwords: dict[str, str], port: int, limit: int) -> int:
+    """Gives how many sales were made."""
     till = Page(browser, url, "till-1", passwords["till-1"])
-    for trial in (sells_each_once, holds_and_pays, refuses):
+    for trial in (sells_each_once, holds_and_pays, is_loaded_again, has_tabs, refuses):
         trial(till)
     for width in WIDTHS:
         if not till.fits(width):
             sys.exit(f"the till's page scrolls sideways at {width} pixels")
         till.shot(f"web-till-{width}")
+    left = till.text("left")
     browser.execute_cdp_cmd("Emulation.clearDeviceMetricsOverride", {})
     board = Page(browser, url, "anna", passwords["anna"])
-    until("the board has the sums", lambda: "11 sold" in board.text("events"))
+    sold = 160 - int(left)
+    until("the board has the sums", lambda: f"{sold} sold" in board.text("events"))
     shows_shares(board, port)
     time.sleep(1.5)
     board.shot("web-board")
@@ -214,12 +275,13 @@ def tries(browser: webdriver.Chrome, url: str, passwords: dict[str, str], port: 
     for width in WIDTHS:
         if not board.fits(width):
             sys.exit(f"the board of a full history scrolls sideways at {width} pixels")
+    return till.sales
 
 
 def main() -> int:
     browser = started()
     try:
-        tries(browser, sys.argv[1], json.loads(sys.argv[2]), int(sys.argv[3]), int(sys.argv[4]))
+        print(tries(browser, sys.argv[1], json.loads(sys.argv[2]), int(sys.argv[3]), int(sys.argv[4])))
     except WebDriverException as error:
         if not is_gone(error):
             raise
@@ -230,4 +292,5 @@ def main() -> int:
     return 0
 
 
-sys.exit(main())
+if __name__ == "__main__":
+    sys.exit(main())

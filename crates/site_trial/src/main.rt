@@ -13,6 +13,8 @@
 //! - `@` with a number and, behind its line, the text of a message: the message, read and written so often.
 //!
 //! Where a piece leaves no book, for want of memory or because it is none, the program ends there with status 1.
+//!
+//! A new piece is a mark, with a branch where the marks are read and a function of its own.
 #![tactic(auto)]
 
 ghost use Rattle.std.specs.Prelude.{◌≡◌, IfOk};
@@ -23,7 +25,7 @@ use desk_lines::take_fault_text;
 use history_keeper::{ListKeeper, Meta};
 use plain_words::{Words, number_at, numbered, word};
 use rights_lattice::{SiteId, Sites};
-use session_server::{AtBook, SessionEnd, Site, SiteEnd, Visit, run_all, talk};
+use session_server::{BookAnswerer, SessionEnd, Site, SiteEnd, Visit, run_all, talk};
 use site_desk::{NoGate, SiteBook, Taken};
 use site_exchange::Message;
 use std::alloc::{AllocError, Global};
@@ -43,21 +45,21 @@ fn read_all(rt: &HostRuntime) -> io::Result<Vec<u8>> {
 
 // A site's number, the count of sites, and the limit of its history.
 #[derive(Clone, Copy)]
-struct Office {
+struct SiteNumbers {
     me: u64,
     among: u64,
     limit: u64,
 }
 
-fn office_of(text: &[u8]) -> Option<Office> {
+fn office_of(text: &[u8]) -> Option<SiteNumbers> {
     let mut words = Words::new(text);
     let me = number_at(&mut words, 0, 63)?;
     let among = number_at(&mut words, 1, 64)?;
     let limit = number_at(&mut words, 1, 1_000_000)?;
-    Some(Office { me, among, limit })
+    Some(SiteNumbers { me, among, limit })
 }
 
-fn meta_of(office: Office) -> Option<Meta> {
+fn meta_of(office: SiteNumbers) -> Option<Meta> {
     Some(Meta {
         me: SiteId::of(office.me)?,
         sites: Sites::of(office.among)?,
@@ -77,7 +79,7 @@ fn talked(
     lines: &[u8],
     out: &mut Vec<u8>,
 ) -> Option<Book> {
-    let mut answerer = AtBook::new(alloc, book);
+    let mut answerer = BookAnswerer::new(alloc, book);
     if talk(rt, alloc, lines, out, &mut answerer).is_err() {
         out.extend_from_slice(b"ended badly\n").ok()?;
     }
@@ -95,7 +97,7 @@ fn copies(alloc: Global, entries: &[Entry]) -> Result<Vec<Entry>, AllocError>
 }
 
 // The book of these entries, which its keeper has, where there is memory for it.
-fn book_of(alloc: Global, office: Office, entries: &[Entry]) -> Option<Book> {
+fn book_of(alloc: Global, office: SiteNumbers, entries: &[Entry]) -> Option<Book> {
     let meta = meta_of(office)?;
     if meta.me.number() >= meta.sites.count() {
         return None;
@@ -105,8 +107,8 @@ fn book_of(alloc: Global, office: Office, entries: &[Entry]) -> Option<Book> {
     SiteBook::start(alloc, ListKeeper::from(alloc, kept), entries, meta).ok()
 }
 
-fn numbers_of(book: &Book) -> Office {
-    Office {
+fn numbers_of(book: &Book) -> SiteNumbers {
+    SiteNumbers {
         me: book.book().me().number(),
         among: book.book().sites().count(),
         limit: book.book().limit().entries(),
