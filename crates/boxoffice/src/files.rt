@@ -66,7 +66,7 @@ pub(crate) fn failed(rt: &HostRuntime, fault: FileFault) -> Status {
 }
 
 /// What stands at a path, as far as it shows without being opened as a database.
-enum Standing {
+enum PathKind {
     /// No file, or too short a one to hold anything.
     Nothing,
     /// A file that is no database.
@@ -89,26 +89,26 @@ fn is_other(rt: &HostRuntime, file: &str) -> io::Result<bool> {
     }
 }
 
-fn look(rt: &HostRuntime, path: &str) -> io::Result<Standing> {
+fn look(rt: &HostRuntime, path: &str) -> io::Result<PathKind> {
     let file = fs::canonicalize(rt, path)?;
     let about = fs::metadata(rt, file.as_str())?;
     if !about.is_file() {
-        Ok(Standing::Database)
+        Ok(PathKind::Database)
     } else if about.len() < 2 {
-        Ok(Standing::Nothing)
+        Ok(PathKind::Nothing)
     } else if is_other(rt, file.as_str())? {
-        Ok(Standing::Other)
+        Ok(PathKind::Other)
     } else {
-        Ok(Standing::Database)
+        Ok(PathKind::Database)
     }
 }
 
 // Where looking fails otherwise, opening tells why.
-fn at_path(rt: &HostRuntime, path: &str) -> Standing {
+fn at_path(rt: &HostRuntime, path: &str) -> PathKind {
     match look(rt, path) {
-        Ok(standing) => standing,
-        Err(error) if error.kind() == ErrorKind::NotFound => Standing::Nothing,
-        Err(_) => Standing::Database,
+        Ok(kind) => kind,
+        Err(error) if error.kind() == ErrorKind::NotFound => PathKind::Nothing,
+        Err(_) => PathKind::Database,
     }
 }
 
@@ -151,8 +151,8 @@ pub(crate) fn open_there<S: Start>(
     ensures fresh { IfOk result IsNew }
 {
     match at_path(rt, path) {
-        Standing::Database => open(rt, path, start),
-        Standing::Nothing | Standing::Other => Err(failed(rt, FileFault::NotOurs)),
+        PathKind::Database => open(rt, path, start),
+        PathKind::Nothing | PathKind::Other => Err(failed(rt, FileFault::NotOurs)),
     }
 }
 
@@ -170,8 +170,8 @@ pub(crate) fn open_or_make<S: Start>(
     ensures fresh { IfOk result IsNew }
 {
     match at_path(rt, path) {
-        Standing::Nothing | Standing::Database => open(rt, path, start),
-        Standing::Other => Err(failed(rt, FileFault::NotOurs)),
+        PathKind::Nothing | PathKind::Database => open(rt, path, start),
+        PathKind::Other => Err(failed(rt, FileFault::NotOurs)),
     }
 }
 

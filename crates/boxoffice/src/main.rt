@@ -7,31 +7,36 @@
 //! Guaranteed: the connection that a command gets shows the database that the file and its log held, whatever they
 //! held at first, or an empty one where they held none. Not proved, but tested on the built program: that the right
 //! streams, files and arguments are passed on, and what closing leaves of the files.
+//!
+//! A new command is a branch of `run_order` here, and of `visited` in `offices.rt` if an open office answers it; its
+//! arguments and all else are `operator_cli`'s.
 #![tactic(auto)]
 
+mod backup;
 mod connections;
+mod copies;
 mod doors;
 mod files;
+mod office;
 mod offices;
+mod serving;
 mod watch;
 
-use crate::connections::visits;
+use crate::backup::run_backup;
+use crate::copies::{InStep, Looking, Single, run_alone, run_pair};
 use crate::doors::Socket;
 use crate::files::{FileFault, Files, close, failed, open_or_make, open_there};
+use crate::office::run_open;
 use crate::offices::visited;
-use crate::watch::{FileId, Fill, Held, id_at, watch};
+use crate::serving::{run_serve, run_serve_copies};
 use book_core::Limit;
-use live_office::{Closing, Gauge, Places, Sparing, TcpDoor, UnixDoor};
 use operator_cli::{
-    CloseFault, FileNames, Order, Status, WordsFault, ask_store, audit_stores, events_store,
-    export_store, find_store, grow_store, import_store, init_store, list_store, migrate_store,
-    office_store, open_store, read_words, refuse_parts, refuse_site, serve_stores, shares_store,
-    status_store, tell_close_fault, tell_listen_fault, tell_socket_fault, tell_version,
-    world_script,
+    FileNames, Order, Status, WordsFault, ask_store, events_store, export_store, find_store,
+    grow_store, import_store, init_store, list_store, migrate_store, open_store, read_words,
+    refuse_site, shares_store, status_store, tell_close_fault, tell_version, world_script,
 };
 use request_ledger::RequestNumber;
 use rights_lattice::{SiteId, Sites};
-use session_server::{SiteEnd, Visit, listen};
 use site_desk::SiteBook;
 use sql_records::Records;
 use sqlite::{Alter, Connection};
@@ -40,17 +45,17 @@ use sqlite_std_file::{Start, Unknown};
 use sqlite_store::FileStore;
 use std::alloc::{AllocError, Global};
 use std::env;
-use std::io::{self, BufWriter, ErrorKind, Read, Stdout, Write};
+use std::io::{self, BufWriter, ErrorKind, Stdout};
 use std::net::{Net, TcpListener, TcpStream};
 use std::process::ExitCode;
 use std::rt::Files as Paths;
 use std::sync::Wait;
-use std::thread::{Threads, join};
+use std::thread::Threads;
 use std::time::Clock;
 
 /// Where databases are opened and closed, each by a connection. The commands run over any, whatever store it stands in, so
 /// that no proof of a command speaks of files.
-trait Shelf<C> {
+pub(crate) trait Shelf<C> {
     /// Opens a database that is there. A fault is told.
     fn open_there(&self, rt: &HostRuntime, path: &str) -> Result<C, Status>;
 
@@ -265,7 +270,7 @@ fn run_import<S: Alter + Drop, H: Shelf<Connection<S>>>(
 }
 
 // The book of a file's records.
-fn open_site<S: Alter + Drop, H: Shelf<Connection<S>>>(
+pub(crate) fn open_site<S: Alter + Drop, H: Shelf<Connection<S>>>(
     rt: &HostRuntime,
     file: &str,
     shelf: &H,
@@ -277,7 +282,7 @@ fn open_site<S: Alter + Drop, H: Shelf<Connection<S>>>(
     }
 }
 
-fn keep<T: Drop>(rt: &HostRuntime, kept: &mut Vec<T>, one: T) -> Result<(), Status> {
+pub(crate) fn keep<T: Drop>(rt: &HostRuntime, kept: &mut Vec<T>, one: T) -> Result<(), Status> {
     match kept.push(one) {
         Ok(()) => Ok(()),
         Err(_) => Err(out_of_memory(rt)),
@@ -285,7 +290,7 @@ fn keep<T: Drop>(rt: &HostRuntime, kept: &mut Vec<T>, one: T) -> Result<(), Stat
 }
 
 // The book of each file's records, put behind those before it.
-fn open_all<S: Alter + Drop, H: Shelf<Connection<S>>>(
+pub(crate) fn open_all<S: Alter + Drop, H: Shelf<Connection<S>>>(
     rt: &HostRuntime,
     files: &FileNames<'_>,
     shelf: &H,
@@ -299,7 +304,7 @@ fn open_all<S: Alter + Drop, H: Shelf<Connection<S>>>(
 }
 
 // The status of a command that came to this over a file among others, which is closed unless it failed.
-fn close_site<S: Alter + Drop, H: Shelf<Connection<S>>>(
+pub(crate) fn close_site<S: Alter + Drop, H: Shelf<Connection<S>>>(
     rt: &HostRuntime,
     shelf: &H,
     status: Status,
@@ -308,7 +313,7 @@ fn close_site<S: Alter + Drop, H: Shelf<Connection<S>>>(
     shelf.close(rt, (status, Some(site.into_keeper().close())))
 }
 
-fn close_all<S: Alter + Drop, H: Shelf<Connection<S>>>(
+pub(crate) fn close_all<S: Alter + Drop, H: Shelf<Connection<S>>>(
     rt: &HostRuntime,
     shelf: &H,
     mut status: Status,
@@ -318,306 +323,6 @@ fn close_all<S: Alter + Drop, H: Shelf<Connection<S>>>(
         status = close_site(rt, shelf, status, site);
     }
     status
-}
-
-fn run_audit<S: Alter + Drop, H: Shelf<Connection<S>>>(
-    rt: &HostRuntime,
-    files: &FileNames<'_>,
-    shelf: &H,
-) -> Result<Status, Status> {
-    let mut out = buffered(rt)?;
-    let mut sites = Vec::new(rt.alloc());
-    let status = match open_all(rt, files, shelf, &mut sites) {
-        Ok(()) => audit_stores(rt.alloc(), sites.as_slice(), &mut out, &mut rt.stderr()),
-        Err(status) => status,
-    };
-    Ok(close_all(rt, shelf, status, sites))
-}
-
-// All sites are opened, and are known to be all.
-fn open_whole<S: Alter + Drop, H: Shelf<Connection<S>>>(
-    rt: &HostRuntime,
-    files: &FileNames<'_>,
-    shelf: &H,
-    sites: &mut Vec<SiteBook<Records<S>>>,
-    out: &mut BufWriter<Stdout>,
-) -> Result<(), Status> {
-    open_all(rt, files, shelf, sites)?;
-    match refuse_parts(rt.alloc(), sites.as_slice(), out, &mut rt.stderr()) {
-        Some(status) => Err(status),
-        None => Ok(()),
-    }
-}
-
-// The connections that are made to the port.
-fn callers(
-    rt: &HostRuntime,
-    host: &impl Net<Listener = TcpListener, Stream = TcpStream>,
-    port: u16,
-    sessions: usize,
-) -> Result<Vec<TcpStream>, Status> {
-    match listen(host, rt.alloc(), port, sessions) {
-        Ok(streams) => Ok(streams),
-        Err(fault) => Err(tell_listen_fault(fault, &mut rt.stderr())),
-    }
-}
-
-// The ends of these sites once they have run with their visits, whatever their records stand in and whoever visits.
-fn served<
-    S: Alter + Drop + Send,
-    R: Read + Drop + Send,
-    V: Write + Drop + Send,
-    W: Write,
-    E: Write,
->(
-    alloc: Global,
-    host: &(impl Threads + Wait + Sync),
-    sites: Vec<SiteBook<Records<S>>>,
-    visits: Vec<Visit<R, V>>,
-    rounds: u64,
-    out: &mut W,
-    err: &mut E,
-) -> (Status, Option<Vec<SiteEnd<Records<S>, R, V>>>) {
-    serve_stores(host, alloc, sites, visits, rounds, out, err)
-}
-
-fn close_ends<S: Alter + Drop, H: Shelf<Connection<S>>, R: Read + Drop, V: Write + Drop>(
-    rt: &HostRuntime,
-    shelf: &H,
-    mut status: Status,
-    ends: Vec<SiteEnd<Records<S>, R, V>>,
-) -> Status {
-    for SiteEnd { book, .. } in ends {
-        status = close_site(rt, shelf, status, book);
-    }
-    status
-}
-
-// Runs the sites, whose callers are there, and closes their files unless that failed.
-fn serve_callers<S: Alter + Drop + Send, H: Shelf<Connection<S>>>(
-    rt: &HostRuntime,
-    host: &(impl Threads + Wait + Sync),
-    shelf: &H,
-    sites: Vec<SiteBook<Records<S>>>,
-    streams: &[TcpStream],
-    rounds: u64,
-    out: &mut BufWriter<Stdout>,
-) -> Status {
-    let Ok(visits) = visits(rt.alloc(), streams) else {
-        return close_all(rt, shelf, out_of_memory(rt), sites);
-    };
-    match served(
-        rt.alloc(),
-        host,
-        sites,
-        visits,
-        rounds,
-        out,
-        &mut rt.stderr(),
-    ) {
-        (status, Some(ends)) => close_ends(rt, shelf, status, ends),
-        (status, None) => status,
-    }
-}
-
-// Nobody can connect before all sites are open.
-fn run_serve<S: Alter + Drop + Send, H: Shelf<Connection<S>>>(
-    rt: &HostRuntime,
-    host: &(impl Threads + Wait + Sync + Net<Listener = TcpListener, Stream = TcpStream>),
-    files: &FileNames<'_>,
-    port: u16,
-    sessions: usize,
-    rounds: u64,
-    shelf: &H,
-) -> Result<Status, Status> {
-    let mut out = buffered(rt)?;
-    let mut sites = Vec::new(rt.alloc());
-    if let Err(status) = open_whole(rt, files, shelf, &mut sites, &mut out) {
-        return Ok(close_all(rt, shelf, status, sites));
-    }
-    match callers(rt, host, port, sessions) {
-        Ok(streams) => {
-            let status = serve_callers(
-                rt,
-                host,
-                shelf,
-                sites,
-                streams.as_slice(),
-                rounds,
-                &mut out,
-            );
-            Ok(status)
-        }
-        Err(status) => Ok(close_all(rt, shelf, status, sites)),
-    }
-}
-
-// An office whose doors these are, whatever the records of its site stand in.
-fn office<S: Alter + Drop + Send>(
-    rt: &HostRuntime,
-    host: &(impl Threads + Wait + Clock + Sync),
-    site: SiteBook<Records<S>>,
-    port: u16,
-    file: &str,
-    clerks: &TcpDoor<'_>,
-    operators: &UnixDoor<'_>,
-    closing: &Closing,
-    gauge: &Gauge,
-    sparing: Sparing,
-) -> (Status, Option<Connection<S>>) {
-    office_store(
-        host,
-        rt.alloc(),
-        site,
-        port,
-        file,
-        clerks,
-        operators,
-        closing,
-        gauge,
-        sparing,
-        &mut rt.stdout(),
-        &mut rt.stderr(),
-    )
-}
-
-// The same, while the file is watched. Where that is lost the office fails, and its connection comes back only where the
-// file is there to take what stands in the log.
-fn office_watched<S: Alter + Drop + Send>(
-    rt: &HostRuntime,
-    host: &(impl Threads + Wait + Clock + Sync),
-    site: SiteBook<Records<S>>,
-    port: u16,
-    held: &Held<'_>,
-    clerks: &TcpDoor<'_>,
-    operators: &UnixDoor<'_>,
-    closing: &Closing,
-    gauge: &Gauge,
-    sparing: Sparing,
-) -> (Status, Option<Connection<S>>) {
-    let limit = site.book().limit().entries();
-    let fill = Fill::new(gauge, limit.saturating_sub(sparing.reserve));
-    // The watch is first: a first closure that gets no thread runs when the second has ended.
-    let ((), came) = join(
-        host,
-        move || watch(rt, held, closing, fill),
-        move || {
-            let came = office(
-                rt,
-                host,
-                site,
-                port,
-                held.path(),
-                clerks,
-                operators,
-                closing,
-                gauge,
-                sparing,
-            );
-            closing.ended();
-            came
-        },
-    );
-    came
-}
-
-// What an office comes to whose file was lost or not, once what can be is stored in it.
-fn close_office<S: Alter + Drop, H: Shelf<Connection<S>>>(
-    rt: &HostRuntime,
-    shelf: &H,
-    held: &Held<'_>,
-    closing: &Closing,
-    came: (Status, Option<Connection<S>>),
-) -> Status {
-    if !closing.is_lost() {
-        return shelf.close(rt, came);
-    }
-    // What only the log holds is left in it where the file is lost.
-    if !held.is_lost(rt) {
-        let _ = shelf.close(rt, came);
-    }
-    tell_close_fault(CloseFault::LostFile, &mut rt.stderr())
-}
-
-// The file of an office, which was this one before it was opened. Where there was none, it is lost.
-fn file_held<'a>(
-    rt: &HostRuntime,
-    file: &'a str,
-    before: io::Result<Option<FileId>>,
-) -> io::Result<Held<'a>> {
-    match before? {
-        Some(id) => Held::of(rt, file, id),
-        None => Err(io::Error::from(ErrorKind::NotFound)),
-    }
-}
-
-// Tells why it is not known which file an office holds.
-fn tell_not_held(rt: &HostRuntime, error: &io::Error) -> Status {
-    match error.kind() {
-        ErrorKind::OutOfMemory => out_of_memory(rt),
-        ErrorKind::NotFound => tell_close_fault(CloseFault::LostFile, &mut rt.stderr()),
-        _ => failed(rt, FileFault::Disk),
-    }
-}
-
-// Keeps the office of a site open until it closes. Its socket is put aside while the file is locked, so
-// that none of another office is; and it goes once the file is closed, so that whoever waits for that finds a file to open.
-fn run_open<S: Alter + Drop + Send, H: Shelf<Connection<S>>>(
-    rt: &HostRuntime,
-    host: &(impl Threads
-        + Wait
-        + Clock
-        + Sync
-        + Paths
-        + Net<Listener = TcpListener, Stream = TcpStream>),
-    port: u16,
-    file: &str,
-    sparing: Sparing,
-    shelf: &H,
-) -> Result<Status, Status> {
-    let Ok(socket) = Socket::of(rt.alloc(), file) else {
-        return Ok(out_of_memory(rt));
-    };
-    if let Err(fault) = socket.check(host) {
-        return Ok(tell_socket_fault(fault, &mut rt.stderr()));
-    }
-    let before = id_at(rt, file);
-    let site = open_site(rt, file, shelf)?;
-    let held = match file_held(rt, file, before) {
-        Ok(held) => held,
-        Err(error) => return Ok(close_site(rt, shelf, tell_not_held(rt, &error), site)),
-    };
-    let closing = Closing::watched();
-    let (at_port, at_socket) = (Places::of_clerks(), Places::of_operators());
-    let clerks = match TcpDoor::bind(host, rt.alloc(), port, &closing, &at_port) {
-        Ok(clerks) => clerks,
-        Err(fault) => {
-            let status = tell_listen_fault(fault, &mut rt.stderr());
-            return Ok(close_site(rt, shelf, status, site));
-        }
-    };
-    let operators = match UnixDoor::bind(
-        host,
-        rt.alloc(),
-        socket.folder(),
-        socket.path(),
-        &closing,
-        &at_socket,
-    ) {
-        Ok(operators) => operators,
-        Err(fault) => {
-            let status = tell_socket_fault(fault, &mut rt.stderr());
-            return Ok(close_site(rt, shelf, status, site));
-        }
-    };
-    let gauge = Gauge::new(site.book().len() as u64);
-    let came = office_watched(
-        rt, host, site, port, &held, &clerks, &operators, &closing, &gauge, sparing,
-    );
-    socket.put_aside(host);
-    let status = close_office(rt, shelf, &held, &closing, came);
-    socket.remove(host);
-    Ok(status)
 }
 
 fn run_close(
@@ -636,8 +341,9 @@ fn run_close(
     }
 }
 
-// An error is the status of a command that could not begin, and whose fault was told.
-fn run_order<S: Alter + Drop + Send, H: Shelf<Connection<S>>>(
+// An error is the status of a command that could not begin, and whose fault was told. `bare` gives what is one of two copies
+// too.
+fn run_order<S: Alter + Drop + Send, H: Shelf<Connection<S>>, B: Shelf<Connection<S>>>(
     rt: &HostRuntime,
     host: &(impl Threads
         + Wait
@@ -647,6 +353,7 @@ fn run_order<S: Alter + Drop + Send, H: Shelf<Connection<S>>>(
         + Net<Listener = TcpListener, Stream = TcpStream>),
     order: Order<'_>,
     shelf: &H,
+    bare: &B,
 ) -> Result<Status, Status> {
     match order {
         Order::World => run_world(rt),
@@ -657,33 +364,117 @@ fn run_order<S: Alter + Drop + Send, H: Shelf<Connection<S>>>(
             limit,
         } => run_init(rt, file, me, sites, limit, shelf),
         Order::Migrate { file } => run_migrate(rt, file, shelf),
-        Order::Grow { file, sites } => run_grow(rt, file, sites, shelf),
-        Order::Ask { file } => run_ask(rt, host, file, shelf),
-        Order::Find { file, number } => run_find(rt, file, number, shelf),
-        Order::List { file, event } => run_list(rt, file, event, shelf),
-        Order::Events { file } => run_events(rt, file, shelf),
-        Order::Shares { file, event } => run_shares(rt, file, event, shelf),
-        Order::Export { file, to } => run_export(rt, file, to, shelf),
-        Order::Import { file } => run_import(rt, file, shelf),
-        Order::Audit { files } => run_audit(rt, &files, shelf),
+        Order::Grow { file, sites, .. } => run_grow(rt, file, sites, shelf),
+        Order::Ask { file, .. } => run_ask(rt, host, file, shelf),
+        Order::Find { file, number, .. } => run_find(rt, file, number, shelf),
+        Order::List { file, event, .. } => run_list(rt, file, event, shelf),
+        Order::Events { file, .. } => run_events(rt, file, shelf),
+        Order::Shares { file, event, .. } => run_shares(rt, file, event, shelf),
+        Order::Export { file, to, .. } => run_export(rt, file, to, shelf),
+        Order::Import { file, .. } => run_import(rt, file, shelf),
+        Order::Audit { files, copies } => copies::run_audit(rt, &files, copies.as_slice(), shelf),
         Order::Serve {
             port,
             sessions,
             rounds,
             files,
+            ..
         } => run_serve(rt, host, &files, port, sessions, rounds, shelf),
         Order::Open {
             port,
             file,
             sparing,
+            ..
         } => run_open(rt, host, port, file, sparing, shelf),
         Order::Close { file } => run_close(rt, host, file),
-        Order::Status { file } => run_status(rt, file, shelf),
+        Order::Status { file, .. } => run_status(rt, file, shelf),
+        Order::Pair { file, copy } => run_pair(rt, file, copy, bare),
+        Order::Alone { file } => run_alone(rt, file, bare),
+        Order::Backup { file, copy } => run_backup(rt, file, copy, bare),
         Order::Version => Ok(tell_version(&mut rt.stdout(), &mut rt.stderr())),
     }
 }
 
-// The same, where it does not go to an office that is open.
+// The other file of a site, which a command goes over too. `audit` and `serve` have one for each of their files that is one
+// of two.
+fn copy_of<'a>(order: &Order<'a>) -> Option<&'a str> {
+    match order {
+        Order::Open { copy, .. }
+        | Order::Ask { copy, .. }
+        | Order::Grow { copy, .. }
+        | Order::Find { copy, .. }
+        | Order::List { copy, .. }
+        | Order::Events { copy, .. }
+        | Order::Shares { copy, .. }
+        | Order::Export { copy, .. }
+        | Order::Import { copy, .. }
+        | Order::Status { copy, .. } => *copy,
+        Order::Audit { copies, .. } | Order::Serve { copies, .. } => {
+            copies.as_slice().first().copied()
+        }
+        _ => None,
+    }
+}
+
+// Whether a command only looks at files, and may look at copies that are for that.
+fn looks(order: &Order<'_>) -> bool {
+    matches!(
+        order,
+        Order::Find { .. }
+            | Order::List { .. }
+            | Order::Events { .. }
+            | Order::Shares { .. }
+            | Order::Status { .. }
+            | Order::Audit { .. }
+    )
+}
+
+// A command over two copies: one that enters something keeps both open, and for one that only reads the shorter is brought
+// up first.
+fn run_over_both<S: Alter + Drop + Send, H: Shelf<Connection<S>>>(
+    rt: &HostRuntime,
+    host: &(impl Threads
+        + Wait
+        + Clock
+        + Sync
+        + Paths
+        + Net<Listener = TcpListener, Stream = TcpStream>),
+    order: Order<'_>,
+    copy: &str,
+    shelf: &H,
+) -> Result<Status, Status> {
+    match order {
+        Order::Open {
+            port,
+            file,
+            sparing,
+            ..
+        } => copies::run_open(rt, host, port, file, copy, sparing, shelf),
+        Order::Ask { file, .. } => copies::run_ask(rt, host, file, copy, shelf),
+        Order::Import { file, .. } => copies::run_import(rt, file, copy, shelf),
+        Order::Grow { file, sites, .. } => copies::run_grow(rt, file, copy, sites, shelf),
+        order @ Order::Audit { .. } => run_order(rt, host, order, shelf, shelf),
+        Order::Serve {
+            port,
+            sessions,
+            rounds,
+            files,
+            copies,
+        } => run_serve_copies(
+            rt,
+            host,
+            files.as_slice(),
+            copies.as_slice(),
+            port,
+            sessions,
+            rounds,
+            shelf,
+        ),
+        order => run_order(rt, host, order, &InStep { shelf, copy }, shelf),
+    }
+}
+
+// The same, where it does not go to an office that is open. A file that is one of two is opened with its copy alone.
 fn run_or_visit<S: Alter + Drop + Send, H: Shelf<Connection<S>>>(
     rt: &HostRuntime,
     host: &(impl Threads
@@ -695,9 +486,13 @@ fn run_or_visit<S: Alter + Drop + Send, H: Shelf<Connection<S>>>(
     order: Order<'_>,
     shelf: &H,
 ) -> Result<Status, Status> {
-    match visited(rt, host, &order)? {
-        Some(status) => Ok(status),
-        None => run_order(rt, host, order, shelf),
+    if let Some(status) = visited(rt, host, &order)? {
+        return Ok(status);
+    }
+    match copy_of(&order) {
+        Some(copy) => run_over_both(rt, host, order, copy, shelf),
+        None if looks(&order) => run_order(rt, host, order, &Looking(shelf), shelf),
+        None => run_order(rt, host, order, &Single(shelf), shelf),
     }
 }
 

@@ -20,16 +20,16 @@ const PATIENCE: u64 = 120;
 
 /// A connection to an open office: where it answers, and where it is asked.
 #[derive(Drop)]
-struct Office {
+struct OfficeConnection {
     answers: UnixStream,
     questions: BufWriter<UnixStream>,
 }
 
-fn office_at(rt: &HostRuntime, stream: UnixStream) -> io::Result<Office> {
+fn office_at(rt: &HostRuntime, stream: UnixStream) -> io::Result<OfficeConnection> {
     stream.set_read_timeout(Some(Duration::from_secs(PATIENCE)))?;
     stream.set_write_timeout(Some(Duration::from_secs(PATIENCE)))?;
     let questions = BufWriter::new(rt.alloc(), stream.try_clone()?)?;
-    Ok(Office {
+    Ok(OfficeConnection {
         answers: stream,
         questions,
     })
@@ -55,7 +55,7 @@ fn office_of<H: Files + Net>(
     rt: &HostRuntime,
     host: &H,
     file: &str,
-) -> Result<Option<Office>, Status> {
+) -> Result<Option<OfficeConnection>, Status> {
     let Some(stream) = connected(rt, host, file)? else {
         return Ok(None);
     };
@@ -101,8 +101,12 @@ enum Question<'a> {
 }
 
 // What a question comes to at an office.
-fn at_office(rt: &HostRuntime, question: Question<'_>, office: Office) -> Result<Status, Status> {
-    let Office {
+fn at_office(
+    rt: &HostRuntime,
+    question: Question<'_>,
+    office: OfficeConnection,
+) -> Result<Status, Status> {
+    let OfficeConnection {
         answers,
         mut questions,
     } = office;
@@ -171,22 +175,28 @@ pub(crate) fn visited<H: Files + Net>(
     order: &Order<'_>,
 ) -> Result<Option<Status>, Status> {
     match order {
-        Order::World | Order::Version | Order::Init { .. } | Order::Close { .. } => Ok(None),
-        Order::Migrate { file } | Order::Grow { file, .. } | Order::Open { file, .. } => {
-            turned_away(rt, host, &[*file])
-        }
-        Order::Audit { files } | Order::Serve { files, .. } => {
+        Order::World
+        | Order::Version
+        | Order::Init { .. }
+        | Order::Close { .. }
+        | Order::Backup { .. } => Ok(None),
+        Order::Migrate { file }
+        | Order::Grow { file, .. }
+        | Order::Open { file, .. }
+        | Order::Alone { file } => turned_away(rt, host, &[*file]),
+        Order::Pair { file, copy } => turned_away(rt, host, &[*file, *copy]),
+        Order::Audit { files, .. } | Order::Serve { files, .. } => {
             turned_away(rt, host, files.as_slice())
         }
-        Order::Ask { file } => visit(rt, host, file, Question::Session),
-        Order::Find { file, number } => {
+        Order::Ask { file, .. } => visit(rt, host, file, Question::Session),
+        Order::Find { file, number, .. } => {
             visit(rt, host, file, Question::Find { number: *number })
         }
-        Order::List { file, event } => visit(rt, host, file, Question::List { event }),
-        Order::Events { file } => visit(rt, host, file, Question::Events),
-        Order::Shares { file, event } => visit(rt, host, file, Question::Shares { event }),
-        Order::Export { file, to } => visit(rt, host, file, Question::Export { to: *to }),
-        Order::Import { file } => bring(rt, host, file),
-        Order::Status { file } => visit(rt, host, file, Question::Status),
+        Order::List { file, event, .. } => visit(rt, host, file, Question::List { event }),
+        Order::Events { file, .. } => visit(rt, host, file, Question::Events),
+        Order::Shares { file, event, .. } => visit(rt, host, file, Question::Shares { event }),
+        Order::Export { file, to, .. } => visit(rt, host, file, Question::Export { to: *to }),
+        Order::Import { file, .. } => bring(rt, host, file),
+        Order::Status { file, .. } => visit(rt, host, file, Question::Status),
     }
 }

@@ -19,6 +19,13 @@ pub(crate) struct FileId {
     inode: u64,
 }
 
+impl FileId {
+    /// Whether the other is on the same device.
+    pub(crate) fn is_beside(self, other: FileId) -> bool {
+        self.device == other.device
+    }
+}
+
 /// Which file is at this path, if there is one.
 pub(crate) fn id_at(rt: &HostRuntime, path: &str) -> io::Result<Option<FileId>> {
     match fs::metadata(rt, path) {
@@ -127,20 +134,34 @@ impl<'a> Fill<'a> {
     }
 }
 
-/// Looks each second whether file and log are still those that the office holds, and once more as it closes. Where they are
-/// not, the office closes. Nothing of them is read or changed. It tells too when the history is nearly full.
-pub(crate) fn watch(rt: &HostRuntime, held: &Held<'_>, closing: &Closing, mut fill: Fill<'_>) {
+fn look_at_all(rt: &HostRuntime, held: &Held<'_>, copy: Option<&Held<'_>>, closing: &Closing) {
+    look(rt, held, closing);
+    if let Some(copy) = copy {
+        look(rt, copy, closing);
+    }
+}
+
+/// Looks each second whether file and log are still those that the office holds, of its copy too if it has one, and once
+/// more as it closes. Where they are not, the office closes. Nothing of them is read or changed. It tells too when the
+/// history is nearly full.
+pub(crate) fn watch(
+    rt: &HostRuntime,
+    held: &Held<'_>,
+    copy: Option<&Held<'_>>,
+    closing: &Closing,
+    mut fill: Fill<'_>,
+) {
     for turn in 0..u64::MAX {
         if closing.is_closing() {
             break;
         }
         if turn % PAUSES == 0 {
-            look(rt, held, closing);
+            look_at_all(rt, held, copy, closing);
             fill.tell(rt);
         }
         thread::sleep(rt, Duration::from_millis(PAUSE));
     }
-    look(rt, held, closing);
+    look_at_all(rt, held, copy, closing);
     fill.tell(rt);
     closing.looked();
 }

@@ -28,7 +28,8 @@ extends_itself : (list : List Entry) → Extends list list
 extends_itself list = ([], sym (append-nil list))
 
 -- once more is brought up
-pub brought_on : {K : Type 0} (k : Ghosts K) (old mid new : K) (some more : List Entry) → IsBroughtUp k old mid some → IsBroughtUp k mid new more → IsBroughtUp k old new more
+pub brought_on : {K : Type 0} (k : Ghosts K) (old mid new : K) (some more : List Entry) → IsBroughtUp k old mid some → IsBroughtUp k mid new more
+    → IsBroughtUp k old new more
 brought_on k old mid new some more p q = record {
   sound = q.sound;
   kept = q.kept;
@@ -37,7 +38,8 @@ brought_on k old mid new some more p q = record {
 }
 
 -- and where what was brought up is not all
-pub between_on : {K : Type 0} (k : Ghosts K) (old mid new : K) (list some whole : List Entry) → Extends list some → IsBroughtUp k old mid some → LeavesBetween k mid new some whole → LeavesBetween k old new list whole
+pub between_on : {K : Type 0} (k : Ghosts K) (old mid new : K) (list some whole : List Entry) → Extends list some → IsBroughtUp k old mid some
+    → LeavesBetween k mid new some whole → LeavesBetween k old new list whole
 between_on k old mid new list some whole e p q = record {
   failed = q.failed;
   left = λ trusted left may. let x = q.left trusted left may in (x.0, x.1, extends_trans list some x.0 e x.2, x.3);
@@ -46,7 +48,8 @@ between_on k old mid new list some whole e p q = record {
 }
 
 -- nothing was brought up yet
-pub brought_none : {K : Type 0} (k : Ghosts K) (keeper : K) (list : List Entry) → k.failed keeper ≡ 0 → (k.is_trusted keeper → list ≡ k.kept keeper) → IsBroughtUp k keeper keeper list
+pub brought_none : {K : Type 0} (k : Ghosts K) (keeper : K) (list : List Entry) → k.failed keeper ≡ 0 → (k.is_trusted keeper → list ≡ k.kept keeper)
+    → IsBroughtUp k keeper keeper list
 brought_none k keeper list sound kept = record { sound = sound; kept = kept; site = λ _ meta is. is; trusted = λ trusted. trusted }
 
 -- what a crash leaves of an append of a piece that failed
@@ -54,11 +57,16 @@ pub left_between : (kept whole : List Entry) (place end : ℕ) (left : Option (L
     → (left ≡ Some kept) ⊎ (left ≡ Some (kept ++ take (end - place) (drop place whole)))
     → (some : List Entry) × (left ≡ Some some) × Extends (take place whole) some × Extends some whole
 left_between kept whole place end left h e (inl p) = (take place whole, p ∙ ap Some (sym e), extends_itself (take place whole), whole_extends place whole)
-left_between kept whole place end left h e (inr p) =
-    (take end whole, p ∙ (ap (λ l. Some (l ++ take (end - place) (drop place whole))) (sym e) ∙ ap Some (taken place end whole h)), front_extends place end whole h, whole_extends end whole)
+left_between kept whole place end left h e (inr p) = (
+  take end whole,
+  p ∙ (ap (λ l. Some (l ++ take (end - place) (drop place whole))) (sym e) ∙ ap Some (taken place end whole h)),
+  front_extends place end whole h,
+  whole_extends end whole,
+)
 
 -- a keeper of a front was given the piece behind it
-pub piece_kept : (kept whole : List Entry) (place end : ℕ) → place ≤ end → take place whole ≡ kept → take end whole ≡ kept ++ take (end - place) (drop place whole)
+pub piece_kept : (kept whole : List Entry) (place end : ℕ) → place ≤ end → take place whole ≡ kept
+    → take end whole ≡ kept ++ take (end - place) (drop place whole)
 piece_kept kept whole place end h e = sym (taken place end whole h) ∙ ap (λ l. l ++ take (end - place) (drop place whole)) e
 
 -- what is so of an error is so where there is one
@@ -67,9 +75,12 @@ on_err (Ok x) P p = tt
 on_err (Err e) P p = p
 
 -- a piece that was not kept
-pub short_piece : {K : Type 0} (k : Ghosts K) (old new : K) (result : Result (Unit {0}) KeepFault) (place end : ℕ) (whole : List Entry) → place ≤ end → (k.is_trusted old → take place whole ≡ k.kept old)
-    → OnErr result (k.is_trusted new → LeavesAllOrNone (k.kept old) (take (end - place) (drop place whole)) (k.may_leave new)) → MatchResult result (λ _. k.failed new ≡ 0) (λ _. k.failed new ≡ 1)
-    → (k.is_trusted new → (meta : Meta) → k.is_of old meta → k.is_of new meta) → (k.is_trusted new → k.is_trusted old) → OnErr result (LeavesBetween k old new (take place whole) whole)
+pub short_piece : {K : Type 0} (k : Ghosts K) (old new : K) (result : Result (Unit {0}) KeepFault) (place end : ℕ) (whole : List Entry) → place ≤ end
+    → (k.is_trusted old → take place whole ≡ k.kept old)
+    → OnErr result (k.is_trusted new → LeavesAllOrNone (k.kept old) (take (end - place) (drop place whole)) (k.may_leave new))
+    → MatchResult result (λ _. k.failed new ≡ 0) (λ _. k.failed new ≡ 1)
+    → (k.is_trusted new → (meta : Meta) → k.is_of old meta → k.is_of new meta) → (k.is_trusted new → k.is_trusted old)
+    → OnErr result (LeavesBetween k old new (take place whole) whole)
 short_piece k old new (Ok x) place end whole h begun stopped counted site trusted = tt
 short_piece k old new (Err e) place end whole h begun stopped counted site trusted = record {
   failed = counted;

@@ -41,14 +41,27 @@ pub record AppendsTo {K : Type 0} (k : Ghosts K) (old new : K) (entries : List E
   pub trusted : k.is_trusted new → k.is_trusted old
 
 -- what was given to two: both have it, or a crash leaves of each all of it or none
-pub record AppendsBoth {A B : Type 0} (a : Ghosts A) (b : Ghosts B) (one one_now : A) (other other_now : B) (entries : List Entry) (result : Result (Unit {0}) KeepFault) : Type 0 where
+pub record AppendsBoth {A B : Type 0} (a : Ghosts A) (b : Ghosts B) (one one_now : A) (other other_now : B) (entries : List Entry)
+    (result : Result (Unit {0}) KeepFault) : Type 0 where
   pub first : AppendsTo a one one_now entries result
   pub second : AppendsTo b other other_now entries result
 
 -- two keepers as the one that survives shows itself, the first or the second; the other may lie or be lost
 abbrev pub surviving : {A B : Type 0} → Bool → Ghosts A → Ghosts B → Ghosts (MirrorView A B)
-surviving true a b = record { failed = λ m. m.failures; is_trusted = λ m. a.is_trusted m.first; kept = λ m. a.kept m.first; may_leave = λ m. a.may_leave m.first; is_of = λ m. a.is_of m.first }
-surviving false a b = record { failed = λ m. m.failures; is_trusted = λ m. b.is_trusted m.second; kept = λ m. b.kept m.second; may_leave = λ m. b.may_leave m.second; is_of = λ m. b.is_of m.second }
+surviving true a b = record {
+  failed = λ m. m.failures;
+  is_trusted = λ m. a.is_trusted m.first;
+  kept = λ m. a.kept m.first;
+  may_leave = λ m. a.may_leave m.first;
+  is_of = λ m. a.is_of m.first;
+}
+surviving false a b = record {
+  failed = λ m. m.failures;
+  is_trusted = λ m. b.is_trusted m.second;
+  kept = λ m. b.kept m.second;
+  may_leave = λ m. b.may_leave m.second;
+  is_of = λ m. b.is_of m.second;
+}
 
 -- a keeper was brought up to these entries, by adding what it lacked
 pub record IsBroughtUp {K : Type 0} (k : Ghosts K) (old new : K) (entries : List Entry) : Type 0 where

@@ -5,7 +5,10 @@
 //!
 //! Guaranteed of whichever of the two survives (`Survivor`, which no code asks), while that one is trusted: after a crash
 //! an open of it reads each entry whose append succeeded. Nothing is assumed of the other: it may lie or be lost.
-//! `laws::copies_agree` says that copies never differ but by what was appended last.
+//! `laws::copies_agree` says that of two copies one begins with all of the other.
+//!
+//! A copy more is another `Mirror`, of a `Mirror` and a store. What is known after a crash stands in
+//! `specs/Survives.antt`.
 #![tactic(auto)]
 
 mod both;

@@ -34,7 +34,8 @@ fn bring_piece<K: Keeper>(
     requires sound { K.failed keeper.old ≡ 0 }
     requires within { (place ≤ end) × (end ≤ length whole.now) }
     requires begun { K.is_trusted keeper.old → take place whole.now ≡ K.kept keeper.old }
-    ensures brought { OnOk result (IsBroughtUp K.Keeper keeper.old keeper.new (take end whole.now)) }
+    ensures brought { OnOk result
+        (IsBroughtUp K.Keeper keeper.old keeper.new (take end whole.now)) }
     ensures short { OnErr result
         (LeavesBetween K.Keeper keeper.old keeper.new (take place whole.now) whole.now) }
 {
@@ -75,6 +76,8 @@ pub fn open<A: Keeper + Drop, B: Keeper + Drop, W: Survivor>(
     ensures opened { IfOk result (λ it. IsOpened (surviving W.is_first A.Keeper B.Keeper)
         (record { first = first; second = second; failures = 0 }) it.0 it.1.items) }
     ensures longer { IfOk result (λ it. IsLonger one.items other.items it.1.items) }
+    ensures trusted { IfOk result (λ it. (A.is_trusted it.0.first → A.is_trusted first)
+        × (B.is_trusted it.0.second → B.is_trusted second)) }
     ensures differs { IfErr result (λ e. (place : ℕ) → e.2 ≡ MirrorFault.Differs place
         → (e.0 ≡ first) × (e.1 ≡ second) × DifferAt one.items other.items place) }
     ensures short { IfErr result (λ e. (fault : KeepFault) → e.2 ≡ MirrorFault.Short fault

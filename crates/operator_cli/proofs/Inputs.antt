@@ -21,6 +21,7 @@ pub read_whole : (limit most : ℕ) (inner source : Option (List ℕ)) (old buf 
 read_whole limit most inner source old buf same is empty read short =
     subst (λ (o : Option (List ℕ)). IfSome o (λ bytes. (buf ≡ bytes) × (length bytes ≤ most))) same (of_inner inner read)
   where
-    of_inner : (o : Option (List ℕ)) → IfSome (option_map (take limit) o) (λ read. buf ≡ old ++ read) → IfSome o (λ bytes. (buf ≡ bytes) × (length bytes ≤ most))
+    of_inner : (o : Option (List ℕ)) → IfSome (option_map (take limit) o) (λ read. buf ≡ old ++ read)
+        → IfSome o (λ bytes. (buf ≡ bytes) × (length bytes ≤ most))
     of_inner None h = tt
     of_inner (Some bytes) h = whole limit most bytes buf is (h ∙ ap (λ (l : List ℕ). l ++ take limit bytes) empty) short

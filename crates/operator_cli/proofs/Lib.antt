@@ -12,3 +12,4 @@ pub mod SessionLaws
 pub mod Serves
 pub mod VisitLaws
 pub mod AskLaws
+pub mod TakesLaws

@@ -27,7 +27,8 @@ behind_steps w [] = refl
 behind_steps w (line ∷ lines) = behind_steps (answer_to w (line_of line)).1 lines ∙ sym (one_step (line_of line) w (steps_of lines))
 
 opened_steps : (sites : ℕ) (second : List ℕ) (lines : List (List ℕ)) (o : Option ℕ)
-    → (limit : ℕ) × (world_behind (opened_by sites o second lines).0 (opened_by sites o second lines).1 ≡ reached (replicate sites limit) (steps_of (opened_by sites o second lines).1))
+    → (limit : ℕ) × (world_behind (opened_by sites o second lines).0 (opened_by sites o second lines).1 ≡ reached (replicate sites limit)
+    (steps_of (opened_by sites o second lines).1))
 opened_steps sites second lines None = (greatest_limit, behind_steps (opening sites greatest_limit) (second ∷ lines))
 opened_steps sites second lines (Some limit) = (limit, behind_steps (opening sites limit) lines)
 

@@ -12,10 +12,10 @@ use Rattle.live_office.specs.declared.handler.Last.TheVariants as last
 use Rattle.live_office.specs.Talks.{NextOfficeTalked, OfficeTalked}
 use Rattle.operator_cli.specs.declared.status.Status.{Status}
 use Rattle.operator_cli.specs.declared.status.Status.TheVariants.{Done, Failed}
-use Rattle.operator_cli.specs.declared.store_fault.StoreFault.{StoreFault}
-use Rattle.operator_cli.specs.declared.store_fault.StoreFault.TheVariants as fault
+use Rattle.operator_cli.specs.declared.command_fault.CommandFault.{CommandFault}
+use Rattle.operator_cli.specs.declared.command_fault.CommandFault.TheVariants as fault
 use Rattle.operator_cli.specs.Session.{of_talk_fault}
-use Rattle.operator_cli.specs.Told.{store_fault_line}
+use Rattle.operator_cli.specs.CommandReply.{command_fault_line}
 use Rattle.operator_cli.specs.Visits.{line_text, trouble}
 
 -- what was asked of an office, and what it has yet to send
@@ -29,7 +29,8 @@ channel asked coming = record { asked = asked; coming = coming }
 -- the line was asked, and the next line of the office is its answer
 abbrev pub IsPutTo : Channel → List ℕ → List ℕ → Channel → Type 0
 IsPutTo before line text after =
-    Appends before.asked after.asked (line_text line) × ((reply : List ℕ) × IsPartOfLine reply × (text ≡ line_text reply) × Consumes before.coming after.coming text)
+    Appends before.asked after.asked (line_text line)
+    × ((reply : List ℕ) × IsPartOfLine reply × (text ≡ line_text reply) × Consumes before.coming after.coming text)
 
 -- A line of a session is put to the office; what is none is not asked.
 abbrev pub IsAnsweredAs : Option Line → Channel → List ℕ → List ℕ → Channel → Type 0
@@ -67,7 +68,8 @@ last_in (Ok None) = None
 last_in (Err cause) = None
 
 -- the next line of the input was answered so
-abbrev pub NextAsked : Option (List ℕ) → Option (List ℕ) → Option (List ℕ) → Option (List ℕ) → Channel → Channel → Result (Option (Option Last)) TalkFault → Type 0
+abbrev pub NextAsked : Option (List ℕ) → Option (List ℕ) → Option (List ℕ) → Option (List ℕ) → Channel → Channel → Result (Option (Option Last)) TalkFault
+    → Type 0
 NextAsked input rest old new before now result =
     (after : Channel) × NextOfficeTalked IsAnsweredBy IsLastAsked input rest old new before after result × IsLeft (last_in result) after now
 
@@ -81,7 +83,7 @@ AllAsked input old new before now result =
     (after : Channel) × OfficeTalked IsAnsweredBy IsLastAsked input old new before after result × IsLeft (last_of result) after now
 
 -- what the session comes to
-abbrev pub visit_end : Result (Option Last) TalkFault → Result Status StoreFault
+abbrev pub visit_end : Result (Option Last) TalkFault → Result Status CommandFault
 visit_end (Ok None) = Ok Done
 visit_end (Ok (Some last.Quit)) = Ok Done
 visit_end (Ok (Some last.Full)) = Err fault.Full
@@ -89,8 +91,8 @@ visit_end (Ok (Some _)) = Err fault.NotOpen
 visit_end (Err cause) = Err (of_talk_fault cause)
 
 -- the status tells, and what ended it early is told
-abbrev pub EndsSo : Result Status StoreFault → Option (List ℕ) → Option (List ℕ) → Status → Type 0
-EndsSo came old new status = MatchResult came (λ s. (status ≡ s) × (new ≡ old)) (λ f. (status ≡ Failed) × AppendsFront old new (store_fault_line f))
+abbrev pub EndsSo : Result Status CommandFault → Option (List ℕ) → Option (List ℕ) → Status → Type 0
+EndsSo came old new status = MatchResult came (λ s. (status ≡ s) × (new ≡ old)) (λ f. (status ≡ Failed) × AppendsFront old new (command_fault_line f))
 
 -- a session that went to an office
 pub record WasAsked (input old new asked now coming old_err new_err : Option (List ℕ)) (status : Status) : Type 0 where

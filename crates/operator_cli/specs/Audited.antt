@@ -4,10 +4,10 @@ use Rattle.std.specs.List.{flat_map}
 use Rattle.local_rights.specs.declared.seat_totals.Totals.{Totals}
 use Rattle.book_core.specs.BookView.{BookView}
 use Rattle.world_steps.specs.Audit.{IsWhole, NoneIsAhead, IsFirstAhead, lines_in}
-use Rattle.operator_cli.specs.declared.told.Told.TheVariants.{NotWhole, Ahead}
+use Rattle.operator_cli.specs.declared.told.CommandReply.TheVariants.{NotWhole, Ahead}
 use Rattle.operator_cli.specs.declared.status.Status.{Status}
 use Rattle.operator_cli.specs.declared.status.Status.TheVariants.{Done, Refused, NotUnderstood, Failed}
-use Rattle.operator_cli.specs.Told.{told_line}
+use Rattle.operator_cli.specs.CommandReply.{told_line}
 use Rattle.operator_cli.specs.Opened.{FailsFor}
 use Rattle.operator_cli.specs.Printed.{Printed, Unprinted}
 use Rattle.operator_cli.specs.Script.{total_line}

@@ -37,14 +37,14 @@ use Rattle.site_desk.specs.Calls.{GrowCall, Keeping, TakeCall}
 use Rattle.site_desk.specs.Moments.{Events, Shares}
 use Rattle.site_desk.specs.SiteView.{SiteView, site_of}
 use Rattle.operator_cli.specs.declared.outcome.Outcome.{Outcome}
-use Rattle.operator_cli.specs.declared.outcome.Outcome.TheVariants.{Tells, Sends, Shows, Lists, Knows, Splits, Stands, Fails}
-use Rattle.operator_cli.specs.declared.store_fault.StoreFault.{StoreFault}
-use Rattle.operator_cli.specs.declared.store_fault.StoreFault.TheVariants as fault
-use Rattle.operator_cli.specs.declared.told.Told.{Told}
-use Rattle.operator_cli.specs.declared.told.Told.TheVariants.{Made, AlreadyThere, Migrated, Joined, NothingNew, Acked, NoSite, Nothing, NotFound, Unknown, TooLong, Unread, NotTaken, Grown, NotGrown}
+use Rattle.operator_cli.specs.declared.outcome.Outcome.TheVariants.{Tells, Sends, Shows, Lists, Knows, Splits, SiteStatusIs, Fails}
+use Rattle.operator_cli.specs.declared.command_fault.CommandFault.{CommandFault}
+use Rattle.operator_cli.specs.declared.command_fault.CommandFault.TheVariants as fault
+use Rattle.operator_cli.specs.declared.told.CommandReply.{CommandReply}
+use Rattle.operator_cli.specs.declared.told.CommandReply.TheVariants.{Made, AlreadyThere, Migrated, Joined, NothingNew, Acked, NoSite, Nothing, NotFound, Unknown, TooLong, Unread, NotTaken, Grown, NotGrown}
 use Rattle.operator_cli.specs.Opened.{CannotOpen, IsOpened}
-use Rattle.operator_cli.specs.Printed.{standing_in}
-use Rattle.operator_cli.specs.Told.{of_find_fault}
+use Rattle.operator_cli.specs.Printed.{site_status_in}
+use Rattle.operator_cli.specs.CommandReply.{of_find_fault}
 
 module _ {S : Type 0} (g : Ghosts S) (conn : Held S) where
   -- the records were opened, one call led from their book to another and to this outcome, and its connection came back
@@ -58,7 +58,7 @@ module _ {S : Type 0} (g : Ghosts S) (conn : Held S) where
   -- what a command comes to: the fault for which the records were not opened, or what one call made of them
   abbrev pub CameTo : (SiteView (RecordsView S) → SiteView (RecordsView S) → Outcome → Type 0) → Option (Held S) → Outcome → Type 0
   CameTo Calls back outcome =
-      ((cause : StoreFault) × (outcome ≡ Fails cause) × CannotOpen g conn cause back) ⊎ ((after : Held S) × (back ≡ Some after) × Called Calls outcome after)
+      ((cause : CommandFault) × (outcome ≡ Fails cause) × CannotOpen g conn cause back) ⊎ ((after : Held S) × (back ≡ Some after) × Called Calls outcome after)
 
 -- ---- more sites
 
@@ -95,12 +95,12 @@ Exports to old new outcome = (called : Result (Option Message) NextFault) × Nex
 
 -- ---- a message from a peer
 
-abbrev pub read_as : Result Message WireFault → Result Message Told
+abbrev pub read_as : Result Message WireFault → Result Message CommandReply
 read_as (Ok message) = Ok message
 read_as (Err cause) = Err (Unread cause)
 
 -- what the bytes of an input are read as
-abbrev pub input_of : List ℕ → Result Message Told
+abbrev pub input_of : List ℕ → Result Message CommandReply
 input_of bytes = if nat_lt most_bytes (length bytes) then Err TooLong else read_as (message_of bytes)
 
 -- the input is so long, or all of it was read
@@ -109,7 +109,7 @@ IsInputRead input None = most_bytes < length input
 IsInputRead input (Some bytes) = (bytes ≡ input) × (length input ≤ most_bytes)
 
 -- why an input is no message
-abbrev pub IsUnread : Told → Type 0
+abbrev pub IsUnread : CommandReply → Type 0
 IsUnread TooLong = ⊤
 IsUnread (Unread cause) = cause ≢ wire.Memory
 IsUnread _ = ⊥
@@ -134,7 +134,8 @@ outcome_of_take (Err cause) = Tells (NotTaken cause)
 abbrev pub Imports : {K : Type 0} → Keeping K → Option (List ℕ) → SiteView K → SiteView K → Outcome → Type 0
 Imports k input old new outcome =
     (IsRead input (Err outcome) × (new ≡ old))
-    ⊎ ((message : Message) × (called : Result Taken TakeFault) × IsRead input (Ok message) × TakeCall k old new message called × (outcome ≡ outcome_of_take called))
+    ⊎ ((message : Message) × (called : Result Taken TakeFault) × IsRead input (Ok message) × TakeCall k old new message called
+    × (outcome ≡ outcome_of_take called))
 
 -- ---- a reply that is kept
 
@@ -144,7 +145,8 @@ outcome_of_find (Ok (Some found)) = Shows found
 outcome_of_find (Err cause) = Fails (of_find_fault cause)
 
 abbrev pub Finds : {S : Type 0} → Ghosts S → ℕ → SiteView (RecordsView S) → SiteView (RecordsView S) → Outcome → Type 0
-Finds g number old new outcome = (called : Result (Option Found) FindFault) × FindCall g old.keeper new.keeper number called × (outcome ≡ outcome_of_find called)
+Finds g number old new outcome = (called : Result (Option Found) FindFault) × FindCall g old.keeper new.keeper number called
+    × (outcome ≡ outcome_of_find called)
 
 -- ---- the requests that name an event
 
@@ -160,7 +162,7 @@ ListsOf g name old new outcome =
 
 -- ---- the events that are known
 
-abbrev pub of_look_up_fault : LookUpFault → StoreFault
+abbrev pub of_look_up_fault : LookUpFault → CommandFault
 of_look_up_fault look_up.Closed = fault.Store
 of_look_up_fault look_up.Memory = fault.Memory
 
@@ -186,8 +188,8 @@ SharesOf name old new outcome =
 
 -- ---- how long the history is
 
-abbrev pub StandsAt : {K : Type 0} → SiteView K → SiteView K → Outcome → Type 0
-StandsAt old new outcome = (new ≡ old) × (outcome ≡ Stands (standing_in old.book.office old.book.history))
+abbrev pub HasSiteStatus : {K : Type 0} → SiteView K → SiteView K → Outcome → Type 0
+HasSiteStatus old new outcome = (new ≡ old) × (outcome ≡ SiteStatusIs (site_status_in old.book.office old.book.history))
 
 -- ---- new records
 

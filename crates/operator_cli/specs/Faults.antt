@@ -3,8 +3,8 @@ use Rattle.plain_words.specs.declared.lines.LineFault.{LineFault}
 use Rattle.plain_words.specs.declared.lines.LineFault.TheVariants as line
 use Rattle.operator_cli.specs.declared.fault.ScriptFault.{ScriptFault}
 use Rattle.operator_cli.specs.declared.fault.ScriptFault.TheVariants.{Read, Write, LineTooLong, TooManyLines, Memory}
-use Rattle.operator_cli.specs.declared.store_fault.StoreFault.{StoreFault}
-use Rattle.operator_cli.specs.declared.store_fault.StoreFault.TheVariants as store
+use Rattle.operator_cli.specs.declared.command_fault.CommandFault.{CommandFault}
+use Rattle.operator_cli.specs.declared.command_fault.CommandFault.TheVariants as store
 
 abbrev pub of_line_fault : LineFault → ScriptFault
 of_line_fault line.Read = Read
@@ -18,7 +18,7 @@ IsOutFault Read = ⊥
 IsOutFault LineTooLong = ⊥
 IsOutFault TooManyLines = ⊥
 
-abbrev pub of_script_fault : ScriptFault → StoreFault
+abbrev pub of_script_fault : ScriptFault → CommandFault
 of_script_fault Read = store.Read
 of_script_fault Write = store.Write
 of_script_fault LineTooLong = store.LineTooLong

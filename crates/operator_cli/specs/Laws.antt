@@ -26,7 +26,8 @@ world_at sites lines = world_behind (opened_world sites lines).0 (opened_world s
 
 -- the steps of its lines lead there
 abbrev pub ScriptsMakeSteps : Type 0
-ScriptsMakeSteps = (sites : ℕ) (lines : List (List ℕ)) → (limit : ℕ) × (world_at sites lines ≡ reached (replicate sites limit) (steps_of (opened_world sites lines).1))
+ScriptsMakeSteps = (sites : ℕ) (lines : List (List ℕ))
+    → (limit : ℕ) × (world_at sites lines ≡ reached (replicate sites limit) (steps_of (opened_world sites lines).1))
 
 -- behind the replies stand the totals of that world
 abbrev pub TotalsAreThose : Type 0

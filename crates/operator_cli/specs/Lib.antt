@@ -7,7 +7,7 @@ pub mod Session
 pub mod Ran
 pub mod Orders
 pub mod Laws
-pub mod Told
+pub mod CommandReply
 pub mod Printed
 pub mod Dealt
 pub mod Opened
@@ -18,3 +18,4 @@ pub mod Visits
 pub mod Asking
 pub mod Outcomes
 pub mod Commands
+pub mod Copies

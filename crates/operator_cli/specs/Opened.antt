@@ -22,8 +22,8 @@ use Rattle.history_keeper.specs.Meta.{office_of}
 use Rattle.sql_records.specs.Layout.{HasMeta, IsOurs}
 use Rattle.sql_records.specs.Opening.{IsForeignCause, IsOpenFault}
 use Rattle.site_desk.specs.SiteView.{SiteView}
-use Rattle.operator_cli.specs.declared.store_fault.StoreFault.{StoreFault}
-use Rattle.operator_cli.specs.Told.{of_open_fault, of_replay_fault, store_fault_line}
+use Rattle.operator_cli.specs.declared.command_fault.CommandFault.{CommandFault}
+use Rattle.operator_cli.specs.CommandReply.{of_open_fault, of_replay_fault, command_fault_line}
 
 -- the book is that of the records in this database, which are a site's, as they are opened: with their history, which is legal, and nothing acknowledged
 pub record IsBookOf {K : Type 0} (db : Trees) (book : SiteView K) : Type 0 where
@@ -39,24 +39,26 @@ abbrev pub HoldsOnly : State → List Entry → Type 0
 HoldsOnly s h = KeepsList h (history_in s.now.trees) (MayLeaveIn s)
 
 -- a command failed for one of these causes, and told which
-abbrev pub FailsFor : (StoreFault → Type 0) → Option (List ℕ) → Option (List ℕ) → Status → Type 0
-FailsFor P old_err new_err status = status ≡ Failed → (fault : StoreFault) × P fault × AppendsFront old_err new_err (store_fault_line fault)
+abbrev pub FailsFor : (CommandFault → Type 0) → Option (List ℕ) → Option (List ℕ) → Status → Type 0
+FailsFor P old_err new_err status = status ≡ Failed → (fault : CommandFault) × P fault × AppendsFront old_err new_err (command_fault_line fault)
 
 module _ {S : Type 0} (g : Ghosts S) (conn : Held S) where
   -- the records are not opened for this cause: a transaction is open, or what they are found to be at fault in
   abbrev pub IsCause : OpenFault → Type 0
   IsCause cause = ((conn.in_transaction ≡ true) × (cause ≡ opening.Disk))
-      ⊎ ((conn.in_transaction ≡ false) × ((after : Held S) × (HasCleanDisk (state g after) → HasCleanDisk (state g conn) × IsOpenFault (state g conn) (state g after) cause)))
+      ⊎ ((conn.in_transaction ≡ false)
+      × ((after : Held S) × (HasCleanDisk (state g after) → HasCleanDisk (state g conn) × IsOpenFault (state g conn) (state g after) cause)))
 
-  -- the opening was refused, and the fault tells its cause; where no transaction was open and the tables are not ours, the cause is what the select on `meta` showed, or what its error is told as
-  pub record IsRefused (fault : StoreFault) : Type 0 where
+  -- the opening was refused, and the fault tells its cause; where no transaction was open and the tables are not ours, the cause is what the select
+  -- on `meta` showed, or what its error is told as
+  pub record IsRefused (fault : CommandFault) : Type 0 where
     pub cause : OpenFault
     pub told : fault ≡ of_open_fault cause
     pub found : IsCause cause
     pub foreign : ¬ IsOurs conn.schema → conn.in_transaction ≡ false → (after : Held S) × (HasCleanDisk (state g after) → IsForeignCause g conn cause)
 
   -- the records were opened and are as they were, which a stop leaves, of the same site, but their history is not legal, or memory was wanted for it
-  pub record IsIllegal (after : Held S) (fault : StoreFault) : Type 0 where
+  pub record IsIllegal (after : Held S) (fault : CommandFault) : Type 0 where
     pub cause : ReplayFault
     pub told : fault ≡ of_replay_fault cause
     pub same : HasCleanDisk (state g after) → (state g after).now ≡ (state g conn).now
@@ -64,7 +66,8 @@ module _ {S : Type 0} (g : Ghosts S) (conn : Held S) where
     pub rests : HasCleanDisk (state g after) → LeavesOnly (history_in (state g conn).now.trees) (MayLeaveIn (state g after))
     pub ours : HasCleanDisk (state g after) → (meta : Meta) × HasMeta meta (state g conn).now.trees
     pub site : HasCleanDisk (state g after) → (meta : Meta) → HasMeta meta (state g conn).now.trees → LeavesSite (state g after) meta
-    pub found : HasCleanDisk (state g after) → (meta : Meta) → HasMeta meta (state g conn).now.trees → IsReplayFault (office_of meta) (history_in (state g conn).now.trees) cause
+    pub found : HasCleanDisk (state g after) → (meta : Meta) → HasMeta meta (state g conn).now.trees
+        → IsReplayFault (office_of meta) (history_in (state g conn).now.trees) cause
 
   -- the records of this connection were opened, which changed nothing, and this is their book
   pub record IsOpened (first : SiteView (RecordsView S)) : Type 0 where
@@ -83,7 +86,7 @@ module _ {S : Type 0} (g : Ghosts S) (conn : Held S) where
 
   -- they were not opened, and the connection is gone; or they were, and came back as they were, since their history is not legal or memory
   -- was wanted for it
-  abbrev pub CannotOpen : StoreFault → Option (Held S) → Type 0
+  abbrev pub CannotOpen : CommandFault → Option (Held S) → Type 0
   CannotOpen cause back = MatchOption back (IsRefused cause) (λ after. IsIllegal after cause)
 
   -- a connection that comes back showed the records of a site
@@ -93,18 +96,19 @@ module _ {S : Type 0} (g : Ghosts S) (conn : Held S) where
   -- a command wrote nothing, told at which place the history is not legal, or that memory was wanted to read it, and failed
   abbrev pub FailsAsIllegal : Held S → Option (List ℕ) → Option (List ℕ) → Option (List ℕ) → Option (List ℕ) → Status → Type 0
   FailsAsIllegal after old_out new_out old_err new_err status =
-      (fault : StoreFault) × IsIllegal after fault × Keeps old_out new_out × AppendsFront old_err new_err (store_fault_line fault) × (status ≡ Failed)
+      (fault : CommandFault) × IsIllegal after fault × Keeps old_out new_out × AppendsFront old_err new_err (command_fault_line fault) × (status ≡ Failed)
 
   -- so does a command where that history is not legal
   abbrev pub FailsIfIllegal : Held S → Option (List ℕ) → Option (List ℕ) → Option (List ℕ) → Option (List ℕ) → Status → Type 0
   FailsIfIllegal after old_out new_out old_err new_err status =
-      HasCleanDisk (state g after) → (meta : Meta) → HasMeta meta (state g conn).now.trees → (IsLegal (office_of meta) (history_in (state g conn).now.trees) → ⊥)
+      HasCleanDisk (state g after) → (meta : Meta) → HasMeta meta (state g conn).now.trees
+      → (IsLegal (office_of meta) (history_in (state g conn).now.trees) → ⊥)
       → FailsAsIllegal after old_out new_out old_err new_err status
 
   -- a command has no connection to give back: its records were refused, it wrote nothing, and that is what it told
   pub record IsLost (old_out new_out old_err new_err : Option (List ℕ)) (status : Status) : Type 0 where
-    pub fault : StoreFault
+    pub fault : CommandFault
     pub refused : IsRefused fault
     pub silent : Keeps old_out new_out
-    pub told : AppendsFront old_err new_err (store_fault_line fault)
+    pub told : AppendsFront old_err new_err (command_fault_line fault)
     pub failed : status ≡ Failed

@@ -1,10 +1,14 @@
 -- The commands of the program with their values, and which command words give. (Our own.)
-use Rattle.std.specs.Prelude.{◌≡◌, ℕ, Bool, List, [], ◌∷◌, true, false, Option, Some, None, is_some, codes, if◌then◌else◌, map, length, nat_le}
+use Rattle.std.specs.Prelude.{◌≡◌, ℕ, Bool, List, [], ◌∷◌, true, false, Option, Some, None, is_some, unwrap_or, codes, if◌then◌else◌, map, length, nat_le, Result, MatchResult}
 use Rattle.std.specs.Option.{option_map}
+use Rattle.std.specs.Borrow.{Bor}
 use Rattle.std.specs.String.{string_bytes}
 use Rattle.std.specs.Str.{bytes_eq}
-use Rattle.clap.specs.declared.builder.action.ArgAction.TheVariants.{SetTrue}
-use Rattle.clap.specs.Words.{App, Row, Rule, Text, all_of, first_of, new_app, new_rule, with_rule, with_subcommand, subcommand_of, fault_of}
+use Rattle.clap.specs.declared.builder.action.ArgAction.TheVariants.{Append, SetTrue}
+use Rattle.clap.specs.declared.builder.arg.Arg.{Arg}
+use Rattle.clap.specs.declared.builder.command.Command.{Command as ClapCommand}
+use Rattle.clap.specs.declared.builder.command.Command.TheViews.{out-Command as fields_of}
+use Rattle.clap.specs.Words.{App, Row, Rule, Text, all_of, app_of, first_of, new_app, new_rule, rule_of, with_rule, with_subcommand, subcommand_of, fault_of}
 use Rattle.plain_words.specs.Words.{◌>>=◌}
 use Rattle.plain_words.specs.Number.{number_of}
 use Rattle.rights_lattice.specs.Cells.{greatest_value}
@@ -14,9 +18,17 @@ use Rattle.live_office.specs.declared.sparing.Sparing.{Sparing}
 use Rattle.operator_cli.specs.declared.orders.Order.{Order}
 use Rattle.operator_cli.specs.declared.orders.Order.TheVariants as order
 use Rattle.operator_cli.specs.declared.orders.Misfit.{Misfit}
-use Rattle.operator_cli.specs.declared.orders.Misfit.TheVariants.{Command, File, Event, Me, Sites, Limit, Number, To, Files, Desks, Port, Sessions, Rounds, Reserve}
+use Rattle.operator_cli.specs.declared.orders.Misfit.TheVariants.{Command, File, Copy, Event, Me, Sites, Limit, Number, To, Files, Desks, Copies, Port, Sessions, Rounds, Reserve}
 use Rattle.operator_cli.specs.declared.orders.WordsFault.{WordsFault}
 use Rattle.operator_cli.specs.declared.orders.WordsFault.TheVariants.{NotUnderstood, Memory}
+
+-- a value with this rule, of one command alone
+abbrev pub IsValue : Rule → Arg → Type 0
+IsValue rule arg = (rule_of arg ≡ rule) × (arg.global ≡ false)
+
+-- a command with these values, each its own
+abbrev pub IsCommand : App → ClapCommand → Type 0
+IsCommand app command = (app_of command ≡ app) × ((fields_of command).has_globals ≡ false)
 
 -- a value that has to be given, by its place
 abbrev pub operand : Text → Rule
@@ -44,6 +56,17 @@ repeated_operand id most = record (operand id) { range = Some (record { start_in
 abbrev pub taking : App → Text → App
 taking a id = with_rule a (operand id)
 
+-- the option `--copy COPY`, and one that may be given more than once
+abbrev pub copy_rule : Rule
+copy_rule = record (new_rule (codes "COPY")) { long = Some (codes "copy") }
+
+abbrev pub copies_rule : Rule
+copies_rule = record copy_rule { action = Some Append }
+
+-- a command over the file of a site, or over both of its copies
+abbrev pub over_copies : App → App
+over_copies a = with_rule a copy_rule
+
 abbrev pub world_app : App
 world_app = new_app (codes "world")
 
@@ -54,34 +77,35 @@ abbrev pub migrate_app : App
 migrate_app = taking (new_app (codes "migrate")) (codes "FILE")
 
 abbrev pub grow_app : App
-grow_app = taking (taking (new_app (codes "grow")) (codes "FILE")) (codes "SITES")
+grow_app = over_copies (taking (taking (new_app (codes "grow")) (codes "FILE")) (codes "SITES"))
 
 abbrev pub ask_app : App
-ask_app = taking (new_app (codes "ask")) (codes "FILE")
+ask_app = over_copies (taking (new_app (codes "ask")) (codes "FILE"))
 
 abbrev pub find_app : App
-find_app = taking (taking (new_app (codes "find")) (codes "FILE")) (codes "NUMBER")
+find_app = over_copies (taking (taking (new_app (codes "find")) (codes "FILE")) (codes "NUMBER"))
 
 abbrev pub list_app : App
-list_app = taking (taking (new_app (codes "list")) (codes "FILE")) (codes "EVENT")
+list_app = over_copies (taking (taking (new_app (codes "list")) (codes "FILE")) (codes "EVENT"))
 
 abbrev pub events_app : App
-events_app = taking (new_app (codes "events")) (codes "FILE")
+events_app = over_copies (taking (new_app (codes "events")) (codes "FILE"))
 
 abbrev pub shares_app : App
-shares_app = taking (taking (new_app (codes "shares")) (codes "FILE")) (codes "EVENT")
+shares_app = over_copies (taking (taking (new_app (codes "shares")) (codes "FILE")) (codes "EVENT"))
 
 abbrev pub export_app : App
-export_app = taking (taking (new_app (codes "export")) (codes "FILE")) (codes "TO")
+export_app = over_copies (taking (taking (new_app (codes "export")) (codes "FILE")) (codes "TO"))
 
 abbrev pub import_app : App
-import_app = taking (new_app (codes "import")) (codes "FILE")
+import_app = over_copies (taking (new_app (codes "import")) (codes "FILE"))
 
 abbrev pub audit_app : App
-audit_app = with_rule (new_app (codes "audit")) (repeated_operand (codes "FILE") most_sites)
+audit_app = with_rule (with_rule (new_app (codes "audit")) (repeated_operand (codes "FILE") most_sites)) copies_rule
 
 abbrev pub serve_app : App
-serve_app = with_rule (taking (taking (taking (new_app (codes "serve")) (codes "PORT")) (codes "SESSIONS")) (codes "ROUNDS")) (repeated_operand (codes "FILE") most_desks)
+serve_app = with_rule (with_rule (taking (taking (taking (new_app (codes "serve")) (codes "PORT")) (codes "SESSIONS")) (codes "ROUNDS"))
+    (repeated_operand (codes "FILE") most_desks)) copies_rule
 
 -- `--low`, and `--reserve` with a value
 abbrev pub low_rule : Rule
@@ -90,14 +114,27 @@ low_rule = record (new_rule (codes "low")) { long = Some (codes "low"); action =
 abbrev pub reserve_rule : Rule
 reserve_rule = record (new_rule (codes "R")) { long = Some (codes "reserve") }
 
+-- an office over one file
+abbrev pub office_app : App
+office_app = with_rule (with_rule (taking (taking (new_app (codes "open")) (codes "PORT")) (codes "FILE")) low_rule) reserve_rule
+
 abbrev pub open_app : App
-open_app = with_rule (with_rule (taking (taking (new_app (codes "open")) (codes "PORT")) (codes "FILE")) low_rule) reserve_rule
+open_app = over_copies office_app
 
 abbrev pub close_app : App
 close_app = taking (new_app (codes "close")) (codes "FILE")
 
 abbrev pub status_app : App
-status_app = taking (new_app (codes "status")) (codes "FILE")
+status_app = over_copies (taking (new_app (codes "status")) (codes "FILE"))
+
+abbrev pub pair_app : App
+pair_app = taking (taking (new_app (codes "pair")) (codes "FILE")) (codes "COPY")
+
+abbrev pub alone_app : App
+alone_app = taking (new_app (codes "alone")) (codes "FILE")
+
+abbrev pub backup_app : App
+backup_app = taking (taking (new_app (codes "backup")) (codes "FILE")) (codes "COPY")
 
 abbrev pub version_app : App
 version_app = new_app (codes "version")
@@ -112,47 +149,60 @@ above a b = with_subcommand a b.top
 
 abbrev pub boxoffice : App
 boxoffice =
-    above (above (above (above (above (above (above (above (above (above (above (above (above (above (above (above (above
+    above (above (above (above (above (above (above (above (above (above (above (above (above (above (above (above (above (above (above (above
     (needing (new_app (codes "boxoffice"))) world_app) init_app) migrate_app) grow_app) ask_app) find_app) list_app) events_app) shares_app)
-    export_app) import_app) audit_app) serve_app) open_app) close_app) status_app) version_app
+    export_app) import_app) audit_app) serve_app) open_app) close_app) status_app) pair_app) alone_app) backup_app) version_app
 
 -- What is ordered: a command with its values, words as bytes and numbers as themselves.
 pub data Said : Type 0 where
   SaysWorld : Said
   SaysInit : (file : Text) (me sites limit : ℕ) → Said
   SaysMigrate : (file : Text) → Said
-  SaysGrow : (file : Text) (sites : ℕ) → Said
-  SaysAsk : (file : Text) → Said
-  SaysFind : (file : Text) (number : ℕ) → Said
-  SaysList : (file event : Text) → Said
-  SaysEvents : (file : Text) → Said
-  SaysShares : (file event : Text) → Said
-  SaysExport : (file : Text) (to : ℕ) → Said
-  SaysImport : (file : Text) → Said
-  SaysAudit : (files : List Text) → Said
-  SaysServe : (port sessions rounds : ℕ) (files : List Text) → Said
-  SaysOpen : (port : ℕ) (file : Text) (sparing : Sparing) → Said
+  SaysGrow : (file : Text) (sites : ℕ) (copy : Option Text) → Said
+  SaysAsk : (file : Text) (copy : Option Text) → Said
+  SaysFind : (file : Text) (number : ℕ) (copy : Option Text) → Said
+  SaysList : (file event : Text) (copy : Option Text) → Said
+  SaysEvents : (file : Text) (copy : Option Text) → Said
+  SaysShares : (file event : Text) (copy : Option Text) → Said
+  SaysExport : (file : Text) (to : ℕ) (copy : Option Text) → Said
+  SaysImport : (file : Text) (copy : Option Text) → Said
+  SaysAudit : (files copies : List Text) → Said
+  SaysServe : (port sessions rounds : ℕ) (files copies : List Text) → Said
+  SaysOpen : (port : ℕ) (file : Text) (sparing : Sparing) (copy : Option Text) → Said
   SaysClose : (file : Text) → Said
-  SaysStatus : (file : Text) → Said
+  SaysStatus : (file : Text) (copy : Option Text) → Said
+  SaysPair : (file copy : Text) → Said
+  SaysAlone : (file : Text) → Said
+  SaysBackup : (file copy : Text) → Said
   SaysVersion : Said
+
+-- words as bytes
+abbrev pub text_of : Option (Bor Text) → Option Text
+text_of = option_map (λ word. word.now)
+
+abbrev pub texts_of : List (Bor Text) → List Text
+texts_of = map (λ word. word.now)
 
 abbrev pub said_by : Order → Said
 said_by order.World = SaysWorld
 said_by (order.Init file me sites limit) = SaysInit file.now me sites limit
 said_by (order.Migrate file) = SaysMigrate file.now
-said_by (order.Grow file sites) = SaysGrow file.now sites
-said_by (order.Ask file) = SaysAsk file.now
-said_by (order.Find file number) = SaysFind file.now number
-said_by (order.List file event) = SaysList file.now event.now
-said_by (order.Events file) = SaysEvents file.now
-said_by (order.Shares file event) = SaysShares file.now event.now
-said_by (order.Export file to) = SaysExport file.now to
-said_by (order.Import file) = SaysImport file.now
-said_by (order.Audit files) = SaysAudit (map (λ file. file.now) files.items)
-said_by (order.Serve port sessions rounds files) = SaysServe port sessions rounds (map (λ file. file.now) files.items)
-said_by (order.Open port file sparing) = SaysOpen port file.now sparing
+said_by (order.Grow file sites copy) = SaysGrow file.now sites (text_of copy)
+said_by (order.Ask file copy) = SaysAsk file.now (text_of copy)
+said_by (order.Find file number copy) = SaysFind file.now number (text_of copy)
+said_by (order.List file event copy) = SaysList file.now event.now (text_of copy)
+said_by (order.Events file copy) = SaysEvents file.now (text_of copy)
+said_by (order.Shares file event copy) = SaysShares file.now event.now (text_of copy)
+said_by (order.Export file to copy) = SaysExport file.now to (text_of copy)
+said_by (order.Import file copy) = SaysImport file.now (text_of copy)
+said_by (order.Audit files copies) = SaysAudit (texts_of files.items) (texts_of copies.items)
+said_by (order.Serve port sessions rounds files copies) = SaysServe port sessions rounds (texts_of files.items) (texts_of copies.items)
+said_by (order.Open port file sparing copy) = SaysOpen port file.now sparing (text_of copy)
 said_by (order.Close file) = SaysClose file.now
-said_by (order.Status file) = SaysStatus file.now
+said_by (order.Status file copy) = SaysStatus file.now (text_of copy)
+said_by (order.Pair file copy) = SaysPair file.now copy.now
+said_by (order.Alone file) = SaysAlone file.now
+said_by (order.Backup file copy) = SaysBackup file.now copy.now
 said_by order.Version = SaysVersion
 
 -- the number from low to high that the value of this name spells
@@ -160,6 +210,10 @@ unfoldable pub number_in : Text → ℕ → ℕ → List Row → Option ℕ
 number_in id low high rows = do
   word ← first_of id rows
   number_of low high word
+
+-- the value of `--copy`
+abbrev pub copy_in : List Row → Option Text
+copy_in rows = first_of (codes "COPY") rows
 
 unfoldable pub init_in : List Row → Option Said
 init_in rows = do
@@ -178,46 +232,46 @@ unfoldable pub grow_in : List Row → Option Said
 grow_in rows = do
   file ← first_of (codes "FILE") rows
   sites ← number_in (codes "SITES") 1 most_sites rows
-  Some (SaysGrow file sites)
+  Some (SaysGrow file sites (copy_in rows))
 
 unfoldable pub ask_in : List Row → Option Said
 ask_in rows = do
   file ← first_of (codes "FILE") rows
-  Some (SaysAsk file)
+  Some (SaysAsk file (copy_in rows))
 
 unfoldable pub find_in : List Row → Option Said
 find_in rows = do
   file ← first_of (codes "FILE") rows
   number ← number_in (codes "NUMBER") 1 greatest_value rows
-  Some (SaysFind file number)
+  Some (SaysFind file number (copy_in rows))
 
 unfoldable pub list_in : List Row → Option Said
 list_in rows = do
   file ← first_of (codes "FILE") rows
   event ← first_of (codes "EVENT") rows
-  Some (SaysList file event)
+  Some (SaysList file event (copy_in rows))
 
 unfoldable pub events_in : List Row → Option Said
 events_in rows = do
   file ← first_of (codes "FILE") rows
-  Some (SaysEvents file)
+  Some (SaysEvents file (copy_in rows))
 
 unfoldable pub shares_in : List Row → Option Said
 shares_in rows = do
   file ← first_of (codes "FILE") rows
   event ← first_of (codes "EVENT") rows
-  Some (SaysShares file event)
+  Some (SaysShares file event (copy_in rows))
 
 unfoldable pub export_in : List Row → Option Said
 export_in rows = do
   file ← first_of (codes "FILE") rows
   to ← number_in (codes "TO") 0 greatest_site rows
-  Some (SaysExport file to)
+  Some (SaysExport file to (copy_in rows))
 
 unfoldable pub import_in : List Row → Option Said
 import_in rows = do
   file ← first_of (codes "FILE") rows
-  Some (SaysImport file)
+  Some (SaysImport file (copy_in rows))
 
 -- the words, where there are no more than so many
 abbrev pub at_most : ℕ → List Text → Option (List Text)
@@ -229,10 +283,15 @@ files_in most rows = do
   files ← all_of (codes "FILE") rows
   at_most most files
 
+-- the values of each `--copy`, of which there are no more than files
+unfoldable pub copies_in : List Row → Option (List Text)
+copies_in rows = at_most most_sites (unwrap_or (all_of (codes "COPY") rows) [])
+
 unfoldable pub audit_in : List Row → Option Said
 audit_in rows = do
   files ← files_in most_sites rows
-  Some (SaysAudit files)
+  copies ← copies_in rows
+  Some (SaysAudit files copies)
 
 unfoldable pub serve_in : List Row → Option Said
 serve_in rows = do
@@ -240,7 +299,8 @@ serve_in rows = do
   sessions ← number_in (codes "SESSIONS") 0 most_sessions rows
   rounds ← number_in (codes "ROUNDS") 0 most_rounds rows
   files ← files_in most_desks rows
-  Some (SaysServe port sessions rounds files)
+  copies ← copies_in rows
+  Some (SaysServe port sessions rounds files copies)
 
 -- whether `--low` is given
 abbrev pub is_true : Option Text → Bool
@@ -262,7 +322,7 @@ open_in rows = do
   port ← number_in (codes "PORT") 1 greatest_port rows
   file ← first_of (codes "FILE") rows
   reserve ← reserve_in rows
-  Some (SaysOpen port file (sparing (low_in rows) reserve))
+  Some (SaysOpen port file (sparing (low_in rows) reserve) (copy_in rows))
 
 unfoldable pub close_in : List Row → Option Said
 close_in rows = do
@@ -272,7 +332,24 @@ close_in rows = do
 unfoldable pub status_in : List Row → Option Said
 status_in rows = do
   file ← first_of (codes "FILE") rows
-  Some (SaysStatus file)
+  Some (SaysStatus file (copy_in rows))
+
+unfoldable pub pair_in : List Row → Option Said
+pair_in rows = do
+  file ← first_of (codes "FILE") rows
+  copy ← first_of (codes "COPY") rows
+  Some (SaysPair file copy)
+
+unfoldable pub alone_in : List Row → Option Said
+alone_in rows = do
+  file ← first_of (codes "FILE") rows
+  Some (SaysAlone file)
+
+unfoldable pub backup_in : List Row → Option Said
+backup_in rows = do
+  file ← first_of (codes "FILE") rows
+  copy ← first_of (codes "COPY") rows
+  Some (SaysBackup file copy)
 
 -- the order that the command of this name gives with these values
 unfoldable pub named_order : Text → List Row → Option Said
@@ -293,7 +370,10 @@ named_order name rows =
     if bytes_eq name (codes "open") then open_in rows else (
     if bytes_eq name (codes "close") then close_in rows else (
     if bytes_eq name (codes "status") then status_in rows else (
-    if bytes_eq name (codes "version") then Some SaysVersion else None))))))))))))))))
+    if bytes_eq name (codes "pair") then pair_in rows else (
+    if bytes_eq name (codes "alone") then alone_in rows else (
+    if bytes_eq name (codes "backup") then backup_in rows else (
+    if bytes_eq name (codes "version") then Some SaysVersion else None)))))))))))))))))))
 
 -- the order of the subcommand that was met
 abbrev pub order_in : Option (Text × List Row) → Option Said
@@ -326,17 +406,21 @@ values_of name =
     if bytes_eq name (codes "shares") then File ∷ Event ∷ [] else (
     if bytes_eq name (codes "export") then File ∷ To ∷ [] else (
     if bytes_eq name (codes "import") then File ∷ [] else (
-    if bytes_eq name (codes "audit") then Files ∷ [] else (
-    if bytes_eq name (codes "serve") then Port ∷ Sessions ∷ Rounds ∷ Desks ∷ [] else (
+    if bytes_eq name (codes "audit") then Files ∷ Copies ∷ [] else (
+    if bytes_eq name (codes "serve") then Port ∷ Sessions ∷ Rounds ∷ Desks ∷ Copies ∷ [] else (
     if bytes_eq name (codes "open") then Port ∷ File ∷ Reserve ∷ [] else (
     if bytes_eq name (codes "close") then File ∷ [] else (
     if bytes_eq name (codes "status") then File ∷ [] else (
-    if bytes_eq name (codes "version") then [] else Command ∷ []))))))))))))))))
+    if bytes_eq name (codes "pair") then File ∷ Copy ∷ [] else (
+    if bytes_eq name (codes "alone") then File ∷ [] else (
+    if bytes_eq name (codes "backup") then File ∷ Copy ∷ [] else (
+    if bytes_eq name (codes "version") then [] else Command ∷ [])))))))))))))))))))
 
 -- whether a value is given and in its range
 abbrev pub fits : List Row → Misfit → Bool
 fits rows Command = false
 fits rows File = is_some (first_of (codes "FILE") rows)
+fits rows Copy = is_some (first_of (codes "COPY") rows)
 fits rows Event = is_some (first_of (codes "EVENT") rows)
 fits rows Me = is_some (number_in (codes "ME") 0 greatest_site rows)
 fits rows Sites = is_some (number_in (codes "SITES") 1 most_sites rows)
@@ -345,6 +429,7 @@ fits rows Number = is_some (number_in (codes "NUMBER") 1 greatest_value rows)
 fits rows To = is_some (number_in (codes "TO") 0 greatest_site rows)
 fits rows Files = is_some (files_in most_sites rows)
 fits rows Desks = is_some (files_in most_desks rows)
+fits rows Copies = is_some (copies_in rows)
 fits rows Port = is_some (number_in (codes "PORT") 1 greatest_port rows)
 fits rows Sessions = is_some (number_in (codes "SESSIONS") 0 most_sessions rows)
 fits rows Rounds = is_some (number_in (codes "ROUNDS") 0 most_rounds rows)
@@ -355,6 +440,11 @@ abbrev pub first_misfit : List Misfit → List Row → Option Misfit
 first_misfit [] rows = None
 first_misfit (value ∷ values) rows = if fits rows value then first_misfit values rows else Some value
 
+-- the values of a command were read: they give the order, or the first of them that does not fit is named
+abbrev pub IsOrderOf : (List Row → Option Said) → List Misfit → List Row → Result Order Misfit → Type 0
+IsOrderOf order_of values rows result =
+    MatchResult result (λ order. order_of rows ≡ Some (said_by order)) (λ misfit. (order_of rows ≡ None) × (first_misfit values rows ≡ Some misfit))
+
 -- what is wrong with the subcommand that was met
 abbrev pub misfit_in : Option (Text × List Row) → Option Misfit
 misfit_in None = Some Command
@@ -364,6 +454,7 @@ misfit_in (Some met) = first_misfit (values_of met.0) met.1
 abbrev pub misfit_line : Misfit → Text
 misfit_line Command = codes "error: no such command\n"
 misfit_line File = codes "error: FILE is missing\n"
+misfit_line Copy = codes "error: COPY is missing\n"
 misfit_line Event = codes "error: EVENT is missing\n"
 misfit_line Me = codes "error: ME is the number of a site, 0 to 63\n"
 misfit_line Sites = codes "error: SITES is a count of sites, 1 to 64\n"
@@ -372,6 +463,7 @@ misfit_line Number = codes "error: NUMBER is the number of a request, 1 to 10000
 misfit_line To = codes "error: TO is the number of a site, 0 to 63\n"
 misfit_line Files = codes "error: FILE is given 1 to 64 times\n"
 misfit_line Desks = codes "error: FILE is given 1 to 16 times\n"
+misfit_line Copies = codes "error: --copy is given at most 64 times\n"
 misfit_line Port = codes "error: PORT is the number of a port, 1 to 65535\n"
 misfit_line Sessions = codes "error: SESSIONS is a count of connections, 0 to 1024\n"
 misfit_line Rounds = codes "error: ROUNDS is a count of rounds, 0 to 1000000\n"

@@ -6,15 +6,15 @@ use Rattle.plain_words.specs.Writing.{AppendsFront}
 use Rattle.delta_wire.specs.Grammar.{IsMessage, message_text}
 use Rattle.history_keeper.specs.declared.lookup.Listed.{Listed}
 use Rattle.site_desk.specs.declared.answer.SiteShare.{SiteShare}
-use Rattle.live_office.specs.RecordLines.{event_line, found_line, row_line, share_line, standing_text}
+use Rattle.live_office.specs.RecordLines.{event_line, found_line, row_line, share_line, site_status_text}
 use Rattle.operator_cli.specs.declared.outcome.Outcome.{Outcome}
-use Rattle.operator_cli.specs.declared.outcome.Outcome.TheVariants.{Tells, Sends, Shows, Lists, Knows, Splits, Stands, Fails}
+use Rattle.operator_cli.specs.declared.outcome.Outcome.TheVariants.{Tells, Sends, Shows, Lists, Knows, Splits, SiteStatusIs, Fails}
 use Rattle.operator_cli.specs.declared.status.Status.{Status}
 use Rattle.operator_cli.specs.declared.status.Status.TheVariants.{Done, Failed}
-use Rattle.operator_cli.specs.declared.store_fault.StoreFault.{StoreFault}
-use Rattle.operator_cli.specs.declared.store_fault.StoreFault.TheVariants as fault
-use Rattle.operator_cli.specs.declared.told.Told.TheVariants.{NotFound}
-use Rattle.operator_cli.specs.Told.{store_fault_line, told_line, told_status}
+use Rattle.operator_cli.specs.declared.command_fault.CommandFault.{CommandFault}
+use Rattle.operator_cli.specs.declared.command_fault.CommandFault.TheVariants as fault
+use Rattle.operator_cli.specs.declared.told.CommandReply.TheVariants.{NotFound}
+use Rattle.operator_cli.specs.CommandReply.{command_fault_line, told_line, told_status}
 
 -- the rows of a list, or that there are none
 abbrev pub list_text : List Listed → List ℕ
@@ -42,7 +42,7 @@ outcome_text (Shows found) = found_line found.place found.reply
 outcome_text (Lists rows) = list_text rows.items
 outcome_text (Knows events) = known_text events.items
 outcome_text (Splits rows) = flat_map share_line rows.items
-outcome_text (Stands standing) = standing_text standing ++ 10 ∷ []
+outcome_text (SiteStatusIs site_status) = site_status_text site_status ++ 10 ∷ []
 outcome_text (Fails cause) = []
 
 abbrev pub outcome_status : Outcome → Status
@@ -52,7 +52,7 @@ outcome_status (Shows found) = Done
 outcome_status (Lists rows) = list_status rows.items
 outcome_status (Knows events) = known_status events.items
 outcome_status (Splits rows) = Done
-outcome_status (Stands standing) = Done
+outcome_status (SiteStatusIs site_status) = Done
 outcome_status (Fails cause) = Failed
 
 -- what is printed whole is read back
@@ -61,18 +61,18 @@ IsReadBack (Sends message) = IsMessage message
 IsReadBack _ = ⊤
 
 -- a text went out whole, with its status; or a front of it, where the writer failed
-abbrev pub WritesAs : List ℕ → Status → Option (List ℕ) → Option (List ℕ) → Result Status StoreFault → Type 0
+abbrev pub WritesAs : List ℕ → Status → Option (List ℕ) → Option (List ℕ) → Result Status CommandFault → Type 0
 WritesAs text status old_out new_out (Ok came) = Appends old_out new_out text × (came ≡ status)
 WritesAs text status old_out new_out (Err cause) = AppendsFront old_out new_out text × (cause ≡ fault.Write)
 
 -- so did an outcome; of what ended a command early nothing goes out
-abbrev pub IsWritten : Outcome → Option (List ℕ) → Option (List ℕ) → Result Status StoreFault → Type 0
+abbrev pub IsWritten : Outcome → Option (List ℕ) → Option (List ℕ) → Result Status CommandFault → Type 0
 IsWritten (Fails cause) old_out new_out came = Keeps old_out new_out × (came ≡ Err cause)
 IsWritten outcome old_out new_out came = WritesAs (outcome_text outcome) (outcome_status outcome) old_out new_out came × OnOk came (IsReadBack outcome)
 
 -- what ended a command early is told on the second writer, with status 3
-pub record IsFailed (cause : StoreFault) (old_err new_err : Option (List ℕ)) (status : Status) : Type 0 where
-  pub told : AppendsFront old_err new_err (store_fault_line cause)
+pub record IsFailed (cause : CommandFault) (old_err new_err : Option (List ℕ)) (status : Status) : Type 0 where
+  pub told : AppendsFront old_err new_err (command_fault_line cause)
   pub failed : status ≡ Failed
 
 -- The whole text went out, with its status, and nothing else; or a front of it, and that the writer failed is told. Of what ended the

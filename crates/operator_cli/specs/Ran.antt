@@ -14,7 +14,7 @@ use Rattle.desk_lines.specs.Reading.{line_of, sites_from_line}
 use Rattle.desk_lines.specs.ScriptReplies.{script_reply_line}
 use Rattle.operator_cli.specs.Answering.{answer_to}
 use Rattle.operator_cli.specs.Faults.{IsOutFault, of_script_fault}
-use Rattle.operator_cli.specs.Told.{store_fault_line}
+use Rattle.operator_cli.specs.CommandReply.{command_fault_line}
 use Rattle.operator_cli.specs.Script.{answers, world_behind, replies_and_totals, replies_at, run_at, replies, script_of_lines, bad_line, script}
 
 -- the first line gives the count of sites
@@ -36,9 +36,12 @@ printed AtEnd replies whole lines = whole lines
 printed AtLongLine replies whole lines = replies lines
 printed AtTooMany replies whole lines = replies lines
 
--- What is there after a fault, of the lines that are taken: where reading ended early the replies to the lines before, whole; where writing or memory failed, a front of what the lines print.
-abbrev pub EndsEarly : (List (List ℕ) → Type 0) → (List (List ℕ) → List ℕ) → (List (List ℕ) → List ℕ) → TakenLines → Option (List ℕ) → Option (List ℕ) → ScriptFault → Type 0
-EndsEarly goes replies whole t old new Read = (before : List (List ℕ)) × (after : List (List ℕ)) × (t.lines ≡ before ++ after) × goes before × Appends old new (replies before)
+-- What is there after a fault, of the lines that are taken: where reading ended early the replies to the lines before, whole; where writing or
+-- memory failed, a front of what the lines print.
+abbrev pub EndsEarly : (List (List ℕ) → Type 0) → (List (List ℕ) → List ℕ) → (List (List ℕ) → List ℕ) → TakenLines → Option (List ℕ) → Option (List ℕ)
+    → ScriptFault → Type 0
+EndsEarly goes replies whole t old new Read = (before : List (List ℕ)) × (after : List (List ℕ)) × (t.lines ≡ before ++ after) × goes before
+    × Appends old new (replies before)
 EndsEarly goes replies whole t old new LineTooLong = (t.end ≡ AtLongLine) × goes t.lines × Appends old new (replies t.lines)
 EndsEarly goes replies whole t old new TooManyLines = (t.end ≡ AtTooMany) × goes t.lines × Appends old new (replies t.lines)
 EndsEarly goes replies whole t old new Write = AppendsFront old new (printed t.end replies whole t.lines)
@@ -54,7 +57,8 @@ NextRan input rest old new before after (Ok true) =
     (line : List ℕ) × (length line ≤ longest_line) × Between input rest (λ xs ys. lines_of xs ≡ line ∷ lines_of ys)
     × Appends old new (script_reply_line (answer_to before (line_of line)).0) × (after ≡ (answer_to before (line_of line)).1)
 NextRan input rest old new before after (Ok false) = Keeps old new × (after ≡ before) × Between input rest (λ xs ys. (lines_of xs ≡ []) × (lines_of ys ≡ []))
-NextRan input rest old new before after (Err f) = IfSome input (λ xs. (more : ℕ) → EndsEarly AnyLines (answers before) (replies_and_totals before) (taken (suc more) (lines_of xs)) old new f)
+NextRan input rest old new before after (Err f) = IfSome input (λ xs. (more : ℕ)
+    → EndsEarly AnyLines (answers before) (replies_and_totals before) (taken (suc more) (lines_of xs)) old new f)
 
 -- all of these lines were answered, and the input ends behind them
 abbrev pub AllAnswered : World → World → TakenLines → Option (List ℕ) → Option (List ℕ) → Type 0
@@ -63,11 +67,13 @@ AllAnswered before after t old new = (t.end ≡ AtEnd) × Appends old new (answe
 -- all lines behind the second
 abbrev pub RestRan : ℕ → Option (List ℕ) → Option (List ℕ) → Option (List ℕ) → World → World → Result (Unit {0}) ScriptFault → Type 0
 RestRan most input old new before after (Ok u) = IfSome input (λ xs. AllAnswered before after (taken most (lines_of xs)) old new)
-RestRan most input old new before after (Err f) = IfSome input (λ xs. EndsEarly AnyLines (answers before) (replies_and_totals before) (taken most (lines_of xs)) old new f)
+RestRan most input old new before after (Err f) = IfSome input
+    (λ xs. EndsEarly AnyLines (answers before) (replies_and_totals before) (taken most (lines_of xs)) old new f)
 
 -- the world that the second line opens, and what that line is answered
 abbrev pub OpensWorld : ℕ → List ℕ → List ℕ → World → Type 0
-OpensWorld sites second text world = (more : List (List ℕ)) → (replies_at sites (second ∷ more) ≡ text ++ answers world more) × (run_at sites (second ∷ more) ≡ text ++ replies_and_totals world more)
+OpensWorld sites second text world = (more : List (List ℕ)) → (replies_at sites (second ∷ more) ≡ text ++ answers world more)
+    × (run_at sites (second ∷ more) ≡ text ++ replies_and_totals world more)
 
 -- the second line, which gives the limit or is answered
 abbrev pub OpenRan : ℕ → List ℕ → Option (List ℕ) → Option (List ℕ) → Result World ScriptFault → Type 0
@@ -76,21 +82,27 @@ OpenRan sites second old new (Err f) = IsOutFault f × ((more : List (List ℕ))
 
 -- the second line and those behind it, of which this many may be there
 abbrev pub SecondRan : ℕ → ℕ → List ℕ → Option (List ℕ) → Option (List ℕ) → Option (List ℕ) → Result (Unit {0}) ScriptFault → Type 0
-SecondRan most sites second input old new (Ok u) = IfSome input (λ xs. ((taken most (lines_of xs)).end ≡ AtEnd) × Appends old new (run_at sites (second ∷ (taken most (lines_of xs)).lines)))
-SecondRan most sites second input old new (Err f) = IfSome input (λ xs. EndsEarly AnyLines (λ lines. replies_at sites (second ∷ lines)) (λ lines. run_at sites (second ∷ lines)) (taken most (lines_of xs)) old new f)
+SecondRan most sites second input old new (Ok u) = IfSome input (λ xs. ((taken most (lines_of xs)).end ≡ AtEnd)
+    × Appends old new (run_at sites (second ∷ (taken most (lines_of xs)).lines)))
+SecondRan most sites second input old new (Err f) = IfSome input
+    (λ xs. EndsEarly AnyLines (λ lines. replies_at sites (second ∷ lines)) (λ lines. run_at sites (second ∷ lines)) (taken most (lines_of xs)) old new f)
 
 -- the lines behind the first, of which this many may be there
 abbrev pub SitesRan : ℕ → ℕ → Option (List ℕ) → Option (List ℕ) → Option (List ℕ) → Result (Unit {0}) ScriptFault → Type 0
-SitesRan most sites input old new (Ok u) = IfSome input (λ xs. ((taken most (lines_of xs)).end ≡ AtEnd) × Appends old new (run_at sites (taken most (lines_of xs)).lines))
+SitesRan most sites input old new (Ok u) = IfSome input (λ xs. ((taken most (lines_of xs)).end ≡ AtEnd)
+    × Appends old new (run_at sites (taken most (lines_of xs)).lines))
 SitesRan most sites input old new (Err f) = IfSome input (λ xs. EndsEarly AnyLines (replies_at sites) (run_at sites) (taken most (lines_of xs)) old new f)
 
 -- the first line
 abbrev pub StartRan : Option (List ℕ) → Option (List ℕ) → Result (Option ℕ) ScriptFault → Type 0
-StartRan input rest (Ok (Some n)) = Between input rest (λ xs ys. (first : List ℕ) × (lines_of xs ≡ first ∷ lines_of ys) × (length first ≤ longest_line) × (sites_from_line first ≡ Some n) × StartsWell (lines_of xs))
+StartRan input rest (Ok (Some n)) = Between input rest (λ xs ys. (first : List ℕ) × (lines_of xs ≡ first ∷ lines_of ys) × (length first ≤ longest_line)
+    × (sites_from_line first ≡ Some n) × StartsWell (lines_of xs))
 StartRan input rest (Ok None) = IfSome input (λ xs. (StartsWell (lines_of xs) → ⊥) × (BeginsTooLong (lines_of xs) → ⊥))
-StartRan input rest (Err f) = IfSome input (λ xs. (more : ℕ) (out : Option (List ℕ)) → EndsEarly MayGoOn replies script_of_lines (taken (suc more) (lines_of xs)) out out f)
+StartRan input rest (Err f) = IfSome input (λ xs. (more : ℕ) (out : Option (List ℕ))
+    → EndsEarly MayGoOn replies script_of_lines (taken (suc more) (lines_of xs)) out out f)
 
--- A script: true where all of it was taken and what it prints went out, false where its first line is readable and gives no count of sites, and `bad-line` alone went out.
+-- A script: true where all of it was taken and what it prints went out, false where its first line is readable and gives no count of sites, and
+-- `bad-line` alone went out.
 abbrev pub ScriptRan : Option (List ℕ) → Option (List ℕ) → Option (List ℕ) → Result Bool ScriptFault → Type 0
 ScriptRan input old new (Ok true) = IfSome input (λ xs. ((taken most_lines (lines_of xs)).end ≡ AtEnd) × StartsWell (lines_of xs) × Appends old new (script xs))
 ScriptRan input old new (Ok false) = Appends old new bad_line × IfSome input (λ xs. (StartsWell (lines_of xs) → ⊥) × (BeginsTooLong (lines_of xs) → ⊥))
@@ -100,8 +112,9 @@ ScriptRan input old new (Err f) = IfSome input (λ xs. EndsEarly MayGoOn replies
 abbrev pub ScriptTold : Option (List ℕ) → Option (List ℕ) → Result Bool ScriptFault → Status → Type 0
 ScriptTold old new (Ok true) told = (told ≡ status.Done) × Keeps old new
 ScriptTold old new (Ok false) told = (told ≡ status.Refused) × Keeps old new
-ScriptTold old new (Err f) told = (told ≡ status.Failed) × AppendsFront old new (store_fault_line (of_script_fault f))
+ScriptTold old new (Err f) told = (told ≡ status.Failed) × AppendsFront old new (command_fault_line (of_script_fault f))
 
 -- a script that came to something, which is told
 abbrev pub WorldRan : Option (List ℕ) → Option (List ℕ) → Option (List ℕ) → Option (List ℕ) → Option (List ℕ) → Status → Type 0
-WorldRan input out_old out_new err_old err_new told = (came : Result Bool ScriptFault) × ScriptRan input out_old out_new came × ScriptTold err_old err_new came told
+WorldRan input out_old out_new err_old err_new told = (came : Result Bool ScriptFault) × ScriptRan input out_old out_new came
+    × ScriptTold err_old err_new came told

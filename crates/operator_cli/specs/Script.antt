@@ -14,7 +14,8 @@ use Rattle.operator_cli.specs.Answering.{answer_to}
 
 -- the numbers of an event over all sites
 abbrev pub total_line : List ℕ → Totals → List ℕ
-total_line event t = event ++ codes " released " ++ decimal t.released ++ codes " sold " ++ decimal t.sold ++ codes " refunded " ++ decimal t.refunded ++ codes " outstanding " ++ decimal (t.sold - t.refunded) ++ 10 ∷ []
+total_line event t = event ++ codes " released " ++ decimal t.released ++ codes " sold " ++ decimal t.sold ++ codes " refunded " ++ decimal t.refunded ++
+    codes " outstanding " ++ decimal (t.sold - t.refunded) ++ 10 ∷ []
 
 -- a line for each event that a site knows
 abbrev pub total_lines : World → List ℕ

@@ -9,14 +9,14 @@ use Rattle.plain_words.specs.Writing.{AppendsFront}
 use Rattle.rights_lattice.specs.EventName.{IsEventName}
 use Rattle.operator_cli.specs.declared.status.Status.{Status}
 use Rattle.operator_cli.specs.declared.status.Status.TheVariants.{Done, Refused, NotUnderstood, Failed}
-use Rattle.operator_cli.specs.declared.store_fault.StoreFault.{StoreFault}
-use Rattle.operator_cli.specs.declared.store_fault.StoreFault.TheVariants as fault
+use Rattle.operator_cli.specs.declared.command_fault.CommandFault.{CommandFault}
+use Rattle.operator_cli.specs.declared.command_fault.CommandFault.TheVariants as fault
 use Rattle.site_exchange.specs.declared.message.Message.{Message}
 use Rattle.delta_wire.specs.declared.fault.WireFault.{WireFault}
 use Rattle.delta_wire.specs.Grammar.{message_text, most_bytes}
 use Rattle.delta_wire.specs.Wire.{message_of}
-use Rattle.operator_cli.specs.Told.{FaultTold, ended_by_wire}
-use Rattle.operator_cli.specs.declared.told.Told.TheVariants.{TooLong, Unknown, Unread}
+use Rattle.operator_cli.specs.CommandReply.{FaultTold, ended_by_wire}
+use Rattle.operator_cli.specs.declared.told.CommandReply.TheVariants.{TooLong, Unknown, Unread}
 use Rattle.operator_cli.specs.declared.visits.Expected.{Expected}
 use Rattle.operator_cli.specs.declared.visits.Expected.TheVariants as expected
 use Rattle.operator_cli.specs.Opened.{FailsFor}
@@ -43,7 +43,7 @@ abbrev pub export_question : ℕ → List ℕ
 export_question to = codes "export " ++ decimal to
 
 -- why an office does not answer; an office that does not know the line is none
-abbrev pub trouble : List ℕ → Option StoreFault
+abbrev pub trouble : List ℕ → Option CommandFault
 trouble line =
     if bytes_eq line (codes "memory") then Some fault.Memory else (
     if bytes_eq line (codes "closed") then Some fault.Store else (
@@ -57,12 +57,12 @@ abbrev pub is_nothing : List ℕ → Bool
 is_nothing line =
     bytes_eq line (codes "none") || bytes_eq line (codes "nothing") || bytes_eq line (codes "no-site") || bytes_eq line (codes "unknown")
 
-abbrev pub ending : Option StoreFault → Bool → Result Status StoreFault
+abbrev pub ending : Option CommandFault → Bool → Result Status CommandFault
 ending (Some cause) refused = Err cause
 ending None refused = Ok (if refused then Refused else Done)
 
 -- how a command ends by the first line of an answer
-abbrev pub heard : List ℕ → Result Status StoreFault
+abbrev pub heard : List ℕ → Result Status CommandFault
 heard line = ending (trouble line) (is_nothing line)
 
 -- what an office sent begins with this text, as far as it is known
@@ -137,13 +137,13 @@ pub record PassedAll (sent left old new : Option (List ℕ)) : Type 0 where
   pub printed : Appends old new (lines_text lines)
 
 -- the next line was passed on, or was the last; it could not be written, or none came
-abbrev pub PassedNext : Option (List ℕ) → Option (List ℕ) → Option (List ℕ) → Option (List ℕ) → Result Bool StoreFault → Type 0
+abbrev pub PassedNext : Option (List ℕ) → Option (List ℕ) → Option (List ℕ) → Option (List ℕ) → Result Bool CommandFault → Type 0
 PassedNext sent left old new (Ok true) = (line : List ℕ) × ComesBeforeEnd line × Consumes sent left (line_text line) × Appends old new (line_text line)
 PassedNext sent left old new (Ok false) = Consumes sent left (line_text (codes "end")) × (new ≡ old)
 PassedNext sent left old new (Err cause) = PassesOn sent old new
 
 -- what ends a visit early: out of memory, a failed write, an office that does not answer, or its first line says so
-abbrev pub IsVisitEnd : Option (List ℕ) → StoreFault → Type 0
+abbrev pub IsVisitEnd : Option (List ℕ) → CommandFault → Type 0
 IsVisitEnd sent cause =
     (cause ≡ fault.Memory) ⊎ (cause ≡ fault.Write) ⊎ (cause ≡ fault.NotOpen)
     ⊎ ((line : List ℕ) × IsPartOfLine line × Begins sent (line_text line) × (trouble line ≡ Some cause))
@@ -214,7 +214,7 @@ abbrev pub is_taken : List ℕ → Bool
 is_taken line = brings_ack line || bytes_eq line (codes "acked")
 
 -- how a command ends by the line that says what was done with a message
-abbrev pub heard_of_taking : List ℕ → Result Status StoreFault
+abbrev pub heard_of_taking : List ℕ → Result Status CommandFault
 heard_of_taking line = ending (trouble line) (not (is_taken line))
 
 -- that line
@@ -244,5 +244,5 @@ abbrev pub IsBroughtText : Option (List ℕ) → Option (List ℕ) → Status �
 IsBroughtText input sent status text = IfSome input (λ bytes. IsBroughtBy bytes sent status text)
 
 -- what ends that early
-abbrev pub IsBringEnd : Option (List ℕ) → StoreFault → Type 0
+abbrev pub IsBringEnd : Option (List ℕ) → CommandFault → Type 0
 IsBringEnd sent cause = (cause ≡ fault.Read) ⊎ IsVisitEnd sent cause

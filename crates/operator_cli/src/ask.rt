@@ -1,30 +1,28 @@
 //! The command `ask`: a session with the book of a site.
 
 ghost use Rattle.std.specs.Prelude.{◌≡◌, ◌⊎◌, None, IfSome};
-ghost use Rattle.sqlite.specs.State.{HasCleanDisk};
-ghost use Rattle.sqlite.specs.Held.{state};
-ghost use Rattle.operator_cli.specs.Session.{SessionRan, status_of};
+ghost use Rattle.operator_cli.specs.Session.{RanOrFailed, status_of};
 ghost use Rattle.operator_cli.specs.declared.status.Status.TheVariants.{Done, Failed};
-ghost use Rattle.operator_cli.specs.Told.{FaultTold};
-ghost use Rattle.operator_cli.specs.Opened.{FailsAsIllegal, FailsIfIllegal, IsLost, ShowedRecords};
+ghost use Rattle.operator_cli.specs.CommandReply.{FaultTold};
+ghost use Rattle.operator_cli.specs.Opened.{FailsIfIllegal, IsLost, ShowedRecords};
 
+use crate::command_fault::CommandFault;
 use crate::ending::{close_book, ended};
 use crate::opening::open_book;
 use crate::status::Status;
-use crate::store_fault::StoreFault;
-use session_server::{AtBook, Ended, TalkFault, talk};
+use session_server::{BookAnswerer, Ended, TalkFault, talk};
 use sqlite::{Alter, Connection};
 use std::alloc::Global;
 use std::io::{Read, Write};
 use std::sync::Wait;
 
 // What a session that ended so comes to.
-fn status_of(came: Result<Ended, TalkFault>) -> Result<Status, StoreFault>
+pub(crate) fn status_of(came: Result<Ended, TalkFault>) -> Result<Status, CommandFault>
     ensures { result ≡ status_of came }
 {
     match came {
         Ok(_) => Ok(Status::Done),
-        Err(fault) => Err(StoreFault::from(fault)),
+        Err(fault) => Err(CommandFault::from(fault)),
     }
 }
 
@@ -45,9 +43,8 @@ pub fn ask_store<T: Wait, S: Alter + Drop, R: Read + Drop, W: Write, E: Write>(
 ) -> (Status, Option<Connection<S>>)
     ensures status { (result.0 ≡ Done) ⊎ (result.0 ≡ Failed) }
     ensures err { FaultTold (E.contents err.old) (E.contents err.new) result.0 }
-    ensures ran { IfSome result.1 (λ after. HasCleanDisk (state S.Store after)
-        → FailsAsIllegal S.Store conn after (W.contents out.old) (W.contents out.new) (E.contents err.old) (E.contents err.new) result.0
-        ⊎ SessionRan S.Store conn (R.remaining input) (W.contents out.old) (W.contents out.new) (E.contents err.old) (E.contents err.new) after result.0) }
+    ensures ran { IfSome result.1 (RanOrFailed S.Store conn (R.remaining input) (W.contents out.old)
+        (W.contents out.new) (E.contents err.old) (E.contents err.new) result.0) }
     ensures ours { IfSome result.1 (ShowedRecords S.Store conn) }
     ensures illegal { IfSome result.1
         (λ after. FailsIfIllegal S.Store conn after (W.contents out.old)
@@ -57,7 +54,7 @@ pub fn ask_store<T: Wait, S: Alter + Drop, R: Read + Drop, W: Write, E: Write>(
 {
     match open_book(alloc, conn) {
         Ok(book) => {
-            let mut answerer = AtBook::new(alloc, book);
+            let mut answerer = BookAnswerer::new(alloc, book);
             let came = talk(rt, alloc, input, out, &mut answerer);
             close_book(status_of(came), answerer.into_book(), out, err)
         }

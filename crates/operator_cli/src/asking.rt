@@ -5,14 +5,14 @@ ghost use Rattle.plain_words.specs.Input.{longest_line};
 ghost use Rattle.plain_words.specs.Writing.{AppendsFront, Writes};
 ghost use Rattle.session_server.specs.declared.fault.TalkFault.TheVariants.{Write as WriteFailed};
 ghost use Rattle.operator_cli.specs.Asking.{AllAsked, IsAnsweredBy, IsLastAsked, IsLeft, IsPutTo, IsToldFull, NextAsked, WasAsked, channel, visit_end};
-ghost use Rattle.operator_cli.specs.Told.{FaultTold};
+ghost use Rattle.operator_cli.specs.CommandReply.{FaultTold};
 ghost use Rattle.operator_cli.specs.Visits.{line_text};
 ghost use Rattle.operator_cli.specs.declared.status.Status.TheVariants.{Done, Failed};
-ghost use Rattle.operator_cli.specs.declared.store_fault.StoreFault.TheVariants.{Full};
+ghost use Rattle.operator_cli.specs.declared.command_fault.CommandFault.TheVariants.{Full};
 
+use crate::command_fault::CommandFault;
 use crate::ending::tell_fault;
 use crate::status::Status;
-use crate::store_fault::StoreFault;
 use crate::visiting::{hear, say, trouble};
 use desk_lines::{BadLine, Line, MOST_LINES, read_line};
 use live_office::Last;
@@ -27,7 +27,7 @@ fn put_to<A: BufRead, Q: Write>(
     line: &[u8],
     answers: &mut A,
     questions: &mut Q,
-) -> Result<Text, StoreFault>
+) -> Result<Text, CommandFault>
     requires { length line.now ≤ longest_line }
     ensures put { IfOk result (λ text. IsPutTo
         (channel (Q.contents questions.old) (A.remaining answers.old)) line.now text.items
@@ -40,8 +40,8 @@ fn put_to<A: BufRead, Q: Write>(
     let mut reply = LineBytes::new();
     let said = say(line, questions);
     hear(answers, &mut reply)?;
-    if let Some(StoreFault::Full) = trouble(reply.as_slice()) {
-        return Err(StoreFault::Full);
+    if let Some(CommandFault::Full) = trouble(reply.as_slice()) {
+        return Err(CommandFault::Full);
     }
     said?;
     let mut text = word(reply.as_slice());
@@ -71,7 +71,7 @@ fn answer<A: BufRead, Q: Write>(
         Ok(Line::Ask { .. } | Line::Left { .. } | Line::Totals { .. }) => {
             match put_to(line, answers, questions) {
                 Ok(text) => Ok(text),
-                Err(StoreFault::Full) => Err(Last::Full),
+                Err(CommandFault::Full) => Err(Last::Full),
                 Err(_) => Err(Last::Close),
             }
         }
@@ -97,9 +97,8 @@ fn ask_next<R: BufRead, A: BufRead, Q: Write, W: Write>(
     questions: &mut Q,
     out: &mut W,
 ) -> Result<Option<Option<Last>>, TalkFault>
-    ensures { NextAsked (R.remaining input.old) (R.remaining input.new)
-        (W.contents out.old) (W.contents out.new)
-        (channel (Q.contents questions.old) (A.remaining answers.old))
+    ensures { NextAsked (R.remaining input.old) (R.remaining input.new) (W.contents out.old)
+        (W.contents out.new) (channel (Q.contents questions.old) (A.remaining answers.old))
         (channel (Q.contents questions.new) (A.remaining answers.new)) result }
 {
     let mut line = LineBytes::new();
@@ -140,16 +139,16 @@ fn ask_over<R: BufRead, A: BufRead, Q: Write, W: Write>(
 }
 
 // What a session that ended so comes to.
-fn visit_end(came: Result<Option<Last>, TalkFault>) -> Result<Status, StoreFault>
+fn visit_end(came: Result<Option<Last>, TalkFault>) -> Result<Status, CommandFault>
     ensures { result ≡ visit_end came }
 {
     match came {
         Ok(None) => Ok(Status::Done),
         Ok(Some(Last::Quit)) => Ok(Status::Done),
-        Ok(Some(Last::Full)) => Err(StoreFault::Full),
-        Ok(Some(Last::Close)) => Err(StoreFault::NotOpen),
-        Ok(Some(Last::Unread)) => Err(StoreFault::NotOpen),
-        Err(fault) => Err(StoreFault::from(fault)),
+        Ok(Some(Last::Full)) => Err(CommandFault::Full),
+        Ok(Some(Last::Close)) => Err(CommandFault::NotOpen),
+        Ok(Some(Last::Unread)) => Err(CommandFault::NotOpen),
+        Err(fault) => Err(CommandFault::from(fault)),
     }
 }
 
@@ -193,10 +192,10 @@ pub fn ask_office<R: Read + Drop, A: Read + Drop, Q: Write, W: Write, E: Write>(
         (E.contents err.old) (E.contents err.new) result }
 {
     let Ok(mut lines) = BufReader::new(alloc, input) else {
-        return tell_fault(StoreFault::Memory, err);
+        return tell_fault(CommandFault::Memory, err);
     };
     let Ok(mut replies) = BufReader::new(alloc, answers) else {
-        return tell_fault(StoreFault::Memory, err);
+        return tell_fault(CommandFault::Memory, err);
     };
     ask_told(&mut lines, &mut replies, questions, out, err)
 }

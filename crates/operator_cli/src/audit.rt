@@ -4,18 +4,18 @@ ghost use Rattle.std.specs.Prelude.{◌≡◌, ◌≢◌, IfOk, IfErr, IfSome, N
 ghost use Rattle.std.specs.Io.KnownBytes.{Keeps};
 ghost use Rattle.operator_cli.specs.declared.status.Status.TheVariants.{Done, Failed};
 ghost use Rattle.plain_words.specs.Writing.{AppendsFront};
-ghost use Rattle.operator_cli.specs.declared.store_fault.StoreFault.TheVariants.{Write as WriteFailed};
+ghost use Rattle.operator_cli.specs.declared.command_fault.CommandFault.TheVariants.{Write as WriteFailed};
 ghost use Rattle.world_steps.specs.Audit.{IsWhole, books_of};
 ghost use Rattle.book_core.specs.Books.{AreNotOversold};
-ghost use Rattle.operator_cli.specs.Told.{FaultTold};
+ghost use Rattle.operator_cli.specs.CommandReply.{FaultTold};
 ghost use Rattle.operator_cli.specs.Opened.{FailsFor};
 ghost use Rattle.operator_cli.specs.Printed.{Printed, Unprinted};
 ghost use Rattle.operator_cli.specs.Audited.{AreWithinSales, EndsAudited, IsAuditText, IsPartsText, sum_lines};
 
+use crate::command_fault::CommandFault;
 use crate::ending::{ended, write_line};
 use crate::status::Status;
-use crate::store_fault::StoreFault;
-use crate::told::{Told, ended_by_audit, tell};
+use crate::told::{CommandReply, ended_by_audit, tell};
 use crate::totals::total_line;
 use book_core::Book;
 use history_keeper::Keeper;
@@ -27,7 +27,7 @@ use std::io::Write;
 use world_steps::{audit, is_whole};
 
 // A line for each event with its sums.
-fn write_sums<W: Write>(sums: &[(Event, Totals)], out: &mut W) -> Result<Status, StoreFault>
+fn write_sums<W: Write>(sums: &[(Event, Totals)], out: &mut W) -> Result<Status, CommandFault>
     requires { AreWithinSales sums.now }
     ensures out { IfOk result (Printed
         (λ status text. text ≡ sum_lines sums.now) (W.contents out.old) (W.contents out.new)) }
@@ -47,7 +47,7 @@ pub(crate) fn print_audit<W: Write>(
     alloc: Global,
     books: &[&Book],
     out: &mut W,
-) -> Result<Status, StoreFault>
+) -> Result<Status, CommandFault>
     ensures out { IfOk result
         (Printed (IsAuditText (books_of books.now)) (W.contents out.old) (W.contents out.new)) }
     ensures not_oversold { IfOk result
@@ -77,7 +77,7 @@ fn audit_all<K: Keeper, W: Write>(
     alloc: Global,
     sites: &[SiteBook<K>],
     out: &mut W,
-) -> Result<Status, StoreFault>
+) -> Result<Status, CommandFault>
     ensures out { IfOk result (Printed (IsAuditText (map (λ site. site.book) sites.now))
         (W.contents out.old) (W.contents out.new)) }
     ensures not_oversold { IfOk result
@@ -117,7 +117,7 @@ fn refused_parts<K: Keeper, W: Write>(
     alloc: Global,
     sites: &[SiteBook<K>],
     out: &mut W,
-) -> Option<Result<Status, StoreFault>>
+) -> Option<Result<Status, CommandFault>>
     ensures whole { result ≡ None → IsWhole (map (λ site. site.book) sites.now)
         × Keeps (W.contents out.old) (W.contents out.new) }
     ensures out { IfSome result (λ came. IfOk came (Printed (IsPartsText
@@ -127,12 +127,12 @@ fn refused_parts<K: Keeper, W: Write>(
     ensures ends { IfSome result (λ came. IfOk came (λ status. status ≢ Failed)) }
 {
     let Ok(books) = books_in(alloc, sites) else {
-        return Some(Err(StoreFault::Memory));
+        return Some(Err(CommandFault::Memory));
     };
     if is_whole(books.as_slice()) {
         return None;
     }
-    Some(tell(&Told::NotWhole, out))
+    Some(tell(&CommandReply::NotWhole, out))
 }
 
 /// Prints `not-whole`, with status 1, where the books are not those of all sites, and nothing where they are.

@@ -5,17 +5,17 @@ ghost use Rattle.std.specs.Io.KnownBytes.{Appends};
 ghost use Rattle.plain_words.specs.Writing.{AppendsFront, Writes};
 ghost use Rattle.delta_wire.specs.Wire.{message_of};
 ghost use Rattle.operator_cli.specs.declared.status.Status.TheVariants.{Failed};
-ghost use Rattle.operator_cli.specs.declared.store_fault.StoreFault.TheVariants.{NotOpen, Memory as WantsMemory, Write as WriteFailed};
+ghost use Rattle.operator_cli.specs.declared.command_fault.CommandFault.TheVariants.{NotOpen, Memory as WantsMemory, Write as WriteFailed};
 ghost use Rattle.operator_cli.specs.Opened.{FailsFor};
 ghost use Rattle.operator_cli.specs.Printed.{Printed};
-ghost use Rattle.operator_cli.specs.Told.{FaultTold};
+ghost use Rattle.operator_cli.specs.CommandReply.{FaultTold};
 ghost use Rattle.operator_cli.specs.Visits.{IsBringEnd, IsBroughtOf, IsBroughtText, IsTakingLine, IsUnreadOf, IsVisitEnd, PassesOn, brings_ack, heard_of_taking, import_question, is_taken, question_of_bytes, question_of_read};
 
+use crate::command_fault::CommandFault;
 use crate::ending::{ended, tell_fault};
 use crate::import::read_input;
 use crate::status::Status;
-use crate::store_fault::StoreFault;
-use crate::told::{Told, ended_by_wire, tell};
+use crate::told::{CommandReply, ended_by_wire, tell};
 use crate::visiting::{ending, hear, print_line, reach, say, told_before};
 use delta_wire::{WireFault, read_message, write_message};
 use plain_words::LineBytes;
@@ -36,14 +36,14 @@ fn is_taken(line: &[u8]) -> bool
 }
 
 // How the command ends by the line that says what was done.
-fn heard_of_taking(line: &[u8]) -> Result<Status, StoreFault>
+fn heard_of_taking(line: &[u8]) -> Result<Status, CommandFault>
     ensures { result ≡ heard_of_taking line.now }
 {
     ending(line, !is_taken(line))
 }
 
 // Asks to take the message, and sends it.
-fn send_message<Q: Write>(message: &Message, questions: &mut Q) -> Result<(), StoreFault>
+fn send_message<Q: Write>(message: &Message, questions: &mut Q) -> Result<(), CommandFault>
     ensures sent { Writes (Q.contents questions.old) (Q.contents questions.new) result
         (import_question message.now) }
     ensures fault { IfErr result (λ fault. fault ≡ NotOpen) }
@@ -51,12 +51,12 @@ fn send_message<Q: Write>(message: &Message, questions: &mut Q) -> Result<(), St
     say(b"import", questions)?;
     match write_message(message, questions) {
         Ok(()) => reach(questions),
-        Err(_) => Err(StoreFault::NotOpen),
+        Err(_) => Err(CommandFault::NotOpen),
     }
 }
 
 // Reads lines up to `end`.
-fn skip_message<A: BufRead>(answers: &mut A) -> Result<(), StoreFault>
+fn skip_message<A: BufRead>(answers: &mut A) -> Result<(), CommandFault>
     ensures fault { IfErr result (λ fault. fault ≡ NotOpen) }
 {
     let mut line = LineBytes::new();
@@ -68,11 +68,11 @@ fn skip_message<A: BufRead>(answers: &mut A) -> Result<(), StoreFault>
             return Ok(());
         }
     }
-    Err(StoreFault::NotOpen)
+    Err(CommandFault::NotOpen)
 }
 
 // The acknowledgement that follows such a line is read, and not printed.
-fn skip_ack<A: BufRead>(line: &[u8], answers: &mut A) -> Result<(), StoreFault>
+fn skip_ack<A: BufRead>(line: &[u8], answers: &mut A) -> Result<(), CommandFault>
     ensures fault { IfErr result (λ fault. fault ≡ NotOpen) }
 {
     if brings_ack(line) {
@@ -82,7 +82,7 @@ fn skip_ack<A: BufRead>(line: &[u8], answers: &mut A) -> Result<(), StoreFault>
 }
 
 // Reads what was done with the message, and prints it.
-fn print_taking<A: BufRead, W: Write>(answers: &mut A, out: &mut W) -> Result<Status, StoreFault>
+fn print_taking<A: BufRead, W: Write>(answers: &mut A, out: &mut W) -> Result<Status, CommandFault>
     ensures printed { IfOk result (Printed (IsTakingLine (A.remaining answers.old))
         (W.contents out.old) (W.contents out.new)) }
     ensures passes { IfErr result (λ _. PassesOn (A.remaining answers.old)
@@ -105,7 +105,7 @@ fn bring<A: BufRead, Q: Write, W: Write>(
     answers: &mut A,
     questions: &mut Q,
     out: &mut W,
-) -> Result<Status, StoreFault>
+) -> Result<Status, CommandFault>
     ensures asked { AppendsFront (Q.contents questions.old) (Q.contents questions.new)
         (import_question message.now) }
     ensures whole { OnOk result (Appends (Q.contents questions.old) (Q.contents questions.new)
@@ -122,7 +122,7 @@ fn bring<A: BufRead, Q: Write, W: Write>(
 }
 
 // Tells why the bytes are no message.
-fn tell_unread<W: Write>(fault: WireFault, out: &mut W) -> Result<Status, StoreFault>
+fn tell_unread<W: Write>(fault: WireFault, out: &mut W) -> Result<Status, CommandFault>
     ensures printed { IfOk result (Printed (IsUnreadOf fault)
         (W.contents out.old) (W.contents out.new)) }
     ensures cause { IfErr result (λ cause. (cause ≡ WantsMemory) ⊎ (cause ≡ WriteFailed)) }
@@ -141,7 +141,7 @@ fn bring_bytes<A: BufRead, Q: Write, W: Write>(
     answers: &mut A,
     questions: &mut Q,
     out: &mut W,
-) -> Result<Status, StoreFault>
+) -> Result<Status, CommandFault>
     ensures asked { AppendsFront (Q.contents questions.old) (Q.contents questions.new)
         (question_of_read (message_of bytes.now)) }
     ensures whole { OnOk result (Appends (Q.contents questions.old) (Q.contents questions.new)
@@ -165,7 +165,7 @@ fn bring_input<R: Read + Drop, A: BufRead, Q: Write, W: Write>(
     answers: &mut A,
     questions: &mut Q,
     out: &mut W,
-) -> Result<Status, StoreFault>
+) -> Result<Status, CommandFault>
     ensures asked { IfSome (R.remaining input) (λ bytes. AppendsFront
         (Q.contents questions.old) (Q.contents questions.new) (question_of_bytes bytes)) }
     ensures whole { IfSome (R.remaining input) (λ bytes. OnOk result (Appends
@@ -177,7 +177,7 @@ fn bring_input<R: Read + Drop, A: BufRead, Q: Write, W: Write>(
 {
     match read_input(alloc, input) {
         Ok(Some(bytes)) => bring_bytes(alloc, bytes.as_slice(), answers, questions, out),
-        Ok(None) => tell(&Told::TooLong, out),
+        Ok(None) => tell(&CommandReply::TooLong, out),
         Err(fault) => Err(fault),
     }
 }
@@ -229,7 +229,7 @@ pub fn import_office<R: Read + Drop, A: Read + Drop, Q: Write, W: Write, E: Writ
         (E.contents err.old) (E.contents err.new) result }
 {
     let Ok(mut buffered) = BufReader::new(alloc, answers) else {
-        return tell_fault(StoreFault::Memory, err);
+        return tell_fault(CommandFault::Memory, err);
     };
     bring_over(alloc, input, &mut buffered, questions, out, err)
 }

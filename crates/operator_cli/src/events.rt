@@ -4,10 +4,10 @@ ghost use Rattle.std.specs.Prelude.{◌≡◌};
 ghost use Rattle.operator_cli.specs.Commands.{CameTo, EventsOf, of_look_up_fault, outcome_of_events};
 ghost use Rattle.operator_cli.specs.Outcomes.{Ends};
 
+use crate::command_fault::CommandFault;
 use crate::opening::open_book;
 use crate::outcome::{Outcome, print_outcome};
 use crate::status::Status;
-use crate::store_fault::StoreFault;
 use rights_lattice::Event;
 use site_desk::LookUpFault;
 use sqlite::{Alter, Connection};
@@ -15,12 +15,12 @@ use std::alloc::Global;
 use std::io::Write;
 
 /// What a look at a book that failed ends the command with.
-pub(crate) fn of_look_up_fault(fault: LookUpFault) -> StoreFault
+pub(crate) fn of_look_up_fault(fault: LookUpFault) -> CommandFault
     ensures { result ≡ of_look_up_fault fault }
 {
     match fault {
-        LookUpFault::Closed => StoreFault::Store,
-        LookUpFault::Memory => StoreFault::Memory,
+        LookUpFault::Closed => CommandFault::Store,
+        LookUpFault::Memory => CommandFault::Memory,
     }
 }
 

@@ -4,11 +4,11 @@ ghost use Rattle.std.specs.Prelude.{◌≡◌};
 ghost use Rattle.operator_cli.specs.Commands.{CameTo, Exports, outcome_of_next};
 ghost use Rattle.operator_cli.specs.Outcomes.{Ends};
 
+use crate::command_fault::CommandFault;
 use crate::opening::open_book;
 use crate::outcome::{Outcome, print_outcome};
 use crate::status::Status;
-use crate::store_fault::StoreFault;
-use crate::told::Told;
+use crate::told::CommandReply;
 use rights_lattice::SiteId;
 use site_desk::NextFault;
 use site_exchange::Message;
@@ -21,10 +21,10 @@ fn outcome_of_next(called: Result<Option<Message>, NextFault>) -> Outcome
 {
     match called {
         Ok(Some(message)) => Outcome::Sends(message),
-        Ok(None) => Outcome::Tells(Told::Nothing),
-        Err(NextFault::NoSite) => Outcome::Tells(Told::NoSite),
-        Err(NextFault::Closed) => Outcome::Fails(StoreFault::Store),
-        Err(NextFault::Memory) => Outcome::Fails(StoreFault::Memory),
+        Ok(None) => Outcome::Tells(CommandReply::Nothing),
+        Err(NextFault::NoSite) => Outcome::Tells(CommandReply::NoSite),
+        Err(NextFault::Closed) => Outcome::Fails(CommandFault::Store),
+        Err(NextFault::Memory) => Outcome::Fails(CommandFault::Memory),
     }
 }
 

@@ -3,13 +3,13 @@
 ghost use Rattle.std.specs.Prelude.{◌≡◌};
 ghost use Rattle.operator_cli.specs.Commands.{CameTo, Finds, outcome_of_find};
 ghost use Rattle.operator_cli.specs.Outcomes.{Ends};
-ghost use Rattle.operator_cli.specs.Told.{of_find_fault};
+ghost use Rattle.operator_cli.specs.CommandReply.{of_find_fault};
 
+use crate::command_fault::CommandFault;
 use crate::opening::open_book;
 use crate::outcome::{Outcome, print_outcome};
 use crate::status::Status;
-use crate::store_fault::StoreFault;
-use crate::told::Told;
+use crate::told::CommandReply;
 use history_keeper::Found;
 use request_ledger::RequestNumber;
 use sql_records::FindFault;
@@ -18,14 +18,14 @@ use std::alloc::Global;
 use std::io::Write;
 
 /// What a look-up that failed ends the command with.
-pub(crate) fn of_find_fault(fault: FindFault) -> StoreFault
+pub(crate) fn of_find_fault(fault: FindFault) -> CommandFault
     ensures { result ≡ of_find_fault fault }
 {
     match fault {
-        FindFault::Shut => StoreFault::Store,
-        FindFault::Damaged { place } => StoreFault::Damaged { place },
-        FindFault::Memory => StoreFault::Memory,
-        FindFault::Disk => StoreFault::Disk,
+        FindFault::Shut => CommandFault::Store,
+        FindFault::Damaged { place } => CommandFault::Damaged { place },
+        FindFault::Memory => CommandFault::Memory,
+        FindFault::Disk => CommandFault::Disk,
     }
 }
 
@@ -34,7 +34,7 @@ fn outcome_of_find(called: Result<Option<Found>, FindFault>) -> Outcome
 {
     match called {
         Ok(Some(found)) => Outcome::Shows(found),
-        Ok(None) => Outcome::Tells(Told::NotFound),
+        Ok(None) => Outcome::Tells(CommandReply::NotFound),
         Err(fault) => Outcome::Fails(of_find_fault(fault)),
     }
 }

@@ -1,9 +1,8 @@
 //! The grammar of the program's words: each command and the values that it takes.
 
-ghost use Rattle.std.specs.Prelude.{◌≡◌, IfOk, false, codes};
-ghost use Rattle.clap.specs.Words.{app_of, new_app, rule_of};
-ghost use Rattle.clap.specs.declared.builder.command.Command.TheViews.{out-Command as fields_of};
-ghost use Rattle.operator_cli.specs.Orders.{operand, boxoffice, init_app, migrate_app, grow_app, ask_app, find_app, list_app, events_app, shares_app, export_app, import_app, audit_app, serve_app, low_rule, reserve_rule, open_app, close_app, status_app, most_desks, repeated_operand};
+ghost use Rattle.std.specs.Prelude.{◌≡◌, IfOk, codes};
+ghost use Rattle.clap.specs.Words.{app_of, new_app};
+ghost use Rattle.operator_cli.specs.Orders.{operand, boxoffice, init_app, migrate_app, grow_app, ask_app, find_app, list_app, events_app, shares_app, export_app, import_app, audit_app, serve_app, low_rule, reserve_rule, copy_rule, copies_rule, office_app, open_app, close_app, status_app, pair_app, alone_app, backup_app, most_desks, repeated_operand, IsCommand, IsValue};
 ghost use Rattle.rights_lattice.specs.Limits.{most_sites};
 
 use crate::orders::{MOST_DESKS, MOST_FILES};
@@ -11,44 +10,52 @@ use clap::{Arg, ArgAction, Command};
 use std::alloc::{AllocError, Global};
 
 fn named<'a>(alloc: Global, name: &'a str, about: &'a str) -> Command<'a>
-    ensures app { app_of result ≡ new_app name.now }
-    ensures local { (fields_of result).has_globals ≡ false }
+    ensures { IsCommand (new_app name.now) result }
 {
     Command::new(alloc, name).about(about)
 }
 
 fn operand<'a>(alloc: Global, id: &'a str, help: &'a str) -> Arg<'a>
-    ensures rule { rule_of result ≡ operand id.now }
-    ensures local { result.global ≡ false }
+    ensures { IsValue (operand id.now) result }
 {
     Arg::new(alloc, id).help(help).required(true)
 }
 
 fn file<'a>(alloc: Global) -> Arg<'a>
-    ensures rule { rule_of result ≡ operand (codes "FILE") }
-    ensures local { result.global ≡ false }
+    ensures { IsValue (operand (codes "FILE")) result }
 {
     operand(alloc, "FILE", "The file of a site")
 }
 
 fn files<'a>(alloc: Global) -> Arg<'a>
-    ensures rule { rule_of result ≡ repeated_operand (codes "FILE") most_sites }
-    ensures local { result.global ≡ false }
+    ensures { IsValue (repeated_operand (codes "FILE") most_sites) result }
 {
     file(alloc).num_args(1..=MOST_FILES)
 }
 
 // As many files as one `serve` runs sites.
 fn desks<'a>(alloc: Global) -> Arg<'a>
-    ensures rule { rule_of result ≡ repeated_operand (codes "FILE") most_desks }
-    ensures local { result.global ≡ false }
+    ensures { IsValue (repeated_operand (codes "FILE") most_desks) result }
 {
     file(alloc).num_args(1..=MOST_DESKS)
 }
 
+fn copy<'a>(alloc: Global) -> Arg<'a>
+    ensures { IsValue copy_rule result }
+{
+    Arg::new(alloc, "COPY")
+        .long("copy")
+        .help("The other file of a site that keeps two copies")
+}
+
+fn copies<'a>(alloc: Global) -> Arg<'a>
+    ensures { IsValue copies_rule result }
+{
+    copy(alloc).action(ArgAction::Append)
+}
+
 fn init<'a>(alloc: Global) -> Result<Command<'a>, AllocError>
-    ensures app { IfOk result (λ command. app_of command ≡ init_app) }
-    ensures local { IfOk result (λ command. (fields_of command).has_globals ≡ false) }
+    ensures { IfOk result (IsCommand init_app) }
 {
     let me = operand(
         alloc,
@@ -69,8 +76,7 @@ fn init<'a>(alloc: Global) -> Result<Command<'a>, AllocError>
 }
 
 fn migrate<'a>(alloc: Global) -> Result<Command<'a>, AllocError>
-    ensures app { IfOk result (λ command. app_of command ≡ migrate_app) }
-    ensures local { IfOk result (λ command. (fields_of command).has_globals ≡ false) }
+    ensures { IfOk result (IsCommand migrate_app) }
 {
     named(
         alloc,
@@ -81,8 +87,7 @@ fn migrate<'a>(alloc: Global) -> Result<Command<'a>, AllocError>
 }
 
 fn grow<'a>(alloc: Global) -> Result<Command<'a>, AllocError>
-    ensures app { IfOk result (λ command. app_of command ≡ grow_app) }
-    ensures local { IfOk result (λ command. (fields_of command).has_globals ≡ false) }
+    ensures { IfOk result (IsCommand grow_app) }
 {
     let sites = operand(
         alloc,
@@ -91,19 +96,20 @@ fn grow<'a>(alloc: Global) -> Result<Command<'a>, AllocError>
     );
     named(alloc, "grow", "Has a site recognise more sites")
         .arg(file(alloc))?
-        .arg(sites)
+        .arg(sites)?
+        .arg(copy(alloc))
 }
 
 fn ask<'a>(alloc: Global) -> Result<Command<'a>, AllocError>
-    ensures app { IfOk result (λ command. app_of command ≡ ask_app) }
-    ensures local { IfOk result (λ command. (fields_of command).has_globals ≡ false) }
+    ensures { IfOk result (IsCommand ask_app) }
 {
-    named(alloc, "ask", "Answers the requests on standard input").arg(file(alloc))
+    named(alloc, "ask", "Answers the requests on standard input")
+        .arg(file(alloc))?
+        .arg(copy(alloc))
 }
 
 fn find<'a>(alloc: Global) -> Result<Command<'a>, AllocError>
-    ensures app { IfOk result (λ command. app_of command ≡ find_app) }
-    ensures local { IfOk result (λ command. (fields_of command).has_globals ≡ false) }
+    ensures { IfOk result (IsCommand find_app) }
 {
     let number = operand(
         alloc,
@@ -112,29 +118,30 @@ fn find<'a>(alloc: Global) -> Result<Command<'a>, AllocError>
     );
     named(alloc, "find", "Prints the place and the reply of a request")
         .arg(file(alloc))?
-        .arg(number)
+        .arg(number)?
+        .arg(copy(alloc))
 }
 
 fn list<'a>(alloc: Global) -> Result<Command<'a>, AllocError>
-    ensures app { IfOk result (λ command. app_of command ≡ list_app) }
-    ensures local { IfOk result (λ command. (fields_of command).has_globals ≡ false) }
+    ensures { IfOk result (IsCommand list_app) }
 {
     let event = operand(alloc, "EVENT", "The name of an event");
     named(alloc, "list", "Prints the requests that name an event")
         .arg(file(alloc))?
-        .arg(event)
+        .arg(event)?
+        .arg(copy(alloc))
 }
 
 fn events<'a>(alloc: Global) -> Result<Command<'a>, AllocError>
-    ensures app { IfOk result (λ command. app_of command ≡ events_app) }
-    ensures local { IfOk result (λ command. (fields_of command).has_globals ≡ false) }
+    ensures { IfOk result (IsCommand events_app) }
 {
-    named(alloc, "events", "Prints the events that the site knows").arg(file(alloc))
+    named(alloc, "events", "Prints the events that the site knows")
+        .arg(file(alloc))?
+        .arg(copy(alloc))
 }
 
 fn shares<'a>(alloc: Global) -> Result<Command<'a>, AllocError>
-    ensures app { IfOk result (λ command. app_of command ≡ shares_app) }
-    ensures local { IfOk result (λ command. (fields_of command).has_globals ≡ false) }
+    ensures { IfOk result (IsCommand shares_app) }
 {
     let event = operand(alloc, "EVENT", "The name of an event");
     named(
@@ -143,12 +150,12 @@ fn shares<'a>(alloc: Global) -> Result<Command<'a>, AllocError>
         "Prints what each site may sell of an event, and what it sold and took back",
     )
     .arg(file(alloc))?
-    .arg(event)
+    .arg(event)?
+    .arg(copy(alloc))
 }
 
 fn export<'a>(alloc: Global) -> Result<Command<'a>, AllocError>
-    ensures app { IfOk result (λ command. app_of command ≡ export_app) }
-    ensures local { IfOk result (λ command. (fields_of command).has_globals ≡ false) }
+    ensures { IfOk result (IsCommand export_app) }
 {
     let to = operand(alloc, "TO", "The number of another site, 0 to 63");
     named(
@@ -157,31 +164,32 @@ fn export<'a>(alloc: Global) -> Result<Command<'a>, AllocError>
         "Prints the message for another site, with all that this site knows",
     )
     .arg(file(alloc))?
-    .arg(to)
+    .arg(to)?
+    .arg(copy(alloc))
 }
 
 fn import<'a>(alloc: Global) -> Result<Command<'a>, AllocError>
-    ensures app { IfOk result (λ command. app_of command ≡ import_app) }
-    ensures local { IfOk result (λ command. (fields_of command).has_globals ≡ false) }
+    ensures { IfOk result (IsCommand import_app) }
 {
-    named(alloc, "import", "Takes the message on standard input").arg(file(alloc))
+    named(alloc, "import", "Takes the message on standard input")
+        .arg(file(alloc))?
+        .arg(copy(alloc))
 }
 
 fn audit<'a>(alloc: Global) -> Result<Command<'a>, AllocError>
-    ensures app { IfOk result (λ command. app_of command ≡ audit_app) }
-    ensures local { IfOk result (λ command. (fields_of command).has_globals ≡ false) }
+    ensures { IfOk result (IsCommand audit_app) }
 {
     named(
         alloc,
         "audit",
         "Sums up the files of all sites, the k-th that of site k",
     )
-    .arg(files(alloc))
+    .arg(files(alloc))?
+    .arg(copies(alloc))
 }
 
 fn serve<'a>(alloc: Global) -> Result<Command<'a>, AllocError>
-    ensures app { IfOk result (λ command. app_of command ≡ serve_app) }
-    ensures local { IfOk result (λ command. (fields_of command).has_globals ≡ false) }
+    ensures { IfOk result (IsCommand serve_app) }
 {
     let port = operand(alloc, "PORT", "The port of this machine, 1 to 65535");
     let sessions = operand(
@@ -194,6 +202,7 @@ fn serve<'a>(alloc: Global) -> Result<Command<'a>, AllocError>
         "ROUNDS",
         "How often each site sends what is due to the others, 0 to 1000000",
     );
+    let copies = copies(alloc);
     named(
         alloc,
         "serve",
@@ -202,12 +211,12 @@ fn serve<'a>(alloc: Global) -> Result<Command<'a>, AllocError>
     .arg(port)?
     .arg(sessions)?
     .arg(rounds)?
-    .arg(desks(alloc))
+    .arg(desks(alloc))?
+    .arg(copies)
 }
 
 fn low<'a>(alloc: Global) -> Arg<'a>
-    ensures rule { rule_of result ≡ low_rule }
-    ensures local { result.global ≡ false }
+    ensures { IsValue low_rule result }
 {
     Arg::new(alloc, "low")
         .long("low")
@@ -218,17 +227,16 @@ fn low<'a>(alloc: Global) -> Arg<'a>
 }
 
 fn reserve<'a>(alloc: Global) -> Arg<'a>
-    ensures rule { rule_of result ≡ reserve_rule }
-    ensures local { result.global ≡ false }
+    ensures { IsValue reserve_rule result }
 {
     Arg::new(alloc, "R").long("reserve").help(
         "Keeps the last R entries for refunds, cessions and messages, 0 to 1000000",
     )
 }
 
-fn open<'a>(alloc: Global) -> Result<Command<'a>, AllocError>
-    ensures app { IfOk result (λ command. app_of command ≡ open_app) }
-    ensures local { IfOk result (λ command. (fields_of command).has_globals ≡ false) }
+// An office over one file.
+fn office<'a>(alloc: Global) -> Result<Command<'a>, AllocError>
+    ensures { IfOk result (IsCommand office_app) }
 {
     let port = operand(alloc, "PORT", "The port of this machine, 1 to 65535");
     named(
@@ -242,23 +250,65 @@ fn open<'a>(alloc: Global) -> Result<Command<'a>, AllocError>
     .arg(reserve(alloc))
 }
 
+fn open<'a>(alloc: Global) -> Result<Command<'a>, AllocError>
+    ensures { IfOk result (IsCommand open_app) }
+{
+    office(alloc)?.arg(copy(alloc))
+}
+
 fn close<'a>(alloc: Global) -> Result<Command<'a>, AllocError>
-    ensures app { IfOk result (λ command. app_of command ≡ close_app) }
-    ensures local { IfOk result (λ command. (fields_of command).has_globals ≡ false) }
+    ensures { IfOk result (IsCommand close_app) }
 {
     named(alloc, "close", "Closes the office of a site").arg(file(alloc))
 }
 
 fn status<'a>(alloc: Global) -> Result<Command<'a>, AllocError>
-    ensures app { IfOk result (λ command. app_of command ≡ status_app) }
-    ensures local { IfOk result (λ command. (fields_of command).has_globals ≡ false) }
+    ensures { IfOk result (IsCommand status_app) }
 {
     named(
         alloc,
         "status",
         "Prints which site it is, how many sites it recognises, and how many entries its history has",
     )
+    .arg(file(alloc))?
+    .arg(copy(alloc))
+}
+
+fn pair<'a>(alloc: Global) -> Result<Command<'a>, AllocError>
+    ensures { IfOk result (IsCommand pair_app) }
+{
+    let copy = operand(alloc, "COPY", "The file to make, on another disk");
+    named(
+        alloc,
+        "pair",
+        "Marks a file as one of two copies, and makes the other",
+    )
+    .arg(file(alloc))?
+    .arg(copy)
+}
+
+fn alone<'a>(alloc: Global) -> Result<Command<'a>, AllocError>
+    ensures { IfOk result (IsCommand alone_app) }
+{
+    named(
+        alloc,
+        "alone",
+        "Says that the other copy is lost for good: this one goes on without it",
+    )
     .arg(file(alloc))
+}
+
+fn backup<'a>(alloc: Global) -> Result<Command<'a>, AllocError>
+    ensures { IfOk result (IsCommand backup_app) }
+{
+    let copy = operand(alloc, "COPY", "The file to make");
+    named(
+        alloc,
+        "backup",
+        "Writes a copy for looking, also beside sales: never sell from it",
+    )
+    .arg(file(alloc))?
+    .arg(copy)
 }
 
 /// The program's command line.
@@ -289,6 +339,9 @@ pub(crate) fn boxoffice<'a>(alloc: Global) -> Result<Command<'a>, AllocError>
     .subcommand(open(alloc)?)?
     .subcommand(close(alloc)?)?
     .subcommand(status(alloc)?)?
+    .subcommand(pair(alloc)?)?
+    .subcommand(alone(alloc)?)?
+    .subcommand(backup(alloc)?)?
     .subcommand(version)?;
     Ok(whole)
 }

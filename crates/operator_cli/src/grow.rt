@@ -5,25 +5,25 @@ ghost use Rattle.operator_cli.specs.Commands.{CameTo, Grows, outcome_of_grow};
 ghost use Rattle.operator_cli.specs.Outcomes.{Ends};
 ghost use Rattle.operator_cli.specs.Session.{records};
 
+use crate::command_fault::CommandFault;
 use crate::opening::open_book;
 use crate::outcome::{Outcome, print_outcome};
 use crate::status::Status;
-use crate::store_fault::StoreFault;
-use crate::told::Told;
+use crate::told::CommandReply;
 use book_core::GrowFault;
 use rights_lattice::Sites;
 use sqlite::{Alter, Connection};
 use std::alloc::Global;
 use std::io::Write;
 
-fn outcome_of_grow(called: Result<(), GrowFault>) -> Outcome
+pub(crate) fn outcome_of_grow(called: Result<(), GrowFault>) -> Outcome
     ensures { result ≡ outcome_of_grow called }
 {
     match called {
-        Ok(()) => Outcome::Tells(Told::Grown),
-        Err(GrowFault::Memory) => Outcome::Fails(StoreFault::Memory),
-        Err(GrowFault::Store | GrowFault::Closed) => Outcome::Fails(StoreFault::Store),
-        Err(fault) => Outcome::Tells(Told::NotGrown(fault)),
+        Ok(()) => Outcome::Tells(CommandReply::Grown),
+        Err(GrowFault::Memory) => Outcome::Fails(CommandFault::Memory),
+        Err(GrowFault::Store | GrowFault::Closed) => Outcome::Fails(CommandFault::Store),
+        Err(fault) => Outcome::Tells(CommandReply::NotGrown(fault)),
     }
 }
 
@@ -56,8 +56,9 @@ pub fn grow_store<S: Alter + Drop, W: Write, E: Write>(
     out: &mut W,
     err: &mut E,
 ) -> (Status, Option<Connection<S>>)
-    ensures { Ends (CameTo S.Store conn (Grows (records S.Store) sites) result.1) (W.contents out.old)
-        (W.contents out.new) (E.contents err.old) (E.contents err.new) result.0 }
+    ensures { Ends (CameTo S.Store conn (Grows (records S.Store) sites) result.1)
+        (W.contents out.old) (W.contents out.new)
+        (E.contents err.old) (E.contents err.new) result.0 }
 {
     let (outcome, conn) = grow(alloc, conn, sites);
     (print_outcome(&outcome, out, err), conn)

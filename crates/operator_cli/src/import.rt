@@ -7,13 +7,13 @@ ghost use Rattle.operator_cli.specs.Commands.{CameTo, Imports, IsRead, outcome_o
 ghost use Rattle.operator_cli.specs.Commands.{IsInputRead};
 ghost use Rattle.operator_cli.specs.Outcomes.{Ends};
 ghost use Rattle.operator_cli.specs.Session.{records};
-ghost use Rattle.operator_cli.specs.declared.store_fault.StoreFault.TheVariants.{Memory as WantsMemory, Read as ReadFailed};
+ghost use Rattle.operator_cli.specs.declared.command_fault.CommandFault.TheVariants.{Memory as WantsMemory, Read as ReadFailed};
 
+use crate::command_fault::CommandFault;
 use crate::opening::open_book;
 use crate::outcome::{Outcome, print_outcome};
 use crate::status::Status;
-use crate::store_fault::StoreFault;
-use crate::told::Told;
+use crate::told::CommandReply;
 use delta_wire::{MOST_BYTES, WireFault, read_message};
 use history_keeper::Keeper;
 use site_desk::{SiteBook, Taken};
@@ -26,7 +26,7 @@ use std::io::{ErrorKind, Read, Write};
 pub(crate) fn read_input<R: Read + Drop>(
     alloc: Global,
     input: R,
-) -> Result<Option<Vec<u8>>, StoreFault>
+) -> Result<Option<Vec<u8>>, CommandFault>
     ensures few { IfOk result (λ read. IfSome read (λ bytes. vec_len bytes ≤ most_bytes)) }
     ensures read { IfOk result (λ read. IfSome (R.remaining input)
         (λ bytes. IsInputRead bytes (option_map (λ v. v.items) read))) }
@@ -36,8 +36,8 @@ pub(crate) fn read_input<R: Read + Drop>(
     match input.take(MOST_BYTES as u64 + 1).read_to_end(&mut bytes) {
         Ok(_) => {}
         Err(error) => match error.kind() {
-            ErrorKind::OutOfMemory => return Err(StoreFault::Memory),
-            _ => return Err(StoreFault::Read),
+            ErrorKind::OutOfMemory => return Err(CommandFault::Memory),
+            _ => return Err(CommandFault::Read),
         },
     }
     if bytes.len() > MOST_BYTES {
@@ -53,10 +53,10 @@ fn message_in<R: Read + Drop>(alloc: Global, input: R) -> Result<Message, Outcom
     match read_input(alloc, input) {
         Ok(Some(bytes)) => match read_message(alloc, bytes.as_slice()) {
             Ok(message) => Ok(message),
-            Err(WireFault::Memory) => Err(Outcome::Fails(StoreFault::Memory)),
-            Err(fault) => Err(Outcome::Tells(Told::Unread(fault))),
+            Err(WireFault::Memory) => Err(Outcome::Fails(CommandFault::Memory)),
+            Err(fault) => Err(Outcome::Tells(CommandReply::Unread(fault))),
         },
-        Ok(None) => Err(Outcome::Tells(Told::TooLong)),
+        Ok(None) => Err(Outcome::Tells(CommandReply::TooLong)),
         Err(fault) => Err(Outcome::Fails(fault)),
     }
 }
@@ -65,17 +65,21 @@ fn outcome_of_take(called: Result<Taken, TakeFault>) -> Outcome
     ensures { result ≡ outcome_of_take called }
 {
     match called {
-        Ok(Taken::Joined { .. }) => Outcome::Tells(Told::Joined),
-        Ok(Taken::NothingNew { .. }) => Outcome::Tells(Told::NothingNew),
-        Ok(Taken::Acked) => Outcome::Tells(Told::Acked),
-        Err(TakeFault::Memory) => Outcome::Fails(StoreFault::Memory),
-        Err(TakeFault::Store | TakeFault::Closed) => Outcome::Fails(StoreFault::Store),
-        Err(fault) => Outcome::Tells(Told::NotTaken(fault)),
+        Ok(Taken::Joined { .. }) => Outcome::Tells(CommandReply::Joined),
+        Ok(Taken::NothingNew { .. }) => Outcome::Tells(CommandReply::NothingNew),
+        Ok(Taken::Acked) => Outcome::Tells(CommandReply::Acked),
+        Err(TakeFault::Memory) => Outcome::Fails(CommandFault::Memory),
+        Err(TakeFault::Store | TakeFault::Closed) => Outcome::Fails(CommandFault::Store),
+        Err(fault) => Outcome::Tells(CommandReply::NotTaken(fault)),
     }
 }
 
 // Has the book take the message that the input is.
-fn take_input<K: Keeper, R: Read + Drop>(alloc: Global, book: &mut SiteBook<K>, input: R) -> Outcome
+pub(crate) fn take_input<K: Keeper, R: Read + Drop>(
+    alloc: Global,
+    book: &mut SiteBook<K>,
+    input: R,
+) -> Outcome
     ensures { Imports K.Keeper
         (R.remaining input) book.old book.new result }
 {
@@ -116,7 +120,8 @@ pub fn import_store<S: Alter + Drop, R: Read + Drop, W: Write, E: Write>(
     err: &mut E,
 ) -> (Status, Option<Connection<S>>)
     ensures { Ends (CameTo S.Store conn (Imports (records S.Store) (R.remaining input)) result.1)
-        (W.contents out.old) (W.contents out.new) (E.contents err.old) (E.contents err.new) result.0 }
+        (W.contents out.old) (W.contents out.new)
+        (E.contents err.old) (E.contents err.new) result.0 }
 {
     let (outcome, conn) = import(alloc, conn, input);
     (print_outcome(&outcome, out, err), conn)

@@ -4,12 +4,12 @@ ghost use Rattle.std.specs.Prelude.{◌≡◌};
 ghost use Rattle.operator_cli.specs.Commands.{Inits, outcome_of_init};
 ghost use Rattle.operator_cli.specs.Outcomes.{Ends, IsPrinted};
 ghost use Rattle.operator_cli.specs.declared.outcome.Outcome.TheVariants.{Tells};
-ghost use Rattle.operator_cli.specs.declared.told.Told.TheVariants.{NoSite};
+ghost use Rattle.operator_cli.specs.declared.told.CommandReply.TheVariants.{NoSite};
 
+use crate::command_fault::CommandFault;
 use crate::outcome::{Outcome, print_outcome};
 use crate::status::Status;
-use crate::store_fault::StoreFault;
-use crate::told::Told;
+use crate::told::CommandReply;
 use book_core::Limit;
 use rights_lattice::{SiteId, Sites};
 use sql_records::{InitFault, Records};
@@ -22,17 +22,17 @@ pub fn refuse_site<W: Write, E: Write>(out: &mut W, err: &mut E) -> Status
     ensures { IsPrinted (Tells NoSite) (W.contents out.old) (W.contents out.new)
         (E.contents err.old) (E.contents err.new) result }
 {
-    print_outcome(&Outcome::Tells(Told::NoSite), out, err)
+    print_outcome(&Outcome::Tells(CommandReply::NoSite), out, err)
 }
 
 fn outcome_of_init(called: Result<(), InitFault>) -> Outcome
     ensures { result ≡ outcome_of_init called }
 {
     match called {
-        Ok(()) => Outcome::Tells(Told::Made),
-        Err(InitFault::AlreadyThere) => Outcome::Tells(Told::AlreadyThere),
-        Err(InitFault::Memory) => Outcome::Fails(StoreFault::Memory),
-        Err(InitFault::Disk) => Outcome::Fails(StoreFault::Disk),
+        Ok(()) => Outcome::Tells(CommandReply::Made),
+        Err(InitFault::AlreadyThere) => Outcome::Tells(CommandReply::AlreadyThere),
+        Err(InitFault::Memory) => Outcome::Fails(CommandFault::Memory),
+        Err(InitFault::Disk) => Outcome::Fails(CommandFault::Disk),
     }
 }
 
@@ -41,7 +41,7 @@ fn init<S: Alter>(conn: &mut Connection<S>, me: SiteId, sites: Sites, limit: Lim
         conn.old conn.new result }
 {
     if me.number() >= sites.count() {
-        return Outcome::Tells(Told::NoSite);
+        return Outcome::Tells(CommandReply::NoSite);
     }
     outcome_of_init(Records::init(conn, me, sites, limit))
 }
@@ -61,8 +61,9 @@ pub fn init_store<S: Alter, W: Write, E: Write>(
     out: &mut W,
     err: &mut E,
 ) -> Status
-    ensures { Ends (Inits S.Store (record { me = me; sites = sites; limit = limit }) conn.old conn.new)
-        (W.contents out.old) (W.contents out.new) (E.contents err.old) (E.contents err.new) result }
+    ensures { Ends (Inits S.Store (record { me = me; sites = sites; limit = limit })
+        conn.old conn.new) (W.contents out.old) (W.contents out.new)
+        (E.contents err.old) (E.contents err.new) result }
 {
     let outcome = init(conn, me, sites, limit);
     print_outcome(&outcome, out, err)

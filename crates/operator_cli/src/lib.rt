@@ -25,6 +25,8 @@ mod ask;
 mod asking;
 mod audit;
 mod bringing;
+mod command_fault;
+mod copies;
 mod ending;
 mod events;
 mod export;
@@ -43,9 +45,8 @@ mod orders;
 mod outcome;
 mod serve;
 mod shares;
-mod standing;
+mod site_status;
 mod status;
-mod store_fault;
 mod told;
 mod totals;
 mod version;
@@ -57,6 +58,10 @@ pub use ask::ask_store;
 pub use asking::ask_office;
 pub use audit::{audit_stores, refuse_parts};
 pub use bringing::import_office;
+pub use copies::{
+    alone_store, ask_site, grow_site, import_site, mark_store, office_site, open_copies,
+    refuse_copy, refuse_one_of_two, refuse_same_file, refuse_unpaired, tell_paired,
+};
 pub use events::events_store;
 pub use export::export_store;
 pub use fault::ScriptFault;
@@ -71,7 +76,7 @@ pub use opening::open_store;
 pub use orders::{FileNames, Order, WordsFault, read_words};
 pub use serve::{serve_stores, tell_listen_fault};
 pub use shares::shares_store;
-pub use standing::status_store;
+pub use site_status::status_store;
 pub use status::Status;
 pub use version::tell_version;
 pub use visits::{

@@ -8,7 +8,7 @@ use crate::find::of_find_fault;
 use crate::opening::open_book;
 use crate::outcome::{Outcome, print_outcome};
 use crate::status::Status;
-use crate::told::Told;
+use crate::told::CommandReply;
 use history_keeper::Listed;
 use rights_lattice::Event;
 use sql_records::FindFault;
@@ -36,7 +36,10 @@ fn list<S: Alter + Drop>(
         Ok(book) => {
             let mut records = book.into_keeper();
             let Some(event) = Event::read(event.as_bytes()) else {
-                return (Outcome::Tells(Told::NotFound), Some(records.close()));
+                return (
+                    Outcome::Tells(CommandReply::NotFound),
+                    Some(records.close()),
+                );
             };
             let called = records.list(event);
             (outcome_of_list(called), Some(records.close()))

@@ -4,10 +4,10 @@ ghost use Rattle.std.specs.Prelude.{◌≡◌};
 ghost use Rattle.operator_cli.specs.Commands.{Migrates, outcome_of_migrate};
 ghost use Rattle.operator_cli.specs.Outcomes.{Ends};
 
+use crate::command_fault::CommandFault;
 use crate::outcome::{Outcome, print_outcome};
 use crate::status::Status;
-use crate::store_fault::StoreFault;
-use crate::told::Told;
+use crate::told::CommandReply;
 use sql_records::{MigrateFault, Records};
 use sqlite::{Alter, Connection};
 use std::alloc::Global;
@@ -17,15 +17,15 @@ fn outcome_of_migrate(called: Result<(), MigrateFault>) -> Outcome
     ensures { result ≡ outcome_of_migrate called }
 {
     match called {
-        Ok(()) => Outcome::Tells(Told::Migrated),
-        Err(MigrateFault::Nothing) => Outcome::Tells(Told::Nothing),
-        Err(MigrateFault::NotOurs) => Outcome::Fails(StoreFault::NotOurs),
+        Ok(()) => Outcome::Tells(CommandReply::Migrated),
+        Err(MigrateFault::Nothing) => Outcome::Tells(CommandReply::Nothing),
+        Err(MigrateFault::NotOurs) => Outcome::Fails(CommandFault::NotOurs),
         Err(MigrateFault::OtherSchema { version }) => {
-            Outcome::Fails(StoreFault::OtherSchema { version })
+            Outcome::Fails(CommandFault::OtherSchema { version })
         }
-        Err(MigrateFault::Damaged { place }) => Outcome::Fails(StoreFault::Damaged { place }),
-        Err(MigrateFault::Memory) => Outcome::Fails(StoreFault::Memory),
-        Err(MigrateFault::Disk) => Outcome::Fails(StoreFault::Disk),
+        Err(MigrateFault::Damaged { place }) => Outcome::Fails(CommandFault::Damaged { place }),
+        Err(MigrateFault::Memory) => Outcome::Fails(CommandFault::Memory),
+        Err(MigrateFault::Disk) => Outcome::Fails(CommandFault::Disk),
     }
 }
 

@@ -4,13 +4,14 @@ ghost use Rattle.std.specs.Prelude.{◌≡◌, ◌⊎◌, IfOk, IfErr, IfSome, I
 ghost use Rattle.std.specs.Io.KnownBytes.{Appends};
 ghost use Rattle.plain_words.specs.Writing.{AppendsFront, Writes};
 ghost use Rattle.operator_cli.specs.declared.status.Status.TheVariants.{Done, Failed};
-ghost use Rattle.operator_cli.specs.declared.store_fault.StoreFault.TheVariants.{Write as WriteFailed};
+ghost use Rattle.operator_cli.specs.declared.command_fault.CommandFault.TheVariants.{Write as WriteFailed};
 ghost use Rattle.operator_cli.specs.Offices.{WasOpen, of_close_fault, of_socket_fault, open_line};
-ghost use Rattle.operator_cli.specs.Told.{FaultTold, store_fault_line};
+ghost use Rattle.operator_cli.specs.Session.{KeepsHistory};
+ghost use Rattle.operator_cli.specs.CommandReply.{FaultTold, command_fault_line};
 
+use crate::command_fault::CommandFault;
 use crate::ending::{close_book, flushed, tell_fault};
 use crate::status::Status;
-use crate::store_fault::StoreFault;
 use history_keeper::Keeper;
 use live_office::{Closing, Door, Gauge, SocketFault, Sparing, open_office};
 use plain_words::{WriteFault, numbered, put, write_bytes};
@@ -34,17 +35,17 @@ pub enum CloseFault {
     LostFile,
 }
 
-impl From<CloseFault> for StoreFault {
+impl From<CloseFault> for CommandFault {
     ghost use Rattle.std.specs.Prelude.{◌≡◌};
     ghost use Rattle.operator_cli.specs.Offices.{of_close_fault};
 
     ghost from_gives = { λ close fault. fault ≡ of_close_fault close };
 
-    fn from(fault: CloseFault) -> StoreFault {
+    fn from(fault: CloseFault) -> CommandFault {
         match fault {
-            CloseFault::NotOpen => StoreFault::NotOpen,
-            CloseFault::StillOpen => StoreFault::StillOpen,
-            CloseFault::LostFile => StoreFault::LostFile,
+            CloseFault::NotOpen => CommandFault::NotOpen,
+            CloseFault::StillOpen => CommandFault::StillOpen,
+            CloseFault::LostFile => CommandFault::LostFile,
         }
     }
 }
@@ -67,7 +68,7 @@ fn write_open<W: Write>(port: u16, file: &str, out: &mut W) -> Result<(), WriteF
 }
 
 // Tells that callers can come.
-fn say_open<W: Write>(port: u16, file: &str, out: &mut W) -> Result<(), StoreFault>
+pub(crate) fn say_open<W: Write>(port: u16, file: &str, out: &mut W) -> Result<(), CommandFault>
     ensures written { Writes (W.contents out.old) (W.contents out.new) result
         (open_line port file.now) }
     ensures fault { IfErr result (λ fault. fault ≡ WriteFailed) }
@@ -77,17 +78,18 @@ fn say_open<W: Write>(port: u16, file: &str, out: &mut W) -> Result<(), StoreFau
             flushed(Status::Done, out)?;
             Ok(())
         }
-        Err(_) => Err(StoreFault::Write),
+        Err(_) => Err(CommandFault::Write),
     }
 }
 
 // What the end of an office with this book comes to.
-fn office_end<K: Keeper>(book: &SiteBook<K>) -> Result<Status, StoreFault>
+pub(crate) fn office_end<K: Keeper>(book: &SiteBook<K>) -> Result<Status, CommandFault>
     ensures open { OnOk result (book.now.closed ≡ false) }
+    ensures holds { OnOk result (KeepsHistory K.Keeper book.now) }
     ensures done { IfOk result (λ status. status ≡ Done) }
 {
     if book.is_closed() {
-        return Err(StoreFault::Closed {
+        return Err(CommandFault::Closed {
             site: book.book().me(),
         });
     }
@@ -137,24 +139,24 @@ pub fn office_store<
     }
     match open_office(rt, alloc, book, clerks, operators, closing, gauge, sparing) {
         Ok(book) => close_book(office_end(&book), book, out, err),
-        Err((book, fault)) => close_book(Err(StoreFault::from(fault)), book, out, err),
+        Err((book, fault)) => close_book(Err(CommandFault::from(fault)), book, out, err),
     }
 }
 
 /// Tells why there is no socket for an office: `long-path`, `no-socket` or `bind`, with status 3.
 pub fn tell_socket_fault<E: Write>(fault: SocketFault, err: &mut E) -> Status
     ensures line { AppendsFront
-        (E.contents err.old) (E.contents err.new) (store_fault_line (of_socket_fault fault)) }
+        (E.contents err.old) (E.contents err.new) (command_fault_line (of_socket_fault fault)) }
     ensures status { result ≡ Failed }
 {
-    tell_fault(StoreFault::from(fault), err)
+    tell_fault(CommandFault::from(fault), err)
 }
 
 /// Tells why an office was not closed well: `not-open`, `still-open` or `lost-file`, with status 3.
 pub fn tell_close_fault<E: Write>(fault: CloseFault, err: &mut E) -> Status
     ensures line { AppendsFront
-        (E.contents err.old) (E.contents err.new) (store_fault_line (of_close_fault fault)) }
+        (E.contents err.old) (E.contents err.new) (command_fault_line (of_close_fault fault)) }
     ensures status { result ≡ Failed }
 {
-    tell_fault(StoreFault::from(fault), err)
+    tell_fault(CommandFault::from(fault), err)
 }

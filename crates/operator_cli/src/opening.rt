@@ -2,14 +2,14 @@
 
 ghost use Rattle.std.specs.Prelude.{◌≡◌, IfOk, IfErr, OnOk};
 ghost use Rattle.operator_cli.specs.Opened.{CannotOpen, IsOpened};
-ghost use Rattle.operator_cli.specs.Told.{of_open_fault, of_replay_fault, store_fault_line};
+ghost use Rattle.operator_cli.specs.CommandReply.{of_open_fault, of_replay_fault, command_fault_line};
 ghost use Rattle.plain_words.specs.Writing.{AppendsFront};
 ghost use Rattle.operator_cli.specs.declared.status.Status.TheVariants.{Failed};
-ghost use Rattle.operator_cli.specs.declared.store_fault.StoreFault.{StoreFault};
+ghost use Rattle.operator_cli.specs.declared.command_fault.CommandFault.{CommandFault};
 
+use crate::command_fault::CommandFault;
 use crate::ending::tell_fault;
 use crate::status::Status;
-use crate::store_fault::StoreFault;
 use book_core::ReplayFault;
 use site_desk::SiteBook;
 use sql_records::{OpenFault, Records};
@@ -17,26 +17,26 @@ use sqlite::{Alter, Connection};
 use std::alloc::Global;
 use std::io::Write;
 
-fn of_open_fault(fault: OpenFault) -> StoreFault
+pub(crate) fn of_open_fault(fault: OpenFault) -> CommandFault
     ensures { result ≡ of_open_fault fault }
 {
     match fault {
-        OpenFault::NotOurs => StoreFault::NotOurs,
-        OpenFault::OtherSchema { version } => StoreFault::OtherSchema { version },
-        OpenFault::Damaged { place } => StoreFault::Damaged { place },
-        OpenFault::Memory => StoreFault::Memory,
-        OpenFault::Disk => StoreFault::Disk,
+        OpenFault::NotOurs => CommandFault::NotOurs,
+        OpenFault::OtherSchema { version } => CommandFault::OtherSchema { version },
+        OpenFault::Damaged { place } => CommandFault::Damaged { place },
+        OpenFault::Memory => CommandFault::Memory,
+        OpenFault::Disk => CommandFault::Disk,
     }
 }
 
-fn of_replay_fault(fault: ReplayFault) -> StoreFault
+pub(crate) fn of_replay_fault(fault: ReplayFault) -> CommandFault
     ensures { result ≡ of_replay_fault fault }
 {
     match fault {
-        ReplayFault::IllegalAt { place } => StoreFault::Damaged {
+        ReplayFault::IllegalAt { place } => CommandFault::Damaged {
             place: place as u64,
         },
-        ReplayFault::Memory => StoreFault::Memory,
+        ReplayFault::Memory => CommandFault::Memory,
     }
 }
 
@@ -46,7 +46,7 @@ fn of_replay_fault(fault: ReplayFault) -> StoreFault
 pub(crate) fn open_book<S: Alter + Drop>(
     alloc: Global,
     conn: Connection<S>,
-) -> Result<SiteBook<Records<S>>, (StoreFault, Option<Connection<S>>)>
+) -> Result<SiteBook<Records<S>>, (CommandFault, Option<Connection<S>>)>
     ensures opened { IfOk result (IsOpened S.Store conn) }
     ensures fault { IfErr result (λ e. CannotOpen S.Store conn e.0 e.1) }
 {
@@ -70,8 +70,8 @@ pub fn open_store<S: Alter + Drop, E: Write>(
 ) -> Result<SiteBook<Records<S>>, (Status, Option<Connection<S>>)>
     ensures opened { IfOk result (IsOpened S.Store conn) }
     ensures silent { OnOk result (E.contents err.new ≡ E.contents err.old) }
-    ensures fault { IfErr result (λ e. (e.0 ≡ Failed) × (fault : StoreFault)
-        × AppendsFront (E.contents err.old) (E.contents err.new) (store_fault_line fault)
+    ensures fault { IfErr result (λ e. (e.0 ≡ Failed) × (fault : CommandFault)
+        × AppendsFront (E.contents err.old) (E.contents err.new) (command_fault_line fault)
         × CannotOpen S.Store conn fault e.1) }
 {
     match open_book(alloc, conn) {

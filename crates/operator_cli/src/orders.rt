@@ -6,7 +6,7 @@ ghost use Rattle.clap.specs.Words.{subcommand_of, subcommand_rows_of, kind_of, a
 ghost use Rattle.rights_lattice.specs.Cells.{greatest_value};
 ghost use Rattle.rights_lattice.specs.Limits.{greatest_site, most_sites};
 ghost use Rattle.book_core.specs.Limits.{greatest_limit};
-ghost use Rattle.operator_cli.specs.Orders.{boxoffice, greatest_port, most_sessions, AreUnderstood, order_in, said_by, number_in, init_in, migrate_in, grow_in, ask_in, find_in, list_in, events_in, shares_in, export_in, import_in, files_in, audit_in, serve_in, open_in, low_in, reserve_in, close_in, status_in, named_order, values_of, first_misfit, misfit_in, misfit_line, TellsMisfit, IsWordsRefusal};
+ghost use Rattle.operator_cli.specs.Orders.{boxoffice, greatest_port, most_sessions, AreUnderstood, order_in, said_by, text_of, texts_of, number_in, init_in, migrate_in, grow_in, ask_in, find_in, list_in, events_in, shares_in, export_in, import_in, at_most, files_in, copy_in, copies_in, audit_in, serve_in, open_in, low_in, reserve_in, close_in, status_in, pair_in, alone_in, backup_in, named_order, values_of, misfit_in, misfit_line, IsOrderOf, TellsMisfit, IsWordsRefusal};
 
 use crate::grammar::boxoffice;
 use arrayvec::ArrayVec;
@@ -34,7 +34,7 @@ const MOST_ROUNDS: u64 = 1_000_000;
 /// The files of several sites, in the order of the sites: at most 64.
 pub type FileNames<'a> = ArrayVec<&'a str, MOST_FILES>;
 
-/// A command of the program, with its values.
+/// A command of the program, with its values. `copy` is the other file of a site that keeps two copies.
 #[derive(Debug, PartialEq, Eq, Drop)]
 pub enum Order<'a> {
     /// Runs the script on standard input.
@@ -54,56 +54,67 @@ pub enum Order<'a> {
     Grow {
         file: &'a str,
         sites: Sites,
+        copy: Option<&'a str>,
     },
     /// Answers the requests on standard input.
     Ask {
         file: &'a str,
+        copy: Option<&'a str>,
     },
     /// Prints the place and the reply that are kept under a number.
     Find {
         file: &'a str,
         number: RequestNumber,
+        copy: Option<&'a str>,
     },
     /// Prints the requests that name an event. The event is any word.
     List {
         file: &'a str,
         event: &'a str,
+        copy: Option<&'a str>,
     },
     /// Prints the events that a site knows.
     Events {
         file: &'a str,
+        copy: Option<&'a str>,
     },
     /// Prints what each site may sell of an event, and what it sold and took back. The event is any word.
     Shares {
         file: &'a str,
         event: &'a str,
+        copy: Option<&'a str>,
     },
     /// Prints a message with all that the site knows.
     Export {
         file: &'a str,
         to: SiteId,
+        copy: Option<&'a str>,
     },
     /// Takes the message on standard input.
     Import {
         file: &'a str,
+        copy: Option<&'a str>,
     },
-    /// Sums up the records of all sites.
+    /// Sums up the records of all sites, over both copies where a site has two: their order is that of the files.
     Audit {
         files: FileNames<'a>,
+        copies: FileNames<'a>,
     },
     /// Sells at all sites at once, over so many connections to a port, while each site sends what is due to the others so
-    /// often.
+    /// often. There is a copy for each file or for none.
     Serve {
         port: u16,
         sessions: usize,
         rounds: u64,
         files: FileNames<'a>,
+        copies: FileNames<'a>,
     },
     /// Keeps the office of a site open: callers come at a port, and at a socket beside the file. It spares its history so.
     Open {
         port: u16,
         file: &'a str,
         sparing: Sparing,
+        copy: Option<&'a str>,
     },
     /// Closes the office of a site.
     Close {
@@ -112,6 +123,21 @@ pub enum Order<'a> {
     /// Prints how many entries the records of a site have.
     Status {
         file: &'a str,
+        copy: Option<&'a str>,
+    },
+    /// Marks a file as one of two copies, and makes the other.
+    Pair {
+        file: &'a str,
+        copy: &'a str,
+    },
+    /// Takes the mark off a file, whose other copy is lost for good.
+    Alone {
+        file: &'a str,
+    },
+    /// Writes a copy of a file, which an office may have open, for looking.
+    Backup {
+        file: &'a str,
+        copy: &'a str,
     },
     /// Prints which program it is.
     Version,
@@ -134,6 +160,7 @@ pub enum WordsFault {
 enum Misfit {
     Command,
     File,
+    Copy,
     Event,
     Me,
     Sites,
@@ -142,6 +169,7 @@ enum Misfit {
     To,
     Files,
     Desks,
+    Copies,
     Port,
     Sessions,
     Rounds,
@@ -155,6 +183,7 @@ fn misfit_line(misfit: Misfit) -> &'static str
     match misfit {
         Misfit::Command => "error: no such command\n",
         Misfit::File => "error: FILE is missing\n",
+        Misfit::Copy => "error: COPY is missing\n",
         Misfit::Event => "error: EVENT is missing\n",
         Misfit::Me => "error: ME is the number of a site, 0 to 63\n",
         Misfit::Sites => "error: SITES is a count of sites, 1 to 64\n",
@@ -163,6 +192,7 @@ fn misfit_line(misfit: Misfit) -> &'static str
         Misfit::To => "error: TO is the number of a site, 0 to 63\n",
         Misfit::Files => "error: FILE is given 1 to 64 times\n",
         Misfit::Desks => "error: FILE is given 1 to 16 times\n",
+        Misfit::Copies => "error: --copy is given at most 64 times\n",
         Misfit::Port => "error: PORT is the number of a port, 1 to 65535\n",
         Misfit::Sessions => "error: SESSIONS is a count of connections, 0 to 1024\n",
         Misfit::Rounds => "error: ROUNDS is a count of rounds, 0 to 1000000\n",
@@ -171,10 +201,15 @@ fn misfit_line(misfit: Misfit) -> &'static str
 }
 
 fn value_of<'a>(values: &ArgMatches<'a>, id: &str) -> Option<&'a str>
-    ensures { option_map (λ word. word.now) result
-        ≡ first_of id.now (rows_of (found_of values.now)) }
+    ensures { text_of result ≡ first_of id.now (rows_of (found_of values.now)) }
 {
     values.get_str(id)
+}
+
+fn copy_of<'a>(values: &ArgMatches<'a>) -> Option<&'a str>
+    ensures { text_of result ≡ copy_in (rows_of (found_of values.now)) }
+{
+    value_of(values, "COPY")
 }
 
 #[tactic(auto, unfolding(crate::specs::Orders::number_in))]
@@ -216,10 +251,8 @@ fn request_number_of(values: &ArgMatches<'_>) -> Option<RequestNumber>
 
 #[tactic(auto, unfolding(crate::specs::Orders::init_in))]
 fn init_of<'a>(values: &ArgMatches<'a>) -> Result<Order<'a>, Misfit>
-    ensures order { MatchResult result (λ order. init_in (rows_of (found_of values.now))
-        ≡ Some (said_by order)) (λ _. init_in (rows_of (found_of values.now)) ≡ None) }
-    ensures misfit { IfErr result (λ misfit. first_misfit (Misfit.File ∷ Misfit.Me
-        ∷ Misfit.Sites ∷ Misfit.Limit ∷ []) (rows_of (found_of values.now)) ≡ Some misfit) }
+    ensures { IsOrderOf init_in (Misfit.File ∷ Misfit.Me ∷ Misfit.Sites ∷ Misfit.Limit ∷ [])
+        (rows_of (found_of values.now)) result }
 {
     let file = value_of(values, "FILE").ok_or(Misfit::File)?;
     let me = site_of(values, "ME").ok_or(Misfit::Me)?;
@@ -235,10 +268,7 @@ fn init_of<'a>(values: &ArgMatches<'a>) -> Result<Order<'a>, Misfit>
 
 #[tactic(auto, unfolding(crate::specs::Orders::migrate_in))]
 fn migrate_of<'a>(values: &ArgMatches<'a>) -> Result<Order<'a>, Misfit>
-    ensures order { MatchResult result (λ order. migrate_in (rows_of (found_of values.now))
-        ≡ Some (said_by order)) (λ _. migrate_in (rows_of (found_of values.now)) ≡ None) }
-    ensures misfit { IfErr result
-        (λ misfit. first_misfit (Misfit.File ∷ []) (rows_of (found_of values.now)) ≡ Some misfit) }
+    ensures { IsOrderOf migrate_in (Misfit.File ∷ []) (rows_of (found_of values.now)) result }
 {
     let file = value_of(values, "FILE").ok_or(Misfit::File)?;
     Ok(Order::Migrate { file })
@@ -246,129 +276,138 @@ fn migrate_of<'a>(values: &ArgMatches<'a>) -> Result<Order<'a>, Misfit>
 
 #[tactic(auto, unfolding(crate::specs::Orders::grow_in))]
 fn grow_of<'a>(values: &ArgMatches<'a>) -> Result<Order<'a>, Misfit>
-    ensures order { MatchResult result (λ order. grow_in (rows_of (found_of values.now))
-        ≡ Some (said_by order)) (λ _. grow_in (rows_of (found_of values.now)) ≡ None) }
-    ensures misfit { IfErr result (λ misfit. first_misfit
-        (Misfit.File ∷ Misfit.Sites ∷ []) (rows_of (found_of values.now)) ≡ Some misfit) }
+    ensures { IsOrderOf grow_in (Misfit.File ∷ Misfit.Sites ∷ [])
+        (rows_of (found_of values.now)) result }
 {
     let file = value_of(values, "FILE").ok_or(Misfit::File)?;
     let sites = sites_of(values).ok_or(Misfit::Sites)?;
-    Ok(Order::Grow { file, sites })
+    let copy = copy_of(values);
+    Ok(Order::Grow { file, sites, copy })
 }
 
 #[tactic(auto, unfolding(crate::specs::Orders::ask_in))]
 fn ask_of<'a>(values: &ArgMatches<'a>) -> Result<Order<'a>, Misfit>
-    ensures order { MatchResult result (λ order. ask_in (rows_of (found_of values.now))
-        ≡ Some (said_by order)) (λ _. ask_in (rows_of (found_of values.now)) ≡ None) }
-    ensures misfit { IfErr result
-        (λ misfit. first_misfit (Misfit.File ∷ []) (rows_of (found_of values.now)) ≡ Some misfit) }
+    ensures { IsOrderOf ask_in (Misfit.File ∷ []) (rows_of (found_of values.now)) result }
 {
     let file = value_of(values, "FILE").ok_or(Misfit::File)?;
-    Ok(Order::Ask { file })
+    let copy = copy_of(values);
+    Ok(Order::Ask { file, copy })
 }
 
 #[tactic(auto, unfolding(crate::specs::Orders::find_in))]
 fn find_of<'a>(values: &ArgMatches<'a>) -> Result<Order<'a>, Misfit>
-    ensures order { MatchResult result (λ order. find_in (rows_of (found_of values.now))
-        ≡ Some (said_by order)) (λ _. find_in (rows_of (found_of values.now)) ≡ None) }
-    ensures misfit { IfErr result (λ misfit. first_misfit
-        (Misfit.File ∷ Misfit.Number ∷ []) (rows_of (found_of values.now)) ≡ Some misfit) }
+    ensures { IsOrderOf find_in (Misfit.File ∷ Misfit.Number ∷ [])
+        (rows_of (found_of values.now)) result }
 {
     let file = value_of(values, "FILE").ok_or(Misfit::File)?;
     let number = request_number_of(values).ok_or(Misfit::Number)?;
-    Ok(Order::Find { file, number })
+    let copy = copy_of(values);
+    Ok(Order::Find { file, number, copy })
 }
 
 #[tactic(auto, unfolding(crate::specs::Orders::list_in))]
 fn list_of<'a>(values: &ArgMatches<'a>) -> Result<Order<'a>, Misfit>
-    ensures order { MatchResult result (λ order. list_in (rows_of (found_of values.now))
-        ≡ Some (said_by order)) (λ _. list_in (rows_of (found_of values.now)) ≡ None) }
-    ensures misfit { IfErr result (λ misfit. first_misfit
-        (Misfit.File ∷ Misfit.Event ∷ []) (rows_of (found_of values.now)) ≡ Some misfit) }
+    ensures { IsOrderOf list_in (Misfit.File ∷ Misfit.Event ∷ [])
+        (rows_of (found_of values.now)) result }
 {
     let file = value_of(values, "FILE").ok_or(Misfit::File)?;
     let event = value_of(values, "EVENT").ok_or(Misfit::Event)?;
-    Ok(Order::List { file, event })
+    let copy = copy_of(values);
+    Ok(Order::List { file, event, copy })
 }
 
 #[tactic(auto, unfolding(crate::specs::Orders::events_in))]
 fn events_of<'a>(values: &ArgMatches<'a>) -> Result<Order<'a>, Misfit>
-    ensures order { MatchResult result (λ order. events_in (rows_of (found_of values.now))
-        ≡ Some (said_by order)) (λ _. events_in (rows_of (found_of values.now)) ≡ None) }
-    ensures misfit { IfErr result
-        (λ misfit. first_misfit (Misfit.File ∷ []) (rows_of (found_of values.now)) ≡ Some misfit) }
+    ensures { IsOrderOf events_in (Misfit.File ∷ []) (rows_of (found_of values.now)) result }
 {
     let file = value_of(values, "FILE").ok_or(Misfit::File)?;
-    Ok(Order::Events { file })
+    let copy = copy_of(values);
+    Ok(Order::Events { file, copy })
 }
 
 #[tactic(auto, unfolding(crate::specs::Orders::shares_in))]
 fn shares_of<'a>(values: &ArgMatches<'a>) -> Result<Order<'a>, Misfit>
-    ensures order { MatchResult result (λ order. shares_in (rows_of (found_of values.now))
-        ≡ Some (said_by order)) (λ _. shares_in (rows_of (found_of values.now)) ≡ None) }
-    ensures misfit { IfErr result (λ misfit. first_misfit
-        (Misfit.File ∷ Misfit.Event ∷ []) (rows_of (found_of values.now)) ≡ Some misfit) }
+    ensures { IsOrderOf shares_in (Misfit.File ∷ Misfit.Event ∷ [])
+        (rows_of (found_of values.now)) result }
 {
     let file = value_of(values, "FILE").ok_or(Misfit::File)?;
     let event = value_of(values, "EVENT").ok_or(Misfit::Event)?;
-    Ok(Order::Shares { file, event })
+    let copy = copy_of(values);
+    Ok(Order::Shares { file, event, copy })
 }
 
 #[tactic(auto, unfolding(crate::specs::Orders::export_in))]
 fn export_of<'a>(values: &ArgMatches<'a>) -> Result<Order<'a>, Misfit>
-    ensures order { MatchResult result (λ order. export_in (rows_of (found_of values.now))
-        ≡ Some (said_by order)) (λ _. export_in (rows_of (found_of values.now)) ≡ None) }
-    ensures misfit { IfErr result (λ misfit.
-        first_misfit (Misfit.File ∷ Misfit.To ∷ []) (rows_of (found_of values.now)) ≡ Some misfit) }
+    ensures { IsOrderOf export_in (Misfit.File ∷ Misfit.To ∷ [])
+        (rows_of (found_of values.now)) result }
 {
     let file = value_of(values, "FILE").ok_or(Misfit::File)?;
     let to = site_of(values, "TO").ok_or(Misfit::To)?;
-    Ok(Order::Export { file, to })
+    let copy = copy_of(values);
+    Ok(Order::Export { file, to, copy })
 }
 
 #[tactic(auto, unfolding(crate::specs::Orders::import_in))]
 fn import_of<'a>(values: &ArgMatches<'a>) -> Result<Order<'a>, Misfit>
-    ensures order { MatchResult result (λ order. import_in (rows_of (found_of values.now))
-        ≡ Some (said_by order)) (λ _. import_in (rows_of (found_of values.now)) ≡ None) }
-    ensures misfit { IfErr result
-        (λ misfit. first_misfit (Misfit.File ∷ []) (rows_of (found_of values.now)) ≡ Some misfit) }
+    ensures { IsOrderOf import_in (Misfit.File ∷ []) (rows_of (found_of values.now)) result }
 {
     let file = value_of(values, "FILE").ok_or(Misfit::File)?;
-    Ok(Order::Import { file })
+    let copy = copy_of(values);
+    Ok(Order::Import { file, copy })
 }
 
 fn all_of<'m, 'a>(values: &'m ArgMatches<'a>, id: &str) -> Option<&'m [&'a str]>
-    ensures { option_map (λ words. map (λ word. word.now) words.now) result
+    ensures { option_map (λ words. texts_of words.now) result
         ≡ all_of id.now (rows_of (found_of values.now)) }
 {
     values.get_strs(id)
 }
 
-// The files, where there are no more than so many.
-fn files_of<'a>(values: &ArgMatches<'a>, most: usize) -> Option<FileNames<'a>>
+// The words, where there are no more than so many.
+fn names_of<'a>(words: &[&'a str], most: usize) -> Option<FileNames<'a>>
     requires { most ≤ most_sites }
-    ensures { option_map (λ files. map (λ file. file.now) files.items) result
-        ≡ files_in most (rows_of (found_of values.now)) }
+    ensures { option_map (λ names. texts_of names.items) result
+        ≡ at_most most (texts_of words.now) }
 {
-    let words = all_of(values, "FILE")?;
     if words.len() > most {
         return None;
     }
     match FileNames::try_from(words) {
-        Ok(files) => Some(files),
+        Ok(names) => Some(names),
         Err(_) => None,
+    }
+}
+
+// The files, where there are no more than so many.
+#[tactic(auto, unfolding(crate::specs::Orders::files_in))]
+fn files_of<'a>(values: &ArgMatches<'a>, most: usize) -> Option<FileNames<'a>>
+    requires { most ≤ most_sites }
+    ensures { option_map (λ files. texts_of files.items) result
+        ≡ files_in most (rows_of (found_of values.now)) }
+{
+    let words = all_of(values, "FILE")?;
+    names_of(words, most)
+}
+
+#[tactic(auto, unfolding(crate::specs::Orders::copies_in))]
+fn copies_of<'a>(values: &ArgMatches<'a>) -> Option<FileNames<'a>>
+    ensures { option_map (λ copies. texts_of copies.items) result
+        ≡ copies_in (rows_of (found_of values.now)) }
+{
+    match all_of(values, "COPY") {
+        Some(words) => names_of(words, MOST_FILES),
+        None => Some(FileNames::new()),
     }
 }
 
 #[tactic(auto, unfolding(crate::specs::Orders::audit_in))]
 fn audit_of<'a>(values: &ArgMatches<'a>) -> Result<Order<'a>, Misfit>
-    ensures order { MatchResult result (λ order. audit_in (rows_of (found_of values.now))
-        ≡ Some (said_by order)) (λ _. audit_in (rows_of (found_of values.now)) ≡ None) }
-    ensures misfit { IfErr result
-        (λ misfit. first_misfit (Misfit.Files ∷ []) (rows_of (found_of values.now)) ≡ Some misfit) }
+    ensures { IsOrderOf audit_in (Misfit.Files ∷ Misfit.Copies ∷ [])
+        (rows_of (found_of values.now)) result }
 {
     let files = files_of(values, MOST_FILES).ok_or(Misfit::Files)?;
-    Ok(Order::Audit { files })
+    let copies = copies_of(values).ok_or(Misfit::Copies)?;
+    Ok(Order::Audit { files, copies })
 }
 
 fn port_of(values: &ArgMatches<'_>) -> Option<u16>
@@ -388,20 +427,20 @@ fn sessions_of(values: &ArgMatches<'_>) -> Option<usize>
 
 #[tactic(auto, unfolding(crate::specs::Orders::serve_in))]
 fn serve_of<'a>(values: &ArgMatches<'a>) -> Result<Order<'a>, Misfit>
-    ensures order { MatchResult result (λ order. serve_in (rows_of (found_of values.now))
-        ≡ Some (said_by order)) (λ _. serve_in (rows_of (found_of values.now)) ≡ None) }
-    ensures misfit { IfErr result (λ misfit. first_misfit (Misfit.Port ∷ Misfit.Sessions
-        ∷ Misfit.Rounds ∷ Misfit.Desks ∷ []) (rows_of (found_of values.now)) ≡ Some misfit) }
+    ensures { IsOrderOf serve_in (Misfit.Port ∷ Misfit.Sessions ∷ Misfit.Rounds ∷ Misfit.Desks
+        ∷ Misfit.Copies ∷ []) (rows_of (found_of values.now)) result }
 {
     let port = port_of(values).ok_or(Misfit::Port)?;
     let sessions = sessions_of(values).ok_or(Misfit::Sessions)?;
     let rounds = number_of(values, "ROUNDS", 0, MOST_ROUNDS).ok_or(Misfit::Rounds)?;
     let files = files_of(values, MOST_DESKS).ok_or(Misfit::Desks)?;
+    let copies = copies_of(values).ok_or(Misfit::Copies)?;
     Ok(Order::Serve {
         port,
         sessions,
         rounds,
         files,
+        copies,
     })
 }
 
@@ -427,11 +466,8 @@ fn reserve_of(values: &ArgMatches<'_>) -> Option<u64>
 
 #[tactic(auto, unfolding(crate::specs::Orders::open_in))]
 fn open_of<'a>(values: &ArgMatches<'a>) -> Result<Order<'a>, Misfit>
-    ensures order { MatchResult result (λ order. open_in (rows_of (found_of values.now))
-        ≡ Some (said_by order)) (λ _. open_in (rows_of (found_of values.now)) ≡ None) }
-    ensures misfit { IfErr result (λ misfit. first_misfit
-        (Misfit.Port ∷ Misfit.File ∷ Misfit.Reserve ∷ []) (rows_of (found_of values.now))
-        ≡ Some misfit) }
+    ensures { IsOrderOf open_in (Misfit.Port ∷ Misfit.File ∷ Misfit.Reserve ∷ [])
+        (rows_of (found_of values.now)) result }
 {
     let port = port_of(values).ok_or(Misfit::Port)?;
     let file = value_of(values, "FILE").ok_or(Misfit::File)?;
@@ -440,19 +476,18 @@ fn open_of<'a>(values: &ArgMatches<'a>) -> Result<Order<'a>, Misfit>
         tells_low: is_low(values),
         reserve,
     };
+    let copy = copy_of(values);
     Ok(Order::Open {
         port,
         file,
         sparing,
+        copy,
     })
 }
 
 #[tactic(auto, unfolding(crate::specs::Orders::close_in))]
 fn close_of<'a>(values: &ArgMatches<'a>) -> Result<Order<'a>, Misfit>
-    ensures order { MatchResult result (λ order. close_in (rows_of (found_of values.now))
-        ≡ Some (said_by order)) (λ _. close_in (rows_of (found_of values.now)) ≡ None) }
-    ensures misfit { IfErr result
-        (λ misfit. first_misfit (Misfit.File ∷ []) (rows_of (found_of values.now)) ≡ Some misfit) }
+    ensures { IsOrderOf close_in (Misfit.File ∷ []) (rows_of (found_of values.now)) result }
 {
     let file = value_of(values, "FILE").ok_or(Misfit::File)?;
     Ok(Order::Close { file })
@@ -460,22 +495,45 @@ fn close_of<'a>(values: &ArgMatches<'a>) -> Result<Order<'a>, Misfit>
 
 #[tactic(auto, unfolding(crate::specs::Orders::status_in))]
 fn status_of<'a>(values: &ArgMatches<'a>) -> Result<Order<'a>, Misfit>
-    ensures order { MatchResult result (λ order. status_in (rows_of (found_of values.now))
-        ≡ Some (said_by order)) (λ _. status_in (rows_of (found_of values.now)) ≡ None) }
-    ensures misfit { IfErr result
-        (λ misfit. first_misfit (Misfit.File ∷ []) (rows_of (found_of values.now)) ≡ Some misfit) }
+    ensures { IsOrderOf status_in (Misfit.File ∷ []) (rows_of (found_of values.now)) result }
 {
     let file = value_of(values, "FILE").ok_or(Misfit::File)?;
-    Ok(Order::Status { file })
+    let copy = copy_of(values);
+    Ok(Order::Status { file, copy })
+}
+
+#[tactic(auto, unfolding(crate::specs::Orders::pair_in))]
+fn pair_of<'a>(values: &ArgMatches<'a>) -> Result<Order<'a>, Misfit>
+    ensures { IsOrderOf pair_in (Misfit.File ∷ Misfit.Copy ∷ [])
+        (rows_of (found_of values.now)) result }
+{
+    let file = value_of(values, "FILE").ok_or(Misfit::File)?;
+    let copy = value_of(values, "COPY").ok_or(Misfit::Copy)?;
+    Ok(Order::Pair { file, copy })
+}
+
+#[tactic(auto, unfolding(crate::specs::Orders::alone_in))]
+fn alone_of<'a>(values: &ArgMatches<'a>) -> Result<Order<'a>, Misfit>
+    ensures { IsOrderOf alone_in (Misfit.File ∷ []) (rows_of (found_of values.now)) result }
+{
+    let file = value_of(values, "FILE").ok_or(Misfit::File)?;
+    Ok(Order::Alone { file })
+}
+
+#[tactic(auto, unfolding(crate::specs::Orders::backup_in))]
+fn backup_of<'a>(values: &ArgMatches<'a>) -> Result<Order<'a>, Misfit>
+    ensures { IsOrderOf backup_in (Misfit.File ∷ Misfit.Copy ∷ [])
+        (rows_of (found_of values.now)) result }
+{
+    let file = value_of(values, "FILE").ok_or(Misfit::File)?;
+    let copy = value_of(values, "COPY").ok_or(Misfit::Copy)?;
+    Ok(Order::Backup { file, copy })
 }
 
 #[tactic(auto, unfolding(crate::specs::Orders::named_order, crate::specs::Orders::values_of))]
 fn named_order<'a>(name: &str, values: &ArgMatches<'a>) -> Result<Order<'a>, Misfit>
-    ensures order { MatchResult result
-        (λ order. named_order name.now (rows_of (found_of values.now)) ≡ Some (said_by order))
-        (λ _. named_order name.now (rows_of (found_of values.now)) ≡ None) }
-    ensures misfit { IfErr result (λ misfit.
-        first_misfit (values_of name.now) (rows_of (found_of values.now)) ≡ Some misfit) }
+    ensures { IsOrderOf (named_order name.now) (values_of name.now)
+        (rows_of (found_of values.now)) result }
 {
     if name == "world" {
         Ok(Order::World)
@@ -509,6 +567,12 @@ fn named_order<'a>(name: &str, values: &ArgMatches<'a>) -> Result<Order<'a>, Mis
         close_of(values)
     } else if name == "status" {
         status_of(values)
+    } else if name == "pair" {
+        pair_of(values)
+    } else if name == "alone" {
+        alone_of(values)
+    } else if name == "backup" {
+        backup_of(values)
     } else if name == "version" {
         Ok(Order::Version)
     } else {

@@ -3,20 +3,20 @@
 ghost use Rattle.std.specs.Prelude.{◌++◌, [], ◌∷◌, OnOk};
 ghost use Rattle.std.specs.List.{flat_map};
 ghost use Rattle.delta_wire.specs.Grammar.{IsMessage, message_text};
-ghost use Rattle.live_office.specs.RecordLines.{share_line, standing_text};
+ghost use Rattle.live_office.specs.RecordLines.{share_line, site_status_text};
 ghost use Rattle.operator_cli.specs.Outcomes.{IsPrinted, IsWritten, WritesAs, known_status, known_text, list_status, list_text};
 ghost use Rattle.operator_cli.specs.declared.status.Status.TheVariants.{Done};
 
+use crate::command_fault::CommandFault;
 use crate::ending::{ended, write_line};
 use crate::status::Status;
-use crate::store_fault::StoreFault;
-use crate::told::{Told, tell};
+use crate::told::{CommandReply, tell};
 use delta_wire::write_message;
 use history_keeper::{Found, Listed};
-use live_office::{event_line, found_line, listed_line, share_line, standing_text};
+use live_office::{event_line, found_line, listed_line, share_line, site_status_text};
 use plain_words::{Text, put};
 use rights_lattice::Event;
-use site_desk::{SiteShare, Standing};
+use site_desk::{SiteShare, SiteStatus};
 use site_exchange::Message;
 use std::io::Write;
 
@@ -24,7 +24,7 @@ use std::io::Write;
 #[derive(Drop)]
 pub(crate) enum Outcome {
     /// One line.
-    Tells(Told),
+    Tells(CommandReply),
     /// The message to a peer.
     Sends(Message),
     /// The reply that is kept under a number.
@@ -36,25 +36,25 @@ pub(crate) enum Outcome {
     /// What each site may sell of an event, and what it sold and took back.
     Splits(Vec<SiteShare>),
     /// Which site it is, and how long its history is.
-    Stands(Standing),
+    SiteStatusIs(SiteStatus),
     /// No text.
-    Fails(StoreFault),
+    Fails(CommandFault),
 }
 
 // A line and the status that goes with it.
-fn write_as<W: Write>(line: &Text, status: Status, out: &mut W) -> Result<Status, StoreFault>
+fn write_as<W: Write>(line: &Text, status: Status, out: &mut W) -> Result<Status, CommandFault>
     ensures { WritesAs line.now.items status (W.contents out.old) (W.contents out.new) result }
 {
     write_line(line, out)?;
     Ok(status)
 }
 
-fn write_list<W: Write>(rows: &[Listed], out: &mut W) -> Result<Status, StoreFault>
+fn write_list<W: Write>(rows: &[Listed], out: &mut W) -> Result<Status, CommandFault>
     ensures { WritesAs (list_text rows.now) (list_status rows.now)
         (W.contents out.old) (W.contents out.new) result }
 {
     if rows.is_empty() {
-        return tell(&Told::NotFound, out);
+        return tell(&CommandReply::NotFound, out);
     }
     'rows: for row in rows {
         let line = listed_line(row.place, row.number, row.request, row.reply);
@@ -63,12 +63,12 @@ fn write_list<W: Write>(rows: &[Listed], out: &mut W) -> Result<Status, StoreFau
     Ok(Status::Done)
 }
 
-fn write_known<W: Write>(events: &[Event], out: &mut W) -> Result<Status, StoreFault>
+fn write_known<W: Write>(events: &[Event], out: &mut W) -> Result<Status, CommandFault>
     ensures { WritesAs (known_text events.now) (known_status events.now)
         (W.contents out.old) (W.contents out.new) result }
 {
     if events.is_empty() {
-        return tell(&Told::NotFound, out);
+        return tell(&CommandReply::NotFound, out);
     }
     'events: for event in events {
         let line = event_line(*event);
@@ -77,7 +77,7 @@ fn write_known<W: Write>(events: &[Event], out: &mut W) -> Result<Status, StoreF
     Ok(Status::Done)
 }
 
-fn write_shares<W: Write>(rows: &[SiteShare], out: &mut W) -> Result<Status, StoreFault>
+fn write_shares<W: Write>(rows: &[SiteShare], out: &mut W) -> Result<Status, CommandFault>
     ensures { WritesAs (flat_map share_line rows.now) Done
         (W.contents out.old) (W.contents out.new) result }
 {
@@ -88,28 +88,28 @@ fn write_shares<W: Write>(rows: &[SiteShare], out: &mut W) -> Result<Status, Sto
     Ok(Status::Done)
 }
 
-fn write_standing<W: Write>(standing: Standing, out: &mut W) -> Result<Status, StoreFault>
-    ensures { WritesAs (standing_text standing ++ 10 ∷ []) Done
+fn write_site_status<W: Write>(site_status: SiteStatus, out: &mut W) -> Result<Status, CommandFault>
+    ensures { WritesAs (site_status_text site_status ++ 10 ∷ []) Done
         (W.contents out.old) (W.contents out.new) result }
 {
-    let mut line = standing_text(standing);
+    let mut line = site_status_text(site_status);
     put(&mut line, b"\n");
     write_as(&line, Status::Done, out)
 }
 
-fn write_sent<W: Write>(message: &Message, out: &mut W) -> Result<Status, StoreFault>
+fn write_sent<W: Write>(message: &Message, out: &mut W) -> Result<Status, CommandFault>
     ensures written { WritesAs (message_text message.now) Done
         (W.contents out.old) (W.contents out.new) result }
     ensures read_back { OnOk result (IsMessage message.now) }
 {
     match write_message(message, out) {
         Ok(()) => Ok(Status::Done),
-        Err(_) => Err(StoreFault::Write),
+        Err(_) => Err(CommandFault::Write),
     }
 }
 
 // Writes the text of an outcome.
-fn write_outcome<W: Write>(outcome: &Outcome, out: &mut W) -> Result<Status, StoreFault>
+fn write_outcome<W: Write>(outcome: &Outcome, out: &mut W) -> Result<Status, CommandFault>
     ensures { IsWritten outcome.now (W.contents out.old) (W.contents out.new) result }
 {
     match outcome {
@@ -121,7 +121,7 @@ fn write_outcome<W: Write>(outcome: &Outcome, out: &mut W) -> Result<Status, Sto
         Outcome::Lists(rows) => write_list(rows.as_slice(), out),
         Outcome::Knows(events) => write_known(events.as_slice(), out),
         Outcome::Splits(rows) => write_shares(rows.as_slice(), out),
-        Outcome::Stands(standing) => write_standing(*standing, out),
+        Outcome::SiteStatusIs(site_status) => write_site_status(*site_status, out),
         Outcome::Fails(fault) => Err(*fault),
     }
 }

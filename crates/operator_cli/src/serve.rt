@@ -1,24 +1,24 @@
 //! The command `serve`: the sites of several files at once, with sessions over connections.
 
-ghost use Rattle.std.specs.Prelude.{◌≡◌, ◌≢◌, ◌⊎◌, All, IfOk, IfErr, IfSome, IsSome, None, OnOk, length, map, []};
-ghost use Rattle.std.specs.List.{AllZip, flat_map};
+ghost use Rattle.std.specs.Prelude.{◌≡◌, ◌≢◌, ◌⊎◌, IfOk, IfErr, IfSome, None, OnOk, length, map, []};
+ghost use Rattle.std.specs.List.{AllZip};
 ghost use Rattle.std.specs.Io.KnownBytes.{Keeps};
 ghost use Rattle.plain_words.specs.Writing.{AppendsFront};
-ghost use Rattle.session_server.specs.Finished.{IsLeftOf};
+ghost use Rattle.session_server.specs.Visited.{IsSiteLeft, visit_ended};
 ghost use Rattle.world_steps.specs.Audit.{books_of};
 ghost use Rattle.book_core.specs.Books.{AreNotOversold};
 ghost use Rattle.operator_cli.specs.declared.status.Status.TheVariants.{Done, Failed};
-ghost use Rattle.operator_cli.specs.declared.store_fault.StoreFault.{StoreFault};
-ghost use Rattle.operator_cli.specs.declared.store_fault.StoreFault.TheVariants.{Memory as NoMemory, NotStarted};
+ghost use Rattle.operator_cli.specs.declared.command_fault.CommandFault.{CommandFault};
+ghost use Rattle.operator_cli.specs.declared.command_fault.CommandFault.TheVariants.{Memory as NoMemory, NotStarted};
 ghost use Rattle.operator_cli.specs.Dealt.{AreDealt};
 ghost use Rattle.operator_cli.specs.Opened.{FailsFor};
 ghost use Rattle.operator_cli.specs.Serving.{ComesTo, EndsServed, end_fault, first_of_all, of_listen_fault};
-ghost use Rattle.operator_cli.specs.Told.{FaultTold, store_fault_line};
+ghost use Rattle.operator_cli.specs.CommandReply.{FaultTold, command_fault_line};
 
 use crate::audit::print_audit;
+use crate::command_fault::CommandFault;
 use crate::ending::{ended, tell_fault};
 use crate::status::Status;
-use crate::store_fault::StoreFault;
 use book_core::Book;
 use history_keeper::Keeper;
 use session_server::{ListenFault, Site, SiteEnd, Visit, run_all};
@@ -72,12 +72,12 @@ fn deal<K: Keeper + Drop, R: Read + Drop, W: Write + Drop>(
 // What a site's end tells.
 fn end_fault<K: Keeper + Drop, R: Read + Drop, W: Write + Drop>(
     end: &SiteEnd<K, R, W>,
-) -> Option<StoreFault>
+) -> Option<CommandFault>
     ensures { result ≡ end_fault end.now.finished end.now.book }
 {
     match end.finished {
-        Err(fault) => Some(StoreFault::from(fault)),
-        Ok(()) if end.book.is_closed() => Some(StoreFault::Closed {
+        Err(fault) => Some(CommandFault::from(fault)),
+        Ok(()) if end.book.is_closed() => Some(CommandFault::Closed {
             site: end.book.book().me(),
         }),
         Ok(()) => None,
@@ -87,7 +87,7 @@ fn end_fault<K: Keeper + Drop, R: Read + Drop, W: Write + Drop>(
 // What the first of these ends tells that tells something.
 fn first_fault<K: Keeper + Drop, R: Read + Drop, W: Write + Drop>(
     ends: &[SiteEnd<K, R, W>],
-) -> Option<StoreFault>
+) -> Option<CommandFault>
     ensures { result ≡ first_of_all (map (λ e. end_fault e.finished e.book) ends.now) }
 {
     for end in ends {
@@ -124,18 +124,13 @@ fn run_sites<
     books: Vec<SiteBook<K>>,
     visits: Vec<Visit<R, V>>,
     rounds: u64,
-) -> Result<Vec<SiteEnd<K, R, V>>, StoreFault>
+) -> Result<Vec<SiteEnd<K, R, V>>, CommandFault>
     ensures count { IfOk result (λ ends. length ends.items ≡ length books.items) }
-    ensures ids { IfOk result (λ ends. AreDealt
-        (map (λ v. v.id) visits.items) (map (λ e. map (λ x. x.id) e.sessions.items) ends.items)) }
-    ensures readers { IfOk result (λ ends. AreDealt (map (λ v. v.reader) visits.items)
-        (map (λ e. map (λ x. x.reader_began.value) e.sessions.items) ends.items)) }
-    ensures writers { IfOk result (λ ends. AreDealt (map (λ v. v.writer) visits.items)
-        (map (λ e. map (λ x. x.writer_began.value) e.sessions.items) ends.items)) }
-    ensures left { IfOk result
-        (λ ends. AllZip (λ book end. IsLeftOf book.book end.book.book (All (λ x. IsSome x.writer)
-        end.sessions.items) (flat_map (λ x. x.receipts.items) end.sessions.items)
-        (flat_map (λ x. x.seen.items) end.sessions.items) end.finished) books.items ends.items) }
+    ensures visits { IfOk result (λ ends.
+        AreDealt visits.items (map (λ e. map visit_ended e.sessions.items) ends.items)) }
+    ensures left { IfOk result (λ ends. AllZip (λ book end.
+        IsSiteLeft book.book end.book.book end.sessions.items end.finished)
+        books.items ends.items) }
     ensures fault { IfErr result (λ fault. (fault ≡ NoMemory) ⊎ (fault ≡ NotStarted)) }
 {
     let mut sites = unvisited(alloc, books)?;
@@ -149,7 +144,7 @@ fn summed_up<K: Keeper + Drop, R: Read + Drop, V: Write + Drop, W: Write>(
     alloc: Global,
     ends: &[SiteEnd<K, R, V>],
     out: &mut W,
-) -> Result<Status, StoreFault>
+) -> Result<Status, CommandFault>
     ensures came { ComesTo (map (λ e. e.book.book) ends.now)
         (first_of_all (map (λ e. end_fault e.finished e.book) ends.now))
         (W.contents out.old) (W.contents out.new) result }
@@ -195,16 +190,11 @@ pub fn serve_stores<
     err: &mut E,
 ) -> (Status, Option<Vec<SiteEnd<K, R, V>>>)
     ensures count { IfSome result.1 (λ ends. length ends.items ≡ length books.items) }
-    ensures ids { IfSome result.1 (λ ends. AreDealt
-        (map (λ v. v.id) visits.items) (map (λ e. map (λ x. x.id) e.sessions.items) ends.items)) }
-    ensures readers { IfSome result.1 (λ ends. AreDealt (map (λ v. v.reader) visits.items)
-        (map (λ e. map (λ x. x.reader_began.value) e.sessions.items) ends.items)) }
-    ensures writers { IfSome result.1 (λ ends. AreDealt (map (λ v. v.writer) visits.items)
-        (map (λ e. map (λ x. x.writer_began.value) e.sessions.items) ends.items)) }
-    ensures left { IfSome result.1
-        (λ ends. AllZip (λ book end. IsLeftOf book.book end.book.book (All (λ x. IsSome x.writer)
-        end.sessions.items) (flat_map (λ x. x.receipts.items) end.sessions.items)
-        (flat_map (λ x. x.seen.items) end.sessions.items) end.finished) books.items ends.items) }
+    ensures visits { IfSome result.1 (λ ends.
+        AreDealt visits.items (map (λ e. map visit_ended e.sessions.items) ends.items)) }
+    ensures left { IfSome result.1 (λ ends. AllZip (λ book end.
+        IsSiteLeft book.book end.book.book end.sessions.items end.finished)
+        books.items ends.items) }
     ensures ran { IfSome result.1 (λ ends. EndsServed (map (λ e. e.book.book) ends.items)
         (first_of_all (map (λ e. end_fault e.finished e.book) ends.items)) (W.contents out.old)
         (W.contents out.new) (E.contents err.old) (E.contents err.new) result.0) }
@@ -227,8 +217,8 @@ pub fn serve_stores<
 /// Tells why no connections were taken: `bind`, `accept` or `memory`, with status 3.
 pub fn tell_listen_fault<E: Write>(fault: ListenFault, err: &mut E) -> Status
     ensures line { AppendsFront
-        (E.contents err.old) (E.contents err.new) (store_fault_line (of_listen_fault fault)) }
+        (E.contents err.old) (E.contents err.new) (command_fault_line (of_listen_fault fault)) }
     ensures status { result ≡ Failed }
 {
-    tell_fault(StoreFault::from(fault), err)
+    tell_fault(CommandFault::from(fault), err)
 }

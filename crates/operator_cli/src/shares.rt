@@ -8,7 +8,7 @@ use crate::events::of_look_up_fault;
 use crate::opening::open_book;
 use crate::outcome::{Outcome, print_outcome};
 use crate::status::Status;
-use crate::told::Told;
+use crate::told::CommandReply;
 use rights_lattice::Event;
 use site_desk::{LookUpFault, SiteShare};
 use sqlite::{Alter, Connection};
@@ -20,7 +20,7 @@ fn outcome_of_shares(called: Result<Option<Vec<SiteShare>>, LookUpFault>) -> Out
 {
     match called {
         Ok(Some(rows)) => Outcome::Splits(rows),
-        Ok(None) => Outcome::Tells(Told::Unknown),
+        Ok(None) => Outcome::Tells(CommandReply::Unknown),
         Err(fault) => Outcome::Fails(of_look_up_fault(fault)),
     }
 }
@@ -36,7 +36,7 @@ fn shares<S: Alter + Drop>(
         Ok(book) => {
             let Some(event) = Event::read(event.as_bytes()) else {
                 return (
-                    Outcome::Tells(Told::Unknown),
+                    Outcome::Tells(CommandReply::Unknown),
                     Some(book.into_keeper().close()),
                 );
             };

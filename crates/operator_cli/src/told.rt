@@ -5,11 +5,11 @@ ghost use Rattle.std.specs.Fmt.{decimal};
 ghost use Rattle.arrayvec.specs.ArrayVec.{array_vec_len};
 ghost use Rattle.plain_words.specs.Input.{longest_line};
 ghost use Rattle.plain_words.specs.Writing.{Writes};
-ghost use Rattle.operator_cli.specs.Told.{told_text, told_line, told_status, ended_by_wire, ended_by_audit};
-ghost use Rattle.operator_cli.specs.declared.store_fault.StoreFault.TheVariants.{Write as WriteFailed};
+ghost use Rattle.operator_cli.specs.CommandReply.{told_text, told_line, told_status, ended_by_wire, ended_by_audit};
+ghost use Rattle.operator_cli.specs.declared.command_fault.CommandFault.TheVariants.{Write as WriteFailed};
 
+use crate::command_fault::CommandFault;
 use crate::status::Status;
-use crate::store_fault::StoreFault;
 use book_core::GrowFault;
 use delta_wire::WireFault;
 use desk_lines::{grow_fault_text, reply_text, take_fault_text, wire_fault_text};
@@ -22,7 +22,7 @@ use world_steps::AuditFault;
 
 /// What a command tells.
 #[derive(Clone, Copy, Debug)]
-pub(crate) enum Told {
+pub(crate) enum CommandReply {
     /// The records are made.
     Made,
     /// The records have the schema of this program now.
@@ -57,6 +57,18 @@ pub(crate) enum Told {
     Grown,
     /// It counts as many as before.
     NotGrown(GrowFault),
+    /// The file is one of two copies, and the other is made.
+    Paired,
+    /// The file is one of two no longer.
+    Alone,
+    /// The file is not one of two copies.
+    NotPaired,
+    /// The two files are of different sites.
+    OtherSite,
+    /// Two copies have different entries at this place.
+    Differs { place: u64 },
+    /// Both paths lead to the same file.
+    SameFile,
 }
 
 fn ahead_text(viewer: SiteId, owner: SiteId) -> Text
@@ -69,44 +81,56 @@ fn ahead_text(viewer: SiteId, owner: SiteId) -> Text
     text
 }
 
-fn told_text(told: &Told) -> Text
+fn told_text(told: &CommandReply) -> Text
     ensures value { result.items ≡ told_text told.now }
     ensures len { array_vec_len result ≤ longest_line }
 {
     match told {
-        Told::Made => reply_text(Reply::Done),
-        Told::Migrated => word(b"migrated"),
-        Told::Joined => word(b"joined"),
-        Told::NothingNew => word(b"nothing-new"),
-        Told::Acked => word(b"acked"),
-        Told::AlreadyThere => word(b"already-there"),
-        Told::NoSite => reply_text(Reply::NoSite),
-        Told::Nothing => word(b"nothing"),
-        Told::NotFound => word(b"none"),
-        Told::Unknown => word(b"unknown"),
-        Told::TooLong => word(b"too-long"),
-        Told::Unread(fault) => wire_fault_text(*fault),
-        Told::NotTaken(fault) => take_fault_text(*fault),
-        Told::NotWhole => word(b"not-whole"),
-        Told::Ahead { viewer, owner } => ahead_text(*viewer, *owner),
-        Told::Grown => word(b"grown"),
-        Told::NotGrown(fault) => grow_fault_text(*fault),
+        CommandReply::Made => reply_text(Reply::Done),
+        CommandReply::Migrated => word(b"migrated"),
+        CommandReply::Joined => word(b"joined"),
+        CommandReply::NothingNew => word(b"nothing-new"),
+        CommandReply::Acked => word(b"acked"),
+        CommandReply::AlreadyThere => word(b"already-there"),
+        CommandReply::NoSite => reply_text(Reply::NoSite),
+        CommandReply::Nothing => word(b"nothing"),
+        CommandReply::NotFound => word(b"none"),
+        CommandReply::Unknown => word(b"unknown"),
+        CommandReply::TooLong => word(b"too-long"),
+        CommandReply::Unread(fault) => wire_fault_text(*fault),
+        CommandReply::NotTaken(fault) => take_fault_text(*fault),
+        CommandReply::NotWhole => word(b"not-whole"),
+        CommandReply::Ahead { viewer, owner } => ahead_text(*viewer, *owner),
+        CommandReply::Grown => word(b"grown"),
+        CommandReply::NotGrown(fault) => grow_fault_text(*fault),
+        CommandReply::Paired => word(b"paired"),
+        CommandReply::Alone => word(b"alone"),
+        CommandReply::NotPaired => word(b"not-paired"),
+        CommandReply::OtherSite => word(b"other-site"),
+        CommandReply::Differs { place } => numbered(b"differs ", *place),
+        CommandReply::SameFile => word(b"same-file"),
     }
 }
 
-fn told_status(told: &Told) -> Status
+fn told_status(told: &CommandReply) -> Status
     ensures { result ≡ told_status told.now }
 {
     match told {
-        Told::Made | Told::Migrated | Told::Joined | Told::NothingNew | Told::Acked | Told::Grown =>
-            Status::Done,
+        CommandReply::Made
+        | CommandReply::Migrated
+        | CommandReply::Joined
+        | CommandReply::NothingNew
+        | CommandReply::Acked
+        | CommandReply::Grown
+        | CommandReply::Paired
+        | CommandReply::Alone => Status::Done,
         _ => Status::Refused,
     }
 }
 
 /// Writes the line of what is told, and answers the status that goes with it; `Write` where it could not, with a front of
 /// the line.
-pub(crate) fn tell<W: Write>(told: &Told, out: &mut W) -> Result<Status, StoreFault>
+pub(crate) fn tell<W: Write>(told: &CommandReply, out: &mut W) -> Result<Status, CommandFault>
     ensures written { Writes (W.contents out.old) (W.contents out.new) result (told_line told.now) }
     ensures status { IfOk result (λ status. status ≡ told_status told.now) }
     ensures fault { IfErr result (λ fault. fault ≡ WriteFailed) }
@@ -115,27 +139,27 @@ pub(crate) fn tell<W: Write>(told: &Told, out: &mut W) -> Result<Status, StoreFa
     put(&mut text, b"\n");
     match write_bytes(text.as_slice(), out) {
         Ok(()) => Ok(told_status(told)),
-        Err(_) => Err(StoreFault::Write),
+        Err(_) => Err(CommandFault::Write),
     }
 }
 
 /// What an input that was not read as a message comes to.
-pub(crate) fn ended_by_wire(fault: WireFault) -> Result<Told, StoreFault>
+pub(crate) fn ended_by_wire(fault: WireFault) -> Result<CommandReply, CommandFault>
     ensures { result ≡ ended_by_wire fault }
 {
     match fault {
-        WireFault::Memory => Err(StoreFault::Memory),
-        _ => Ok(Told::Unread(fault)),
+        WireFault::Memory => Err(CommandFault::Memory),
+        _ => Ok(CommandReply::Unread(fault)),
     }
 }
 
 /// What an audit that lists nothing comes to.
-pub(crate) fn ended_by_audit(fault: AuditFault) -> Result<Told, StoreFault>
+pub(crate) fn ended_by_audit(fault: AuditFault) -> Result<CommandReply, CommandFault>
     ensures { result ≡ ended_by_audit fault }
 {
     match fault {
-        AuditFault::NotWhole => Ok(Told::NotWhole),
-        AuditFault::Ahead { viewer, owner } => Ok(Told::Ahead { viewer, owner }),
-        AuditFault::Memory => Err(StoreFault::Memory),
+        AuditFault::NotWhole => Ok(CommandReply::NotWhole),
+        AuditFault::Ahead { viewer, owner } => Ok(CommandReply::Ahead { viewer, owner }),
+        AuditFault::Memory => Err(CommandFault::Memory),
     }
 }

@@ -4,7 +4,7 @@ ghost use Rattle.std.specs.Prelude.{◌≡◌, ◌⊎◌, codes};
 ghost use Rattle.std.specs.Io.KnownBytes.{Appends};
 ghost use Rattle.plain_words.specs.Writing.{AppendsFront};
 ghost use Rattle.operator_cli.specs.declared.status.Status.TheVariants.{Done, Failed};
-ghost use Rattle.operator_cli.specs.Told.{FaultTold};
+ghost use Rattle.operator_cli.specs.CommandReply.{FaultTold};
 ghost use Rattle.operator_cli.specs.Version.{version_lines};
 
 use crate::ending::{ended, write_line};
@@ -23,7 +23,7 @@ pub fn tell_version<W: Write, E: Write>(out: &mut W, err: &mut E) -> Status
     ensures told { FaultTold (E.contents err.old) (E.contents err.new) result }
     ensures status { (result ≡ Done) ⊎ (result ≡ Failed) }
 {
-    let lines = word(b"boxoffice 0.4.0\nschema 2\nrattle-kit-13f logic dac8208d650f15bf\nproved\n");
+    let lines = word(b"boxoffice 0.4.0\nschema 2\nrattle-kit-13 logic dac8208d650f15bf\nproved\n");
     match write_line(&lines, out) {
         Ok(()) => ended(Ok(Status::Done), out, err),
         Err(fault) => ended(Err(fault), out, err),

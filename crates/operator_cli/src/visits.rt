@@ -5,15 +5,15 @@ ghost use Rattle.std.specs.Io.KnownBytes.{Appends, Consumes};
 ghost use Rattle.plain_words.specs.Input.{IsPartOfLine, longest_line};
 ghost use Rattle.plain_words.specs.Writing.{AppendsFront};
 ghost use Rattle.operator_cli.specs.declared.status.Status.TheVariants.{Done, Failed};
-ghost use Rattle.operator_cli.specs.declared.store_fault.StoreFault.TheVariants.{AlreadyOpen, NotOpen, Write as WriteFailed};
+ghost use Rattle.operator_cli.specs.declared.command_fault.CommandFault.TheVariants.{AlreadyOpen, NotOpen, Write as WriteFailed};
 ghost use Rattle.operator_cli.specs.Printed.{Printed};
-ghost use Rattle.operator_cli.specs.Told.{store_fault_line};
+ghost use Rattle.operator_cli.specs.CommandReply.{command_fault_line};
 ghost use Rattle.operator_cli.specs.Visits.{FirstPrinted, IsAnswer, IsRowsVisit, IsSharesVisit, IsVisit, IsVisitEnd, PassesOn, RestPrinted, export_question, find_question, line_text, list_question, shares_question, streams};
 
+use crate::command_fault::CommandFault;
 use crate::ending::{ended, tell_fault};
 use crate::status::Status;
-use crate::store_fault::StoreFault;
-use crate::told::{Told, tell};
+use crate::told::{CommandReply, tell};
 use crate::visiting::{hear, heard, pass_on, print_line, say, told_before};
 use plain_words::{LineBytes, Text, numbered, put, word};
 use request_ledger::RequestNumber;
@@ -38,7 +38,7 @@ fn ask_first<A: BufRead, Q: Write>(
     answers: &mut A,
     questions: &mut Q,
     line: &mut LineBytes,
-) -> Result<(), StoreFault>
+) -> Result<(), CommandFault>
     requires { length question.now ≤ longest_line }
     ensures asked { AppendsFront (Q.contents questions.old) (Q.contents questions.new)
         (line_text question.now) }
@@ -60,7 +60,7 @@ fn print_first<A: BufRead, Q: Write, W: Write>(
     answers: &mut A,
     questions: &mut Q,
     out: &mut W,
-) -> Result<Status, StoreFault>
+) -> Result<Status, CommandFault>
     requires { length question.now ≤ longest_line }
     ensures asked { AppendsFront (Q.contents questions.old) (Q.contents questions.new)
         (line_text question.now) }
@@ -85,7 +85,7 @@ fn print_rest<A: BufRead, W: Write>(
     expected: Expected,
     answers: &mut A,
     out: &mut W,
-) -> Result<(), StoreFault>
+) -> Result<(), CommandFault>
     ensures rest { OnOk result (RestPrinted expected
         (A.remaining answers.old) (A.remaining answers.new)
         (W.contents out.old) (W.contents out.new)) }
@@ -110,7 +110,7 @@ fn print_answer<A: BufRead, Q: Write, W: Write>(
     answers: &mut A,
     questions: &mut Q,
     out: &mut W,
-) -> Result<Status, StoreFault>
+) -> Result<Status, CommandFault>
     requires { length question.now ≤ longest_line }
     ensures asked { AppendsFront (Q.contents questions.old) (Q.contents questions.new)
         (line_text question.now) }
@@ -167,7 +167,7 @@ fn visit<A: Read + Drop, Q: Write, W: Write, E: Write>(
         (streams (Q.contents questions.new) (W.contents out.new) (E.contents err.new)) result }
 {
     let Ok(mut buffered) = BufReader::new(alloc, answers) else {
-        return tell_fault(StoreFault::Memory, err);
+        return tell_fault(CommandFault::Memory, err);
     };
     visit_over(expected, question, &mut buffered, questions, out, err)
 }
@@ -175,10 +175,10 @@ fn visit<A: Read + Drop, Q: Write, W: Write, E: Write>(
 /// Tells that an office has the file open: `already-open`, with status 3.
 pub fn tell_open<E: Write>(err: &mut E) -> Status
     ensures line { AppendsFront (E.contents err.old) (E.contents err.new)
-        (store_fault_line AlreadyOpen) }
+        (command_fault_line AlreadyOpen) }
     ensures status { result ≡ Failed }
 {
-    tell_fault(StoreFault::AlreadyOpen, err)
+    tell_fault(CommandFault::AlreadyOpen, err)
 }
 
 /// Asks an open office for the place and the reply that are kept under a number, and prints what `find_store` prints of a
@@ -290,7 +290,7 @@ pub fn list_office<A: Read + Drop, Q: Write, W: Write, E: Write>(
         (streams (Q.contents questions.new) (W.contents out.new) (E.contents err.new)) result }
 {
     let Some(event) = Event::read(event.as_bytes()) else {
-        let came = tell(&Told::NotFound, out);
+        let came = tell(&CommandReply::NotFound, out);
         return ended(came, out, err);
     };
     let question = list_question(event);
@@ -357,7 +357,7 @@ pub fn shares_office<A: Read + Drop, Q: Write, W: Write, E: Write>(
         (streams (Q.contents questions.new) (W.contents out.new) (E.contents err.new)) result }
 {
     let Some(event) = Event::read(event.as_bytes()) else {
-        let came = tell(&Told::Unknown, out);
+        let came = tell(&CommandReply::Unknown, out);
         return ended(came, out, err);
     };
     let question = shares_question(event);

@@ -14,10 +14,10 @@ ghost use Rattle.operator_cli.specs.Script.{answers, replies, replies_at, run_at
 ghost use Rattle.operator_cli.specs.Ran.{ReadBrokeOff, NextRan, RestRan, OpenRan, SecondRan, SitesRan, StartRan, ScriptRan, ScriptTold, WorldRan};
 
 use crate::answering::answer_line;
+use crate::command_fault::CommandFault;
 use crate::ending::tell_fault;
 use crate::fault::ScriptFault;
 use crate::status::Status;
-use crate::store_fault::StoreFault;
 use crate::totals::write_totals;
 use book_core::Limit;
 use desk_lines::{Answered, MOST_LINES, read_limit, read_sites, reply_line, write_answer};
@@ -239,7 +239,7 @@ fn tell<E: Write>(came: Result<bool, ScriptFault>, err: &mut E) -> Status
     match came {
         Ok(true) => Status::Done,
         Ok(false) => Status::Refused,
-        Err(fault) => tell_fault(StoreFault::from(fault), err),
+        Err(fault) => tell_fault(CommandFault::from(fault), err),
     }
 }
 

@@ -1,12 +1,10 @@
 //! Two databases are opened as the book of one site.
-ghost use Rattle.std.specs.Prelude.{◌≡◌, true, IfOk, OnOk};
-ghost use Rattle.sql_records.specs.Opened.{IsRecordsOf};
-ghost use Rattle.paired_records.specs.Marks.{is_marked};
-ghost use Rattle.paired_records.specs.Pairs.{IsPairBook};
+ghost use Rattle.std.specs.Prelude.{◌≡◌, IfErr, IfOk, Some};
+ghost use Rattle.paired_records.specs.Pairs.{IsPairBook, RefusesPair};
 
 use crate::marks::is_one_of_two;
-use book_core::{Entry, ReplayFault};
-use history_keeper::{KeepFault, Meta};
+use book_core::ReplayFault;
+use history_keeper::KeepFault;
 use mirrored_records::{Mirror, MirrorFault, Survivor, open};
 use site_desk::SiteBook;
 use sql_records::{OpenFault, Records};
@@ -35,7 +33,7 @@ pub enum PairFault {
     /// The shorter could not be brought up to the longer. It has lost none of its entries.
     #[error("the shorter could not be brought up: {fault}")]
     Short { fault: KeepFault },
-    /// The longer is no history of the site, or memory was refused.
+    /// The longer is no history of the site, or memory was refused. The shorter was brought up to it.
     #[error("the history is not read: {fault}")]
     Replay { fault: ReplayFault },
 }
@@ -54,46 +52,57 @@ impl From<MirrorFault> for PairFault {
     }
 }
 
-// The records of a database.
-fn read<S: Alter + Drop>(
-    alloc: Global,
-    conn: Connection<S>,
-) -> Result<(Records<S>, Vec<Entry>, Meta), PairFault>
-    ensures { IfOk result (λ it. IsRecordsOf S.Store conn it.0 it.1.items it.2) }
+/// What comes back of two databases that do not become a book, with the cause: each, but for one that is not opened.
+pub type PairRefusal<S> = (Option<Connection<S>>, Option<Connection<S>>, PairFault);
+
+fn refusal<S: Alter + Drop>(
+    first: Records<S>,
+    second: Records<S>,
+    fault: PairFault,
+) -> PairRefusal<S>
+    ensures { result ≡ (Some first.conn, Some second.conn, fault) }
 {
-    match Records::open(alloc, conn) {
-        Ok(opened) => Ok(opened),
-        Err(fault) => Err(PairFault::Opening { fault }),
-    }
+    (Some(first.close()), Some(second.close()), fault)
 }
 
 /// Opens two databases that are marked as one of two as the book of one site.
 ///
-/// The longer is taken, and the shorter is brought up to it. Of an error both are gone; `Short` may have added entries to
-/// the shorter, and each other error leaves both as they were.
+/// The longer is taken, and the shorter is brought up to it. An error gives both back, but for one that is not opened.
+/// `Short` may have added entries to the shorter, and before `Replay` it was brought up. Of other errors what comes back is as
+/// it was.
 pub fn open_pair<S: Alter + Drop, W: Survivor>(
     alloc: Global,
     first: Connection<S>,
     second: Connection<S>,
-) -> Result<SiteBook<Pair<S, W>>, PairFault>
-    ensures marked { OnOk result
-        ((is_marked first.schema ≡ true) × (is_marked second.schema ≡ true)) }
-    ensures opened { IfOk result (IsPairBook S.Store W.is_first first second) }
+) -> Result<SiteBook<Pair<S, W>>, PairRefusal<S>>
+    ensures opened { IfOk result (IsPairBook S.Store first second W.is_first) }
+    ensures refused { IfErr result
+        (λ e. RefusesPair S.Store first second W.is_first e.0 e.1 e.2) }
 {
     if !is_one_of_two(&first) || !is_one_of_two(&second) {
-        return Err(PairFault::NotPaired);
+        return Err((Some(first), Some(second), PairFault::NotPaired));
     }
-    let (first, one, meta) = read(alloc, first)?;
-    let (second, other, copy) = read(alloc, second)?;
+    let (first, one, meta) = match Records::open(alloc, first) {
+        Ok(read) => read,
+        Err(fault) => return Err((None, Some(second), PairFault::Opening { fault })),
+    };
+    let (second, other, copy) = match Records::open(alloc, second) {
+        Ok(read) => read,
+        Err(fault) => return Err((Some(first.close()), None, PairFault::Opening { fault })),
+    };
     if meta != copy {
-        return Err(PairFault::OtherSite);
+        return Err(refusal(first, second, PairFault::OtherSite));
     }
-    match open::<Records<S>, Records<S>, W>(first, one, second, other) {
-        Ok((mirror, entries)) => match SiteBook::start(alloc, mirror, entries, meta) {
-            Ok(book) => Ok(book),
-            Err((_, fault)) => Err(PairFault::Replay { fault }),
-        },
-        Err((_, _, fault)) => Err(PairFault::from(fault)),
+    let (mirror, entries) = match open::<Records<S>, Records<S>, W>(first, one, second, other) {
+        Ok(opened) => opened,
+        Err((first, second, fault)) => return Err(refusal(first, second, PairFault::from(fault))),
+    };
+    match SiteBook::start(alloc, mirror, entries, meta) {
+        Ok(book) => Ok(book),
+        Err((mirror, fault)) => {
+            let (first, second) = mirror.into_parts();
+            Err(refusal(first, second, PairFault::Replay { fault }))
+        }
     }
 }
 

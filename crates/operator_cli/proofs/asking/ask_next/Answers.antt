@@ -8,13 +8,16 @@ returns-in_err-next_line g c =
 
 pub returns-in_err-print_text : goal.returns-in_err-print_text
 returns-in_err-print_text g c =
-    next_unprinted _ _ _ _ _ _ c.next_line.new.line.items c.as_slice.result.now c.in_ok-next_line.field-0 c.in-Ok.text.items c.from_residual-in_err-print_text.result c.in_err-print_text.field-0.0 c.from_residual-in_err-print_text.ensures.1 c.in_err-print_text.ensures.fault
+    next_unprinted _ _ _ _ _ _ c.next_line.new.line.items c.as_slice.result.now c.in_ok-next_line.field-0 c.in-Ok.text.items
+    c.from_residual-in_err-print_text.result c.in_err-print_text.field-0.0 c.from_residual-in_err-print_text.ensures.1 c.in_err-print_text.ensures.fault
     (search rules) c.in_ok-next_line.ensures c.as_slice.ensures.value c.in-Ok.ensures.answered c.in_err-print_text.ensures.written
 
 pub returns-in-Err : goal.returns-in-Err
 returns-in-Err g c =
-    next_last _ _ _ _ _ c.next_line.new.line.items c.as_slice.result.now c.in_ok-next_line.field-0 c.in-Err.last (search rules) c.in_ok-next_line.ensures c.as_slice.ensures.value c.in-Err.ensures.last c.in-Err.ensures.left
+    next_last _ _ _ _ _ c.next_line.new.line.items c.as_slice.result.now c.in_ok-next_line.field-0 c.in-Err.last (search rules) c.in_ok-next_line.ensures
+    c.as_slice.ensures.value c.in-Err.ensures.last c.in-Err.ensures.left
 
 pub returns : goal.returns
 returns g c =
-    next_printed _ _ _ _ _ _ c.next_line.new.line.items c.as_slice.result.now c.in_ok-next_line.field-0 c.in-Ok.text.items (search rules) c.in_ok-next_line.ensures c.as_slice.ensures.value c.in-Ok.ensures.answered c.in_ok-print_text.ensures.written
+    next_printed _ _ _ _ _ _ c.next_line.new.line.items c.as_slice.result.now c.in_ok-next_line.field-0 c.in-Ok.text.items (search rules)
+    c.in_ok-next_line.ensures c.as_slice.ensures.value c.in-Ok.ensures.answered c.in_ok-print_text.ensures.written

@@ -24,12 +24,14 @@ lines-preserved g c = asks_on _ _ _ _ _ _ _ _ _ c.lines._count c.lines.invariant
 pub returns-in-Ok-true : goal.returns-in-Ok-true
 returns-in-Ok-true g c =
     let all : c.lines._count ≡ most_lines = omega (arith, c.lines-test.false, c.lines.auto._count-end) in
-    asks_too_many _ _ (g.R.Read.remaining c.has_more.new.reader) _ _ _ _ c.lines._count all c.lines.invariant ((rw c.in-Ok-true.field-0-test at c.in-Ok-true.ensures).1)
+    asks_too_many _ _ (g.R.Read.remaining c.has_more.new.reader) _ _ _ _ c.lines._count all c.lines.invariant
+    ((rw c.in-Ok-true.field-0-test at c.in-Ok-true.ensures).1)
 
 pub returns-in-Ok-false : goal.returns-in-Ok-false
 returns-in-Ok-false g c =
     let all : c.lines._count ≡ most_lines = omega (arith, c.lines-test.false, c.lines.auto._count-end) in
-    asks_over _ _ (g.R.Read.remaining c.has_more.new.reader) _ _ _ _ c.lines._count all c.lines.invariant ((rw c.in-Ok-false.field-0-test at c.in-Ok-false.ensures).1)
+    asks_over _ _ (g.R.Read.remaining c.has_more.new.reader) _ _ _ _ c.lines._count all c.lines.invariant
+    ((rw c.in-Ok-false.field-0-test at c.in-Ok-false.ensures).1)
 
 pub returns-in-Err-has_more : goal.returns-in-Err-has_more
 returns-in-Err-has_more g c =

@@ -1,7 +1,7 @@
 use Rattle.std.proofs.Common.{inl, refl, sym, subst, ◌∙◌}
 use Rattle.std.specs.Prelude.{Result}
 use Rattle.operator_cli.specs.declared.status.Status.{Status}
-use Rattle.operator_cli.specs.declared.store_fault.StoreFault.{StoreFault}
+use Rattle.operator_cli.specs.declared.command_fault.CommandFault.{CommandFault}
 use Rattle.operator_cli.specs.Asking.{EndsSo}
 use Rattle.operator_cli.proofs.AskLaws.{end_done}
 use Rattle.operator_cli.proofs.EndLaws.{nothing_told}
@@ -19,7 +19,7 @@ returns-in-Ok-clause-asked g c =
       came = c.ask_over.result;
       left = g.A.Read.remaining c.ask_over.new.answers;
       asked_all = c.ask_over.ensures;
-      ends_so = subst (λ (v : Result Status StoreFault). EndsSo v err err c.in-Ok.status) (sym c.in-Ok.is ∙ c.visit_end.ensures) (refl, refl);
+      ends_so = subst (λ (v : Result Status CommandFault). EndsSo v err err c.in-Ok.status) (sym c.in-Ok.is ∙ c.visit_end.ensures) (refl, refl);
     }
 
 pub returns-in-Err-clause-asked : goal.returns-in-Err-clause-asked
@@ -27,5 +27,6 @@ returns-in-Err-clause-asked g c = record {
   came = c.ask_over.result;
   left = g.A.Read.remaining c.ask_over.new.answers;
   asked_all = c.ask_over.ensures;
-  ends_so = subst (λ (v : Result Status StoreFault). EndsSo v (g.E.Write.contents c.args.err.now) (g.E.Write.contents c.tell_fault.new.err) c.tell_fault.result) (sym c.in-Err.is ∙ c.visit_end.ensures) (c.tell_fault.ensures.status, c.tell_fault.ensures.line);
+  ends_so = subst (λ (v : Result Status CommandFault). EndsSo v (g.E.Write.contents c.args.err.now) (g.E.Write.contents c.tell_fault.new.err)
+      c.tell_fault.result) (sym c.in-Err.is ∙ c.visit_end.ensures) (c.tell_fault.ensures.status, c.tell_fault.ensures.line);
 }

@@ -11,7 +11,8 @@ use Rattle.operator_cli.proofs.audit.audit_all.Goals as goal
 
 pub returns-clause-out : goal.returns-clause-out
 returns-clause-out g c =
-    subst (λ (books : List BookView). IfOk c.print_audit.result (Printed (IsAuditText books) (g.W.Write.contents c.args.out.now) (g.W.Write.contents c.print_audit.new.out)))
+    subst (λ (books : List BookView).
+    IfOk c.print_audit.result (Printed (IsAuditText books) (g.W.Write.contents c.args.out.now) (g.W.Write.contents c.print_audit.new.out)))
     (ap books_of c.as_slice.ensures.value ∙ c.in_ok-books.ensures) c.print_audit.ensures.out
 
 pub returns-clause-not_oversold : goal.returns-clause-not_oversold
@@ -21,5 +22,6 @@ returns-clause-not_oversold g c =
 
 pub returns-clause-fault : goal.returns-clause-fault
 returns-clause-fault g c =
-    subst (λ (books : List BookView). IfErr c.print_audit.result (Unprinted (IsAuditText books) (g.W.Write.contents c.args.out.now) (g.W.Write.contents c.print_audit.new.out)))
+    subst (λ (books : List BookView).
+    IfErr c.print_audit.result (Unprinted (IsAuditText books) (g.W.Write.contents c.args.out.now) (g.W.Write.contents c.print_audit.new.out)))
     (ap books_of c.as_slice.ensures.value ∙ c.in_ok-books.ensures) c.print_audit.ensures.fault

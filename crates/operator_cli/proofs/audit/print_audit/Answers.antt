@@ -5,9 +5,9 @@ use Rattle.world_steps.specs.declared.auditing.AuditFault.{AuditFault}
 use Rattle.world_steps.specs.declared.auditing.AuditFault.TheVariants as audit
 use Rattle.world_steps.specs.Audit.{IsFirstAhead, IsWhole, books_of, events_in, totals_in}
 use Rattle.book_core.specs.Books.{AreNotOversold}
-use Rattle.operator_cli.specs.declared.told.Told.{Told}
-use Rattle.operator_cli.specs.declared.told.Told.TheVariants.{NotWhole, Ahead}
-use Rattle.operator_cli.specs.Told.{ended_by_audit, told_line, told_status}
+use Rattle.operator_cli.specs.declared.told.CommandReply.{CommandReply}
+use Rattle.operator_cli.specs.declared.told.CommandReply.TheVariants.{NotWhole, Ahead}
+use Rattle.operator_cli.specs.CommandReply.{ended_by_audit, told_line, told_status}
 use Rattle.operator_cli.specs.Audited.{AreWithinSales, IsAuditText}
 use Rattle.operator_cli.proofs.BrokenOff.{unprinted_write}
 use Rattle.operator_cli.proofs.PrintLaws.{told_printed}
@@ -22,7 +22,7 @@ sums books fine (event ∷ events) zero sum found =
 sums books fine (event ∷ events) (suc k) sum found = sums books fine events k sum found
 
 -- what is told is the first that stands in the way
-tells : (books : List BookView) (fault : AuditFault) (told : Told) → ended_by_audit fault ≡ Ok told → (fault ≡ audit.NotWhole → IsWhole books → ⊥)
+tells : (books : List BookView) (fault : AuditFault) (told : CommandReply) → ended_by_audit fault ≡ Ok told → (fault ≡ audit.NotWhole → IsWhole books → ⊥)
     → ((v o : ℕ) → fault ≡ audit.Ahead v o → IsWhole books × IsFirstAhead books v o) → IsAuditText books (told_status told) (told_line told)
 tells books audit.NotWhole told is none ahead =
     let same : NotWhole ≡ told = cc in
@@ -43,13 +43,16 @@ returns-in_ok-ended_by_audit-in-Err-clause-out g c =
     let books = books_of c.args.books.now in
     let told = c.in_ok-ended_by_audit-in-Err.field-0 in
     told_printed (IsAuditText books) (g.W.Write.contents c.args.out.now) (g.W.Write.contents c.tell.new.out) c.tell.result told
-    (tells books c.in-Err.fault told (sym c.ended_by_audit.ensures ∙ c.in_ok-ended_by_audit-in-Err.was) (λ e. c.in-Err.ensures.not_whole.0 (ap Err e)) (λ v o e. c.in-Err.ensures.ahead v o (ap Err e)))
+    (tells books c.in-Err.fault told (sym c.ended_by_audit.ensures ∙ c.in_ok-ended_by_audit-in-Err.was) (λ e. c.in-Err.ensures.not_whole.0 (ap Err e))
+    (λ v o e. c.in-Err.ensures.ahead v o (ap Err e)))
     c.tell.ensures.written c.tell.ensures.status
 
 pub returns-in_ok-ended_by_audit-in-Err-clause-fault : goal.returns-in_ok-ended_by_audit-in-Err-clause-fault
 returns-in_ok-ended_by_audit-in-Err-clause-fault g c =
     let books = books_of c.args.books.now in
     let told = c.in_ok-ended_by_audit-in-Err.field-0 in
-    unprinted_write (IsAuditText books) (g.W.Write.contents c.args.out.now) (g.W.Write.contents c.tell.new.out) c.tell.result (told_status told) (told_line told)
-    (tells books c.in-Err.fault told (sym c.ended_by_audit.ensures ∙ c.in_ok-ended_by_audit-in-Err.was) (λ e. c.in-Err.ensures.not_whole.0 (ap Err e)) (λ v o e. c.in-Err.ensures.ahead v o (ap Err e)))
+    unprinted_write (IsAuditText books) (g.W.Write.contents c.args.out.now) (g.W.Write.contents c.tell.new.out) c.tell.result (told_status told)
+    (told_line told)
+    (tells books c.in-Err.fault told (sym c.ended_by_audit.ensures ∙ c.in_ok-ended_by_audit-in-Err.was) (λ e. c.in-Err.ensures.not_whole.0 (ap Err e))
+    (λ v o e. c.in-Err.ensures.ahead v o (ap Err e)))
     c.tell.ensures.fault c.tell.ensures.written

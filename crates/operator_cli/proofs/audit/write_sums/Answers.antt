@@ -5,8 +5,8 @@ use Rattle.operator_cli.specs.Script.{total_line}
 use Rattle.plain_words.specs.Writing.{AppendsFront}
 use Rattle.std.specs.Prelude.{IfErr}
 use Rattle.operator_cli.specs.declared.status.Status.{Status}
-use Rattle.operator_cli.specs.declared.store_fault.StoreFault.{StoreFault}
-use Rattle.operator_cli.specs.declared.store_fault.StoreFault.TheVariants.{Write as WriteFailed}
+use Rattle.operator_cli.specs.declared.command_fault.CommandFault.{CommandFault}
+use Rattle.operator_cli.specs.declared.command_fault.CommandFault.TheVariants.{Write as WriteFailed}
 use Rattle.operator_cli.specs.Audited.{sum_lines}
 use Rattle.operator_cli.proofs.ScriptLaws.{at_err}
 use Rattle.plain_words.proofs.TextLaws.{texts_break_off, texts_go_on}
@@ -27,5 +27,12 @@ unfolding line
 returns-in_err-write_line-clause-fault g c =
     let out : AppendsFront (g.W.Write.contents c.sums.out) (g.W.Write.contents c.write_line.new.out) (line c.sums-item.result) =
     subst (AppendsFront (g.W.Write.contents c.sums.out) (g.W.Write.contents c.write_line.new.out)) c.total_line.ensures c.in_err-write_line.ensures.written in
-    at_err c.from_residual.result (λ (r : Result Status StoreFault). IfErr r (λ fault. (fault ≡ WriteFailed) × AppendsFront (g.W.Write.contents c.args.out.now) (g.W.Write.contents c.write_line.new.out) (sum_lines c.args.sums.now))) _ c.from_residual.ensures.1
-    (λ f e. (e ∙ c.in_err-write_line.ensures.fault, texts_break_off _ _ _ line c.args.sums.now c.sums.event-index c.sums-item.result c.sums-test.true c.sums-item.is c.sums.invariant out))
+    at_err c.from_residual.result (λ (r : Result Status CommandFault).
+    IfErr r (λ fault. (fault ≡ WriteFailed)
+    × AppendsFront (g.W.Write.contents c.args.out.now) (g.W.Write.contents c.write_line.new.out) (sum_lines c.args.sums.now))) _
+    c.from_residual.ensures.1
+    (λ f e. (
+      e ∙ c.in_err-write_line.ensures.fault,
+      texts_break_off _ _ _ line c.args.sums.now c.sums.event-index c.sums-item.result c.sums-test.true
+          c.sums-item.is c.sums.invariant out,
+    ))

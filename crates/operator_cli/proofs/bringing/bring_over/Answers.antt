@@ -10,11 +10,13 @@ returns-clause-whole g c =
 
 pub returns-clause-printed : goal.returns-clause-printed
 returns-clause-printed g c =
-    ends_printed (IsBroughtText (g.R.Read.remaining c.args.input) (g.A.Read.remaining c.args.answers.now)) (g.W.Write.contents c.args.out.now) (g.W.Write.contents c.bring_input-came.new.out) (g.W.Write.contents c.ended.new.out) c.bring_input-came.result c.ended.result
+    ends_printed (IsBroughtText (g.R.Read.remaining c.args.input) (g.A.Read.remaining c.args.answers.now)) (g.W.Write.contents c.args.out.now)
+    (g.W.Write.contents c.bring_input-came.new.out) (g.W.Write.contents c.ended.new.out) c.bring_input-came.result c.ended.result
     c.bring_input-came.ensures.printed c.ended.ensures.kept c.ended.ensures.status
 
 pub returns-clause-cause : goal.returns-clause-cause
 returns-clause-cause g c =
     let sent = g.A.Read.remaining c.args.answers.now in
-    fails_for (IsBringEnd sent) (g.E.Write.contents c.args.err.now) (g.E.Write.contents c.ended.new.err) c.bring_input-came.result c.ended.result c.bring_input-came.ensures.cause
+    fails_for (IsBringEnd sent) (g.E.Write.contents c.args.err.now) (g.E.Write.contents c.ended.new.err) c.bring_input-came.result c.ended.result
+    c.bring_input-came.ensures.cause
     (bring_ends c.bring_input-came.result sent) c.bring_input-came.ensures.ends c.ended.ensures.line c.ended.ensures.flush

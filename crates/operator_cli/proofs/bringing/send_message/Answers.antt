@@ -14,8 +14,10 @@ returns-in_err-say-clause-sent g c =
 pub returns-in-Ok-clause-sent : goal.returns-in-Ok-clause-sent
 returns-in-Ok-clause-sent g c =
     written_kept _ (g.Q.Write.contents c.write_message.new.out) _ c.reach.result (import_question c.args.message.now)
-    (Appends-trans _ (g.Q.Write.contents c.say.new.questions) _ (line_text (codes "import")) (message_text c.args.message.now) c.in_ok-say.ensures.said c.in-Ok.ensures.text) c.reach.ensures.kept
+    (Appends-trans _ (g.Q.Write.contents c.say.new.questions) _ (line_text (codes "import")) (message_text c.args.message.now) c.in_ok-say.ensures.said
+    c.in-Ok.ensures.text) c.reach.ensures.kept
 
 pub returns-in-Err-clause-sent : goal.returns-in-Err-clause-sent
 returns-in-Err-clause-sent g c =
-    AppendsFront-after _ (g.Q.Write.contents c.say.new.questions) _ (line_text (codes "import")) (message_text c.args.message.now) c.in_ok-say.ensures.said c.in-Err.ensures.text
+    AppendsFront-after _ (g.Q.Write.contents c.say.new.questions) _ (line_text (codes "import")) (message_text c.args.message.now) c.in_ok-say.ensures.said
+    c.in-Err.ensures.text

@@ -6,7 +6,8 @@ use Rattle.operator_cli.proofs.import.import.Goals as goal
 
 pub returns-in-Ok : goal.returns-in-Ok
 returns-in-Ok g c =
-    came_over g.S.Store c.args.conn c.close.result (Imports (records g.S.Store) (g.R.Read.remaining c.args.input)) c.take_input-outcome.result c.in-Ok.book c.take_input-outcome.new.book c.into_keeper.result c.into_keeper.ensures c.close.ensures c.in-Ok.ensures.opened
+    came_over g.S.Store c.args.conn c.close.result (Imports (records g.S.Store) (g.R.Read.remaining c.args.input)) c.take_input-outcome.result c.in-Ok.book
+    c.take_input-outcome.new.book c.into_keeper.result c.into_keeper.ensures c.close.ensures c.in-Ok.ensures.opened
     c.take_input-outcome.ensures
 
 pub returns-in-Err : goal.returns-in-Err

@@ -1,7 +1,7 @@
 use Rattle.std.proofs.Common.{refl}
 use Rattle.clap.proofs.OnLiterals.{clap_on_literals}
 use Rattle.plain_words.specs.Number.{number_of}
-use Rattle.operator_cli.specs.Orders.{named_order, number_in, find_in, list_in, events_in, shares_in, files_in, audit_in, status_in}
+use Rattle.operator_cli.specs.Orders.{named_order, number_in, find_in, list_in, events_in, shares_in, files_in, copies_in, audit_in, status_in}
 use Rattle.operator_cli.proofs.laws.commands_that_report_have_words.Goals as goal
 
 pub returns-clause-find : goal.returns-clause-find
@@ -21,7 +21,7 @@ unfolding clap_on_literals named_order shares_in
 returns-clause-shares c = (refl, refl)
 
 pub returns-clause-audit : goal.returns-clause-audit
-unfolding clap_on_literals named_order audit_in files_in
+unfolding clap_on_literals named_order audit_in files_in copies_in
 returns-clause-audit c = (refl, refl)
 
 pub returns-clause-status : goal.returns-clause-status

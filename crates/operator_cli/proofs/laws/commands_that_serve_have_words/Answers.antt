@@ -1,7 +1,7 @@
 use Rattle.std.proofs.Common.{refl}
 use Rattle.clap.proofs.OnLiterals.{clap_on_literals}
 use Rattle.plain_words.specs.Number.{number_of}
-use Rattle.operator_cli.specs.Orders.{named_order, number_in, files_in, serve_in, open_in, low_in, reserve_in, close_in}
+use Rattle.operator_cli.specs.Orders.{named_order, number_in, files_in, copies_in, serve_in, open_in, low_in, reserve_in, close_in}
 use Rattle.operator_cli.proofs.laws.commands_that_serve_have_words.Goals as goal
 
 pub returns-clause-world : goal.returns-clause-world
@@ -9,7 +9,7 @@ unfolding clap_on_literals named_order
 returns-clause-world c = (refl, refl)
 
 pub returns-clause-serve : goal.returns-clause-serve
-unfolding clap_on_literals named_order serve_in number_in number_of files_in
+unfolding clap_on_literals named_order serve_in number_in number_of files_in copies_in
 returns-clause-serve c = (refl, refl)
 
 pub returns-clause-open : goal.returns-clause-open

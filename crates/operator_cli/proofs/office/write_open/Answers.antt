@@ -9,9 +9,11 @@ pub returns-in_err-write_bytes : goal.returns-in_err-write_bytes
 returns-in_err-write_bytes g c =
     let is : c.as_slice.result.now ≡ codes "open " ++ decimal c.args.port ++ codes " " = search rules in
     Writes-err _ _ c.from_residual.result _ c.from_residual.ensures.0
-    (two_failed _ _ (open_line c.args.port c.args.file.now) c.as_slice.result.now (c.args.file.now ++ codes "\n") (ap (λ (l : List ℕ). l ++ (c.args.file.now ++ codes "\n")) (sym is)) c.in_err-write_bytes.ensures)
+    (two_failed _ _ (open_line c.args.port c.args.file.now) c.as_slice.result.now (c.args.file.now ++ codes "\n")
+    (ap (λ (l : List ℕ). l ++ (c.args.file.now ++ codes "\n")) (sym is)) c.in_err-write_bytes.ensures)
 
 pub returns : goal.returns
 returns g c =
     let is : c.as_slice.result.now ≡ codes "open " ++ decimal c.args.port ++ codes " " = search rules in
-    two_written _ _ _ c.write_name.result (open_line c.args.port c.args.file.now) c.as_slice.result.now (c.args.file.now ++ codes "\n") (ap (λ (l : List ℕ). l ++ (c.args.file.now ++ codes "\n")) (sym is)) c.in_ok-write_bytes.ensures c.write_name.ensures
+    two_written _ _ _ c.write_name.result (open_line c.args.port c.args.file.now) c.as_slice.result.now (c.args.file.now ++ codes "\n")
+    (ap (λ (l : List ℕ). l ++ (c.args.file.now ++ codes "\n")) (sym is)) c.in_ok-write_bytes.ensures c.write_name.ensures

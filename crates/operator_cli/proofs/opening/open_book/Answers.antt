@@ -3,7 +3,7 @@ use Rattle.std.proofs.lemmas.Bool.{cases_Bool}
 use Rattle.sqlite.specs.State.{HasCleanDisk, IsUnchanged}
 use Rattle.sqlite.specs.Held.{Held, state}
 use Rattle.book_core.specs.declared.entry.Entry.{Entry}
-use Rattle.book_core.specs.Decision.{Office}
+use Rattle.book_core.specs.Decision.{SiteConfig}
 use Rattle.book_core.specs.Legal.{IsLegal}
 use Rattle.book_core.specs.Replay.{IsReplayFault}
 use Rattle.history_keeper.specs.declared.meta.Meta.{Meta}
@@ -19,8 +19,10 @@ returns-in-Ok-start-clause-opened g c =
     let conn = c.args.conn in
     let started = c.in-Ok-start.ensures.started in
     let is = sym started.keeper_is in
-    let entries = λ (trusted : IsTrusted G c.in-Ok.opened.0). started.history ∙ (c.in-Ok.ensures.opened.read trusted).entries_are ∙ ap (λ store. history_in store.trees) (c.in-Ok.ensures.opened.read trusted).same in
-    let office = λ (trusted : IsTrusted G c.in-Ok.opened.0) (meta : Meta) (has : HasMeta meta (state G conn).now.trees). started.office ∙ ap office_of ((c.in-Ok.ensures.opened.read trusted).given meta has) in
+    let entries = λ (trusted : IsTrusted G c.in-Ok.opened.0). started.history ∙ (c.in-Ok.ensures.opened.read trusted).entries_are
+    ∙ ap (λ store. history_in store.trees) (c.in-Ok.ensures.opened.read trusted).same in
+    let office = λ (trusted : IsTrusted G c.in-Ok.opened.0) (meta : Meta) (has : HasMeta meta (state G conn).now.trees). started.office
+    ∙ ap office_of ((c.in-Ok.ensures.opened.read trusted).given meta has) in
     record {
       unclosed = started.opened;
       sound = ap (λ (k : RecordsView g.row.S.Denot). k.failures) started.keeper_is ∙ c.in-Ok.ensures.opened.sound;
@@ -36,14 +38,21 @@ returns-in-Ok-start-clause-opened g c =
             fresh = started.acknowledged;
             unclosed = started.opened;
           };
-      kept = subst (λ (k : RecordsView g.row.S.Denot). IsTrusted G k → kept_in G k ≡ history_in (state G conn).now.trees) is (λ trusted. ap (λ store. history_in store.trees) (c.in-Ok.ensures.opened.read trusted).same);
-      rests = subst (λ (k : RecordsView g.row.S.Denot). IsTrusted G k → LeavesOnly (kept_in G k) (MayLeave G k)) is (λ trusted. (c.in-Ok.ensures.opened.read trusted).leaves);
+      kept = subst (λ (k : RecordsView g.row.S.Denot). IsTrusted G k → kept_in G k ≡ history_in (state G conn).now.trees) is
+          (λ trusted. ap (λ store. history_in store.trees) (c.in-Ok.ensures.opened.read trusted).same);
+      rests = subst (λ (k : RecordsView g.row.S.Denot). IsTrusted G k → LeavesOnly (kept_in G k) (MayLeave G k)) is
+          (λ trusted. (c.in-Ok.ensures.opened.read trusted).leaves);
       site = subst (λ (k : RecordsView g.row.S.Denot). IsTrusted G k → (meta : Meta) → HasMeta meta (state G conn).now.trees → IsOf G k meta) is
-          (λ trusted meta has. subst (IsOf G c.in-Ok.opened.0) ((c.in-Ok.ensures.opened.read trusted).given meta has) (c.in-Ok.ensures.opened.read trusted).site);
-      same = subst (λ (k : RecordsView g.row.S.Denot). IsTrusted G k → (state G k.conn).now ≡ (state G conn).now) is (λ trusted. (c.in-Ok.ensures.opened.read trusted).same);
-      unchanged = subst (λ (k : RecordsView g.row.S.Denot). IsTrusted G k → IsUnchanged (state G conn) (state G k.conn)) is (λ trusted. (c.in-Ok.ensures.opened.read trusted).unchanged);
-      autocommit = subst (λ (k : RecordsView g.row.S.Denot). IsTrusted G k → (state G k.conn).in_transaction ≡ false) is (λ trusted. (c.in-Ok.ensures.opened.read trusted).autocommit);
-      clean = subst (λ (k : RecordsView g.row.S.Denot). IsTrusted G k → HasCleanDisk (state G conn)) is (λ trusted. (c.in-Ok.ensures.opened.read trusted).clean);
+          (λ trusted meta has. subst (IsOf G c.in-Ok.opened.0) ((c.in-Ok.ensures.opened.read trusted).given meta has)
+          (c.in-Ok.ensures.opened.read trusted).site);
+      same = subst (λ (k : RecordsView g.row.S.Denot). IsTrusted G k → (state G k.conn).now ≡ (state G conn).now) is
+          (λ trusted. (c.in-Ok.ensures.opened.read trusted).same);
+      unchanged = subst (λ (k : RecordsView g.row.S.Denot). IsTrusted G k → IsUnchanged (state G conn) (state G k.conn)) is
+          (λ trusted. (c.in-Ok.ensures.opened.read trusted).unchanged);
+      autocommit = subst (λ (k : RecordsView g.row.S.Denot). IsTrusted G k → (state G k.conn).in_transaction ≡ false) is
+          (λ trusted. (c.in-Ok.ensures.opened.read trusted).autocommit);
+      clean = subst (λ (k : RecordsView g.row.S.Denot). IsTrusted G k → HasCleanDisk (state G conn)) is
+          (λ trusted. (c.in-Ok.ensures.opened.read trusted).clean);
     }
 
 pub returns-in-Err-clause-fault : goal.returns-in-Err-clause-fault
@@ -66,7 +75,8 @@ returns-in-Err-start-clause-fault g c =
       same = λ clean. ap (λ (h : Held g.row.S.Denot). (state g.S.Store h).now) back
           ∙ (c.in-Ok.ensures.opened.read (subst (λ (h : Held g.row.S.Denot). HasCleanDisk (state g.S.Store h)) back clean)).same;
       settled = λ clean. ap (λ (h : Held g.row.S.Denot). (state g.S.Store h).in_transaction) back
-          ∙ (c.in-Ok.ensures.opened.read (subst (λ (h : Held g.row.S.Denot). HasCleanDisk (state g.S.Store h)) back clean)).autocommit ∙ sym c.in-Ok.ensures.opened.settled;
+          ∙ (c.in-Ok.ensures.opened.read (subst (λ (h : Held g.row.S.Denot). HasCleanDisk (state g.S.Store h)) back clean)).autocommit
+          ∙ sym c.in-Ok.ensures.opened.settled;
       rests = λ clean.
           let trusted = subst (λ (h : Held g.row.S.Denot). HasCleanDisk (state g.S.Store h)) back clean in
           subst₂ (λ (list : List Entry) (h : Held g.row.S.Denot). LeavesOnly list (MayLeaveIn (state g.S.Store h)))
@@ -74,10 +84,11 @@ returns-in-Err-start-clause-fault g c =
       ours = λ clean. (_, (c.in-Ok.ensures.opened.read (subst (λ (h : Held g.row.S.Denot). HasCleanDisk (state g.S.Store h)) back clean)).holds.numbers);
       site = λ clean meta has.
           let trusted = subst (λ (h : Held g.row.S.Denot). HasCleanDisk (state g.S.Store h)) back clean in
-          subst₂ (λ (h : Held g.row.S.Denot) (m : Meta). LeavesSite (state g.S.Store h) m) (sym back) ((c.in-Ok.ensures.opened.read trusted).given meta has) (c.in-Ok.ensures.opened.read trusted).site;
+          subst₂ (λ (h : Held g.row.S.Denot) (m : Meta). LeavesSite (state g.S.Store h) m) (sym back)
+          ((c.in-Ok.ensures.opened.read trusted).given meta has) (c.in-Ok.ensures.opened.read trusted).site;
       found = λ clean meta has.
           let trusted = subst (λ (h : Held g.row.S.Denot). HasCleanDisk (state g.S.Store h)) back clean in
-          subst₂ (λ (office : Office) (entries : List Entry). IsReplayFault office entries c.in-Err-start.fault)
+          subst₂ (λ (office : SiteConfig) (entries : List Entry). IsReplayFault office entries c.in-Err-start.fault)
           (ap office_of ((c.in-Ok.ensures.opened.read trusted).given meta has))
           ((c.in-Ok.ensures.opened.read trusted).entries_are ∙ ap (λ store. history_in store.trees) (c.in-Ok.ensures.opened.read trusted).same)
           c.in-Err-start.ensures.fault.1;

@@ -27,7 +27,8 @@ only_memory [] e (inr h) none = absurd h
 only_memory (k ∷ kinds) e h none = absurd cc
 
 -- words without a fault are refused only for want of memory
-refused_for_memory : (a : App) (words : List Text) (fault : WordsFault) (e : Error) → a ≡ boxoffice → FailsAs words e a → (kind_of e ≡ OutOfMemory → fault ≡ Memory) → IsWordsRefusal words fault
+refused_for_memory : (a : App) (words : List Text) (fault : WordsFault) (e : Error) → a ≡ boxoffice → FailsAs words e a
+    → (kind_of e ≡ OutOfMemory → fault ≡ Memory) → IsWordsRefusal words fault
 unfolding FailsAs
 refused_for_memory a words Memory e same fails memory = tt
 refused_for_memory a words (NotUnderstood text) e same fails memory = λ taken.
@@ -52,7 +53,8 @@ unfolding Meets
 met a words m same meets = let has = subst (Meets words m) same meets in (has is_plain).1
 
 -- words that meet no order are refused by the first value that does not fit
-refused_misfit : (words : List Text) (fault : WordsFault) (misfit : Misfit) (rows : Option (Text × List Row)) → rows ≡ subcommand_of boxoffice words → order_in rows ≡ None → misfit_in rows ≡ Some misfit
+refused_misfit : (words : List Text) (fault : WordsFault) (misfit : Misfit) (rows : Option (Text × List Row)) → rows ≡ subcommand_of boxoffice words
+    → order_in rows ≡ None → misfit_in rows ≡ Some misfit
     → TellsMisfit misfit fault → IsWordsRefusal words fault
 refused_misfit words Memory misfit rows same none found tells = tt
 refused_misfit words (NotUnderstood text) misfit rows same none found tells = λ _. (
@@ -63,19 +65,22 @@ refused_misfit words (NotUnderstood text) misfit rows same none found tells = λ
 pub returns-in-Ok-order_of-clause-order : goal.returns-in-Ok-order_of-clause-order
 unfolding Meets
 returns-in-Ok-order_of-clause-order c =
-    ap order_in (sym (met (app_of c.in-Ok.command) (map (λ w. w.now) c.args.words.now) c.in-Ok-try_get_matches_from.matches c.in-Ok.ensures c.in-Ok-try_get_matches_from.ensures.matches)) ∙ c.in-Ok-order_of.ensures.order
+    ap order_in (sym (met (app_of c.in-Ok.command) (map (λ w. w.now) c.args.words.now) c.in-Ok-try_get_matches_from.matches c.in-Ok.ensures
+    c.in-Ok-try_get_matches_from.ensures.matches)) ∙ c.in-Ok-order_of.ensures.order
 
 pub returns-clause-refusal : goal.returns-clause-refusal
 unfolding Meets
 returns-clause-refusal c =
     refused_misfit (map (λ w. w.now) c.args.words.now) c.misfit_told.result c.in-Err-order_of.misfit (subcommand_rows_of c.in-Ok-try_get_matches_from.matches)
-    (met (app_of c.in-Ok.command) (map (λ w. w.now) c.args.words.now) c.in-Ok-try_get_matches_from.matches c.in-Ok.ensures c.in-Ok-try_get_matches_from.ensures.matches)
+    (met (app_of c.in-Ok.command) (map (λ w. w.now) c.args.words.now) c.in-Ok-try_get_matches_from.matches c.in-Ok.ensures
+    c.in-Ok-try_get_matches_from.ensures.matches)
     c.in-Err-order_of.ensures.order c.in-Err-order_of.ensures.misfit c.misfit_told.ensures
 
 pub returns-in-Err-clause-refusal : goal.returns-in-Err-clause-refusal
 unfolding FailsAs
 returns-in-Err-clause-refusal c =
-    refused_for_memory (app_of c.in-Ok.command) (map (λ w. w.now) c.args.words.now) c.not_understood.result c.in-Err.error c.in-Ok.ensures c.in-Err.ensures.kinds c.not_understood.ensures
+    refused_for_memory (app_of c.in-Ok.command) (map (λ w. w.now) c.args.words.now) c.not_understood.result c.in-Err.error c.in-Ok.ensures
+    c.in-Err.ensures.kinds c.not_understood.ensures
 
 pub returns-in-Ok-order_of-clause-understood : goal.returns-in-Ok-order_of-clause-understood
 unfolding Passes

@@ -4,7 +4,7 @@ use Rattle.plain_words.specs.Writing.{AppendsFront}
 use Rattle.plain_words.proofs.TextLaws.{texts_break_off, texts_go_on}
 use Rattle.live_office.specs.RecordLines.{event_line}
 use Rattle.operator_cli.specs.declared.status.Status.{Status}
-use Rattle.operator_cli.specs.declared.store_fault.StoreFault.{StoreFault}
+use Rattle.operator_cli.specs.declared.command_fault.CommandFault.{CommandFault}
 use Rattle.operator_cli.specs.Outcomes.{WritesAs, known_status, known_text}
 use Rattle.operator_cli.proofs.CommandLaws.{known_is}
 use Rattle.operator_cli.proofs.ScriptLaws.{at_err}
@@ -27,5 +27,5 @@ returns-in_err-write_line g c =
     c.in_err-write_line.ensures.written in
     let front = subst (AppendsFront before after) (sym (known_is rows (omega (arith, c.events-test.true))))
     (texts_break_off _ _ _ event_line rows c.events.event-index c.event-item.result c.events-test.true c.event-item.is c.events.invariant out) in
-    at_err c.from_residual.result (λ (r : Result Status StoreFault). WritesAs (known_text rows) (known_status rows) before after r) _
+    at_err c.from_residual.result (λ (r : Result Status CommandFault). WritesAs (known_text rows) (known_status rows) before after r) _
     c.from_residual.ensures.1 (λ f e. (front, e ∙ c.in_err-write_line.ensures.fault))

@@ -6,7 +6,7 @@ use Rattle.plain_words.proofs.TextLaws.{texts_break_off, texts_go_on}
 use Rattle.live_office.specs.RecordLines.{share_line}
 use Rattle.operator_cli.specs.declared.status.Status.{Status}
 use Rattle.operator_cli.specs.declared.status.Status.TheVariants.{Done}
-use Rattle.operator_cli.specs.declared.store_fault.StoreFault.{StoreFault}
+use Rattle.operator_cli.specs.declared.command_fault.CommandFault.{CommandFault}
 use Rattle.operator_cli.specs.Outcomes.{WritesAs}
 use Rattle.operator_cli.proofs.ScriptLaws.{at_err}
 use Rattle.operator_cli.proofs.outcome.write_shares.Goals as goal
@@ -27,5 +27,5 @@ returns-in_err-write_line g c =
     let out : AppendsFront between after (share_line c.row-item.result) = subst (AppendsFront between after) c.share_line-line.ensures.value
     c.in_err-write_line.ensures.written in
     let front = texts_break_off _ _ _ share_line rows c.rows.row-index c.row-item.result c.rows-test.true c.row-item.is c.rows.invariant out in
-    at_err c.from_residual.result (λ (r : Result Status StoreFault). WritesAs (flat_map share_line rows) Done before after r) _ c.from_residual.ensures.1
+    at_err c.from_residual.result (λ (r : Result Status CommandFault). WritesAs (flat_map share_line rows) Done before after r) _ c.from_residual.ensures.1
     (λ f e. (front, e ∙ c.in_err-write_line.ensures.fault))

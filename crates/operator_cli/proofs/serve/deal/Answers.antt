@@ -16,8 +16,10 @@ visits-preserved-in-Continue-1 g c =
     let is : old ≡ get_or sites k old = search rules in
     let turn : k ≡ length dealt % length sites = search (rules, length-map) in (
       length-set sites k _ ∙ c.visits.invariant.0,
-      more_dealt (λ s. s.sessions.items) sites k old (record { book = old.book; sessions = c.push.new.self }) dealt (map (λ p. p.1) (c.visits.yielded ++ (c.in-Some.place, c.in-Some.visit) ∷ [])) c.in-Some.visit
-          (map-append (λ p. p.1) c.visits.yielded ((c.in-Some.place, c.in-Some.visit) ∷ [])) (search rules) turn is c.in_ok-push.ensures.items c.visits.invariant.1,
+      more_dealt (λ s. s.sessions.items) sites k old (record { book = old.book; sessions = c.push.new.self }) dealt
+          (map (λ p. p.1) (c.visits.yielded ++ (c.in-Some.place, c.in-Some.visit) ∷ [])) c.in-Some.visit
+          (map-append (λ p. p.1) c.visits.yielded ((c.in-Some.place, c.in-Some.visit) ∷ [])) (search rules) turn is c.in_ok-push.ensures.items
+          c.visits.invariant.1,
       search (rules, length-append),
       map-set_same (λ s. s.book) sites k (record { book = old.book; sessions = c.push.new.self }) old (ap (λ s. s.book) is) ∙ c.visits.invariant.3,
     )

@@ -18,8 +18,12 @@ returns-clause-came g c =
     let none : told ≡ None = search rules in
     let same : books_of c.as_slice.result.now ≡ books = ap books_of c.as_slice.ensures.value ∙ c.in_ok-books.ensures in
     comes_to books told (g.W.Write.contents c.args.out.now) (g.W.Write.contents c.print_audit.new.out) c.print_audit.result none
-    (subst (λ (l : List BookView). IfOk c.print_audit.result (Printed (IsAuditText l) (g.W.Write.contents c.args.out.now) (g.W.Write.contents c.print_audit.new.out))) same c.print_audit.ensures.out)
-    (subst (λ (l : List BookView). IfErr c.print_audit.result (Unprinted (IsAuditText l) (g.W.Write.contents c.args.out.now) (g.W.Write.contents c.print_audit.new.out))) same c.print_audit.ensures.fault)
+    (subst (λ (l : List BookView).
+    IfOk c.print_audit.result (Printed (IsAuditText l) (g.W.Write.contents c.args.out.now) (g.W.Write.contents c.print_audit.new.out))) same
+    c.print_audit.ensures.out)
+    (subst (λ (l : List BookView).
+    IfErr c.print_audit.result (Unprinted (IsAuditText l) (g.W.Write.contents c.args.out.now) (g.W.Write.contents c.print_audit.new.out))) same
+    c.print_audit.ensures.fault)
 
 pub returns-clause-not_oversold : goal.returns-clause-not_oversold
 returns-clause-not_oversold g c =

@@ -3,7 +3,7 @@ use Rattle.std.proofs.lemmas.Bool.{false≢true}
 use Rattle.rights_lattice.specs.EventName.{IsEventName}
 use Rattle.site_desk.specs.Moments.{Shares}
 use Rattle.operator_cli.specs.declared.outcome.Outcome.TheVariants.{Tells}
-use Rattle.operator_cli.specs.declared.told.Told.TheVariants.{Unknown}
+use Rattle.operator_cli.specs.declared.told.CommandReply.TheVariants.{Unknown}
 use Rattle.operator_cli.specs.Commands.{SharesOf}
 use Rattle.operator_cli.proofs.CommandLaws.{came_over}
 use Rattle.operator_cli.proofs.shares.shares.Goals as goal

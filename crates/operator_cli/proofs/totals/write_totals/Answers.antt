@@ -15,10 +15,12 @@ returns-in_err-write_bytes-clause-lines g c =
     let items : c.deref-event-items.result.now ≡ events_of world = search rules in
     let text : c.as_slice.result.now ≡ line c.event-item.result = search rules in
     let within : c.loop-event.event-index < length c.deref-event-items.result.now = search rules in
-    let out : AppendsFront (g.W.Write.contents c.loop-event.out) (g.W.Write.contents c.write_bytes.new.out) c.as_slice.result.now = c.in_err-write_bytes.ensures in
+    let out : AppendsFront (g.W.Write.contents c.loop-event.out) (g.W.Write.contents c.write_bytes.new.out) c.as_slice.result.now
+    = c.in_err-write_bytes.ensures in
     Writes-err _ _ c.from_residual-in_err-write_bytes.result _ c.from_residual-in_err-write_bytes.ensures.0
     (subst (AppendsFront (g.W.Write.contents c.args.out.now) (g.W.Write.contents c.write_bytes.new.out)) (ap (flat_map line) items)
-    (texts_break_off _ _ _ line c.deref-event-items.result.now c.loop-event.event-index c.event-item.result within c.event-item.is c.loop-event.invariant (subst (AppendsFront _ _) text out)))
+    (texts_break_off _ _ _ line c.deref-event-items.result.now c.loop-event.event-index c.event-item.result within c.event-item.is c.loop-event.invariant
+    (subst (AppendsFront _ _) text out)))
 
 pub loop-event-preserved : goal.loop-event-preserved
 loop-event-preserved g c =
@@ -26,4 +28,5 @@ loop-event-preserved g c =
     let text : c.as_slice.result.now ≡ line c.event-item.result = search rules in
     let within : c.loop-event.event-index < length c.deref-event-items.result.now = search rules in
     let out : Appends (g.W.Write.contents c.loop-event.out) (g.W.Write.contents c.write_bytes.new.out) c.as_slice.result.now = c.in_ok-write_bytes.ensures in
-    texts_go_on _ _ _ line c.deref-event-items.result.now c.loop-event.event-index c.event-item.result within c.event-item.is c.loop-event.invariant (subst (Appends _ _) text out)
+    texts_go_on _ _ _ line c.deref-event-items.result.now c.loop-event.event-index c.event-item.result within c.event-item.is c.loop-event.invariant
+    (subst (Appends _ _) text out)

@@ -6,4 +6,5 @@ use Rattle.operator_cli.specs.Script.{total_line}
 use Rattle.operator_cli.proofs.totals.write_totals.Given as goal
 
 abbrev pub invariant-loop-event : goal.invariant-loop-event
-invariant-loop-event g l = Appends (g.W.Write.contents l.fn.out) (g.W.Write.contents l.out) (flat_map (λ event. total_line event (totals_of l.world event)) (take l.event-index l.event-items))
+invariant-loop-event g l = Appends (g.W.Write.contents l.fn.out) (g.W.Write.contents l.out)
+    (flat_map (λ event. total_line event (totals_of l.world event)) (take l.event-index l.event-items))

@@ -12,7 +12,8 @@ returns-in-Ok-false-clause-all g c = passed_all _ _ _ _ _ _ c.lines.invariant (r
 
 pub returns-in-Err-clause-some : goal.returns-in-Err-clause-some
 returns-in-Err-clause-some g c =
-    passed_off (g.A.Read.remaining c.args.answers.now) (g.A.Read.remaining c.lines.answers) (g.W.Write.contents c.args.out.now) (g.W.Write.contents c.lines.out) (g.W.Write.contents c.pass_next.new.out) c.lines.invariant c.in-Err.ensures.passed
+    passed_off (g.A.Read.remaining c.args.answers.now) (g.A.Read.remaining c.lines.answers) (g.W.Write.contents c.args.out.now)
+    (g.W.Write.contents c.lines.out) (g.W.Write.contents c.pass_next.new.out) c.lines.invariant c.in-Err.ensures.passed
 
 pub returns-clause-some : goal.returns-clause-some
 returns-clause-some g c = passed_some _ _ _ _ c.lines.invariant

@@ -1,9 +1,9 @@
 use Rattle.std.proofs.Common.{◌≡◌, inr, refl, subst, sym}
 use Rattle.std.proofs.lemmas.Bool.{false≢true}
 use Rattle.rights_lattice.specs.EventName.{IsEventName}
-use Rattle.operator_cli.specs.declared.store_fault.StoreFault.{StoreFault}
-use Rattle.operator_cli.specs.declared.store_fault.StoreFault.TheVariants as fault
-use Rattle.operator_cli.specs.declared.told.Told.TheVariants.{Unknown}
+use Rattle.operator_cli.specs.declared.command_fault.CommandFault.{CommandFault}
+use Rattle.operator_cli.specs.declared.command_fault.CommandFault.TheVariants as fault
+use Rattle.operator_cli.specs.declared.told.CommandReply.TheVariants.{Unknown}
 use Rattle.operator_cli.specs.Printed.{IsTellingOf}
 use Rattle.operator_cli.proofs.EndLaws.{fails_for, for_write, told_lives}
 use Rattle.operator_cli.proofs.PrintLaws.{ends_printed, told_printed}
@@ -13,7 +13,7 @@ use Rattle.operator_cli.proofs.visits.shares_office.Goals as goal
 pub returns-in_default : goal.returns-in_default
 returns-in_default g c =
     let told = IsTellingOf (λ t. t ≡ Unknown) in
-    let causes : StoreFault → Type 0 = λ cause. cause ≡ fault.Write in
+    let causes : CommandFault → Type 0 = λ cause. cause ≡ fault.Write in
     let before = g.W.Write.contents c.args.out.now in
     let mid = g.W.Write.contents c.tell-came.new.out in
     let after = g.W.Write.contents c.ended.new.out in

@@ -1,5 +1,5 @@
 use Rattle.std.proofs.Common.{refl}
-use Rattle.operator_cli.specs.declared.store_fault.StoreFault.TheVariants as fault
+use Rattle.operator_cli.specs.declared.command_fault.CommandFault.TheVariants as fault
 use Rattle.operator_cli.specs.Visits.{IsAnswer, IsVisitEnd, line_text}
 use Rattle.operator_cli.proofs.VisitLaws.{asks_nothing, failed_prints, fails_with, memory_end, passes_nothing}
 use Rattle.operator_cli.proofs.visits.visit.Goals as goal

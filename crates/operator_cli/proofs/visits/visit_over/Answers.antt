@@ -13,7 +13,8 @@ returns g c =
     let after = g.W.Write.contents c.ended.new.out in record {
       asked = came.ensures.asked;
       whole = ok_unless_failed _ came.result c.ended.result came.ensures.whole c.ended.ensures.status;
-      printed = ends_printed (IsAnswer c.args.expected sent) before mid after came.result c.ended.result came.ensures.printed c.ended.ensures.kept c.ended.ensures.status;
+      printed = ends_printed (IsAnswer c.args.expected sent) before mid after came.result c.ended.result came.ensures.printed c.ended.ensures.kept
+          c.ended.ensures.status;
       passes = passes_kept sent before mid after came.ensures.passes c.ended.ensures.kept;
       told = c.ended.ensures.told;
       cause =

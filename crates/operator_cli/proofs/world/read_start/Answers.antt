@@ -28,4 +28,5 @@ returns-clause-ran g c =
 
 pub returns-in_err-next_line-clause-reads : goal.returns-in_err-next_line-clause-reads
 returns-in_err-next_line-clause-reads g c is out =
-    broke_here 999999 replies (g.R.Read.remaining c.args.reader.now) (g.R.Read.remaining c.next_line.new.reader) out c.next_line.new.line.items _ c.from_residual.result refl c.in_err-next_line.ensures c.from_residual.ensures.1 is
+    broke_here 999999 replies (g.R.Read.remaining c.args.reader.now) (g.R.Read.remaining c.next_line.new.reader) out c.next_line.new.line.items _
+    c.from_residual.result refl c.in_err-next_line.ensures c.from_residual.ensures.1 is

@@ -10,4 +10,5 @@ pub returns-in_err-write_answer-clause-written : goal.returns-in_err-write_answe
 returns-in_err-write_answer-clause-written g c =
     let answer : c.in_ok-answer.answer ≡ (answer_to c.args.world.now (line_of c.args.line.now)).0 = search rules in
     Writes-err _ _ c.from_residual-in_err-write_answer.result _ c.from_residual-in_err-write_answer.ensures.0
-    (subst (λ a. AppendsFront (g.W.Write.contents c.args.out.now) (g.W.Write.contents c.write_answer.new.out) (script_reply_line a)) answer c.in_err-write_answer.ensures)
+    (subst (λ a. AppendsFront (g.W.Write.contents c.args.out.now) (g.W.Write.contents c.write_answer.new.out) (script_reply_line a)) answer
+    c.in_err-write_answer.ensures)

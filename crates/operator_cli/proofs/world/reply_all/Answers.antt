@@ -13,14 +13,18 @@ lines-init g c = begins _ _ _
 pub returns-in_err-is_answered-clause-ran : goal.returns-in_err-is_answered-clause-ran
 returns-in_err-is_answered-clause-ran g c =
     let within : c.lines._count < c.args.most = search rules in
-    at_err c.from_residual.result (RestRan c.args.most (g.R.Read.remaining c.args.reader.now) (g.W.Write.contents c.args.out.now) (g.W.Write.contents c.reply_next.new.out) c.args.world.now c.reply_next.new.world) _ c.from_residual.ensures.1
-    (λ f e. rw e (breaks_off c.args.most (g.R.Read.remaining c.args.reader.now) (g.R.Read.remaining c.lines.reader) (g.W.Write.contents c.args.out.now) (g.W.Write.contents c.lines.out) (g.W.Write.contents c.reply_next.new.out) c.args.world.now c.lines.world c.lines._count _ c.lines.invariant within c.in_err-is_answered.ensures.ran))
+    at_err c.from_residual.result (RestRan c.args.most (g.R.Read.remaining c.args.reader.now) (g.W.Write.contents c.args.out.now)
+    (g.W.Write.contents c.reply_next.new.out) c.args.world.now c.reply_next.new.world) _ c.from_residual.ensures.1
+    (λ f e. rw e (breaks_off c.args.most (g.R.Read.remaining c.args.reader.now) (g.R.Read.remaining c.lines.reader) (g.W.Write.contents c.args.out.now)
+    (g.W.Write.contents c.lines.out) (g.W.Write.contents c.reply_next.new.out) c.args.world.now c.lines.world c.lines._count _ c.lines.invariant within
+    c.in_err-is_answered.ensures.ran))
 
 pub returns-then-not-is_answered-clause-ran : goal.returns-then-not-is_answered-clause-ran
 returns-then-not-is_answered-clause-ran g c =
     let within : c.lines._count ≤ c.args.most = search rules in
     let last = rw c.if-not-is_answered.true at c.in_ok-is_answered.ensures.ran in
-    all_answered c.args.most (g.R.Read.remaining c.args.reader.now) (g.R.Read.remaining c.lines.reader) (g.R.Read.remaining c.reply_next.new.reader) (g.W.Write.contents c.args.out.now) (g.W.Write.contents c.lines.out) (g.W.Write.contents c.reply_next.new.out)
+    all_answered c.args.most (g.R.Read.remaining c.args.reader.now) (g.R.Read.remaining c.lines.reader) (g.R.Read.remaining c.reply_next.new.reader)
+    (g.W.Write.contents c.args.out.now) (g.W.Write.contents c.lines.out) (g.W.Write.contents c.reply_next.new.out)
     c.args.world.now c.lines.world c.reply_next.new.world c.lines._count c.lines.invariant within (first_empty _ _ last.2) last.0 last.1
 
 pub lines-preserved : goal.lines-preserved
@@ -55,14 +59,17 @@ returns-clause-ran g c =
     let within : c.lines._count ≤ c.args.most = omega (arith, c.lines.auto._count-end) in
     let over = rw c.if-is_more.false at c.in_ok-is_more.ensures in
     let new = g.W.Write.contents c.lines.out in
-    all_answered c.args.most (g.R.Read.remaining c.args.reader.now) (g.R.Read.remaining c.lines.reader) (g.R.Read.remaining c.has_more.new.reader) (g.W.Write.contents c.args.out.now) new new
+    all_answered c.args.most (g.R.Read.remaining c.args.reader.now) (g.R.Read.remaining c.lines.reader) (g.R.Read.remaining c.has_more.new.reader)
+    (g.W.Write.contents c.args.out.now) new new
     c.args.world.now c.lines.world c.lines.world c.lines._count c.lines.invariant within over.1 (Keeps-refl new) refl
 
 pub returns-in_err-is_answered-clause-reads : goal.returns-in_err-is_answered-clause-reads
 returns-in_err-is_answered-clause-reads g c is =
     let within : c.lines._count < c.args.most = search rules in
-    broke_after 1 c.args.most (g.R.Read.remaining c.args.reader.now) (g.R.Read.remaining c.lines.reader) (g.R.Read.remaining c.reply_next.new.reader) (g.W.Write.contents c.args.out.now) (g.W.Write.contents c.lines.out) (g.W.Write.contents c.reply_next.new.out)
-    c.args.world.now c.lines.world c.lines._count c.lines.invariant (omega (arith, within)) (c.in_err-is_answered.ensures.reads (err_is c.from_residual.result _ c.from_residual.ensures.1 is))
+    broke_after 1 c.args.most (g.R.Read.remaining c.args.reader.now) (g.R.Read.remaining c.lines.reader) (g.R.Read.remaining c.reply_next.new.reader)
+    (g.W.Write.contents c.args.out.now) (g.W.Write.contents c.lines.out) (g.W.Write.contents c.reply_next.new.out)
+    c.args.world.now c.lines.world c.lines._count c.lines.invariant (omega (arith, within))
+    (c.in_err-is_answered.ensures.reads (err_is c.from_residual.result _ c.from_residual.ensures.1 is))
 
 pub returns-in_err-is_more-clause-reads : goal.returns-in_err-is_more-clause-reads
 returns-in_err-is_more-clause-reads g c is =
@@ -71,4 +78,5 @@ returns-in_err-is_more-clause-reads g c is =
     let new = g.W.Write.contents c.lines.out in
     let within : c.lines._count ≤ c.args.most = omega (arith, c.lines.auto._count-end) in
     broke_after 0 c.args.most (g.R.Read.remaining c.args.reader.now) rest after (g.W.Write.contents c.args.out.now) new new
-    c.args.world.now c.lines.world c.lines._count c.lines.invariant (omega (arith, within)) (broke_at_limit (answers c.lines.world) rest after new refl c.in_err-is_more.ensures)
+    c.args.world.now c.lines.world c.lines._count c.lines.invariant (omega (arith, within))
+    (broke_at_limit (answers c.lines.world) rest after new refl c.in_err-is_more.ensures)

@@ -9,7 +9,8 @@ use Rattle.operator_cli.proofs.world.run_world.Goals as goal
 
 pub returns-in_err-next_line-clause-ran : goal.returns-in_err-next_line-clause-ran
 returns-in_err-next_line-clause-ran g c =
-    at_err c.from_residual.result (SitesRan 999999 c.args.sites (g.R.Read.remaining c.args.reader.now) (g.W.Write.contents c.args.out.now) (g.W.Write.contents c.args.out.now)) _ c.from_residual.ensures.1
+    at_err c.from_residual.result (SitesRan 999999 c.args.sites (g.R.Read.remaining c.args.reader.now) (g.W.Write.contents c.args.out.now)
+    (g.W.Write.contents c.args.out.now)) _ c.from_residual.ensures.1
     (λ f e. rw e (sites_unread 999998 c.args.sites _ _ _ c.next_line.new.line.items _ c.in_err-next_line.ensures))
 
 pub returns-then-branch-clause-ran : goal.returns-then-branch-clause-ran
@@ -21,11 +22,13 @@ returns-then-branch-clause-ran g c =
 pub returns-else-branch-clause-ran : goal.returns-else-branch-clause-ran
 returns-else-branch-clause-ran g c =
     let given = rw c.if-branch.false at c.in_ok-next_line.ensures in
-    sites_alone 999999 c.args.sites _ _ _ _ c.run_none.result given c.run_none.ensures.written (λ f e. subst (λ r. IfErr r IsOutFault) e c.run_none.ensures.fault)
+    sites_alone 999999 c.args.sites _ _ _ _ c.run_none.result given c.run_none.ensures.written
+    (λ f e. subst (λ r. IfErr r IsOutFault) e c.run_none.ensures.fault)
 
 pub returns-in_err-next_line-clause-reads : goal.returns-in_err-next_line-clause-reads
 returns-in_err-next_line-clause-reads g c is =
-    broke_here 999998 (replies_at c.args.sites) (g.R.Read.remaining c.args.reader.now) (g.R.Read.remaining c.next_line.new.reader) (g.W.Write.contents c.args.out.now) c.next_line.new.line.items _ c.from_residual.result refl c.in_err-next_line.ensures c.from_residual.ensures.1 is
+    broke_here 999998 (replies_at c.args.sites) (g.R.Read.remaining c.args.reader.now) (g.R.Read.remaining c.next_line.new.reader)
+    (g.W.Write.contents c.args.out.now) c.next_line.new.line.items _ c.from_residual.result refl c.in_err-next_line.ensures c.from_residual.ensures.1 is
 
 pub returns-then-branch-clause-reads : goal.returns-then-branch-clause-reads
 returns-then-branch-clause-reads g c is =

@@ -14,45 +14,46 @@ use Rattle.sql_records.specs.declared.fault.OpenFault.{OpenFault}
 use Rattle.sql_records.specs.declared.fault.OpenFault.TheVariants as opening
 use Rattle.sql_records.specs.declared.lookup.FindFault.{FindFault}
 use Rattle.sql_records.specs.declared.lookup.FindFault.TheVariants as find
-use Rattle.operator_cli.specs.declared.store_fault.StoreFault.{StoreFault}
-use Rattle.operator_cli.specs.declared.store_fault.StoreFault.TheVariants as fault
-use Rattle.operator_cli.specs.declared.told.Told.{Told}
-use Rattle.operator_cli.specs.declared.told.Told.TheVariants.{Made, Migrated, Joined, NothingNew, Acked, AlreadyThere, NoSite, Nothing, NotFound, Unknown, TooLong, Unread, NotTaken, NotWhole, Ahead, Grown, NotGrown}
+use Rattle.operator_cli.specs.declared.command_fault.CommandFault.{CommandFault}
+use Rattle.operator_cli.specs.declared.command_fault.CommandFault.TheVariants as fault
+use Rattle.operator_cli.specs.declared.told.CommandReply.{CommandReply}
+use Rattle.operator_cli.specs.declared.told.CommandReply.TheVariants.{Made, Migrated, Joined, NothingNew, Acked, AlreadyThere, NoSite, Nothing, NotFound, Unknown, TooLong, Unread, NotTaken, NotWhole, Ahead, Grown, NotGrown, Paired, Alone, NotPaired, OtherSite, Differs, SameFile}
 use Rattle.operator_cli.specs.declared.status.Status.{Status}
 use Rattle.operator_cli.specs.declared.status.Status.TheVariants.{Done, Refused, NotUnderstood, Failed}
 use Rattle.desk_lines.specs.Replies.{reply_text, take_fault_text, grow_fault_text, wire_fault_text}
 
 -- the cause of status 3, one line on standard error
-abbrev pub store_fault_text : StoreFault → List ℕ
-store_fault_text fault.NotOurs = codes "not-ours"
-store_fault_text (fault.OtherSchema version) = codes "other-schema " ++ signed_decimal version
-store_fault_text (fault.Damaged place) = codes "damaged " ++ decimal place
-store_fault_text fault.Disk = codes "disk"
-store_fault_text fault.Memory = codes "memory"
-store_fault_text fault.Store = codes "store"
-store_fault_text fault.Read = codes "read"
-store_fault_text fault.Write = codes "write"
-store_fault_text fault.LineTooLong = codes "line-too-long"
-store_fault_text fault.TooManyLines = codes "too-many-lines"
-store_fault_text fault.Bind = codes "bind"
-store_fault_text fault.Accept = codes "accept"
-store_fault_text fault.NotStarted = codes "not-started"
-store_fault_text fault.SeatsOut = codes "seats-out"
-store_fault_text (fault.Stranger at) = codes "stranger " ++ decimal at
-store_fault_text (fault.StrangerSeen at) = codes "stranger-seen " ++ decimal at
-store_fault_text (fault.Closed site) = codes "closed " ++ decimal site
-store_fault_text fault.LongPath = codes "long-path"
-store_fault_text fault.NoSocket = codes "no-socket"
-store_fault_text fault.NotOpen = codes "not-open"
-store_fault_text fault.StillOpen = codes "still-open"
-store_fault_text fault.AlreadyOpen = codes "already-open"
-store_fault_text fault.Full = codes "full"
-store_fault_text fault.LostFile = codes "lost-file"
+abbrev pub command_fault_text : CommandFault → List ℕ
+command_fault_text fault.NotOurs = codes "not-ours"
+command_fault_text (fault.OtherSchema version) = codes "other-schema " ++ signed_decimal version
+command_fault_text (fault.Damaged place) = codes "damaged " ++ decimal place
+command_fault_text fault.Disk = codes "disk"
+command_fault_text fault.Memory = codes "memory"
+command_fault_text fault.Store = codes "store"
+command_fault_text fault.Read = codes "read"
+command_fault_text fault.Write = codes "write"
+command_fault_text fault.LineTooLong = codes "line-too-long"
+command_fault_text fault.TooManyLines = codes "too-many-lines"
+command_fault_text fault.Bind = codes "bind"
+command_fault_text fault.Accept = codes "accept"
+command_fault_text fault.NotStarted = codes "not-started"
+command_fault_text fault.SeatsOut = codes "seats-out"
+command_fault_text (fault.Stranger at) = codes "stranger " ++ decimal at
+command_fault_text (fault.StrangerSeen at) = codes "stranger-seen " ++ decimal at
+command_fault_text (fault.Closed site) = codes "closed " ++ decimal site
+command_fault_text fault.LongPath = codes "long-path"
+command_fault_text fault.NoSocket = codes "no-socket"
+command_fault_text fault.NotOpen = codes "not-open"
+command_fault_text fault.StillOpen = codes "still-open"
+command_fault_text fault.AlreadyOpen = codes "already-open"
+command_fault_text fault.Full = codes "full"
+command_fault_text fault.LostFile = codes "lost-file"
+command_fault_text fault.OneOfTwo = codes "one-of-two"
 
-abbrev pub store_fault_line : StoreFault → List ℕ
-store_fault_line f = store_fault_text f ++ 10 ∷ []
+abbrev pub command_fault_line : CommandFault → List ℕ
+command_fault_line f = command_fault_text f ++ 10 ∷ []
 
-abbrev pub told_text : Told → List ℕ
+abbrev pub told_text : CommandReply → List ℕ
 told_text Made = reply_text reply.Done
 told_text Migrated = codes "migrated"
 told_text Joined = codes "joined"
@@ -69,12 +70,18 @@ told_text (NotTaken f) = take_fault_text f
 told_text NotWhole = codes "not-whole"
 told_text Grown = codes "grown"
 told_text (NotGrown f) = grow_fault_text f
+told_text Paired = codes "paired"
+told_text Alone = codes "alone"
+told_text NotPaired = codes "not-paired"
+told_text OtherSite = codes "other-site"
+told_text (Differs place) = codes "differs " ++ decimal place
+told_text SameFile = codes "same-file"
 told_text (Ahead viewer owner) = codes "ahead " ++ decimal viewer ++ codes " " ++ decimal owner
 
-abbrev pub told_line : Told → List ℕ
+abbrev pub told_line : CommandReply → List ℕ
 told_line told = told_text told ++ 10 ∷ []
 
-abbrev pub told_status : Told → Status
+abbrev pub told_status : CommandReply → Status
 told_status Made = Done
 told_status Migrated = Done
 told_status Joined = Done
@@ -91,10 +98,16 @@ told_status (NotTaken f) = Refused
 told_status NotWhole = Refused
 told_status Grown = Done
 told_status (NotGrown f) = Refused
+told_status Paired = Done
+told_status Alone = Done
+told_status NotPaired = Refused
+told_status OtherSite = Refused
+told_status (Differs place) = Refused
+told_status SameFile = Refused
 told_status (Ahead viewer owner) = Refused
 
 -- a fault of reading is told, but want of memory ends the command
-abbrev pub ended_by_wire : WireFault → Result Told StoreFault
+abbrev pub ended_by_wire : WireFault → Result CommandReply CommandFault
 ended_by_wire wire.Truncated = Ok (Unread wire.Truncated)
 ended_by_wire (wire.BadLine line) = Ok (Unread (wire.BadLine line))
 ended_by_wire (wire.OutOfOrder line) = Ok (Unread (wire.OutOfOrder line))
@@ -102,19 +115,19 @@ ended_by_wire wire.Trailing = Ok (Unread wire.Trailing)
 ended_by_wire wire.Memory = Err fault.Memory
 
 -- what stands in the way of the sums is told, but want of memory ends the command
-abbrev pub ended_by_audit : AuditFault → Result Told StoreFault
+abbrev pub ended_by_audit : AuditFault → Result CommandReply CommandFault
 ended_by_audit audit.NotWhole = Ok NotWhole
 ended_by_audit (audit.Ahead viewer owner) = Ok (Ahead viewer owner)
 ended_by_audit audit.Memory = Err fault.Memory
 
 -- At status 3 the line of a fault went to the second writer, or a front of it; else nothing went there.
 abbrev pub FaultTold : Option (List ℕ) → Option (List ℕ) → Status → Type 0
-FaultTold old new Failed = (f : StoreFault) × AppendsFront old new (store_fault_line f)
+FaultTold old new Failed = (f : CommandFault) × AppendsFront old new (command_fault_line f)
 FaultTold old new Done = Keeps old new
 FaultTold old new Refused = Keeps old new
 FaultTold old new NotUnderstood = Keeps old new
 
-abbrev pub of_open_fault : OpenFault → StoreFault
+abbrev pub of_open_fault : OpenFault → CommandFault
 of_open_fault opening.NotOurs = fault.NotOurs
 of_open_fault (opening.OtherSchema version) = fault.OtherSchema version
 of_open_fault (opening.Damaged place) = fault.Damaged place
@@ -122,11 +135,11 @@ of_open_fault opening.Memory = fault.Memory
 of_open_fault opening.Disk = fault.Disk
 
 -- a list that is not legal is told like one that cannot be read
-abbrev pub of_replay_fault : ReplayFault → StoreFault
+abbrev pub of_replay_fault : ReplayFault → CommandFault
 of_replay_fault (replay.IllegalAt place) = fault.Damaged place
 of_replay_fault replay.Memory = fault.Memory
 
-abbrev pub of_find_fault : FindFault → StoreFault
+abbrev pub of_find_fault : FindFault → CommandFault
 of_find_fault find.Shut = fault.Store
 of_find_fault (find.Damaged place) = fault.Damaged place
 of_find_fault find.Memory = fault.Memory

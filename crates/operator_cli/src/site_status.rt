@@ -1,23 +1,23 @@
 //! The command `status` where no office is open.
 
 ghost use Rattle.std.specs.Prelude.{◌≡◌};
-ghost use Rattle.operator_cli.specs.Commands.{CameTo, StandsAt};
+ghost use Rattle.operator_cli.specs.Commands.{CameTo, HasSiteStatus};
 ghost use Rattle.operator_cli.specs.Outcomes.{Ends};
-ghost use Rattle.operator_cli.specs.Printed.{standing_in};
+ghost use Rattle.operator_cli.specs.Printed.{site_status_in};
 
 use crate::opening::open_book;
 use crate::outcome::{Outcome, print_outcome};
 use crate::status::Status;
 use book_core::Book;
-use site_desk::Standing;
+use site_desk::SiteStatus;
 use sqlite::{Alter, Connection};
 use std::alloc::Global;
 use std::io::Write;
 
-fn standing_of(book: &Book) -> Standing
-    ensures { result ≡ standing_in book.now.office book.now.history }
+fn site_status_of(book: &Book) -> SiteStatus
+    ensures { result ≡ site_status_in book.now.office book.now.history }
 {
-    Standing {
+    SiteStatus {
         me: book.me(),
         sites: book.sites(),
         entries: book.len(),
@@ -25,13 +25,19 @@ fn standing_of(book: &Book) -> Standing
     }
 }
 
-fn standing<S: Alter + Drop>(alloc: Global, conn: Connection<S>) -> (Outcome, Option<Connection<S>>)
-    ensures { CameTo S.Store conn StandsAt result.1 result.0 }
+fn site_status<S: Alter + Drop>(
+    alloc: Global,
+    conn: Connection<S>,
+) -> (Outcome, Option<Connection<S>>)
+    ensures { CameTo S.Store conn HasSiteStatus result.1 result.0 }
 {
     match open_book(alloc, conn) {
         Ok(book) => {
-            let standing = standing_of(book.book());
-            (Outcome::Stands(standing), Some(book.into_keeper().close()))
+            let site_status = site_status_of(book.book());
+            (
+                Outcome::SiteStatusIs(site_status),
+                Some(book.into_keeper().close()),
+            )
         }
         Err((fault, conn)) => (Outcome::Fails(fault), conn),
     }
@@ -47,9 +53,9 @@ pub fn status_store<S: Alter + Drop, W: Write, E: Write>(
     out: &mut W,
     err: &mut E,
 ) -> (Status, Option<Connection<S>>)
-    ensures { Ends (CameTo S.Store conn StandsAt result.1) (W.contents out.old)
+    ensures { Ends (CameTo S.Store conn HasSiteStatus result.1) (W.contents out.old)
         (W.contents out.new) (E.contents err.old) (E.contents err.new) result.0 }
 {
-    let (outcome, conn) = standing(alloc, conn);
+    let (outcome, conn) = site_status(alloc, conn);
     (print_outcome(&outcome, out, err), conn)
 }

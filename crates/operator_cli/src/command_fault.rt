@@ -4,7 +4,7 @@ ghost use Rattle.std.specs.Prelude.{◌≡◌, ◌++◌, ◌≤◌, length};
 ghost use Rattle.arrayvec.specs.ArrayVec.{array_vec_len};
 ghost use Rattle.std.specs.Fmt.{signed_decimal};
 ghost use Rattle.plain_words.specs.Input.{longest_line};
-ghost use Rattle.operator_cli.specs.Told.{store_fault_text, store_fault_line};
+ghost use Rattle.operator_cli.specs.CommandReply.{command_fault_text, command_fault_line};
 
 use crate::fault::ScriptFault;
 use live_office::{OfficeFault, SocketFault};
@@ -16,7 +16,7 @@ use std::alloc::AllocError;
 
 /// What ends a command early, and is told on standard error.
 #[derive(Clone, Copy, Debug, PartialEq, Eq)]
-pub(crate) enum StoreFault {
+pub(crate) enum CommandFault {
     /// The file holds no records of a site.
     NotOurs,
     /// The records are of another version.
@@ -65,123 +65,125 @@ pub(crate) enum StoreFault {
     Full,
     /// The file of the office is not the one that it holds.
     LostFile,
+    /// The file is one of two copies, and was to be opened alone.
+    OneOfTwo,
 }
 
-impl From<AllocError> for StoreFault {
+impl From<AllocError> for CommandFault {
     ghost use Rattle.std.specs.Prelude.{◌≡◌};
-    ghost use Rattle.operator_cli.specs.declared.store_fault.StoreFault.TheVariants.{Memory};
+    ghost use Rattle.operator_cli.specs.declared.command_fault.CommandFault.TheVariants.{Memory};
 
     ghost from_gives = { λ _ fault. fault ≡ Memory };
 
-    fn from(_fault: AllocError) -> StoreFault {
-        StoreFault::Memory
+    fn from(_fault: AllocError) -> CommandFault {
+        CommandFault::Memory
     }
 }
 
-impl From<ScriptFault> for StoreFault {
+impl From<ScriptFault> for CommandFault {
     ghost use Rattle.std.specs.Prelude.{◌≡◌};
     ghost use Rattle.operator_cli.specs.Faults.{of_script_fault};
 
     ghost from_gives = { λ script fault. fault ≡ of_script_fault script };
 
-    fn from(fault: ScriptFault) -> StoreFault {
+    fn from(fault: ScriptFault) -> CommandFault {
         match fault {
-            ScriptFault::Read => StoreFault::Read,
-            ScriptFault::Write => StoreFault::Write,
-            ScriptFault::LineTooLong => StoreFault::LineTooLong,
-            ScriptFault::TooManyLines => StoreFault::TooManyLines,
-            ScriptFault::Memory => StoreFault::Memory,
+            ScriptFault::Read => CommandFault::Read,
+            ScriptFault::Write => CommandFault::Write,
+            ScriptFault::LineTooLong => CommandFault::LineTooLong,
+            ScriptFault::TooManyLines => CommandFault::TooManyLines,
+            ScriptFault::Memory => CommandFault::Memory,
         }
     }
 }
 
-impl From<TalkFault> for StoreFault {
+impl From<TalkFault> for CommandFault {
     ghost use Rattle.std.specs.Prelude.{◌≡◌};
     ghost use Rattle.operator_cli.specs.Session.{of_talk_fault};
 
     ghost from_gives = { λ talk fault. fault ≡ of_talk_fault talk };
 
-    fn from(fault: TalkFault) -> StoreFault {
+    fn from(fault: TalkFault) -> CommandFault {
         match fault {
-            TalkFault::Read => StoreFault::Read,
-            TalkFault::Write => StoreFault::Write,
-            TalkFault::TooLong => StoreFault::TooManyLines,
-            TalkFault::LineTooLong => StoreFault::LineTooLong,
-            TalkFault::Memory => StoreFault::Memory,
-            TalkFault::NotStarted => StoreFault::NotStarted,
+            TalkFault::Read => CommandFault::Read,
+            TalkFault::Write => CommandFault::Write,
+            TalkFault::TooLong => CommandFault::TooManyLines,
+            TalkFault::LineTooLong => CommandFault::LineTooLong,
+            TalkFault::Memory => CommandFault::Memory,
+            TalkFault::NotStarted => CommandFault::NotStarted,
         }
     }
 }
 
-impl From<ListenFault> for StoreFault {
+impl From<ListenFault> for CommandFault {
     ghost use Rattle.std.specs.Prelude.{◌≡◌};
     ghost use Rattle.operator_cli.specs.Serving.{of_listen_fault};
 
     ghost from_gives = { λ listen fault. fault ≡ of_listen_fault listen };
 
-    fn from(fault: ListenFault) -> StoreFault {
+    fn from(fault: ListenFault) -> CommandFault {
         match fault {
-            ListenFault::Bind => StoreFault::Bind,
-            ListenFault::Accept => StoreFault::Accept,
-            ListenFault::Memory => StoreFault::Memory,
+            ListenFault::Bind => CommandFault::Bind,
+            ListenFault::Accept => CommandFault::Accept,
+            ListenFault::Memory => CommandFault::Memory,
         }
     }
 }
 
-impl From<SocketFault> for StoreFault {
+impl From<SocketFault> for CommandFault {
     ghost use Rattle.std.specs.Prelude.{◌≡◌};
     ghost use Rattle.operator_cli.specs.Offices.{of_socket_fault};
 
     ghost from_gives = { λ socket fault. fault ≡ of_socket_fault socket };
 
-    fn from(fault: SocketFault) -> StoreFault {
+    fn from(fault: SocketFault) -> CommandFault {
         match fault {
-            SocketFault::Path => StoreFault::LongPath,
-            SocketFault::NotASocket => StoreFault::NoSocket,
-            SocketFault::Bind => StoreFault::Bind,
+            SocketFault::Path => CommandFault::LongPath,
+            SocketFault::NotASocket => CommandFault::NoSocket,
+            SocketFault::Bind => CommandFault::Bind,
         }
     }
 }
 
-impl From<OfficeFault> for StoreFault {
+impl From<OfficeFault> for CommandFault {
     ghost use Rattle.std.specs.Prelude.{◌≡◌};
     ghost use Rattle.operator_cli.specs.Offices.{of_office_fault};
 
     ghost from_gives = { λ office fault. fault ≡ of_office_fault office };
 
-    fn from(fault: OfficeFault) -> StoreFault {
+    fn from(fault: OfficeFault) -> CommandFault {
         match fault {
-            OfficeFault::Memory => StoreFault::Memory,
-            OfficeFault::NotStarted => StoreFault::NotStarted,
+            OfficeFault::Memory => CommandFault::Memory,
+            OfficeFault::NotStarted => CommandFault::NotStarted,
         }
     }
 }
 
-impl From<ExchangeFault> for StoreFault {
+impl From<ExchangeFault> for CommandFault {
     ghost use Rattle.std.specs.Prelude.{◌≡◌};
     ghost use Rattle.operator_cli.specs.Serving.{of_exchange_fault};
 
     ghost from_gives = { λ exchange fault. fault ≡ of_exchange_fault exchange };
 
-    fn from(fault: ExchangeFault) -> StoreFault {
+    fn from(fault: ExchangeFault) -> CommandFault {
         match fault {
-            ExchangeFault::Memory => StoreFault::Memory,
-            ExchangeFault::NotStarted => StoreFault::NotStarted,
+            ExchangeFault::Memory => CommandFault::Memory,
+            ExchangeFault::NotStarted => CommandFault::NotStarted,
         }
     }
 }
 
-impl From<FinishFault> for StoreFault {
+impl From<FinishFault> for CommandFault {
     ghost use Rattle.std.specs.Prelude.{◌≡◌};
     ghost use Rattle.operator_cli.specs.Serving.{of_finish_fault};
 
     ghost from_gives = { λ finish fault. fault ≡ of_finish_fault finish };
 
-    fn from(fault: FinishFault) -> StoreFault {
+    fn from(fault: FinishFault) -> CommandFault {
         match fault {
-            FinishFault::SeatsOut => StoreFault::SeatsOut,
-            FinishFault::Stranger { at } => StoreFault::Stranger { at: at as u64 },
-            FinishFault::StrangerSeen { at } => StoreFault::StrangerSeen { at: at as u64 },
+            FinishFault::SeatsOut => CommandFault::SeatsOut,
+            FinishFault::Stranger { at } => CommandFault::Stranger { at: at as u64 },
+            FinishFault::StrangerSeen { at } => CommandFault::StrangerSeen { at: at as u64 },
         }
     }
 }
@@ -200,43 +202,44 @@ fn signed(bytes: &[u8], number: i64) -> Text
     text
 }
 
-fn store_fault_text(fault: StoreFault) -> Text
-    ensures value { result.items ≡ store_fault_text fault }
+fn command_fault_text(fault: CommandFault) -> Text
+    ensures value { result.items ≡ command_fault_text fault }
     ensures len { array_vec_len result ≤ longest_line }
 {
     match fault {
-        StoreFault::NotOurs => word(b"not-ours"),
-        StoreFault::OtherSchema { version } => signed(b"other-schema ", version),
-        StoreFault::Damaged { place } => numbered(b"damaged ", place),
-        StoreFault::Disk => word(b"disk"),
-        StoreFault::Memory => word(b"memory"),
-        StoreFault::Store => word(b"store"),
-        StoreFault::Read => word(b"read"),
-        StoreFault::Write => word(b"write"),
-        StoreFault::LineTooLong => word(b"line-too-long"),
-        StoreFault::TooManyLines => word(b"too-many-lines"),
-        StoreFault::Bind => word(b"bind"),
-        StoreFault::Accept => word(b"accept"),
-        StoreFault::NotStarted => word(b"not-started"),
-        StoreFault::SeatsOut => word(b"seats-out"),
-        StoreFault::Stranger { at } => numbered(b"stranger ", at),
-        StoreFault::StrangerSeen { at } => numbered(b"stranger-seen ", at),
-        StoreFault::Closed { site } => numbered(b"closed ", site.number()),
-        StoreFault::LongPath => word(b"long-path"),
-        StoreFault::NoSocket => word(b"no-socket"),
-        StoreFault::NotOpen => word(b"not-open"),
-        StoreFault::StillOpen => word(b"still-open"),
-        StoreFault::AlreadyOpen => word(b"already-open"),
-        StoreFault::Full => word(b"full"),
-        StoreFault::LostFile => word(b"lost-file"),
+        CommandFault::NotOurs => word(b"not-ours"),
+        CommandFault::OtherSchema { version } => signed(b"other-schema ", version),
+        CommandFault::Damaged { place } => numbered(b"damaged ", place),
+        CommandFault::Disk => word(b"disk"),
+        CommandFault::Memory => word(b"memory"),
+        CommandFault::Store => word(b"store"),
+        CommandFault::Read => word(b"read"),
+        CommandFault::Write => word(b"write"),
+        CommandFault::LineTooLong => word(b"line-too-long"),
+        CommandFault::TooManyLines => word(b"too-many-lines"),
+        CommandFault::Bind => word(b"bind"),
+        CommandFault::Accept => word(b"accept"),
+        CommandFault::NotStarted => word(b"not-started"),
+        CommandFault::SeatsOut => word(b"seats-out"),
+        CommandFault::Stranger { at } => numbered(b"stranger ", at),
+        CommandFault::StrangerSeen { at } => numbered(b"stranger-seen ", at),
+        CommandFault::Closed { site } => numbered(b"closed ", site.number()),
+        CommandFault::LongPath => word(b"long-path"),
+        CommandFault::NoSocket => word(b"no-socket"),
+        CommandFault::NotOpen => word(b"not-open"),
+        CommandFault::StillOpen => word(b"still-open"),
+        CommandFault::AlreadyOpen => word(b"already-open"),
+        CommandFault::Full => word(b"full"),
+        CommandFault::LostFile => word(b"lost-file"),
+        CommandFault::OneOfTwo => word(b"one-of-two"),
     }
 }
 
 /// The line that names the cause on standard error.
-pub(crate) fn store_fault_line(fault: StoreFault) -> Text
-    ensures { result.items ≡ store_fault_line fault }
+pub(crate) fn command_fault_line(fault: CommandFault) -> Text
+    ensures { result.items ≡ command_fault_line fault }
 {
-    let mut text = store_fault_text(fault);
+    let mut text = command_fault_text(fault);
     put(&mut text, b"\n");
     text
 }
