@@ -175,9 +175,11 @@ def looked_up(folder: str) -> None:
     clerk, operator = Caller(office.port), Operator(office.path)
     asked(
         operator,
-        ["find 1", "list gala", "events", "shares gala", "status"],
-        ["none", "none", "none", "unknown", "site 0 sites 2 entries 0 limit 1000000 callers 2 asking 0 waiting 0"],
+        ["find 1", "list gala", "events", "shares gala"],
+        ["none", "none", "none", "unknown"],
     )
+    stood = "site 0 sites 2 entries 0 limit 1000000 callers 2 asking 0 waiting 0"
+    stands("status", lambda: operator.ask("status"), stood)
     asked(
         clerk,
         [*OPENING, "sell 4 gala 61", "sell 5 gala 3", "refund 6 5 1"],
