@@ -1,9 +1,9 @@
 -- What a change in one transaction leaves.
-use Rattle.std.proofs.Common.{◌≡◌, ◌≢◌, ◌⊎◌, ◌∙◌, inl, inr, ℕ, true, false, List, IsTrue, refl, ap, subst, sym, arith}
+use Rattle.std.proofs.Common.{◌≡◌, ◌≢◌, ◌∙◌, inl, inr, ℕ, true, false, List, IsTrue, refl, ap, subst, sym, arith}
 use Rattle.sqlite.specs.Store.{Ghosts}
 use Rattle.sqlite.specs.Order.{Row}
 use Rattle.sqlite.specs.Tree.{Trees}
-use Rattle.sqlite.specs.State.{State, HasCleanDisk, Shows, Survives}
+use Rattle.sqlite.specs.State.{HasCleanDisk, Shows, Survives}
 use Rattle.sqlite.specs.Held.{Held, state}
 use Rattle.sql_records.specs.Held.{LeavesNoMore}
 use Rattle.sql_records.specs.Making.{RunInTurn}

@@ -1,4 +1,4 @@
-use Rattle.std.proofs.Common.{◌≡◌, ◌∙◌, Some, ap, inr, refl, rules, subst, sym}
+use Rattle.std.proofs.Common.{◌∙◌, Some, ap, inr, refl, rules, subst, sym}
 use Rattle.sql_records.specs.Held.{RecordsView}
 use Rattle.mirrored_records.specs.Mirrored.{IsOpened, MirrorView}
 use Rattle.paired_records.specs.Pairs.{AreMarked, AreRead, RefusesPair, pair}
